@@ -1,0 +1,9 @@
+pub mod LookUps
+pub mod MemberLemmas
+pub mod Walks
+pub mod Preorder
+pub mod WellFormed
+pub mod Depths
+pub mod NamesWithin
+pub mod Nth
+pub mod Repeats

@@ -1,0 +1,75 @@
+//! What a group or a tree refuses.
+
+use std::alloc::{AllocError, AllocFailed};
+use std::error::Error;
+use std::fmt;
+
+/// Why a group, a host or a tree's part was not made.
+#[derive(Clone, Copy, Debug, PartialEq, Eq)]
+pub enum GroupFault {
+    /// The name has no byte or over 255, or a byte that is no ASCII letter or digit, `.`, `-` or `_`.
+    BadName,
+    Memory,
+}
+
+impl fmt::Display for GroupFault {
+    fn fmt<W: fmt::Write>(&self, f: &mut fmt::Formatter<W>) -> fmt::Result {
+        match self {
+            GroupFault::BadName => write!(
+                f,
+                "a name is 1 to 255 letters, digits, dots, dashes and underscores"
+            ),
+            GroupFault::Memory => write!(f, "out of memory"),
+        }
+    }
+}
+
+impl Error for GroupFault {}
+
+impl From<AllocError> for GroupFault {
+    ghost use Rattle.std.specs.Prelude.{◌≡◌};
+    ghost use Rattle.group_tree.specs.declared.fault.GroupFault.TheVariants.{Memory};
+
+    ghost from_gives = { λ _ fault. fault ≡ Memory };
+
+    fn from(_refused: AllocError) -> GroupFault {
+        GroupFault::Memory
+    }
+}
+
+impl<T: Drop> From<AllocFailed<T>> for GroupFault {
+    ghost use Rattle.std.specs.Prelude.{◌≡◌};
+    ghost use Rattle.group_tree.specs.declared.fault.GroupFault.TheVariants.{Memory};
+
+    ghost from_gives = { λ _ fault. fault ≡ Memory };
+
+    fn from(_refused: AllocFailed<T>) -> GroupFault {
+        GroupFault::Memory
+    }
+}
+
+/// Why a group with all below it is no tree: the first rule that it breaks, in this order.
+#[derive(Clone, Copy, Debug, PartialEq, Eq)]
+pub enum TreeFault {
+    /// Two groups have one name. `group` is the preorder number, counted from 1, of the first whose name stood before.
+    TwicePlaced { group: usize },
+    /// A group is deeper than `MAX_DEPTH`.
+    TooDeep,
+    /// There are more than `MAX_GROUPS` groups or `MAX_ROWS` host rows.
+    TooMany,
+}
+
+impl fmt::Display for TreeFault {
+    fn fmt<W: fmt::Write>(&self, f: &mut fmt::Formatter<W>) -> fmt::Result {
+        match self {
+            TreeFault::TwicePlaced { group } => write!(
+                f,
+                "group {group} has the name of one before it"
+            ),
+            TreeFault::TooDeep => write!(f, "the groups are nested too deep"),
+            TreeFault::TooMany => write!(f, "too many groups or hosts"),
+        }
+    }
+}
+
+impl Error for TreeFault {}

@@ -1,0 +1,198 @@
+//! A group of hosts, with all that stands below it.
+ghost use Rattle.std.specs.Prelude.{◌≡◌, ◌↔◌, IfOk, map, [], ◌∷◌, ◌++◌, OnOk, OnErr, IfErr, IsTrue, IsFalse, length};
+ghost use Rattle.std.specs.Result.{IsErrOf};
+ghost use Rattle.std.specs.Option.{option_map};
+ghost use Rattle.inventory_model.specs.Names as names;
+ghost use Rattle.inventory_model.specs.Places.{is_preorder};
+ghost use Rattle.inventory_model.specs.Variables as model;
+ghost use Rattle.inventory_model.specs.Subtrees as subtrees;
+ghost use Rattle.group_tree.specs.Scalars.{said, given};
+
+use crate::alphabet::is_name;
+use crate::fault::GroupFault;
+use crate::host::{Host, copy_hosts};
+use crate::scalar::Scalar;
+use crate::variable::{Variable, copy_variables, keep_all, look_up};
+use std::alloc::{AllocError, AllocFailed, Allocator};
+use std::marker::Model;
+
+/// A group: its name, its limit, its variables, the hosts that it lists itself, and its children, each in the order
+/// in which it was added.
+#[derive(Drop)]
+pub struct Group<A: Allocator> {
+    name: String<A>,
+    limit: Option<u16>,
+    variables: Vec<Variable<A>, A>,
+    hosts: Vec<Host<A>, A>,
+    children: Vec<Group<A>, A>,
+    // How many groups and host rows stand at or below this group, so that no walk has to count them.
+    groups: usize,
+    rows: usize,
+}
+
+impl<A: Allocator> Model for Group<A> {
+    ghost use Rattle.std.specs.Prelude.{◌≡◌, length};
+    ghost use Rattle.std.specs.String.{string_bytes};
+    ghost use Rattle.std.proofs.Common.{arith};
+    ghost use Rattle.inventory_model.specs.Subtrees as subtrees;
+    ghost use Rattle.group_tree.specs.Parts.{groups_below, most_le-groups_below, IsWellFormed};
+
+    ghost Value = { subtrees.Subtree };
+
+    ghost view = { λ g. record { name = string_bytes g.name; limit = g.limit; variables = g.variables.items; hosts = g.hosts.items; below = subtrees.side_by_side g.children.items } };
+
+    ghost invariant = { λ g. IsWellFormed (subtrees.side_by_side g.children.items) g.hosts.items g.groups g.rows };
+
+    ghost size = { groups_below };
+
+    ghost size_decreases = { λ a h. omega (arith, most_le-groups_below a.children.items) };
+}
+
+impl<A: Allocator> Group<A> {
+    pub fn name(&self) -> &str
+        ensures { result.now ≡ self.now.name }
+    {
+        self.name.as_str()
+    }
+
+    /// How many of the hosts at or below this group may be down at once, where it says so.
+    pub fn limit(&self) -> Option<u16>
+        ensures { result ≡ self.now.limit }
+    {
+        self.limit
+    }
+
+    pub fn variables(&self) -> &[Variable<A>]
+        ensures { result.now ≡ self.now.variables }
+    {
+        self.variables.as_slice()
+    }
+
+    /// The value of the group's own variable of this name.
+    pub fn variable(&self, name: &str) -> Option<Scalar<'_>>
+        ensures { option_map said result ≡ model.value_of name.now self.now.variables }
+    {
+        look_up(self.variables.as_slice(), name)
+    }
+
+    /// The hosts that the group lists itself.
+    pub fn hosts(&self) -> &[Host<A>]
+        ensures { result.now ≡ self.now.hosts }
+    {
+        self.hosts.as_slice()
+    }
+
+    /// How many groups there are, this one and all below it.
+    pub(crate) fn groups(&self) -> usize
+        ensures count { result ≡ length (subtrees.places_of self.now) }
+        ensures preorder { IsTrue (is_preorder (subtrees.places_of self.now)) }
+    {
+        self.groups
+    }
+
+    /// How many host rows there are, of this group and all below it.
+    pub(crate) fn rows(&self) -> usize
+        ensures { result ≡ length (subtrees.rows_of self.now) }
+    {
+        self.rows
+    }
+
+    pub fn children(&self) -> &[Group<A>]
+        ensures { subtrees.side_by_side result.now ≡ self.now.below }
+    {
+        self.children.as_slice()
+    }
+}
+
+impl<A: Allocator + Clone> Group<A> {
+    /// A group without hosts and children. Of two variables under one name the later counts.
+    pub fn new(
+        alloc: A,
+        name: &str,
+        limit: Option<u16>,
+        variables: &[(&str, Scalar<'_>)],
+    ) -> Result<Group<A>, GroupFault>
+        ensures ok { IfOk result (λ group. group
+            ≡ record { name = name.now; limit = limit; variables = map given variables.now; hosts = []; below = subtrees.side_by_side [] }) }
+        ensures bad_name { IsErrOf result GroupFault.BadName ↔ IsFalse (names.is_name name.now) }
+    {
+        if !is_name(name) {
+            return Err(GroupFault::BadName);
+        }
+        Ok(Group {
+            name: String::from_str(alloc.clone()?, name)?,
+            limit,
+            variables: keep_all(alloc.clone()?, variables)?,
+            hosts: Vec::new(alloc.clone()?),
+            children: Vec::new(alloc),
+            groups: 1,
+            rows: 0,
+        })
+    }
+
+    /// Lists one more host, after the others; it may be listed twice. A refused call leaves the group as it was.
+    pub fn add_host(
+        &mut self,
+        name: &str,
+        variables: &[(&str, Scalar<'_>)],
+    ) -> Result<(), GroupFault>
+        ensures ok { OnOk result (self.new
+            ≡ subtrees.with_host self.old (record { name = name.now; variables = map given variables.now })) }
+        ensures bad_name { IsErrOf result GroupFault.BadName ↔ IsFalse (names.is_name name.now) }
+        ensures err { OnErr result (self.new ≡ self.old) }
+    {
+        if !is_name(name) {
+            return Err(GroupFault::BadName);
+        }
+        let rows = self.rows.checked_add(1).ok_or(GroupFault::Memory)?;
+        let alloc = self.hosts.allocator();
+        let host = Host {
+            name: String::from_str(alloc.clone()?, name)?,
+            variables: keep_all(alloc.clone()?, variables)?,
+        };
+        self.hosts.push(host)?;
+        self.rows = rows;
+        Ok(())
+    }
+
+    /// Takes one more child, after the others. Where memory is refused it comes back, and the group is as it was.
+    pub fn add_child(&mut self, child: Group<A>) -> Result<(), AllocFailed<Group<A>>>
+        ensures ok { OnOk result (self.new ≡ subtrees.with_child self.old child) }
+        ensures err { OnErr result (self.new ≡ self.old) }
+        ensures child_returned { IfErr result (λ refused. refused.value ≡ child) }
+    {
+        // No memory holds as many groups as these sums could count.
+        let Some(groups) = self.groups.checked_add(child.groups) else {
+            return Err(AllocFailed { value: child });
+        };
+        let Some(rows) = self.rows.checked_add(child.rows) else {
+            return Err(AllocFailed { value: child });
+        };
+        self.children.push(child)?;
+        self.groups = groups;
+        self.rows = rows;
+        Ok(())
+    }
+}
+
+impl<A: Allocator> Group<A> {
+    /// This group without its children, in another allocator.
+    pub(crate) fn without_children<B: Allocator + Clone>(
+        &self,
+        alloc: B,
+    ) -> Result<Group<B>, AllocError>
+        ensures { IfOk result (λ copy. copy ≡ record self.now { below = subtrees.side_by_side [] }) }
+    {
+        let hosts = copy_hosts(alloc.clone()?, self.hosts())?;
+        let rows = hosts.len();
+        Ok(Group {
+            name: String::from_str(alloc.clone()?, self.name())?,
+            limit: self.limit(),
+            variables: copy_variables(alloc.clone()?, self.variables())?,
+            hosts,
+            children: Vec::new(alloc),
+            groups: 1,
+            rows,
+        })
+    }
+}

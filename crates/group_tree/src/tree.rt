@@ -1,0 +1,96 @@
+//! A tree of groups within the limits of an inventory.
+ghost use Rattle.std.specs.Prelude.{◌≡◌, ◌≤◌, ◌+◌, IfOk, IfErr, Some, MatchOption, length, slice_get};
+ghost use Rattle.inventory_model.specs.Names.{Name};
+ghost use Rattle.inventory_model.specs.Members as members;
+ghost use Rattle.inventory_model.specs.Subtrees.{inventory_of};
+ghost use Rattle.inventory_model.specs.Limits.{IsWithinLimits};
+ghost use Rattle.group_tree.specs.Trees.{IsRefusal, IsGroupAt};
+
+use crate::fault::TreeFault;
+use crate::group::Group;
+use std::alloc::{AllocError, Allocator};
+use std::marker::Model;
+
+/// The outermost group has depth 1.
+pub const MAX_DEPTH: usize = 32;
+
+pub const MAX_GROUPS: usize = 1024;
+
+pub const MAX_ROWS: usize = 16384;
+
+/// Groups of distinct names, at most `MAX_DEPTH` deep, with at most `MAX_GROUPS` groups and `MAX_ROWS` host rows.
+#[derive(Drop)]
+pub struct Tree<A: Allocator> {
+    root: Group<A>,
+}
+
+impl<A: Allocator> Model for Tree<A> {
+    ghost use Rattle.inventory_model.specs.Places.{Inventory};
+    ghost use Rattle.inventory_model.specs.Subtrees.{inventory_of};
+    ghost use Rattle.inventory_model.specs.Limits.{IsWithinLimits};
+
+    ghost Value = { Inventory };
+
+    ghost view = { λ t. inventory_of t.root };
+
+    ghost invariant = { λ t. IsWithinLimits (inventory_of t.root) };
+}
+
+impl<A: Allocator> Tree<A> {
+    /// Takes no memory. The first rule that is broken refuses it, in the order of `TreeFault`, and hands the group back.
+    /// It compares each name with those before it, so its time grows with the square of the number of groups.
+    pub fn new(root: Group<A>) -> Result<Tree<A>, (TreeFault, Group<A>)>
+        ensures ok { IfOk result (λ tree. (tree ≡ inventory_of root) × IsWithinLimits (inventory_of root)) }
+        ensures err { IfErr result (λ (fault, back). (back ≡ root) × IsRefusal fault (inventory_of root)) }
+    {
+        if let Some(group) = root.first_repeat() {
+            return Err((TreeFault::TwicePlaced { group }, root));
+        }
+        if !root.is_within_depth(MAX_DEPTH) {
+            return Err((TreeFault::TooDeep, root));
+        }
+        if root.groups() > MAX_GROUPS || root.rows() > MAX_ROWS {
+            return Err((TreeFault::TooMany, root));
+        }
+        Ok(Tree { root })
+    }
+
+    /// The outermost group, for a walk over them all.
+    pub fn root(&self) -> &Group<A>
+        ensures root { inventory_of result.now ≡ self.now }
+        ensures within { IsWithinLimits self.now }
+    {
+        &self.root
+    }
+
+    /// How many groups there are.
+    pub fn groups(&self) -> usize
+        ensures { result ≡ length self.now.places }
+    {
+        self.root.groups()
+    }
+
+    /// The group at this place in preorder, counted from 0, with its depth.
+    pub fn row(&self, index: usize) -> Option<(&Group<A>, usize)>
+        ensures { MatchOption result (length self.now.places ≤ index)
+            (λ (group, depth). IsGroupAt self.now.places index group.now depth) }
+    {
+        self.root.nth(index)
+    }
+
+    /// Whether the group of this name holds the host of that name.
+    pub fn holds(&self, group: &str, host: &str) -> bool
+        ensures { result ≡ members.holds self.now group.now host.now }
+    {
+        self.root.holds(group, host)
+    }
+
+    /// The same tree, in another allocator.
+    pub fn copy_to<B: Allocator + Clone>(&self, alloc: B) -> Result<Tree<B>, AllocError>
+        ensures { IfOk result (λ copy. copy ≡ self.now) }
+    {
+        Ok(Tree {
+            root: self.root.copy_to(alloc)?,
+        })
+    }
+}

@@ -1,0 +1,192 @@
+//! Each call with ample memory.
+use crate::fleet::{group, region, tree};
+use bumpalo::Bump;
+use group_tree::{Group, GroupFault, Scalar, Tree, TreeFault, is_name};
+use std::alloc::{Allocator, Global};
+use std::process::Abort;
+use std::test::Fail;
+
+/// A group and its depth, its limit and its hosts as a line of text.
+fn line<A: Allocator>(alloc: Global, tree: &Tree<A>, index: usize) -> Result<String, Fail> {
+    let mut line = String::new(alloc);
+    let Some((group, depth)) = tree.row(index) else {
+        return Ok(line);
+    };
+    line.push_str(group.name())?;
+    write!(line, " {depth} {:?}", group.limit())?;
+    for host in group.hosts() {
+        line.push_str(" ")?;
+        line.push_str(host.name())?;
+    }
+    Ok(line)
+}
+
+const LINES: [&str; 6] = [
+    "all 1 None",
+    "eu 2 Some(3)",
+    "r1 3 Some(1) a b c",
+    "r2 3 Some(2) d e",
+    "spare 2 None",
+    "",
+];
+
+#[test]
+fn groups_are_numbered_in_preorder(rt: HostRuntime) -> Result<(), Fail> {
+    let tree = tree(rt.alloc())?;
+    assert_eq!(rt; tree.groups(), 5);
+    for index in 0..6usize {
+        assert_eq!(rt; line(rt.alloc(), &tree, index)?.as_str(), LINES[index]);
+    }
+    Ok(())
+}
+
+#[test]
+fn a_copy_into_an_arena_and_back_is_the_same_tree(rt: HostRuntime) -> Result<(), Fail> {
+    let tree = tree(rt.alloc())?;
+    let arena = Bump::new(rt.alloc());
+    let inside = tree.copy_to(&arena)?;
+    let back = inside.copy_to(rt.alloc())?;
+    assert_eq!(rt; inside.groups(), 5);
+    assert_eq!(rt; back.groups(), 5);
+    for index in 0..6usize {
+        assert_eq!(rt; line(rt.alloc(), &inside, index)?.as_str(), LINES[index]);
+        assert_eq!(rt; line(rt.alloc(), &back, index)?.as_str(), LINES[index]);
+    }
+    Ok(())
+}
+
+#[test]
+fn a_region_holds_the_hosts_of_its_racks(rt: HostRuntime) -> Result<(), Fail> {
+    let tree = tree(rt.alloc())?;
+    let cases = [
+        ("all", "a", true),
+        ("eu", "e", true),
+        ("r2", "e", true),
+        ("r1", "e", false),
+        ("spare", "a", false),
+        ("nowhere", "a", false),
+        ("eu", "r1", false),
+    ];
+    for (name, host, held) in cases {
+        assert_eq!(rt; tree.holds(name, host), held, "{host} in {name}");
+    }
+    Ok(())
+}
+
+const TWICE: [(&str, Scalar); 3] = [
+    ("v", Scalar::Int(1)),
+    ("w", Scalar::Bool(true)),
+    ("v", Scalar::Text("2")),
+];
+
+fn with_variables<A: Allocator + Clone>(alloc: A) -> Result<Group<A>, GroupFault> {
+    let mut group = Group::new(alloc, "g", None, &TWICE)?;
+    group.add_host("h", &TWICE)?;
+    Ok(group)
+}
+
+fn reads_the_later<A: Allocator>(rt: &impl Abort, group: &Group<A>) {
+    assert_eq!(rt; group.variable("v"), Some(Scalar::Text("2")));
+    assert_eq!(rt; group.variable("w"), Some(Scalar::Bool(true)));
+    assert_eq!(rt; group.variable("x"), None);
+    for host in group.hosts() {
+        assert_eq!(rt; host.variable("v"), Some(Scalar::Text("2")));
+        assert_eq!(rt; host.variable("x"), None);
+    }
+}
+
+#[test]
+fn the_later_of_two_variables_counts(rt: HostRuntime) -> Result<(), Fail> {
+    let group = with_variables(rt.alloc())?;
+    reads_the_later(&rt, &group);
+    Ok(())
+}
+
+#[test]
+fn a_name_is_1_to_255_bytes_of_the_alphabet(rt: HostRuntime) -> Result<(), Fail> {
+    for good in ["a", "Z", "0", "web-1.example_2", "-", "..", "all"] {
+        assert!(rt; is_name(good), "{good}");
+    }
+    for bad in ["", "a b", "www[01:50]", "caf\u{e9}", "a/b", "a\n", "a:b"] {
+        assert!(rt; !is_name(bad), "{bad}");
+        let refused = Group::new(rt.alloc(), bad, None, &[]);
+        assert!(rt; matches!(refused, Err(GroupFault::BadName)), "{bad}");
+    }
+    let mut long = String::new(rt.alloc());
+    for _ in 0..255usize {
+        long.push_str("n")?;
+    }
+    assert!(rt; is_name(long.as_str()));
+    long.push_str("n")?;
+    assert!(rt; !is_name(long.as_str()));
+    Ok(())
+}
+
+/// A group without hosts and children, whose name ends in a number.
+fn bare<A: Allocator + Clone>(alloc: A, number: usize) -> Result<Group<A>, Fail> {
+    let name = format!(in alloc.clone()?; "g{number}")?;
+    Ok(Group::new(alloc, name.as_str(), None, &[])?)
+}
+
+/// A group with this one as its child.
+fn around<A: Allocator + Clone>(
+    alloc: A,
+    inner: Group<A>,
+    number: usize,
+) -> Result<Group<A>, Fail> {
+    let mut outer = bare(alloc, number)?;
+    outer.add_child(inner)?;
+    Ok(outer)
+}
+
+/// A chain of groups, each in the one before it, with this many in all.
+fn chain<A: Allocator + Clone>(alloc: A, depth: usize) -> Result<Group<A>, Fail> {
+    let mut group = bare(alloc.clone()?, 0)?;
+    for level in 1..depth {
+        group = around(alloc.clone()?, group, level)?;
+    }
+    Ok(group)
+}
+
+/// One group with this many children, and this many hosts.
+fn wide<A: Allocator + Clone>(alloc: A, children: usize, hosts: usize) -> Result<Group<A>, Fail> {
+    let mut all = Group::new(alloc.clone()?, "all", None, &[])?;
+    for number in 0..children {
+        all.add_child(bare(alloc.clone()?, number)?)?;
+    }
+    for _ in 0..hosts {
+        all.add_host("h", &[])?;
+    }
+    Ok(all)
+}
+
+/// What refuses the group, if anything does.
+fn fault<A: Allocator + Drop>(group: Group<A>) -> Option<TreeFault> {
+    match Tree::new(group) {
+        Ok(_) => None,
+        Err((fault, _)) => Some(fault),
+    }
+}
+
+#[test]
+fn a_tree_keeps_its_limits(rt: HostRuntime) -> Result<(), Fail> {
+    assert_eq!(rt; fault(chain(rt.alloc(), 32)?), None);
+    assert_eq!(rt; fault(chain(rt.alloc(), 33)?), Some(TreeFault::TooDeep));
+    assert_eq!(rt; fault(wide(rt.alloc(), 1023, 0)?), None);
+    assert_eq!(rt; fault(wide(rt.alloc(), 1024, 0)?), Some(TreeFault::TooMany));
+    assert_eq!(rt; fault(wide(rt.alloc(), 0, 16384)?), None);
+    assert_eq!(rt;
+        fault(wide(rt.alloc(), 0, 16385)?),
+        Some(TreeFault::TooMany)
+    );
+    Ok(())
+}
+
+#[test]
+fn a_group_at_two_places_is_named_by_its_number(rt: HostRuntime) -> Result<(), Fail> {
+    let mut all = region(rt.alloc())?;
+    all.add_child(group(rt.alloc(), "r1", None, &[])?)?;
+    all.add_child(group(rt.alloc(), "spare", None, &[])?)?;
+    assert_eq!(rt; fault(all), Some(TreeFault::TwicePlaced { group: 6 }));
+    Ok(())
+}
