@@ -13,6 +13,11 @@ pub enum GroupFault {
 }
 
 impl fmt::Display for GroupFault {
+    ghost use Rattle.group_tree.specs.Faults.{group_fault_text};
+    ghost use Rattle.std.specs.Prelude.{Some};
+
+    ghost output = { λ fault. Some (group_fault_text fault) };
+
     fn fmt<W: fmt::Write>(&self, f: &mut fmt::Formatter<W>) -> fmt::Result {
         match self {
             GroupFault::BadName => write!(
@@ -60,6 +65,11 @@ pub enum TreeFault {
 }
 
 impl fmt::Display for TreeFault {
+    ghost use Rattle.group_tree.specs.Faults.{tree_fault_text};
+    ghost use Rattle.std.specs.Prelude.{Some};
+
+    ghost output = { λ fault. Some (tree_fault_text fault) };
+
     fn fmt<W: fmt::Write>(&self, f: &mut fmt::Formatter<W>) -> fmt::Result {
         match self {
             TreeFault::TwicePlaced { group } => write!(

@@ -7,7 +7,7 @@ ghost use Rattle.inventory_model.specs.Subtrees.{places_of, rows_of, inventory_o
 ghost use Rattle.inventory_model.specs.Worked.{two_racks, empty_web, tier_twice, all};
 
 /// Four places in preorder, each with its path, and five rows.
-pub fn two_racks_are_four_places()
+fn two_racks_are_four_places()
     ensures names { map (λ (p : Place). p.name) (places_of two_racks)
         ≡ all ∷ codes "eu" ∷ codes "r1" ∷ codes "r2" ∷ [] }
     ensures depths { map depth_of (places_of two_racks) ≡ 1 ∷ 2 ∷ 3 ∷ 3 ∷ [] }
@@ -21,7 +21,7 @@ pub fn two_racks_are_four_places()
 {}
 
 /// A region holds the hosts of its racks; a rack holds its own alone.
-pub fn a_region_holds_what_its_racks_hold()
+fn a_region_holds_what_its_racks_hold()
     ensures region { IsTrue (holds (inventory_of two_racks) (codes "eu") (codes "d")) }
     ensures rack { IsTrue (holds (inventory_of two_racks) (codes "r2") (codes "d")) }
     ensures other_rack { IsFalse (holds (inventory_of two_racks) (codes "r1") (codes "d")) }
@@ -30,14 +30,14 @@ pub fn a_region_holds_what_its_racks_hold()
 {}
 
 /// A group without hosts and without a limit is a place and has no row.
-pub fn an_empty_group_is_a_place()
+fn an_empty_group_is_a_place()
     ensures places { map path_of (places_of empty_web)
         ≡ (all ∷ []) ∷ (all ∷ codes "web" ∷ []) ∷ (all ∷ codes "rack" ∷ []) ∷ [] }
     ensures rows { map row_path (rows_of empty_web) ≡ (all ∷ codes "rack" ∷ []) ∷ [] }
 {}
 
 /// Of two variables under one name the later counts.
-pub fn the_later_variable_counts()
+fn the_later_variable_counts()
     ensures later { value_of (codes "tier") tier_twice ≡ Some (Int (pos 2)) }
     ensures unknown { value_of (codes "Tier") tier_twice ≡ None }
 {}
