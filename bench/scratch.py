@@ -1,0 +1,60 @@
+"""What the benches share: programs of their own in a scratch repository, and inventories."""
+import os
+import shutil
+import subprocess
+import sys
+
+TOP = os.path.dirname(os.path.dirname(os.path.abspath(__file__)))
+MIB = 1 << 20
+
+
+def build(folder, crates, name, needs, source, words):
+    """Proves and builds a program over crates of the repository, in a repository of its own; it is run once with the words."""
+    for crate in crates:
+        shutil.copytree(
+            os.path.join(TOP, "crates", crate),
+            os.path.join(folder, "crates", crate),
+            ignore=shutil.ignore_patterns("must-fail"),
+        )
+    shutil.copy(os.path.join(TOP, "HANDLES"), folder)
+    subprocess.run(["git", "init", "-q", "."], cwd=folder, check=True)
+    with open(os.path.join(TOP, "crates.txt")) as table:
+        lines = [line for line in table if line.split(":")[0].strip() in crates]
+    with open(os.path.join(folder, "crates.txt"), "w") as table:
+        table.writelines(lines + [f"{name}: {needs}\n"])
+    os.makedirs(os.path.join(folder, "crates", name, "src"))
+    with open(os.path.join(folder, "crates", name, "src", "main.rt"), "w") as main:
+        main.write(source)
+    done = subprocess.run(
+        ["rt", "run", "--"] + words,
+        cwd=os.path.join(folder, "crates", name),
+        stdin=subprocess.DEVNULL,
+        stdout=subprocess.PIPE,
+        stderr=subprocess.STDOUT,
+        text=True,
+    )
+    program = os.path.join(folder, "crates", name, "out", name)
+    if not os.path.exists(program):
+        sys.exit(done.stdout[-4000:])
+    return program
+
+
+def members(count, member):
+    return ",".join(member(number) for number in range(count))
+
+
+def small_groups(_size):
+    """4,096 hosts in 1,024 groups, `all` among them."""
+    hosts = lambda group: members(4, lambda h: f'"h{group:04}-{h}":{{"rank":{h},"down":false}}')
+    first = hosts(0)
+    return '{"all":{"hosts":{%s}},%s}' % (
+        first,
+        members(1023, lambda g: f'"g{g + 1:04}":{{"vars":{{"max_down":2}},"hosts":{{{hosts(g + 1)}}}}}'),
+    )
+
+
+def valid(size):
+    """As large as that with 16,384 hosts at most, each with about a thousand bytes of variables."""
+    variables = members(25, lambda v: f'"name{v:02}":"a value of some thirty bytes {v:02}"')
+    host = lambda h: f'"h{h:05}":{{{variables}}}'
+    return '{"all":{"hosts":{%s}}}' % members(min(16384, size // (len(host(0)) + 1)), host)

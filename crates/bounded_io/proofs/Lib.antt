@@ -1,0 +1,3 @@
+pub mod SendingLemmas
+pub mod PuttingLemmas
+pub mod Pieces

@@ -1,0 +1,12 @@
+-- Memory is refused after a read, so what was read last counts too.
+use Rattle.std.proofs.Common.{ℕ, ◌++◌, take, vec_items, arith, length-append, length-take}
+use Rattle.std.proofs.KnownBytes.{Consumes-trans}
+use Rattle.bounded_io.proofs.input.read_input.Goals as goal
+
+pub returns-in_default-clause-err : goal.returns-in_default-clause-err
+returns-in_default-clause-err g c =
+    let read = take c.in_ok-count.count c.read_some.new.room in record {
+      bytes = vec_items c.loop-chunk.input ++ read;
+      consumed = Consumes-trans _ _ _ _ _ c.loop-chunk.invariant.0 c.in_ok-count.ensures.read;
+      comes = omega (arith, length-append {A = ℕ}, length-take {A = ℕ}, c.in_ok-count.ensures.bound);
+    }

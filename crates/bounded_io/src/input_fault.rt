@@ -1,0 +1,31 @@
+//! What ends the reading of an input.
+
+use std::error::Error;
+use std::fmt;
+
+/// Why an input was not read whole. What was read of it is gone.
+#[derive(Clone, Copy, Debug, PartialEq, Eq)]
+pub enum InputFault {
+    /// A read failed, perhaps because a signal interrupted it.
+    File,
+    /// The input has more than `MAX_INPUT` bytes.
+    TooLarge,
+    Memory,
+}
+
+impl fmt::Display for InputFault {
+    ghost use Rattle.std.specs.Prelude.{Some};
+    ghost use Rattle.bounded_io.specs.Reading.{text_of};
+
+    ghost output = { λ fault. Some (text_of fault) };
+
+    fn fmt<W: fmt::Write>(&self, f: &mut fmt::Formatter<W>) -> fmt::Result {
+        match self {
+            InputFault::File => write!(f, "the input could not be read"),
+            InputFault::TooLarge => write!(f, "the input has more than 16777216 bytes"),
+            InputFault::Memory => write!(f, "out of memory"),
+        }
+    }
+}
+
+impl Error for InputFault {}

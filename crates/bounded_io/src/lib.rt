@@ -1,0 +1,14 @@
+//! Bounded reading of inputs, and writing of texts that says how much went out.
+#![tactic(auto)]
+
+mod held_bytes;
+mod input;
+mod input_fault;
+mod text_writer;
+mod write_bytes;
+mod write_fault;
+
+pub use input::{MAX_INPUT, read_input};
+pub use input_fault::InputFault;
+pub use text_writer::TextWriter;
+pub use write_fault::WriteFault;

@@ -1,0 +1,24 @@
+//! What ends the writing of a text.
+
+use std::error::Error;
+use std::fmt;
+
+/// The writer refused a write or took nothing, or the text had 2^64 bytes and more. Exactly the first `written` bytes
+/// of the text went out.
+#[derive(Clone, Copy, Debug, PartialEq, Eq)]
+pub struct WriteFault {
+    pub written: u64,
+}
+
+impl fmt::Display for WriteFault {
+    ghost use Rattle.std.specs.Prelude.{◌++◌, Some, codes, decimal};
+
+    ghost output = { λ fault. Some (codes "the text broke off after " ++ (decimal fault.written ++ codes " bytes")) };
+
+    fn fmt<W: fmt::Write>(&self, f: &mut fmt::Formatter<W>) -> fmt::Result {
+        let written = self.written;
+        write!(f, "the text broke off after {written} bytes")
+    }
+}
+
+impl Error for WriteFault {}

@@ -1,0 +1,2 @@
+pub mod AcceptedLemmas
+pub mod RefusedLemmas

@@ -1,0 +1,63 @@
+-- What a line of words says, the program's own name left out.
+use Rattle.std.specs.Prelude.{◌≡◌, ◌≢◌, ℕ, Bool, true, false, ◌==◌, ◌||◌, if◌then◌else◌, List, [], ◌∷◌, Option, Some, None, is_some, codes, string_bytes, ⊤}
+use Rattle.std.specs.Str.{bytes_eq}
+use Rattle.command_line.specs.declared.command.Line.{Line}
+use Rattle.command_line.specs.declared.command.Line.TheVariants.{Limits}
+use Rattle.command_line.specs.declared.fault.LineFault.{LineFault}
+use Rattle.command_line.specs.declared.fault.LineFault.TheVariants.{Asked, BadLine, Memory}
+use Rattle.command_line.specs.declared.command.Source.TheVariants.{StandardInput, File}
+
+abbrev pub Word : Type 0
+Word = List ℕ
+
+abbrev pub is_empty : List Word → Bool
+is_empty [] = true
+is_empty (word ∷ words) = false
+
+-- the word that ends options
+abbrev pub dashes : Word
+dashes = codes "--"
+
+-- a word that is no option: it begins with no dash, or is a dash alone
+abbrev pub is_operand : Word → Bool
+is_operand [] = true
+is_operand (first ∷ []) = true
+is_operand (first ∷ second ∷ rest) = if first == 45 then false else true
+
+-- the only operand of the words; behind the word that ends options any word is one
+abbrev pub lone_operand : List Word → Option Word
+lone_operand (word ∷ []) = if is_operand word then Some word else None
+lone_operand (first ∷ second ∷ []) =
+    if bytes_eq first dashes then Some second else (if bytes_eq second dashes then (if is_operand first then Some first else None) else None)
+lone_operand words = None
+
+-- the file of which the words ask the limits
+abbrev pub limits_file : List Word → Option Word
+limits_file [] = None
+limits_file (command ∷ words) = if bytes_eq command (codes "limits") then lone_operand words else None
+
+-- the words are a line of the program
+abbrev pub is_line : List Word → Bool
+is_line words = is_empty words || is_some (limits_file words)
+
+-- the words say this line: none of them, or a command with its file
+abbrev pub Says : List Word → Line → Type 0
+Says words (Limits StandardInput) = words ≡ []
+Says words (Limits (File file)) = limits_file words ≡ Some (string_bytes file)
+
+-- the lines that ask for a text: the help or the version
+abbrev pub requests : List (List Word)
+requests =
+    (codes "--help" ∷ []) ∷ (codes "-h" ∷ []) ∷ (codes "--version" ∷ []) ∷ (codes "-V" ∷ []) ∷ (codes "limits" ∷ codes "--help" ∷ []) ∷ (codes "limits" ∷ codes "-h" ∷ []) ∷ []
+
+-- the words are none of these lines
+abbrev pub IsNoneOf : List Word → List (List Word) → Type 0
+IsNoneOf words [] = ⊤
+IsNoneOf words (line ∷ lines) = (words ≢ line) × IsNoneOf words lines
+
+-- the words may be answered so: no line of the program is refused but for want of memory, which no line without words
+-- takes, and no request for a text is a bad line
+abbrev pub Refuses : List Word → LineFault → Type 0
+Refuses words Memory = is_empty words ≡ false
+Refuses words (Asked text) = is_line words ≡ false
+Refuses words (BadLine text) = (is_line words ≡ false) × IsNoneOf words requests

@@ -1,0 +1,12 @@
+//! The command line of the program: from its words to a command.
+#![tactic(auto)]
+
+pub mod command;
+mod fault;
+mod reading;
+mod syntax;
+mod words;
+
+pub use command::Source;
+pub use fault::LineFault;
+pub use reading::line;

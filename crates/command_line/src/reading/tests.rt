@@ -1,0 +1,96 @@
+//! Lines, good and bad.
+
+use super::*;
+use std::alloc::AllocError;
+use std::test::Fail;
+
+enum Wanted {
+    Inventory(&'static str),
+    PipedInventory,
+    Text(&'static str),
+    Refusal,
+}
+
+use Wanted::{Inventory, PipedInventory, Refusal, Text};
+
+const LINES: [(&[&str], Wanted); 26] = [
+    (&[], PipedInventory),
+    (&["limits", "inv.json"], Inventory("inv.json")),
+    (&["limits", "--", "-x"], Inventory("-x")),
+    (&["limits", "--", "--help"], Inventory("--help")),
+    (&["limits", "f", "--"], Inventory("f")),
+    (&["limits", "-"], Inventory("-")),
+    (&["limits", "limits"], Inventory("limits")),
+    (&["limits"], Refusal),
+    (&["limits", "--"], Refusal),
+    (&["limits", "a", "b"], Refusal),
+    (&["limits", "a", "--", "b"], Refusal),
+    (&["limits", "-x"], Refusal),
+    (&["limits", "--forks", "2"], Refusal),
+    (&["limit", "a"], Refusal),
+    (&["--", "limits", "a"], Refusal),
+    (&["plan", "a", "b"], Refusal),
+    (&["run", "a", "b"], Refusal),
+    (&["rehearse", "a", "b"], Refusal),
+    (&["jump"], Refusal),
+    (&[""], Refusal),
+    (&["--help"], Text("Usage: rollout")),
+    (&["-h"], Text("Usage: rollout")),
+    (&["help"], Text("Usage: rollout")),
+    (&["--version"], Text("rollout 0.1.0\n")),
+    (&["-V"], Text("rollout 0.1.0\n")),
+    (&["limits", "--help"], Text("Usage: rollout limits <INV>")),
+];
+
+fn agrees(outcome: &Result<Line, LineFault>, wanted: &Wanted) -> bool {
+    match outcome {
+        Ok(
+            Line::Limits {
+                inventory: Source::StandardInput,
+            },
+        ) => matches!(wanted, PipedInventory),
+        Ok(
+            Line::Limits {
+                inventory: Source::File(name),
+            },
+        ) => { matches!(wanted, Inventory(file) if name.as_str() == *file) }
+        Err(LineFault::Asked(text)) =>
+            matches!(wanted, Text(part) if text.as_str().contains(*part)),
+        Err(LineFault::BadLine(text)) => matches!(wanted, Refusal)
+            && text.as_str().contains("Usage: "),
+        Err(LineFault::Memory) => false,
+    }
+}
+
+fn owned(alloc: Global, texts: &[&str]) -> Result<Vec<String>, AllocError> {
+    let mut words = Vec::new(alloc);
+    for text in texts {
+        words.push(String::from_str(alloc, text)?)?;
+    }
+    Ok(words)
+}
+
+#[test]
+fn lines_are_read_or_refused(rt: HostRuntime) -> Result<(), Fail> {
+    for (texts, wanted) in &LINES {
+        let words = owned(rt.alloc(), texts)?;
+        let outcome = line(rt.alloc(), words.as_slice());
+        assert!(rt; agrees(&outcome, wanted), "{texts:?} gave {outcome:?}");
+    }
+    Ok(())
+}
+
+// Run with the allocations refused one after another, it sees no answer but these two.
+#[test]
+fn a_refused_allocation_is_want_of_memory(rt: HostRuntime) -> Result<(), Fail> {
+    for (texts, wanted) in &LINES {
+        let words = owned(rt.alloc(), texts)?;
+        let outcome = line(rt.alloc(), words.as_slice());
+        let is_memory = matches!(outcome, Err(LineFault::Memory));
+        assert!(rt;
+            is_memory || agrees(&outcome, wanted),
+            "{texts:?} gave {outcome:?}"
+        );
+    }
+    Ok(())
+}

@@ -1,0 +1,59 @@
+//! The commands and their arguments, as the help shows them.
+ghost use Rattle.std.specs.Prelude.{◌≡◌, true, false, IfOk, IfErr, map, string_bytes, codes};
+ghost use Rattle.std.specs.Option.{option_map};
+ghost use Rattle.clap.specs.Words.{FailsBy, app_of, fault_of, kind_of, subcommand_of, subcommand_rows_of, takes};
+ghost use Rattle.clap.specs.declared.builder.command.Command.TheViews.{out-Command as fields_of};
+ghost use Rattle.command_line.specs.Syntax as spec;
+
+use clap::error::ErrorKind;
+use clap::{Arg, ArgMatches, Command, Error};
+use std::alloc::{AllocError, Global};
+
+const INVENTORY: &str = "INV";
+
+fn rollout<'a>(alloc: Global) -> Result<Command<'a>, AllocError>
+    ensures { IfOk result (λ c. app_of c ≡ spec.rollout) }
+{
+    Command::new(alloc, "rollout")
+        .bin_name("rollout")?
+        .version("0.1.0")
+        .about(
+            "Updates a fleet batch by batch, with no group losing more hosts at once than it may",
+        )
+        .after_help(
+            "Without any word, rollout reads an inventory from standard input and prints its limits.",
+        )
+        .no_binary_name(true)
+        .subcommand_required(true)
+        .subcommand(limits(alloc)?)
+}
+
+fn limits<'a>(alloc: Global) -> Result<Command<'a>, AllocError>
+    ensures app { IfOk result (λ c. app_of c ≡ spec.limits_command) }
+    ensures local { IfOk result (λ c. (fields_of c).has_globals ≡ false) }
+{
+    let inventory = Arg::new(alloc, INVENTORY)
+        .required(true)
+        .help("The inventory, a file of JSON");
+    Command::new(alloc, "limits")
+        .about("Prints each limited group: its members, how many are down, its limit and its room")
+        .arg(inventory)
+}
+
+/// What clap reads of the words.
+pub(crate) fn matches<'a>(alloc: Global, words: &'a [String]) -> Result<ArgMatches<'a>, Error>
+    ensures ok { IfOk result (λ m.
+        subcommand_rows_of m ≡ subcommand_of spec.rollout (map string_bytes words.entry.now)) }
+    ensures err { IfErr result (λ e.
+        takes spec.rollout (map string_bytes words.entry.now) ≡ true → kind_of e ≡ ErrorKind.OutOfMemory) }
+    ensures kinds { FailsBy (fault_of spec.rollout (map string_bytes words.entry.now)) result }
+{
+    rollout(alloc)?.try_get_matches_from(words)
+}
+
+/// The inventory's file, where the command is `limits`.
+pub(crate) fn limits_inventory<'a>(matches: &ArgMatches<'a>) -> Option<&'a str>
+    ensures { option_map (λ s. s.now) result ≡ spec.inventory_in (subcommand_rows_of matches.now) }
+{
+    matches.subcommand_matches("limits")?.get_str(INVENTORY)
+}

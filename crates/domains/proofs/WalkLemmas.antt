@@ -1,0 +1,92 @@
+-- The preorder walk of a group is the group and the walks of its children.
+use Rattle.std.proofs.Common.{◌≡◌, ℕ, zero, suc, ◌+◌, ◌<◌, ◌≤◌, List, [], ◌∷◌, ◌++◌, length, get_or, take, drop, map, sym, ap, ◌∙◌, refl, subst, arith, length-append, append_assoc}
+use Rattle.std.specs.List.{flat_map}
+use Rattle.std.proofs.lemmas.List.{map-append, length-map, take_more, drop_more}
+use Rattle.std.proofs.lemmas.Grind.{flat_map-append}
+use Rattle.inventory_model.specs.Names.{Name}
+use Rattle.inventory_model.specs.Places.{Place, Row, Inventory}
+use Rattle.inventory_model.specs.Subtrees.{Host, Subtree, own_place, own_row, place_under, row_under, places_of, rows_of, inventory_of, side_by_side}
+use Rattle.domains.specs.Spots.{Spot, place_of, row_at, own_rows, with_depth, IsWalkOf, rows_from}
+
+pub walk_none : (depth : ℕ) → IsWalkOf (side_by_side []) depth []
+walk_none depth = record { spots = []; places = refl; rows = refl; walked = refl }
+
+pub walk_append : (one other both : Inventory) (depth : ℕ) (walk more : List (Subtree × ℕ)) → both.places ≡ one.places ++ other.places → both.rows ≡ one.rows ++ other.rows → IsWalkOf one depth walk → IsWalkOf other depth more → IsWalkOf both depth (walk ++ more)
+walk_append one other both depth walk more places rows w v =
+    record {
+      spots = w.spots ++ v.spots;
+      places = places ∙ ap (λ (l : List Place). l ++ other.places) w.places ∙ ap (λ (l : List Place). map place_of w.spots ++ l) v.places ∙ sym (map-append place_of w.spots v.spots);
+      rows = rows ∙ ap (λ (l : List Row). l ++ other.rows) w.rows ∙ ap (λ (l : List Row). flat_map own_rows w.spots ++ l) v.rows ∙ sym (flat_map-append own_rows w.spots v.spots);
+      walked = ap (λ (l : List (Subtree × ℕ)). l ++ more) w.walked ∙ ap (λ (l : List (Subtree × ℕ)). map (with_depth depth) w.spots ++ l) v.walked ∙ sym (map-append (with_depth depth) w.spots v.spots);
+    }
+
+one_more : {X : Type 0} (f : Subtree → List X) (children : List Subtree) (i : ℕ) (child : Subtree) → i < length children → child ≡ get_or children i child → flat_map f (take (i + 1) children) ≡ flat_map f (take i children) ++ f child
+one_more {X = X} f children i child within is =
+    ap (flat_map f) (take_more children i child within) ∙ flat_map-append f (take i children) (get_or children i child ∷ []) ∙ ap (λ (l : List X). flat_map f (take i children) ++ l) (append_nothing (f (get_or children i child)) ∙ sym (ap f is))
+  where
+    append_nothing : (l : List X) → l ++ [] ≡ l
+    append_nothing [] = refl
+    append_nothing (x ∷ l) = ap (λ (t : List X). x ∷ t) (append_nothing l)
+
+pub walk_more : (children : List Subtree) (i : ℕ) (child : Subtree) (depth : ℕ) (walk more : List (Subtree × ℕ)) → i < length children → child ≡ get_or children i child → IsWalkOf (side_by_side (take i children)) depth walk → IsWalkOf (inventory_of child) depth more → IsWalkOf (side_by_side (take (i + 1) children)) depth (walk ++ more)
+walk_more children i child depth walk more within is w v =
+    walk_append (side_by_side (take i children)) (inventory_of child) (side_by_side (take (i + 1) children)) depth walk more (one_more places_of children i child within is) (one_more rows_of children i child within is) w v
+
+-- one group further down
+places_under : (name : Name) (spots : List Spot) → map (place_under name) (map place_of spots) ≡ map place_of (map (λ spot. record { above = name ∷ spot.above; group = spot.group }) spots)
+places_under name [] = refl
+places_under name (spot ∷ spots) =
+    ap (λ (l : List Place). place_under name (place_of spot) ∷ l) (places_under name spots)
+
+rows_under : (name : Name) (spots : List Spot) → map (row_under name) (flat_map own_rows spots) ≡ flat_map own_rows (map (λ spot. record { above = name ∷ spot.above; group = spot.group }) spots)
+rows_under name [] = refl
+rows_under name (spot ∷ spots) =
+    map-append (row_under name) (own_rows spot) (flat_map own_rows spots) ∙ ap (λ (l : List Row). l ++ map (row_under name) (flat_map own_rows spots)) (of_hosts spot.group.hosts) ∙ ap (λ (l : List Row). own_rows (record { above = name ∷ spot.above; group = spot.group }) ++ l) (rows_under name spots)
+  where
+    of_hosts : (hosts : List Host) → map (row_under name) (map (row_at (place_of spot)) hosts) ≡ map (row_at (place_of (record { above = name ∷ spot.above; group = spot.group }))) hosts
+    of_hosts [] = refl
+    of_hosts (host ∷ hosts) = ap (λ (l : List Row). row_under name (row_at (place_of spot) host) ∷ l) (of_hosts hosts)
+
+depths_under : (name : Name) (depth : ℕ) (spots : List Spot) → map (with_depth (depth + 1)) spots ≡ map (with_depth depth) (map (λ spot. record { above = name ∷ spot.above; group = spot.group }) spots)
+depths_under name depth [] = refl
+depths_under name depth (spot ∷ spots) =
+    ap (λ (d : ℕ). (spot.group, d) ∷ map (with_depth (depth + 1)) spots) (deeper (length spot.above)) ∙ ap (λ (l : List (Subtree × ℕ)). (spot.group, depth + suc (length spot.above)) ∷ l) (depths_under name depth spots)
+  where
+    deeper : (n : ℕ) → (depth + 1) + n ≡ depth + suc n
+    deeper n = omega arith
+
+pub walk_group : (group : Subtree) (children : List Subtree) (depth : ℕ) (walk : List (Subtree × ℕ)) → side_by_side children ≡ group.below → IsWalkOf (side_by_side children) (depth + 1) walk → IsWalkOf (inventory_of group) depth ((group, depth) ∷ walk)
+walk_group group children depth walk parts w =
+    record {
+      spots = record { above = []; group = group } ∷ map (λ (spot : Spot). record { above = group.name ∷ spot.above; group = spot.group }) w.spots;
+      places = ap (λ (l : List Place). own_place group ∷ map (place_under group.name) l) (ap (λ (i : Inventory). i.places) (sym parts) ∙ w.places) ∙ ap (λ (l : List Place). own_place group ∷ l) (places_under group.name w.spots);
+      rows = ap (λ (l : List Row). map (own_row group.name) group.hosts ++ map (row_under group.name) l) (ap (λ (i : Inventory). i.rows) (sym parts) ∙ w.rows) ∙ ap (λ (l : List Row). map (own_row group.name) group.hosts ++ l) (rows_under group.name w.spots);
+      walked = ap (λ (d : ℕ). (group, d) ∷ walk) (sym (at_top depth)) ∙ ap (λ (l : List (Subtree × ℕ)). (group, depth + 0) ∷ l) (w.walked ∙ depths_under group.name depth w.spots);
+    }
+  where
+    at_top : (d : ℕ) → d + 0 ≡ d
+    at_top d = omega arith
+
+smaller_at : (children : List Subtree) (i : ℕ) (d : Subtree) → i < length children → length (get_or children i d).below.places < length (side_by_side children).places
+smaller_at [] i d within = absurd (omega arith)
+smaller_at (child ∷ children) zero d within = simp (length-append, length-map) (omega arith)
+smaller_at (child ∷ children) (suc i) d within =
+    simp (length-append, length-map) (let rest : length (get_or children i d).below.places < length (side_by_side children).places = smaller_at children i d (omega arith) in omega arith)
+
+-- a child has fewer groups below it
+pub smaller_child : (group : Subtree) (children : List Subtree) → side_by_side children ≡ group.below → (i : ℕ) (child : Subtree) → i < length children → child ≡ get_or children i child → length child.below.places < length group.below.places
+smaller_child group children parts i child within is =
+    rw (← ap (λ (below : Inventory). length below.places) parts) (subst (λ (c : Subtree). length c.below.places < length (side_by_side children).places) (sym is) (smaller_at children i child within))
+
+-- what was pushed first comes first
+pub after_push : {X Y : Type 0} (f : X → Y) (old pushed : List X) (x : X) (walk all : List Y) → pushed ≡ old ++ x ∷ [] → all ≡ map f pushed ++ walk → all ≡ map f old ++ f x ∷ walk
+after_push {Y = Y} f old pushed x walk all more is =
+    is ∙ ap (λ l. map f l ++ walk) more ∙ ap (λ (l : List Y). l ++ walk) (map-append f old (x ∷ [])) ∙ append_assoc (map f old) (f x ∷ []) walk
+
+-- the rows of one more group
+pub rows_more : {X : Type 0} (group : X → Subtree) (spots : List X) (i : ℕ) (spot : X) (old new all : List (Host × ℕ)) → i < length spots → spot ≡ get_or spots i spot → new ≡ old ++ map (λ host. (host, i)) (group spot).hosts → old ++ rows_from i (map group (drop i spots)) ≡ all → new ++ rows_from (i + 1) (map group (drop (i + 1) spots)) ≡ all
+rows_more {X = X} group spots i spot old new all within is grown before =
+    let next : drop i spots ≡ spot ∷ drop (i + 1) spots = drop_more spots i spot within ∙ ap (λ (x : X). x ∷ drop (i + 1) spots) (sym is) in
+    let number : suc i ≡ i + 1 = omega arith in
+    let rest : rows_from i (map group (drop i spots)) ≡ map (λ host. (host, i)) (group spot).hosts ++ rows_from (i + 1) (map group (drop (i + 1) spots)) = ap (λ (l : List X). rows_from i (map group l)) next ∙ ap (λ (n : ℕ). map (λ host. (host, i)) (group spot).hosts ++ rows_from n (map group (drop (i + 1) spots))) number in
+    ap (λ (l : List (Host × ℕ)). l ++ rows_from (i + 1) (map group (drop (i + 1) spots))) grown ∙ append_assoc old (map (λ host. (host, i)) (group spot).hosts) (rows_from (i + 1) (map group (drop (i + 1) spots))) ∙ ap (λ (l : List (Host × ℕ)). old ++ l) (sym rest) ∙ before

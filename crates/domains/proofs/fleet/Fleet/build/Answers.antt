@@ -1,0 +1,119 @@
+use Rattle.std.proofs.Common.{◌≡◌, ◌∙◌, ◌≤◌, ◌<◌, ℕ, List, [], map, length, get_or, sym, ap, subst, arith, Global}
+use Rattle.std.specs.List.{range_with_len}
+use Rattle.std.specs.String.{string_bytes}
+use Rattle.std.proofs.lemmas.List.{length-map}
+use Rattle.std.proofs.lemmas.List.FromFn.{length-range_with_len}
+use Rattle.std.proofs.lemmas.List.Sorted.{length_permutation}
+use Rattle.std.proofs.Common.{IsPermutation}
+use Rattle.inventory_model.specs.Names.{Name}
+use Rattle.domains.specs.Hosts.{hosts_of}
+use Rattle.domains.specs.Nested.{IsLeastCrossing}
+use Rattle.domains.specs.Starts.{IsFirstOver}
+use Rattle.domains.specs.Numbered.{host_at}
+use Rattle.domains.specs.Parts.{ArePartsOf}
+use Rattle.domains.proofs.BuildLemmas.{chains_rise, crossing_fault, limits_len, nested, over_fault, chains_below, fleet_of, sound}
+use Rattle.domains.proofs.fleet.Fleet.build.Goals as goal
+
+pub find_crossing-requires : goal.find_crossing-requires
+find_crossing-requires g c =
+    let numbers = c.in_ok-numbers.numbers in
+    let hosts : List Name = map (string_bytes {Z = Global}) numbers.hosts.items in
+    let groups : List Name = map (string_bytes {Z = Global}) numbers.groups.items in
+    let within = c.in_ok-numbers.ensures.within in
+    let chains = c.in_ok-parts.parts.chains in
+    let members = c.in_ok-parts.parts.members in
+    let lasts = c.in_ok-parts.parts.lasts.items in
+    let parts : ArePartsOf (length hosts) numbers.limits.items numbers.depths.items numbers.rows.items chains members lasts = subst (λ (n : ℕ). ArePartsOf n numbers.limits.items numbers.depths.items numbers.rows.items chains members lasts) (sym (length-map numbers.hosts.items (string_bytes {Z = Global}))) (rw (c.as_slice-hosts.ensures.value, c.as_slice-limits.ensures.value, c.as_slice.ensures.value, c.as_slice-2.ensures.value) at c.in_ok-parts.ensures) in
+    λ k d l. rw c.as_slice-3.ensures.value (chains_rise c.args.tree.now hosts groups numbers.limits.items numbers.depths.items numbers.rows.items numbers.off.items c.in_ok-numbers.ensures.numbered within.distinct within.preorder chains members lasts parts k d l)
+
+pub returns-in-Some-clause-err : goal.returns-in-Some-clause-err
+returns-in-Some-clause-err g c =
+    let numbers = c.in_ok-numbers.numbers in
+    let hosts : List Name = map (string_bytes {Z = Global}) numbers.hosts.items in
+    let groups : List Name = map (string_bytes {Z = Global}) numbers.groups.items in
+    let within = c.in_ok-numbers.ensures.within in
+    let chains = c.in_ok-parts.parts.chains in
+    let members = c.in_ok-parts.parts.members in
+    let lasts = c.in_ok-parts.parts.lasts.items in
+    let parts : ArePartsOf (length hosts) numbers.limits.items numbers.depths.items numbers.rows.items chains members lasts = subst (λ (n : ℕ). ArePartsOf n numbers.limits.items numbers.depths.items numbers.rows.items chains members lasts) (sym (length-map numbers.hosts.items (string_bytes {Z = Global}))) (rw (c.as_slice-hosts.ensures.value, c.as_slice-limits.ensures.value, c.as_slice.ensures.value, c.as_slice-2.ensures.value) at c.in_ok-parts.ensures) in
+    let few : length (hosts_of c.args.tree.now) ≤ 4096 = omega (arith, c.if-hosts-gt-MAX_HOSTS.false, ap length c.in_ok-numbers.ensures.numbered.all_hosts, length-map numbers.hosts.items (string_bytes {Z = Global}), ap length c.as_slice-hosts.ensures.value) in
+    let found = rw c.as_slice-3.ensures.value at c.in-Some.ensures in
+    let host : string_bytes {Z = Global} c.in_ok-name_at.field-0 ≡ host_at hosts c.in-Some.crossing.host = c.in_ok-name_at.ensures ∙ ap (λ (l : List _). get_or (map (string_bytes {Z = Global}) l) c.in-Some.crossing.host []) c.as_slice-hosts.ensures.value in
+    let first : string_bytes {Z = Global} c.in_ok-name_at-2.field-0 ≡ host_at groups c.in-Some.crossing.first = c.in_ok-name_at-2.ensures ∙ ap (λ (l : List _). get_or (map (string_bytes {Z = Global}) l) c.in-Some.crossing.first []) c.as_slice-groups.ensures.value in
+    let second : string_bytes {Z = Global} c.in_ok-name_at-3.field-0 ≡ host_at groups c.in-Some.crossing.second = c.in_ok-name_at-3.ensures ∙ ap (λ (l : List _). get_or (map (string_bytes {Z = Global}) l) c.in-Some.crossing.second []) c.as_slice-groups.ensures.value in
+    let least = crossing_fault c.args.tree.now hosts groups numbers.limits.items numbers.depths.items numbers.rows.items numbers.off.items c.in_ok-numbers.ensures.numbered within.distinct within.preorder chains members lasts parts c.in-Some.crossing.host c.in-Some.crossing.first c.in-Some.crossing.second found in
+    (few, rw (host, first, second) least)
+
+pub find_over-requires : goal.find_over-requires
+find_over-requires g c =
+    let numbers = c.in_ok-numbers.numbers in
+    let hosts : List Name = map (string_bytes {Z = Global}) numbers.hosts.items in
+    let groups : List Name = map (string_bytes {Z = Global}) numbers.groups.items in
+    let within = c.in_ok-numbers.ensures.within in
+    let chains = c.in_ok-parts.parts.chains in
+    let members = c.in_ok-parts.parts.members in
+    let lasts = c.in_ok-parts.parts.lasts.items in
+    let parts : ArePartsOf (length hosts) numbers.limits.items numbers.depths.items numbers.rows.items chains members lasts = subst (λ (n : ℕ). ArePartsOf n numbers.limits.items numbers.depths.items numbers.rows.items chains members lasts) (sym (length-map numbers.hosts.items (string_bytes {Z = Global}))) (rw (c.as_slice-hosts.ensures.value, c.as_slice-limits.ensures.value, c.as_slice.ensures.value, c.as_slice-2.ensures.value) at c.in_ok-parts.ensures) in
+    rw c.as_slice-limits.ensures.value (limits_len c.args.tree.now hosts groups numbers.limits.items numbers.depths.items numbers.rows.items numbers.off.items c.in_ok-numbers.ensures.numbered within.distinct within.preorder chains members lasts parts)
+
+pub returns-in-Some-find_over-clause-err : goal.returns-in-Some-find_over-clause-err
+returns-in-Some-find_over-clause-err g c =
+    let numbers = c.in_ok-numbers.numbers in
+    let hosts : List Name = map (string_bytes {Z = Global}) numbers.hosts.items in
+    let groups : List Name = map (string_bytes {Z = Global}) numbers.groups.items in
+    let within = c.in_ok-numbers.ensures.within in
+    let chains = c.in_ok-parts.parts.chains in
+    let members = c.in_ok-parts.parts.members in
+    let lasts = c.in_ok-parts.parts.lasts.items in
+    let parts : ArePartsOf (length hosts) numbers.limits.items numbers.depths.items numbers.rows.items chains members lasts = subst (λ (n : ℕ). ArePartsOf n numbers.limits.items numbers.depths.items numbers.rows.items chains members lasts) (sym (length-map numbers.hosts.items (string_bytes {Z = Global}))) (rw (c.as_slice-hosts.ensures.value, c.as_slice-limits.ensures.value, c.as_slice.ensures.value, c.as_slice-2.ensures.value) at c.in_ok-parts.ensures) in
+    let few : length (hosts_of c.args.tree.now) ≤ 4096 = omega (arith, c.if-hosts-gt-MAX_HOSTS.false, ap length c.in_ok-numbers.ensures.numbered.all_hosts, length-map numbers.hosts.items (string_bytes {Z = Global}), ap length c.as_slice-hosts.ensures.value) in
+    let uncut = rw c.as_slice-3.ensures.value at c.in_default.ensures in
+    let found = rw (c.as_slice-limits.ensures.value, c.as_slice-4.ensures.value) at c.in-Some-find_over.ensures in
+    let group : string_bytes {Z = Global} c.in_ok-name_at-4.field-0 ≡ host_at groups c.in-Some-find_over.over.group = c.in_ok-name_at-4.ensures ∙ ap (λ (l : List _). get_or (map (string_bytes {Z = Global}) l) c.in-Some-find_over.over.group []) c.as_slice-groups.ensures.value in
+    (few, nested c.args.tree.now hosts groups numbers.limits.items numbers.depths.items numbers.rows.items numbers.off.items c.in_ok-numbers.ensures.numbered within.distinct within.preorder chains members lasts parts uncut, rw group (over_fault c.args.tree.now hosts groups numbers.limits.items numbers.depths.items numbers.rows.items numbers.off.items c.in_ok-numbers.ensures.numbered within.distinct within.preorder chains members lasts parts c.in-Some-find_over.over.group c.in-Some-find_over.over.down c.in-Some-find_over.over.limit found))
+
+pub list_deal_order-requires : goal.list_deal_order-requires
+list_deal_order-requires g c =
+    let numbers = c.in_ok-numbers.numbers in
+    let hosts : List Name = map (string_bytes {Z = Global}) numbers.hosts.items in
+    let groups : List Name = map (string_bytes {Z = Global}) numbers.groups.items in
+    let within = c.in_ok-numbers.ensures.within in
+    let chains = c.in_ok-parts.parts.chains in
+    let members = c.in_ok-parts.parts.members in
+    let lasts = c.in_ok-parts.parts.lasts.items in
+    let parts : ArePartsOf (length hosts) numbers.limits.items numbers.depths.items numbers.rows.items chains members lasts = subst (λ (n : ℕ). ArePartsOf n numbers.limits.items numbers.depths.items numbers.rows.items chains members lasts) (sym (length-map numbers.hosts.items (string_bytes {Z = Global}))) (rw (c.as_slice-hosts.ensures.value, c.as_slice-limits.ensures.value, c.as_slice.ensures.value, c.as_slice-2.ensures.value) at c.in_ok-parts.ensures) in
+    chains_below c.args.tree.now hosts groups numbers.limits.items numbers.depths.items numbers.rows.items numbers.off.items c.in_ok-numbers.ensures.numbered within.distinct within.preorder chains members lasts parts within.groups
+
+pub list_deal_places-requires : goal.list_deal_places-requires
+list_deal_places-requires g c =
+    let once = c.in_ok-order.ensures.each_once in
+    let long : length c.in_ok-order.order.items ≡ length c.in_ok-parts.parts.chains = length_permutation _ _ once ∙ length-range_with_len 0 (length c.in_ok-parts.parts.chains) in
+    rw c.as_slice-5.ensures.value (subst (λ (n : ℕ). IsPermutation (range_with_len 0 n) c.in_ok-order.order.items) (sym long) once)
+
+pub invariant_of-result : goal.invariant_of-result
+invariant_of-result g c =
+    let numbers = c.in_ok-numbers.numbers in
+    let hosts : List Name = map (string_bytes {Z = Global}) numbers.hosts.items in
+    let groups : List Name = map (string_bytes {Z = Global}) numbers.groups.items in
+    let within = c.in_ok-numbers.ensures.within in
+    let chains = c.in_ok-parts.parts.chains in
+    let members = c.in_ok-parts.parts.members in
+    let lasts = c.in_ok-parts.parts.lasts.items in
+    let parts : ArePartsOf (length hosts) numbers.limits.items numbers.depths.items numbers.rows.items chains members lasts = subst (λ (n : ℕ). ArePartsOf n numbers.limits.items numbers.depths.items numbers.rows.items chains members lasts) (sym (length-map numbers.hosts.items (string_bytes {Z = Global}))) (rw (c.as_slice-hosts.ensures.value, c.as_slice-limits.ensures.value, c.as_slice.ensures.value, c.as_slice-2.ensures.value) at c.in_ok-parts.ensures) in
+    let none = rw (c.as_slice-limits.ensures.value, c.as_slice-4.ensures.value) at c.in_default-find_over.ensures in
+    let few : length hosts ≤ 4096 = omega (arith, c.if-hosts-gt-MAX_HOSTS.false, length-map numbers.hosts.items (string_bytes {Z = Global}), ap length c.as_slice-hosts.ensures.value) in
+    record { sound = sound c.args.tree.now hosts groups numbers.limits.items numbers.depths.items numbers.rows.items numbers.off.items c.in_ok-numbers.ensures.numbered within.distinct within.preorder chains members lasts parts c.in_ok-order.order.items few (rw c.as_slice-3.ensures.value at c.in_default.ensures) none c.in_ok-order.ensures.each_once c.in_ok-order.ensures.dealt; placed = rw c.as_slice-5.ensures.value at c.in_ok-places.ensures }
+
+pub returns-clause-ok : goal.returns-clause-ok
+returns-clause-ok g c =
+    let numbers = c.in_ok-numbers.numbers in
+    let hosts : List Name = map (string_bytes {Z = Global}) numbers.hosts.items in
+    let groups : List Name = map (string_bytes {Z = Global}) numbers.groups.items in
+    let within = c.in_ok-numbers.ensures.within in
+    let chains = c.in_ok-parts.parts.chains in
+    let members = c.in_ok-parts.parts.members in
+    let lasts = c.in_ok-parts.parts.lasts.items in
+    let parts : ArePartsOf (length hosts) numbers.limits.items numbers.depths.items numbers.rows.items chains members lasts = subst (λ (n : ℕ). ArePartsOf n numbers.limits.items numbers.depths.items numbers.rows.items chains members lasts) (sym (length-map numbers.hosts.items (string_bytes {Z = Global}))) (rw (c.as_slice-hosts.ensures.value, c.as_slice-limits.ensures.value, c.as_slice.ensures.value, c.as_slice-2.ensures.value) at c.in_ok-parts.ensures) in
+    let none = rw (c.as_slice-limits.ensures.value, c.as_slice-4.ensures.value) at c.in_default-find_over.ensures in
+    let uncut = rw c.as_slice-3.ensures.value at c.in_default.ensures in
+    fleet_of c.args.tree.now hosts groups numbers.limits.items numbers.depths.items numbers.rows.items numbers.off.items c.in_ok-numbers.ensures.numbered within.distinct within.preorder chains members lasts parts c.in_ok-order.order.items uncut none

@@ -1,0 +1,21 @@
+-- Why an inventory is no fleet.
+use Rattle.std.specs.Prelude.{ℕ, ◌<◌, ◌≤◌, length}
+use Rattle.std.specs.String.{string_bytes}
+use Rattle.inventory_model.specs.Places.{Inventory}
+use Rattle.domains.specs.Hosts.{hosts_of}
+use Rattle.domains.specs.Starts.{IsFirstOver}
+use Rattle.domains.specs.Nested.{IsNested, IsLeastCrossing}
+use Rattle.domains.specs.declared.fault.FleetFault.{FleetFault}
+use Rattle.domains.specs.declared.fault.FleetFault.TheVariants.{TooManyHosts, NotNested, StartOver, Memory}
+
+abbrev pub max_hosts : ℕ
+max_hosts = 4096
+
+-- the fault names the first rule that the inventory breaks: the number of hosts, how limits nest, then the start
+abbrev pub IsFaultOf : Inventory → FleetFault → Type 0
+IsFaultOf inventory TooManyHosts = max_hosts < length (hosts_of inventory)
+IsFaultOf inventory (NotNested host first second) =
+    (length (hosts_of inventory) ≤ max_hosts) × IsLeastCrossing inventory (string_bytes host) (string_bytes first) (string_bytes second)
+IsFaultOf inventory (StartOver group down limit) =
+    (length (hosts_of inventory) ≤ max_hosts) × IsNested inventory × IsFirstOver inventory (string_bytes group) down limit
+IsFaultOf inventory Memory = Unit {0}

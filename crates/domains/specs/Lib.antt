@@ -1,0 +1,10 @@
+pub mod Spots
+pub mod Hosts
+pub mod Starts
+pub mod Nested
+pub mod Numbered
+pub mod Search
+pub mod Members
+pub mod FleetViews
+pub mod Faults
+pub mod Parts

@@ -1,0 +1,38 @@
+-- How many hosts of a group are off when a run starts, against its limit.
+use Rattle.std.specs.Prelude.{◌≡◌, ℕ, ◌<◌, Bool, true, false, ◌&&◌, nat_lt, Option, Some, None, List, [], filter, length, slice_index_or}
+use Rattle.inventory_model.specs.Names.{Name}
+use Rattle.inventory_model.specs.Places.{Place, Inventory}
+use Rattle.inventory_model.specs.Members.{holds}
+use Rattle.domains.specs.Hosts.{hosts_of, is_off}
+
+-- the place of a number, and an unlimited one past the end
+abbrev pub nowhere : Place
+nowhere = record { above = []; name = []; limit = None; variables = [] }
+
+abbrev pub place_at : List Place → ℕ → Place
+place_at places number = slice_index_or places number nowhere
+
+abbrev pub down_count : Inventory → Name → ℕ
+down_count inventory group =
+    length (filter (λ host. holds inventory group host && is_off inventory host) (hosts_of inventory))
+
+abbrev pub exceeds : Option ℕ → ℕ → Bool
+exceeds None count = false
+exceeds (Some limit) count = nat_lt limit count
+
+-- the group has a limit, and more of its hosts are off
+abbrev pub is_over : Inventory → ℕ → Bool
+is_over inventory number =
+    exceeds (place_at inventory.places number).limit (down_count inventory (place_at inventory.places number).name)
+
+abbrev pub StartsWithin : Inventory → Type 0
+StartsWithin inventory = (number : ℕ) → is_over inventory number ≡ false
+
+-- the first group in preorder that starts over its limit, with how many of its hosts are off
+pub record IsFirstOver (inventory : Inventory) (group : Name) (count limit : ℕ) : Type 0 where
+  pub number : ℕ
+  pub name : (place_at inventory.places number).name ≡ group
+  pub limited : (place_at inventory.places number).limit ≡ Some limit
+  pub counted : count ≡ down_count inventory group
+  pub over : limit < count
+  pub first : (earlier : ℕ) → earlier < number → is_over inventory earlier ≡ false

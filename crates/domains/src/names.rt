@@ -1,0 +1,63 @@
+//! The distinct hosts of a tree, and its rows by the numbers of hosts and groups.
+ghost use Rattle.std.specs.Prelude.{◌≡◌, ℕ, List, ◌<◌, IfOk, All, length, map, slice_index_or, []};
+ghost use Rattle.std.specs.String.{string_bytes};
+ghost use Rattle.fleet_numbers.specs.SortedNames.{sorted_names};
+
+use crate::rows::HostRow;
+use fleet_numbers::{find_name, make_distinct};
+use std::alloc::{AllocError, Allocator, Global};
+
+fn own_names(alloc: Global, names: &[&str]) -> Result<Vec<String>, AllocError>
+    ensures { IfOk result (λ own. map string_bytes own.items ≡ map (λ name. name.now) names.now) }
+{
+    let mut own = Vec::with_capacity(alloc, names.len())?;
+    for name in names {
+        own.push(String::from_str(alloc, name)?)?;
+    }
+    Ok(own)
+}
+
+fn names_of<'a, A: Allocator>(
+    alloc: Global,
+    rows: &[HostRow<'a, A>],
+) -> Result<Vec<&'a str>, AllocError>
+    ensures { IfOk result (λ names. map (λ name. name.now) names.items ≡ map (λ row. row.host.now.name) rows.now) }
+{
+    let mut names = Vec::with_capacity(alloc, rows.len())?;
+    for row in rows {
+        let host = row.host;
+        names.push(host.name())?;
+    }
+    Ok(names)
+}
+
+/// The names of the hosts, each once, in the order of their bytes.
+pub(crate) fn list_hosts<A: Allocator>(
+    alloc: Global,
+    rows: &[HostRow<'_, A>],
+) -> Result<Vec<String>, AllocError>
+    ensures { IfOk result (λ hosts. map string_bytes hosts.items ≡ sorted_names (map (λ row. row.host.now.name) rows.now)) }
+{
+    let mut names = names_of(alloc, rows)?;
+    make_distinct(&mut names);
+    own_names(alloc, names.as_slice())
+}
+
+/// Each row as its host's and its group's number.
+pub(crate) fn number_rows<A: Allocator>(
+    alloc: Global,
+    rows: &[HostRow<'_, A>],
+    hosts: &[String],
+) -> Result<Vec<(usize, usize)>, AllocError>
+    requires { map string_bytes hosts.now ≡ sorted_names (map (λ row. row.host.now.name) rows.now) }
+    ensures named { IfOk result (λ numbers. map {B = List ℕ × ℕ} (λ number. (slice_index_or (map string_bytes hosts.now) number.0 [], number.1)) numbers.items
+        ≡ map {B = List ℕ × ℕ} (λ row. (row.host.now.name, row.group)) rows.now) }
+    ensures hosts_in { IfOk result (λ numbers. All (λ number. number.0 < length hosts.now) numbers.items) }
+{
+    let mut numbers = Vec::with_capacity(alloc, rows.len())?;
+    for row in rows {
+        let host = find_name(hosts, row.host.name()).unwrap();
+        numbers.push((host, row.group))?;
+    }
+    Ok(numbers)
+}

@@ -1,0 +1,37 @@
+//! The lists of a fleet, from the depths of its groups and its rows.
+ghost use Rattle.std.specs.Prelude.{◌≡◌, ◌<◌, IfOk, All, length};
+ghost use Rattle.domains.specs.Parts.{ArePartsOf};
+
+use fleet_numbers::{NumberLists, list_chains, list_held, list_lasts, list_members, list_paths};
+use std::alloc::{AllocError, Global};
+
+/// Each host's limited groups, each group's hosts, and for each group the last one at or below it.
+#[derive(Drop)]
+pub(crate) struct Parts {
+    pub(crate) chains: NumberLists,
+    pub(crate) members: NumberLists,
+    pub(crate) lasts: Vec<usize>,
+}
+
+pub(crate) fn list_parts(
+    alloc: Global,
+    hosts: usize,
+    limits: &[Option<u16>],
+    depths: &[usize],
+    rows: &[(usize, usize)],
+) -> Result<Parts, AllocError>
+    requires hosts_in { All (λ row. row.0 < hosts) rows.now }
+    requires groups_in { All (λ row. row.1 < length depths.now) rows.now }
+    ensures { IfOk result (λ parts. ArePartsOf hosts limits.now depths.now rows.now parts.chains parts.members parts.lasts.items) }
+{
+    let paths = list_paths(alloc, depths)?;
+    let held = list_held(alloc, hosts, rows, &paths)?;
+    let chains = list_chains(alloc, &held, limits)?;
+    let members = list_members(alloc, &held, depths.len())?;
+    let lasts = list_lasts(alloc, &paths)?;
+    Ok(Parts {
+        chains,
+        members,
+        lasts,
+    })
+}

@@ -1,0 +1,80 @@
+//! The first host at which limited groups cut across each other, and the first group over its limit.
+ghost use Rattle.std.specs.Prelude.{◌≡◌, ℕ, ◌<◌, length, MatchOption, Some, None, All, count_by, false, slice_index_or};
+ghost use Rattle.fleet_numbers.specs.NumberLists.{list_at, IsRising};
+ghost use Rattle.fleet_numbers.specs.Chains.{IsUncut, IsLeastCut};
+ghost use Rattle.domains.specs.Starts.{exceeds};
+ghost use Rattle.domains.specs.Search.{off_count, IsFirstCutHost, IsFirstOverGroup};
+
+use fleet_numbers::{NumberLists, first_cut};
+
+/// Two limited groups that cut across each other at a host, all by their numbers.
+#[derive(Clone, Copy)]
+pub(crate) struct Crossing {
+    pub(crate) host: usize,
+    pub(crate) first: usize,
+    pub(crate) second: usize,
+}
+
+pub(crate) fn find_crossing(chains: &NumberLists, lasts: &[usize]) -> Option<Crossing>
+    requires { All (IsRising (length lasts.now)) chains.now }
+    ensures { MatchOption result ((host : ℕ) → host < length chains.now → IsUncut lasts.now (list_at chains.now host))
+        (λ crossing. IsFirstCutHost lasts.now chains.now crossing.host crossing.first crossing.second) }
+{
+    for host in 0..chains.len() {
+        if let Some((first, second)) = first_cut(chains.at(host), lasts) {
+            return Some(Crossing {
+                host,
+                first,
+                second,
+            });
+        }
+    }
+    None
+}
+
+fn is_off(off: &[bool], host: usize) -> bool
+    ensures { result ≡ slice_index_or off.now host false }
+{
+    match off.get(host) {
+        Some(off) => *off,
+        None => false,
+    }
+}
+
+fn count_off(hosts: &[usize], off: &[bool]) -> usize
+    ensures { result ≡ off_count off.now hosts.now }
+{
+    hosts.iter().filter(|host| is_off(off, **host)).count()
+}
+
+/// A group of which more hosts are off than its limit.
+#[derive(Clone, Copy)]
+pub(crate) struct Over {
+    pub(crate) group: usize,
+    pub(crate) down: usize,
+    pub(crate) limit: u16,
+}
+
+fn over_limit(limit: Option<u16>, down: usize) -> Option<u16>
+    ensures { MatchOption result (exceeds limit down ≡ false) (λ value. (limit ≡ Some value) × (value < down)) }
+{
+    match limit {
+        Some(limit) if usize::from(limit) < down => Some(limit),
+        _ => None,
+    }
+}
+
+pub(crate) fn find_over(members: &NumberLists, limits: &[Option<u16>], off: &[bool]) -> Option<Over>
+    requires { length limits.now ≡ length members.now }
+    ensures { MatchOption result ((group : ℕ) → group < length members.now
+        → exceeds (slice_index_or limits.now group None) (off_count off.now (list_at members.now group)) ≡ false)
+        (λ over. IsFirstOverGroup members.now limits.now off.now over.group over.down over.limit) }
+{
+    for group in 0..members.len() {
+        let down = count_off(members.at(group), off);
+        if let Some(limit) = over_limit(limits[group], down) {
+            return Some(Over { group, down, limit });
+        }
+    }
+    None
+}

@@ -1,0 +1,75 @@
+//! Groups, and a fleet as a line of text.
+use crate::Fleet;
+use group_tree::{Group, GroupFault, GroupId, HostId, Tree};
+use std::alloc::{AllocError, Allocator, Global};
+
+/// A group with these hosts, which have no variables.
+pub fn group<A: Allocator + Clone>(
+    alloc: A,
+    name: &str,
+    limit: Option<u16>,
+    hosts: &[&str],
+) -> Result<Group<A>, GroupFault> {
+    let mut group = Group::new(alloc, name, limit, &[])?;
+    for host in hosts {
+        group.add_host(host, &[])?;
+    }
+    Ok(group)
+}
+
+/// The group with one more child.
+pub fn with<A: Allocator + Clone>(
+    mut group: Group<A>,
+    child: Group<A>,
+) -> Result<Group<A>, GroupFault> {
+    group.add_child(child)?;
+    Ok(group)
+}
+
+/// The hosts in deal order, each with its chain, then the groups, each with its members; or why there is no fleet.
+pub fn told<A: Allocator + Drop>(alloc: Global, root: Group<A>) -> Result<String, AllocError> {
+    let Ok(tree) = Tree::new(root) else {
+        return String::from_str(alloc, "no tree");
+    };
+    match Fleet::build(alloc, &tree) {
+        Ok(fleet) => {
+            let mut text = String::new(alloc);
+            push_hosts(&mut text, &fleet)?;
+            push_groups(&mut text, &fleet)?;
+            Ok(text)
+        }
+        Err(fault) => fault.to_string(alloc),
+    }
+}
+
+fn push_hosts(text: &mut String, fleet: &Fleet) -> Result<(), AllocError> {
+    for host in fleet.deal_order() {
+        if *host < fleet.hosts() {
+            let host = HostId { index: *host };
+            text.push_str(fleet.name(host))?;
+            for group in fleet.chain(host) {
+                if *group < fleet.groups() {
+                    text.push_str(" ")?;
+                    text.push_str(fleet.group_name(GroupId { index: *group }))?;
+                }
+            }
+            text.push_str(if fleet.is_off(host) { " off;" } else { ";" })?;
+        }
+    }
+    Ok(())
+}
+
+fn push_groups(text: &mut String, fleet: &Fleet) -> Result<(), AllocError> {
+    for index in 0..fleet.groups() {
+        let group = GroupId { index };
+        text.push_str(" ")?;
+        text.push_str(fleet.group_name(group))?;
+        text.push_str("=")?;
+        for host in fleet.members(group) {
+            if *host < fleet.hosts() {
+                text.push_str(fleet.name(HostId { index: *host }))?;
+            }
+        }
+    }
+    Ok(())
+}

@@ -1,0 +1,102 @@
+//! Inventories whose answers are worked by hand.
+use super::text::{group, told, with};
+use group_tree::{Group, GroupFault, Scalar};
+use std::alloc::Allocator;
+use std::test::Fail;
+
+/// Two racks of a region.
+fn region<A: Allocator + Clone>(alloc: A) -> Result<Group<A>, GroupFault> {
+    let r1 = group(alloc.clone()?, "r1", Some(1), &["a", "b", "c"])?;
+    let r2 = group(alloc.clone()?, "r2", Some(2), &["d", "e"])?;
+    let eu = group(alloc.clone()?, "eu", Some(3), &[])?;
+    with(group(alloc, "all", None, &[])?, with(with(eu, r1)?, r2)?)
+}
+
+/// A host in a limited rack, and in a row of this limit.
+fn row_of_racks<A: Allocator + Clone>(
+    alloc: A,
+    row: &str,
+    limit: Option<u16>,
+) -> Result<Group<A>, GroupFault> {
+    let rack9 = group(alloc.clone()?, "rack9", Some(1), &["x"])?;
+    let rb = group(alloc.clone()?, "rb", Some(1), &[])?;
+    let row = group(alloc.clone()?, row, limit, &["x"])?;
+    let all = group(alloc, "all", None, &[])?;
+    with(with(with(all, rack9)?, rb)?, row)
+}
+
+/// One host in two groups, below a third.
+fn one_member<A: Allocator + Clone>(alloc: A) -> Result<Group<A>, GroupFault> {
+    let p = group(alloc.clone()?, "p", None, &["a"])?;
+    let q = group(alloc.clone()?, "q", None, &["a"])?;
+    let g = group(alloc.clone()?, "g", Some(1), &[])?;
+    with(group(alloc, "all", None, &[])?, with(with(g, p)?, q)?)
+}
+
+/// Both hosts of a group are down.
+fn down_at_start<A: Allocator + Clone>(alloc: A, limit: u16) -> Result<Group<A>, GroupFault> {
+    let mut g = Group::new(alloc.clone()?, "g", Some(limit), &[])?;
+    g.add_host("a", &[("down", Scalar::Bool(true))])?;
+    g.add_host("b", &[("down", Scalar::Bool(true))])?;
+    with(group(alloc, "all", None, &[])?, g)
+}
+
+/// One group with this many hosts.
+fn wide<A: Allocator + Clone>(alloc: A, hosts: usize) -> Result<Group<A>, Fail> {
+    let mut all = Group::new(alloc.clone()?, "all", None, &[])?;
+    for number in 0..hosts {
+        let name = format!(in alloc.clone()?; "h{number}")?;
+        all.add_host(name.as_str(), &[])?;
+    }
+    Ok(all)
+}
+
+#[test]
+fn racks_in_a_region_are_dealt_rack_by_rack(rt: HostRuntime) -> Result<(), Fail> {
+    let told = told(rt.alloc(), region(rt.alloc())?)?;
+    assert_eq!(rt;
+        told.as_str(),
+        "a eu r1;b eu r1;c eu r1;d eu r2;e eu r2; all=abcde eu=abcde r1=abc r2=de"
+    );
+    Ok(())
+}
+
+#[test]
+fn limited_groups_that_share_a_host_are_refused(rt: HostRuntime) -> Result<(), Fail> {
+    let refused = told(rt.alloc(), row_of_racks(rt.alloc(), "row1", Some(2))?)?;
+    assert_eq!(rt;
+        refused.as_str(),
+        "host x is in rack9 and in row1, and neither contains the other"
+    );
+    let accepted = told(rt.alloc(), row_of_racks(rt.alloc(), "web", None)?)?;
+    assert_eq!(rt; accepted.as_str(), "x rack9; all=x rack9=x rb= web=x");
+    Ok(())
+}
+
+#[test]
+fn a_host_at_two_places_is_one_member(rt: HostRuntime) -> Result<(), Fail> {
+    let told = told(rt.alloc(), one_member(rt.alloc())?)?;
+    assert_eq!(rt; told.as_str(), "a g; all=a g=a p=a q=a");
+    Ok(())
+}
+
+#[test]
+fn a_group_that_starts_over_its_limit_is_refused(rt: HostRuntime) -> Result<(), Fail> {
+    let refused = told(rt.alloc(), down_at_start(rt.alloc(), 1)?)?;
+    assert_eq!(rt;
+        refused.as_str(),
+        "2 hosts of g are down, and its limit is 1"
+    );
+    let accepted = told(rt.alloc(), down_at_start(rt.alloc(), 2)?)?;
+    assert_eq!(rt; accepted.as_str(), "a g off;b g off; all=ab g=ab");
+    Ok(())
+}
+
+#[test]
+fn a_fleet_has_at_most_4096_hosts(rt: HostRuntime) -> Result<(), Fail> {
+    let accepted = told(rt.alloc(), wide(rt.alloc(), 4096)?)?;
+    assert!(rt; accepted.starts_with("h0;h1;h10;h100;h1000;"));
+    let refused = told(rt.alloc(), wide(rt.alloc(), 4097)?)?;
+    assert_eq!(rt; refused.as_str(), "there are too many hosts");
+    Ok(())
+}

@@ -1,0 +1,119 @@
+-- The first two groups of a chain that cut across each other, by two searches.
+use Rattle.std.proofs.Common.{◌≡◌, ℕ, zero, suc, ◌+◌, ◌-◌, ◌≤◌, ◌<◌, Bool, true, false, ◌||◌, cond, nat_eq, nat_lt, Option, Some, None, List, [], ◌∷◌, length, get_or, find, sym, ap, ◌∙◌, refl, subst, arith, sub-one, inl, inr, ◌⊎◌}
+use Rattle.std.proofs.lemmas.Bool.{eqb-true, eq-eqb, ltb-true, ltb-false, lt-ltb, le-ltb, cases_lt, false≢true, or_right}
+use Rattle.std.proofs.lemmas.List.Folds.{list_any_at}
+use Rattle.fleet_numbers.specs.NumberLists.{has_number, IsRising}
+use Rattle.fleet_numbers.specs.Chains.{cuts, IsUncut, IsLeastCut}
+use Rattle.fleet_numbers.proofs.RisingLemmas.{Ascends, Ascends-rising, has_number-within}
+
+pub found_in : (p : ℕ → Bool) (xs : List ℕ) (x : ℕ) → find p xs ≡ Some x → (has_number x xs ≡ true) × (p x ≡ true)
+found_in p [] x e = absurd (cc)
+found_in p (y ∷ xs) x e = by_case (found_in p xs x) (p y) refl e
+  where
+    by_case : (find p xs ≡ Some x → (has_number x xs ≡ true) × (p x ≡ true)) → (b : Bool) → p y ≡ b → cond b (Some y) (find p xs) ≡ Some x → ((nat_eq x y || has_number x xs) ≡ true) × (p x ≡ true)
+    by_case later true s e =
+        let same : y ≡ x = cc in
+        (ap (λ b. b || has_number x xs) (itself same), subst (λ (n : ℕ). p n ≡ true) same s)
+      where
+        itself : y ≡ x → nat_eq x y ≡ true
+        itself q = eq-eqb x y (sym q)
+    by_case later false s e =
+        let r = later e in
+        (or_right (nat_eq x y) (has_number x xs) r.0, r.1)
+
+pub found_least : (p : ℕ → Bool) (low high : ℕ) (xs : List ℕ) (x n : ℕ) → Ascends low high xs → find p xs ≡ Some x → has_number n xs ≡ true → p n ≡ true → x ≤ n
+found_least p low high [] x n up e h t = absurd (cc)
+found_least p low high (y ∷ xs) x n up e h t =
+    by_case (found_least p (suc y) high xs x n up.2) (p y) refl e (nat_eq n y) refl
+  where
+    by_case : (find p xs ≡ Some x → has_number n xs ≡ true → p n ≡ true → x ≤ n) → (b : Bool) → p y ≡ b → cond b (Some y) (find p xs) ≡ Some x → (s : Bool) → nat_eq n y ≡ s → x ≤ n
+    by_case later true q e s r =
+        let same : y ≡ x = cc in
+        let within = has_number-within n low high (y ∷ xs) up h in
+        omega (arith, same, above s r)
+      where
+        above : (s : Bool) → nat_eq n y ≡ s → y ≤ n
+        above true r = omega (arith, eqb-true n y r)
+        above false r =
+            let rest : has_number n xs ≡ true = sym (ap (λ b. b || has_number n xs) r) ∙ h in
+            omega (arith, (has_number-within n (suc y) high xs up.2 rest).0)
+    by_case later false q e true r =
+        let same : n ≡ y = eqb-true n y r in
+        absurd (false≢true (sym q ∙ subst (λ (k : ℕ). p k ≡ true) same t))
+    by_case later false q e false r = later e (sym (ap (λ b. b || has_number n xs) r) ∙ h) t
+
+pub found_none : (p : ℕ → Bool) (xs : List ℕ) (n : ℕ) → find p xs ≡ None → has_number n xs ≡ true → p n ≡ false
+found_none p [] n e h = absurd (cc)
+found_none p (y ∷ xs) n e h = by_case (found_none p xs n) (p y) refl e (nat_eq n y) refl
+  where
+    by_case : (find p xs ≡ None → has_number n xs ≡ true → p n ≡ false) → (b : Bool) → p y ≡ b → cond b (Some y) (find p xs) ≡ None → (s : Bool) → nat_eq n y ≡ s → p n ≡ false
+    by_case later true q e s r = absurd (cc)
+    by_case later false q e true r = ap p (eqb-true n y r) ∙ q
+    by_case later false q e false r = later e (sym (ap (λ b. b || has_number n xs) r) ∙ h)
+
+-- the last of rising numbers is the greatest
+pub last_greatest : (low high : ℕ) (xs : List ℕ) (n d : ℕ) → Ascends low high xs → has_number n xs ≡ true → n ≤ get_or xs (length xs - 1) d
+last_greatest low high [] n d up h = absurd (cc)
+last_greatest low high (x ∷ []) n d up h = by_case (nat_eq n x) refl
+  where
+    by_case : (b : Bool) → nat_eq n x ≡ b → n ≤ x
+    by_case true s = omega (arith, eqb-true n x s)
+    by_case false s = absurd (false≢true (sym (ap (λ b. b || false) s) ∙ h))
+last_greatest low high (x ∷ (y ∷ xs)) n d up h =
+    by_case (last_greatest (suc x) high (y ∷ xs) y d up.2 (ap (λ b. b || has_number y xs) (eq-eqb y y refl))) (last_greatest (suc x) high (y ∷ xs) n d up.2) (nat_eq n x) refl
+  where
+    index : get_or (x ∷ (y ∷ xs)) (length (x ∷ (y ∷ xs)) - 1) d ≡ get_or (y ∷ xs) (length (y ∷ xs) - 1) d
+    index = simp sub-one
+
+    by_case : y ≤ get_or (y ∷ xs) (length (y ∷ xs) - 1) d → (has_number n (y ∷ xs) ≡ true → n ≤ get_or (y ∷ xs) (length (y ∷ xs) - 1) d) → (b : Bool) → nat_eq n x ≡ b → n ≤ get_or (x ∷ (y ∷ xs)) (length (x ∷ (y ∷ xs)) - 1) d
+    by_case head_below later true s = omega (arith, index, head_below, eqb-true n x s, up.2.0)
+    by_case head_below later false s =
+        omega (arith, index, later (sym (ap (λ b. b || has_number n (y ∷ xs)) s) ∙ h))
+
+module _ (lasts chain : List ℕ) (up : Ascends 0 (length lasts) chain) where
+  pub uncut_empty : length chain ≡ 0 → IsUncut lasts chain
+  uncut_empty e first second h k = absurd (none chain e h)
+    where
+      none : (xs : List ℕ) → length xs ≡ 0 → has_number first xs ≡ true → ⊥
+      none [] e h = cc
+      none (x ∷ xs) e h = absurd (omega (arith, e))
+
+  pub uncut_none : find (λ group. cuts lasts group (get_or chain (length chain - 1) 0)) chain ≡ None → IsUncut lasts chain
+  uncut_none e first second h k =
+      let top : second ≤ get_or chain (length chain - 1) 0 = last_greatest 0 (length lasts) chain second 0 up k in
+      let ends : nat_lt (get_or lasts first 0) (get_or chain (length chain - 1) 0) ≡ false = found_none (λ group. cuts lasts group (get_or chain (length chain - 1) 0)) chain first e h in
+      le-ltb (get_or lasts first 0) second (omega (arith, ltb-false _ _ ends))
+
+  pub cut_least : (first second : ℕ) → find (λ group. cuts lasts group (get_or chain (length chain - 1) 0)) chain ≡ Some first → find (nat_lt (get_or lasts first 0)) chain ≡ Some second → IsLeastCut lasts chain first second
+  cut_least first second e f =
+      let a = found_in (λ group. cuts lasts group (get_or chain (length chain - 1) 0)) chain first e in
+      let b = found_in (nat_lt (get_or lasts first 0)) chain second f in
+      record {
+        first_in = a.0;
+        second_in = b.0;
+        cut = b.1;
+        least = λ other later h k q. before other later h k q;
+      }
+    where
+      before : (other later : ℕ) → has_number other chain ≡ true → has_number later chain ≡ true → cuts lasts other later ≡ true → (first < other) ⊎ ((first ≡ other) × (second ≤ later))
+      before other later h k q =
+          let top : later ≤ get_or chain (length chain - 1) 0 = last_greatest 0 (length lasts) chain later 0 up k in
+          let ends : nat_lt (get_or lasts other 0) (get_or chain (length chain - 1) 0) ≡ true = lt-ltb _ _ (omega (arith, ltb-true _ _ q)) in
+          let least : first ≤ other = found_least (λ group. cuts lasts group (get_or chain (length chain - 1) 0)) 0 (length lasts) chain first other up e h ends in
+          by_case (cases_lt first other) least
+        where
+          by_case : (first < other) ⊎ (other ≤ first) → first ≤ other → (first < other) ⊎ ((first ≡ other) × (second ≤ later))
+          by_case (inl l) m = inl l
+          by_case (inr l) m =
+              let same : first ≡ other = omega arith in
+              inr (same, found_least (nat_lt (get_or lasts first 0)) 0 (length lasts) chain second later up f k (subst (λ (g : ℕ). cuts lasts g later ≡ true) (sym same) q))
+
+  -- where some group ends before the last one, something comes past it
+  pub cut_some : (first : ℕ) → find (λ group. cuts lasts group (get_or chain (length chain - 1) 0)) chain ≡ Some first → find (nat_lt (get_or lasts first 0)) chain ≡ None → 0 < length chain → ⊥
+  cut_some first e f some =
+      let a = found_in (λ group. cuts lasts group (get_or chain (length chain - 1) 0)) chain first e in
+      let none : nat_lt (get_or lasts first 0) (get_or chain (length chain - 1) 0) ≡ false = found_none (nat_lt (get_or lasts first 0)) chain (get_or chain (length chain - 1) 0) f (at_last chain some) in
+      false≢true (sym none ∙ a.1)
+    where
+      at_last : (xs : List ℕ) → 0 < length xs → has_number (get_or xs (length xs - 1) 0) xs ≡ true
+      at_last xs some = list_any_at (nat_eq (get_or xs (length xs - 1) 0)) xs (length xs - 1) 0 (omega arith) (eq-eqb _ _ refl)

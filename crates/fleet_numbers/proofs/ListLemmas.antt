@@ -1,0 +1,13 @@
+-- A write to one of several lists.
+use Rattle.std.proofs.Common.{◌≡◌, ℕ, ◌<◌, length, List, [], ◌++◌, map, set, get_or, sym, ap, ◌∙◌, arith}
+use Rattle.std.proofs.Common.{Global, Vec}
+use Rattle.std.proofs.lemmas.List.{map-set, get_or-map, length-map}
+
+pub extended : (lists : List (Vec ℕ Global)) (shown : List (List ℕ)) (place : ℕ) (old new : Vec ℕ Global) (more : List ℕ) → map (λ (list : Vec ℕ Global). list.items) lists ≡ shown → place < length shown → old ≡ get_or lists place old → new.items ≡ old.items ++ more → map (λ (list : Vec ℕ Global). list.items) (set lists place new) ≡ set shown place (get_or shown place [] ++ more)
+extended lists shown place old new more is inside here grown =
+    let within : place < length lists = omega (arith, simp length-map at (ap length is), inside) in
+    let items : Vec ℕ Global → List ℕ = λ list. list.items in
+    let read : get_or (map items lists) place [] ≡ items (get_or lists place old) = get_or-map items lists place old [] within in
+    let read' : get_or shown place [] ≡ old.items = sym (ap (λ (l : List (List ℕ)). get_or l place []) is) ∙ read ∙ sym (ap items here) in
+    let wrote : map items (set lists place new) ≡ set (map items lists) place new.items = map-set items lists place new in
+    wrote ∙ ap (λ (l : List (List ℕ)). set l place new.items) is ∙ ap (λ (l : List ℕ). set shown place l) (grown ∙ sym (ap (λ (l : List ℕ). l ++ more) read'))

@@ -1,0 +1,237 @@
+-- Rising numbers: what stands in them says what they are.
+use Rattle.std.proofs.Common.{◌≡◌, ℕ, zero, suc, ◌+◌, ◌≤◌, ◌<◌, Bool, true, false, ◌||◌, ◌&&◌, not, cond, nat_eq, nat_lt, List, [], ◌∷◌, ◌++◌, length, get_or, take, filter, IsPermutation, IsSorted, sym, ap, ◌∙◌, refl, subst, arith, add-one, inl, inr, ◌⊎◌}
+use Rattle.std.specs.List.{list_any, list_all, range_with_len, dedup, dedup_from, AllByRecursion}
+use Rattle.std.specs.List.Sorted.{IsStrictlySortedBy}
+use Rattle.std.specs.Ordering.{nat_cmp}
+use Rattle.std.specs.declared.cmp.Ordering.TheVariants.{Less}
+use Rattle.std.proofs.lemmas.List.{map-id}
+use Rattle.std.proofs.lemmas.List.Elements.{filter-append}
+use Rattle.std.proofs.lemmas.List.Folds.{list_any-append, list_any_at}
+use Rattle.std.proofs.lemmas.List.Recursion.{and_at}
+use Rattle.std.proofs.lemmas.List.FromFn.{map-range_with_len_more}
+use Rattle.std.proofs.lemmas.Bool.{le-ltb, and_parts, eqb-true, eq-eqb, ne_eqb, ltb-true, lt-ltb, cases_lt, cases_eq, or_parts}
+use Rattle.std.proofs.lemmas.Cmp.{ranked}
+use Rattle.std.proofs.lemmas.List.Sorted.{list_any-IsPermutation, IsPermutation-sym}
+use Rattle.std.proofs.lemmas.Map.Keys.{sorted_head, sorted_tail, sorted_from_strictly_increasing, IsStrictlyIncreasing-dedup}
+use Rattle.fleet_numbers.specs.NumberLists.{has_number, numbers_where, are_below, IsRising}
+
+-- the numbers rise, from `low` on and below `high`
+abbrev pub Ascends : ℕ → ℕ → List ℕ → Type 0
+Ascends low high [] = Unit {0}
+Ascends low high (x ∷ xs) = (low ≤ x) × (x < high) × Ascends (suc x) high xs
+
+pub has_number-below : (n low high : ℕ) (xs : List ℕ) → Ascends low high xs → n < low → has_number n xs ≡ false
+has_number-below n low high [] up l = refl
+has_number-below n low high (x ∷ xs) up l =
+    let apart : nat_eq n x ≡ false = ne_eqb n x (λ e. omega (arith, up.0)) in
+    ap (λ b. b || has_number n xs) apart ∙ has_number-below n (suc x) high xs up.2 (omega (arith, up.0))
+
+pub Ascends-lower : (low lower high : ℕ) (xs : List ℕ) → lower ≤ low → Ascends low high xs → Ascends lower high xs
+Ascends-lower low lower high [] l up = tt
+Ascends-lower low lower high (x ∷ xs) l up = (omega (arith, up.0), up.1, up.2)
+
+pub has_number-within : (n low high : ℕ) (xs : List ℕ) → Ascends low high xs → has_number n xs ≡ true → (low ≤ n) × (n < high)
+has_number-within n low high [] up e = absurd (cc)
+has_number-within n low high (x ∷ xs) up e =
+    by_case (has_number-within n (suc x) high xs up.2) (nat_eq n x) refl
+  where
+    by_case : (has_number n xs ≡ true → (suc x ≤ n) × (n < high)) → (b : Bool) → nat_eq n x ≡ b → (low ≤ n) × (n < high)
+    by_case later true s =
+        let same : n ≡ x = eqb-true n x s in
+        (omega (arith, up.0), omega (arith, up.1))
+    by_case later false s =
+        let r = later (sym (ap (λ b. b || has_number n xs) s) ∙ e) in
+        (omega (arith, up.0, r.0), r.1)
+
+-- rising numbers are the numbers that pass the test that they pass
+pub filtered_range : (p : ℕ → Bool) (count low : ℕ) (xs : List ℕ) → Ascends low (low + count) xs → ((n : ℕ) → low ≤ n → n < low + count → has_number n xs ≡ p n) → xs ≡ filter p (range_with_len low count)
+filtered_range p zero low [] up agree = refl
+filtered_range p zero low (x ∷ xs) up agree = absurd (omega (arith, up.0, up.1))
+filtered_range p (suc count) low [] up agree =
+    let here : false ≡ p low = agree low (omega arith) (omega arith) in
+    let later : [] ≡ filter p (range_with_len (low + 1) count) = filtered_range p count (low + 1) [] tt (λ n l h. agree n (omega arith) (omega arith)) in
+    later ∙ sym (ap (λ b. cond b (low ∷ filter p (range_with_len (low + 1) count)) (filter p (range_with_len (low + 1) count))) (sym here))
+filtered_range p (suc count) low (x ∷ xs) up agree =
+    by_case (λ e above. filtered_range p count (low + 1) xs (subst (λ (h : ℕ). Ascends (low + 1) h xs) (omega arith) (subst (λ (l : ℕ). Ascends l (low + suc count) xs) (omega (arith, e)) up.2)) above) (λ l above. filtered_range p count (low + 1) (x ∷ xs) (omega arith, omega (arith, up.1), subst (λ (h : ℕ). Ascends (suc x) h xs) (omega arith) up.2) above) (cases_eq low x)
+  where
+    rest : List ℕ
+    rest = filter p (range_with_len (low + 1) count)
+
+    by_case : (low ≡ x → ((n : ℕ) → low + 1 ≤ n → n < (low + 1) + count → has_number n xs ≡ p n) → xs ≡ filter p (range_with_len (low + 1) count)) → (low < x → ((n : ℕ) → low + 1 ≤ n → n < (low + 1) + count → has_number n (x ∷ xs) ≡ p n) → (x ∷ xs) ≡ filter p (range_with_len (low + 1) count)) → (low ≡ x) ⊎ (low ≡ x → ⊥) → (x ∷ xs) ≡ cond (p low) (low ∷ filter p (range_with_len (low + 1) count)) (filter p (range_with_len (low + 1) count))
+    by_case same other (inl e) =
+        let here : has_number low (x ∷ xs) ≡ p low = agree low (omega arith) (omega arith) in
+        let first : nat_eq low x ≡ true = eq-eqb low x e in
+        let yes : p low ≡ true = sym here ∙ ap (λ b. b || has_number low xs) first in
+        let later : xs ≡ filter p (range_with_len (low + 1) count) = same e (λ n l h. sym (ap (λ b. b || has_number n xs) (ne_eqb n x (λ d. omega arith))) ∙ agree n (omega arith) (omega arith)) in
+        ap (λ ys. x ∷ ys) later ∙ ap (λ (y : ℕ). y ∷ filter p (range_with_len (low + 1) count)) (sym e) ∙ sym (ap (λ b. cond b (low ∷ filter p (range_with_len (low + 1) count)) (filter p (range_with_len (low + 1) count))) yes)
+    by_case same other (inr d) =
+        let less : low < x = omega (arith, up.0, d) in
+        let none : has_number low (x ∷ xs) ≡ false = has_number-below low (suc low) (low + suc count) (x ∷ xs) (omega arith, up.1, up.2) (omega arith) in
+        let no : p low ≡ false = sym (agree low (omega arith) (omega arith)) ∙ none in
+        other less (λ n l h. agree n (omega arith) (omega arith)) ∙ sym (ap (λ b. cond b (low ∷ filter p (range_with_len (low + 1) count)) (filter p (range_with_len (low + 1) count))) no)
+
+pub rising_is : (p : ℕ → Bool) (bound : ℕ) (xs : List ℕ) → Ascends 0 bound xs → ((n : ℕ) → n < bound → has_number n xs ≡ p n) → xs ≡ numbers_where p bound
+rising_is p bound xs up agree =
+    filtered_range p bound 0 xs (subst (λ (h : ℕ). Ascends 0 h xs) (omega arith) up) (λ n l h. agree n (omega arith))
+
+Ascends-from_sorted : (low high : ℕ) (xs : List ℕ) → AllByRecursion (λ y. low ≤ y) xs → IsStrictlySortedBy nat_cmp xs → are_below high xs ≡ true → Ascends low high xs
+Ascends-from_sorted low high [] above up e = tt
+Ascends-from_sorted low high (x ∷ xs) above up e =
+    let parts = and_parts (nat_lt x high) (are_below high xs) e in
+    (above.0, ltb-true x high parts.0, Ascends-from_sorted (suc x) high xs (higher xs (sorted_head nat_cmp x xs up)) (sorted_tail nat_cmp x xs up) parts.1)
+  where
+    higher : (ys : List ℕ) → AllByRecursion (λ y. nat_cmp x y ≡ Less) ys → AllByRecursion (λ y. suc x ≤ y) ys
+    higher [] all = tt
+    higher (y ∷ ys) all = (ranked x y Less (sym all.0), higher ys all.1)
+
+zeros : (xs : List ℕ) → AllByRecursion (λ y. 0 ≤ y) xs
+zeros [] = tt
+zeros (x ∷ xs) = (omega arith, zeros xs)
+
+-- `dedup` drops nothing that a test could tell
+pub any-dedup : {X : Type 0} (same : X → X → Bool) (test : X → Bool) → ((x y : X) → same x y ≡ true → test x ≡ test y) → (xs : List X) → list_any test (dedup same xs) ≡ list_any test xs
+any-dedup same test alike [] = refl
+any-dedup {X = X} same test alike (x ∷ xs) = from x xs
+  where
+    or_again : (a b : Bool) → (a || b) ≡ (a || (a || b))
+    or_again true b = refl
+    or_again false b = refl
+
+    from : (k : X) (ys : List X) → list_any test (dedup_from same k ys) ≡ (test k || list_any test ys)
+    from k [] = refl
+    from k (y ∷ ys) = by_case (from k ys) (from y ys) (same y k) refl
+      where
+        by_case : list_any test (dedup_from same k ys) ≡ (test k || list_any test ys) → list_any test (dedup_from same y ys) ≡ (test y || list_any test ys) → (b : Bool) → same y k ≡ b → list_any test (cond b (dedup_from same k ys) (k ∷ dedup_from same y ys)) ≡ (test k || (test y || list_any test ys))
+        by_case here later true s =
+            here ∙ or_again (test k) (list_any test ys) ∙ ap (λ b. test k || (b || list_any test ys)) (sym (alike y k s))
+        by_case here later false s = ap (λ b. test k || b) later
+
+pub all-dedup : (bound : ℕ) (xs : List ℕ) → are_below bound xs ≡ true → are_below bound (dedup nat_eq xs) ≡ true
+all-dedup bound [] e = refl
+all-dedup bound (x ∷ xs) e =
+    let parts = and_parts (nat_lt x bound) (are_below bound xs) e in
+    from x xs parts.0 parts.1
+  where
+    from : (k : ℕ) (ys : List ℕ) → nat_lt k bound ≡ true → are_below bound ys ≡ true → are_below bound (dedup_from nat_eq k ys) ≡ true
+    from k [] here later = ap (λ b. b && true) here
+    from k (y ∷ ys) here later =
+        let parts = and_parts (nat_lt y bound) (are_below bound ys) later in
+        by_case (from k ys here parts.1) (from y ys parts.0 parts.1) (nat_eq y k)
+      where
+        by_case : are_below bound (dedup_from nat_eq k ys) ≡ true → are_below bound (dedup_from nat_eq y ys) ≡ true → (b : Bool) → are_below bound (cond b (dedup_from nat_eq k ys) (k ∷ dedup_from nat_eq y ys)) ≡ true
+        by_case drops keeps true = drops
+        by_case drops keeps false = ap (λ b. b && are_below bound (dedup_from nat_eq y ys)) here ∙ keeps
+
+-- a test of each element holds of the elements in another order
+pub list_all-IsPermutation : (p : ℕ → Bool) (xs ys : List ℕ) → IsPermutation xs ys → list_all p xs ≡ list_all p ys
+list_all-IsPermutation p xs ys moved =
+    by_not xs ∙ ap not (list_any-IsPermutation (λ x. not (p x)) xs ys moved) ∙ sym (by_not ys)
+  where
+    by_not : (zs : List ℕ) → list_all p zs ≡ not (list_any (λ x. not (p x)) zs)
+    by_not [] = refl
+    by_not (z ∷ zs) = by_case (p z) (by_not zs)
+      where
+        by_case : (b : Bool) → list_all p zs ≡ not (list_any (λ x. not (p x)) zs) → (b && list_all p zs) ≡ not (not b || list_any (λ x. not (p x)) zs)
+        by_case true e = e
+        by_case false e = refl
+
+pub rising-dedup : (xs sorted kept : List ℕ) → IsPermutation xs sorted → IsSorted nat_cmp sorted → kept ≡ dedup nat_eq sorted → (bound : ℕ) → are_below bound xs ≡ true → kept ≡ numbers_where (λ number. has_number number xs) bound
+rising-dedup xs sorted kept moved up is bound below =
+    let below' : are_below bound sorted ≡ true = sym (list_all-IsPermutation (λ n. nat_lt n bound) xs sorted moved) ∙ below in
+    let rises = Ascends-from_sorted 0 bound (dedup nat_eq sorted) (zeros (dedup nat_eq sorted)) (sorted_from_strictly_increasing (dedup nat_eq sorted) (IsStrictlyIncreasing-dedup sorted up)) (all-dedup bound sorted below') in
+    is ∙ rising_is (λ number. has_number number xs) bound (dedup nat_eq sorted) rises (λ n l. any-dedup nat_eq (nat_eq n) (λ x y s. ap (nat_eq n) (eqb-true x y s)) sorted ∙ sym (list_any-IsPermutation (nat_eq n) xs sorted moved))
+
+Ascends-filter : (p : ℕ → Bool) (count low : ℕ) → Ascends low (low + count) (filter p (range_with_len low count))
+Ascends-filter p zero low = tt
+Ascends-filter p (suc count) low =
+    by_case (subst (λ (h : ℕ). Ascends (low + 1) h (filter p (range_with_len (low + 1) count))) (omega arith) (Ascends-filter p count (low + 1))) (p low)
+  where
+    by_case : Ascends (low + 1) (low + suc count) (filter p (range_with_len (low + 1) count)) → (b : Bool) → Ascends low (low + suc count) (cond b (low ∷ filter p (range_with_len (low + 1) count)) (filter p (range_with_len (low + 1) count)))
+    by_case up true =
+        (omega arith, omega arith, subst (λ (l : ℕ). Ascends l (low + suc count) (filter p (range_with_len (low + 1) count))) (omega arith) up)
+    by_case up false =
+        Ascends-lower (low + 1) low (low + suc count) (filter p (range_with_len (low + 1) count)) (omega arith) up
+
+pub Ascends-numbers_where : (p : ℕ → Bool) (bound : ℕ) → Ascends 0 bound (numbers_where p bound)
+Ascends-numbers_where p bound =
+    subst (λ (h : ℕ). Ascends 0 h (numbers_where p bound)) (omega arith) (Ascends-filter p bound 0)
+
+pub Ascends-rising : (bound : ℕ) (xs : List ℕ) → IsRising bound xs → Ascends 0 bound xs
+Ascends-rising bound xs e =
+    subst (λ (ys : List ℕ). Ascends 0 bound ys) (sym e) (Ascends-numbers_where (λ n. has_number n xs) bound)
+
+pub are_below-ascends : (low high : ℕ) (xs : List ℕ) → Ascends low high xs → are_below high xs ≡ true
+are_below-ascends low high [] up = refl
+are_below-ascends low high (x ∷ xs) up =
+    ap (λ b. b && are_below high xs) (lt-ltb x high up.1) ∙ are_below-ascends (suc x) high xs up.2
+
+pub are_below-rising : (bound : ℕ) (xs : List ℕ) → IsRising bound xs → are_below bound xs ≡ true
+are_below-rising bound xs e = are_below-ascends 0 bound xs (Ascends-rising bound xs e)
+
+pub numbers_where_more : (p : ℕ → Bool) (n : ℕ) → numbers_where p (n + 1) ≡ numbers_where p n ++ cond (p n) (n ∷ []) []
+numbers_where_more p n =
+    ap (filter p) (range_more 0 n n (omega arith)) ∙ filter-append p (range_with_len 0 n) (n ∷ [])
+  where
+    range_more : (a k j : ℕ) → a + k ≡ j → range_with_len a (k + 1) ≡ range_with_len a k ++ j ∷ []
+    range_more a k j e =
+        sym (map-id (range_with_len a (k + 1))) ∙ map-range_with_len_more (λ x. x) a k j e ∙ ap (λ (l : List ℕ). l ++ j ∷ []) (map-id (range_with_len a k))
+
+any-append : (n : ℕ) (xs ys : List ℕ) → has_number n (xs ++ ys) ≡ (has_number n xs || has_number n ys)
+any-append n xs ys = list_any-append (nat_eq n) xs ys
+
+and_true : (b : Bool) → (b && true) ≡ b
+and_true true = refl
+and_true false = refl
+
+and_false : (b : Bool) → (b && false) ≡ false
+and_false true = refl
+and_false false = refl
+
+or_false : (b : Bool) → (b || false) ≡ b
+or_false true = refl
+or_false false = refl
+
+-- what passes stands in the list, and nothing else
+pub has_number-numbers_where : (p : ℕ → Bool) (bound n : ℕ) → has_number n (numbers_where p bound) ≡ (nat_lt n bound && p n)
+has_number-numbers_where p zero n = ap (λ b. b && p n) (sym (le-ltb n 0 (omega arith)))
+has_number-numbers_where p (suc bound) n =
+    ap (has_number n) (ap (numbers_where p) (sym (add-one bound)) ∙ numbers_where_more p bound) ∙ any-append n (numbers_where p bound) (cond (p bound) (bound ∷ []) []) ∙ ap (λ b. b || has_number n (cond (p bound) (bound ∷ []) [])) (has_number-numbers_where p bound n) ∙ by_case (cases_eq n bound)
+  where
+    own : (b : Bool) → has_number n (cond b (bound ∷ []) []) ≡ (b && nat_eq n bound)
+    own true = by (nat_eq n bound)
+      where
+        by : (t : Bool) → (t || false) ≡ t
+        by true = refl
+        by false = refl
+    own false = refl
+
+    by_case : (n ≡ bound) ⊎ (n ≡ bound → ⊥) → ((nat_lt n bound && p n) || has_number n (cond (p bound) (bound ∷ []) [])) ≡ (nat_lt n (suc bound) && p n)
+    by_case (inl e) =
+        let past : nat_lt n bound ≡ false = le-ltb n bound (omega (arith, e)) in
+        let here : nat_eq n bound ≡ true = eq-eqb n bound e in
+        let within : nat_lt n (suc bound) ≡ true = lt-ltb n (suc bound) (omega (arith, e)) in
+        let same : p n ≡ p bound = ap p e in
+        ap (λ b. (b && p n) || has_number n (cond (p bound) (bound ∷ []) [])) past ∙ own (p bound) ∙ ap (λ b. p bound && b) here ∙ and_true (p bound) ∙ sym same ∙ sym (ap (λ b. b && p n) within)
+    by_case (inr d) =
+        let other : nat_eq n bound ≡ false = ne_eqb n bound d in
+        let none : has_number n (cond (p bound) (bound ∷ []) []) ≡ false = own (p bound) ∙ ap (λ b. p bound && b) other ∙ and_false (p bound) in
+        ap (λ b. (nat_lt n bound && p n) || b) none ∙ or_false (nat_lt n bound && p n) ∙ ap (λ b. b && p n) (next (cases_lt n bound))
+      where
+        next : (n < bound) ⊎ (bound ≤ n) → nat_lt n bound ≡ nat_lt n (suc bound)
+        next (inl l) = lt-ltb n bound l ∙ sym (lt-ltb n (suc bound) (omega arith))
+        next (inr l) = le-ltb n bound l ∙ sym (le-ltb n (suc bound) (omega (arith, d)))
+
+pub below_at : (bound : ℕ) (xs : List ℕ) (i : ℕ) → are_below bound xs ≡ true → i < length xs → get_or xs i 0 < bound
+below_at bound xs i e within =
+    ltb-true (get_or xs i 0) bound (and_at (are_below bound) (λ n. nat_lt n bound) refl (λ _ _. refl) xs i 0 within e)
+
+-- a number stands at one place of rising numbers alone
+pub fresh : (low high : ℕ) (xs : List ℕ) (i : ℕ) → Ascends low high xs → i < length xs → has_number (get_or xs i 0) (take i xs) ≡ false
+fresh low high [] i up within = absurd (omega arith)
+fresh low high (x ∷ xs) zero up within = refl
+fresh low high (x ∷ xs) (suc i) up within =
+    let inside : i < length xs = omega arith in
+    let here : has_number (get_or xs i 0) xs ≡ true = list_any_at (nat_eq (get_or xs i 0)) xs i 0 inside (eq-eqb _ _ refl) in
+    let above = has_number-within (get_or xs i 0) (suc x) high xs up.2 here in
+    let apart : nat_eq (get_or xs i 0) x ≡ false = ne_eqb _ _ (λ e. omega (arith, above.0)) in
+    ap (λ b. b || has_number (get_or xs i 0) (take i xs)) apart ∙ fresh (suc x) high xs i up.2 inside

@@ -1,0 +1,6 @@
+use Rattle.std.proofs.Common.{◌≡◌, take, filter}
+use Rattle.fleet_numbers.specs.Chains.{is_limited}
+use Rattle.fleet_numbers.proofs.chains.limited_of.Given as goal
+
+abbrev pub invariant-loop-group : goal.invariant-loop-group
+invariant-loop-group l = l.limited.items ≡ filter (is_limited l.limits) (take l.group-index l.groups)

@@ -1,0 +1,7 @@
+use Rattle.std.proofs.lemmas.List.Filters.{dedup_is}
+use Rattle.fleet_numbers.proofs.SortedNamesLemmas.{sorted_names-dedup}
+use Rattle.fleet_numbers.proofs.names.make_distinct.Goals as goal
+
+pub returns : goal.returns
+returns c =
+    sorted_names-dedup c.args.names.now.items _ _ c.sort_unstable.ensures.permutation c.sort_unstable.ensures.sorted (dedup_is _ _ _ c.dedup.ensures.filtered)

@@ -1,0 +1,15 @@
+-- Groups by their numbers in preorder, each with the numbers from the outermost group down to it.
+use Rattle.std.specs.Prelude.{ℕ, suc, Bool, List, [], ◌∷◌, ◌++◌, take, ◌&&◌, nat_eq}
+use Rattle.std.specs.List.{list_any}
+use Rattle.fleet_numbers.specs.NumberLists.{has_number, list_at}
+
+-- the paths of the groups from `number` on, after a group with this path; a depth is how many groups stand above
+abbrev pub paths_from : List ℕ → ℕ → List ℕ → List (List ℕ)
+paths_from path number [] = []
+paths_from path number (depth ∷ depths) =
+    (take depth path ++ number ∷ []) ∷ paths_from (take depth path ++ number ∷ []) (suc number) depths
+
+-- a row of the host stands in a group whose path has the group; a row is a host's and a group's number
+abbrev pub is_member : List (List ℕ) → List (ℕ × ℕ) → ℕ → ℕ → Bool
+is_member paths rows group host =
+    list_any (λ row. nat_eq host row.0 && has_number group (list_at paths row.1)) rows

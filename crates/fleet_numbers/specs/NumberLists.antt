@@ -1,0 +1,28 @@
+-- Lists of numbers of hosts and groups.
+use Rattle.std.specs.Prelude.{◌≡◌, nat_lt, ℕ, Bool, nat_eq, List, [], filter, ◌&&◌, ◌==◌, slice_index_or, zero, suc, cond}
+use Rattle.std.specs.List.{list_any, list_all, range_with_len}
+
+-- the number stands in the list
+abbrev pub has_number : ℕ → List ℕ → Bool
+has_number number numbers = list_any (nat_eq number) numbers
+
+-- the numbers below `count` that pass, rising
+abbrev pub numbers_where : (ℕ → Bool) → ℕ → List ℕ
+numbers_where test count = filter test (range_with_len 0 count)
+
+-- the list at a place, and none past the end
+abbrev pub list_at : List (List ℕ) → ℕ → List ℕ
+list_at lists place = slice_index_or lists place []
+
+-- the greatest number below `count` that passes, and 0 where none does
+abbrev pub last_where : (ℕ → Bool) → ℕ → ℕ
+last_where test zero = 0
+last_where test (suc number) = cond (test number) number (last_where test number)
+
+-- each number is below the bound
+abbrev pub are_below : ℕ → List ℕ → Bool
+are_below bound numbers = list_all (λ number. nat_lt number bound) numbers
+
+-- the numbers rise, and each is below the bound
+abbrev pub IsRising : ℕ → List ℕ → Type 0
+IsRising bound numbers = numbers ≡ numbers_where (λ number. has_number number numbers) bound

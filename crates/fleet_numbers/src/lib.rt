@@ -1,0 +1,16 @@
+//! Hosts and groups by their numbers: distinct names, paths, members, chains and the deal order.
+#![tactic(auto)]
+
+mod chains;
+mod deal;
+mod lists;
+mod members;
+mod names;
+mod paths;
+
+pub use chains::{first_cut, list_chains, list_lasts};
+pub use deal::{list_deal_order, list_deal_places};
+pub use lists::{NumberLists, make_rising};
+pub use members::{list_held, list_members};
+pub use names::{find_name, make_distinct};
+pub use paths::list_paths;

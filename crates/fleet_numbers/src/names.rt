@@ -1,0 +1,23 @@
+//! Names in the order of their bytes.
+ghost use Rattle.std.specs.Prelude.{◌≡◌, ◌<◌, length, map, IsFalse, MatchOption, slice_index_or, []};
+ghost use Rattle.std.specs.String.{string_bytes};
+ghost use Rattle.std.specs.List.Sorted.{IsStrictlySortedBy};
+ghost use Rattle.inventory_model.specs.Names.{is_among};
+ghost use Rattle.fleet_numbers.specs.SortedNames.{name_cmp, sorted_names};
+
+/// Puts the names in the order of their bytes, each once.
+pub fn make_distinct(names: &mut Vec<&str>)
+    ensures { map (λ name. name.now) names.new.items ≡ sorted_names (map (λ name. name.now) names.old.items) }
+{
+    names.sort_unstable();
+    names.dedup();
+}
+
+/// The place of a name among names in the order of their bytes.
+pub fn find_name(names: &[String], name: &str) -> Option<usize>
+    requires { IsStrictlySortedBy name_cmp (map string_bytes names.now) }
+    ensures { MatchOption result (IsFalse (is_among name.now (map string_bytes names.now)))
+        (λ place. (place < length names.now) × (slice_index_or (map string_bytes names.now) place [] ≡ name.now)) }
+{
+    names.binary_search_by(|own| own.as_str().cmp(name)).ok()
+}

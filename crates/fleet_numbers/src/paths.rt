@@ -1,0 +1,21 @@
+//! The numbers from the outermost group down to each group.
+ghost use Rattle.std.specs.Prelude.{◌≡◌, IfOk, []};
+ghost use Rattle.fleet_numbers.specs.GroupPaths.{paths_from};
+
+use crate::lists::NumberLists;
+use std::alloc::{AllocError, Global};
+
+/// For each group in preorder the numbers from the outermost group down to it; `depths` says how many groups stand
+/// above each.
+pub fn list_paths(alloc: Global, depths: &[usize]) -> Result<NumberLists, AllocError>
+    ensures { IfOk result (λ paths. paths ≡ paths_from [] 0 depths.now) }
+{
+    let mut paths = NumberLists::new(alloc);
+    let mut path = Vec::new(alloc);
+    for (number, depth) in depths.iter().enumerate() {
+        path.truncate(*depth);
+        path.push(number)?;
+        paths.push(path.as_slice())?;
+    }
+    Ok(paths)
+}

@@ -1,0 +1,71 @@
+-- The groups below a body, by the members under `children`, and what the reader's list says of them.
+use Rattle.std.proofs.Common.{◌≡◌, ℕ, ◌+◌, ◌≤◌, min, Option, Some, List, [], ◌∷◌, ◌++◌, map, Ordering, Less, Equal, Greater, unwrap_or, nat_cmp, refl, sym, ap, ◌∙◌, append_assoc, arith}
+use Rattle.std.specs.List.{flat_map}
+use Rattle.std.specs.Ordering.{match_ordering}
+use Rattle.std.specs.Cmp.Lexicographic.{slice_cmp}
+use Rattle.std.proofs.lemmas.List.{map-append}
+use Rattle.serde_json.specs.Data.{Data, null, boolean, number, string, array, object, Members, no_members, member}
+use Rattle.serde_json.specs.Find.{get_member}
+use Rattle.serde_json.specs.View.{view}
+use Rattle.inventory_model.specs.Names.{Name}
+use Rattle.inventory_read.specs.Keys.{all_key, children_key}
+use Rattle.inventory_read.specs.Documents as documents
+use Rattle.inventory_read.specs.Documents.{members_in, part, entries, under, with_below, below_body, below_members, groups_in, groups_among, groups_from}
+use Rattle.inventory_read.specs.Listings.{Seen, seen, seen_at, most}
+use Rattle.inventory_read.specs.declared.listing.Listed.{Listed}
+
+groups_in-is : (value : Data) → groups_in value ≡ groups_among (members_in value)
+groups_in-is null = refl
+groups_in-is (boolean _) = refl
+groups_in-is (number _) = refl
+groups_in-is (string _) = refl
+groups_in-is (array _) = refl
+groups_in-is (object _) = refl
+
+at_key : (o : Ordering) (here : List documents.Listed) (value : Data) (found : Option Data) → here ≡ groups_among (members_in (unwrap_or found null)) → match_ordering o here (groups_in value) here ≡ groups_among (members_in (unwrap_or (match_ordering o found (Some value) found) null))
+at_key Less here value found e = e
+at_key Equal here value found e = groups_in-is value
+at_key Greater here value found e = e
+
+below_members-is : (members : Members) → below_members members ≡ groups_among (members_in (unwrap_or (get_member children_key members) null))
+below_members-is no_members = refl
+below_members-is (member key value more) =
+    at_key (slice_cmp nat_cmp children_key key) (below_members more) value (get_member children_key more) (below_members-is more)
+
+-- the groups below a body are those under its `children`
+pub below_body-is : (body : Data) → below_body body ≡ groups_among (members_in (part children_key body))
+below_body-is null = refl
+below_body-is (boolean _) = refl
+below_body-is (number _) = refl
+below_body-is (string _) = refl
+below_body-is (array _) = refl
+below_body-is (object members) = below_members-is members
+
+pub groups_among-is : (members : Members) → groups_among members ≡ flat_map groups_from (entries members)
+groups_among-is no_members = refl
+groups_among-is (member name body more) = ap (λ rest. with_below name body (below_body body) ++ rest) (groups_among-is more)
+
+seen_at-under : (depth : ℕ) (name : Name) (groups : List documents.Listed) → map (seen_at depth) (map (under name) groups) ≡ map (seen_at (min (depth + 1) most)) groups
+seen_at-under depth name [] = refl
+seen_at-under depth name (group ∷ groups) =
+    let first : seen_at depth (under name group) ≡ seen_at (min (depth + 1) most) group =
+    ap (λ d. record { name = group.name; body = group.body; depth = d }) (omega arith) in
+    rw (first, seen_at-under depth name groups) refl
+
+cons_same : {X : Type 0} {x y : X} {xs ys : List X} → x ≡ y → xs ≡ ys → x ∷ xs ≡ y ∷ ys
+cons_same e f = cc
+
+-- a group and all below it, once those below it have been added
+pub listed_with_below : (before after : List Listed) (group : Listed) (depth : ℕ) (members : Members) (whole : List Seen) → after ≡ before ++ group ∷ [] → group.depth ≤ most → depth ≡ min (group.depth + 1) most → members ≡ members_in (part children_key (view group.body.now)) → whole ≡ map seen after ++ map (seen_at depth) (groups_among members) → whole ≡ map seen before ++ map (seen_at group.depth) (with_below group.name.now (view group.body.now) (below_body (view group.body.now)))
+listed_with_below before after group depth members whole pushed fits deep is e =
+    let own : seen group ≡ seen_at group.depth (record { above = []; name = group.name.now; body = view group.body.now }) =
+    ap (λ d. record { name = group.name.now; body = view group.body.now; depth = d }) (omega arith) in
+    let below : map (seen_at depth) (groups_among members) ≡ map (seen_at group.depth) (map (under group.name.now) (below_body (view group.body.now))) =
+    sym (seen_at-under group.depth group.name.now (below_body (view group.body.now)) ∙ rw (below_body-is, ← deep, ← is) refl) in
+    let added : map seen after ≡ map seen before ++ seen group ∷ [] = ap (map seen) pushed ∙ map-append seen before (group ∷ []) in
+    e ∙ ap (λ first. first ++ map (seen_at depth) (groups_among members)) added ∙ append_assoc (map seen before) (seen group ∷ []) _ ∙ ap (λ rest. map seen before ++ rest) (cons_same own below)
+
+-- `all` and all below it, once those below it have been listed
+pub listed_all : (groups : List Seen) (body : Data) (below : List documents.Listed) → groups ≡ record { name = all_key; body = body; depth = 1 } ∷ map (seen_at 2) below → groups ≡ map (seen_at 1) (with_below all_key body below)
+listed_all groups body below e =
+    e ∙ ap (λ rest. record { name = all_key; body = body; depth = 1 } ∷ rest) (sym (seen_at-under 1 all_key below))

@@ -1,0 +1,102 @@
+-- The groups of an inventory's document, in preorder.
+use Rattle.std.specs.Prelude.{Bool, not, List, [], ◌∷◌, ◌++◌, map, take, drop, unwrap_or}
+use Rattle.std.specs.List.{filter, flat_map, prefix_len}
+use Rattle.std.specs.Ordering.{nat_cmp, is_lt, match_ordering}
+use Rattle.std.specs.Cmp.Lexicographic.{slice_cmp}
+use Rattle.serde_json.specs.Data.{Data, null, boolean, number, string, array, object, Members, no_members, member}
+use Rattle.serde_json.specs.Find.{get}
+use Rattle.inventory_model.specs.Names.{Name, same_name}
+use Rattle.inventory_read.specs.Keys.{all_key, children_key}
+
+-- a member of an object
+pub record Entry : Type 0 where
+  pub name : Name
+  pub value : Data
+
+-- the members in the order of their names, which a document's objects keep; each name stands once
+abbrev pub entries : Members → List Entry
+entries no_members = []
+entries (member name value more) = record { name = name; value = value } ∷ entries more
+
+-- the members of an object; any other value has none
+abbrev pub members_in : Data → Members
+members_in (object members) = members
+members_in null = no_members
+members_in (boolean _) = no_members
+members_in (number _) = no_members
+members_in (string _) = no_members
+members_in (array _) = no_members
+
+abbrev pub entries_in : Data → List Entry
+entries_in value = entries (members_in value)
+
+-- the value under a key of an object, null where there is none
+abbrev pub part : Name → Data → Data
+part key value = unwrap_or (get key value) null
+
+-- a group as the document lists it: the names above it from the outermost in, its own name, and its body
+pub record Listed : Type 0 where
+  pub above : List Name
+  pub name : Name
+  pub body : Data
+
+-- the group one group further down
+abbrev pub under : Name → Listed → Listed
+under outer group = record group { above = outer ∷ group.above }
+
+-- a group, and after it all those below it
+abbrev pub with_below : Name → Data → List Listed → List Listed
+with_below name body below = record { above = []; name = name; body = body } ∷ map (under name) below
+
+-- the groups below a body, where `children` of the body lists groups in the order of their names
+abbrev mutual
+  pub below_body : Data → List Listed
+  below_body (object members) = below_members members
+  below_body null = []
+  below_body (boolean _) = []
+  below_body (number _) = []
+  below_body (string _) = []
+  below_body (array _) = []
+
+  pub below_members : Members → List Listed
+  below_members no_members = []
+  below_members (member key value more) = match_ordering (slice_cmp nat_cmp children_key key) (below_members more) (groups_in value) (below_members more)
+
+  pub groups_in : Data → List Listed
+  groups_in (object groups) = groups_among groups
+  groups_in null = []
+  groups_in (boolean _) = []
+  groups_in (number _) = []
+  groups_in (string _) = []
+  groups_in (array _) = []
+
+  pub groups_among : Members → List Listed
+  groups_among no_members = []
+  groups_among (member name body more) = with_below name body (below_body body) ++ groups_among more
+
+-- a group of this name and body, and all below it
+abbrev pub groups_from : Entry → List Listed
+groups_from group = with_below group.name group.value (below_body group.value)
+
+-- the second name stands before the first
+abbrev pub comes_after : Entry → Entry → Bool
+comes_after entry other = is_lt (slice_cmp nat_cmp other.name entry.name)
+
+-- two lists, each in the order of its names, as one; of two with one name the first list's comes first
+abbrev pub merged : List Entry → List Entry → List Entry
+merged [] others = others
+merged (entry ∷ own) others =
+    take (prefix_len (comes_after entry) others) others ++ entry ∷ merged own (drop (prefix_len (comes_after entry) others) others)
+
+abbrev pub is_beside_all : Entry → Bool
+is_beside_all entry = not (same_name entry.name all_key)
+
+-- the children of `all`: its own, and the groups that the top value lists beside it
+abbrev pub children_of_all : Data → List Entry
+children_of_all document =
+    merged (entries_in (part children_key (part all_key document))) (filter is_beside_all (entries_in document))
+
+-- all groups of the document in preorder, `all` first; where it is missing it has no body
+abbrev pub groups_of : Data → List Listed
+groups_of document =
+    with_below all_key (part all_key document) (flat_map groups_from (children_of_all document))

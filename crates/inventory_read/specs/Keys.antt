@@ -1,0 +1,25 @@
+-- The keys that the format gives a meaning.
+use Rattle.std.specs.Prelude.{List, [], ◌∷◌, codes}
+use Rattle.inventory_model.specs.Names.{Name}
+
+abbrev pub all_key : Name
+all_key = codes "all"
+
+abbrev pub hosts_key : Name
+hosts_key = codes "hosts"
+
+abbrev pub children_key : Name
+children_key = codes "children"
+
+abbrev pub vars_key : Name
+vars_key = codes "vars"
+
+abbrev pub max_down_key : Name
+max_down_key = codes "max_down"
+
+abbrev pub down_key : Name
+down_key = codes "down"
+
+-- the keys that a group's body may have
+abbrev pub body_keys : List Name
+body_keys = hosts_key ∷ children_key ∷ vars_key ∷ []

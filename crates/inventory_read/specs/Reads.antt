@@ -1,0 +1,30 @@
+-- What reading a text promises.
+use Rattle.std.specs.Prelude.{◌≡◌, ℕ, ◌⊎◌, Some, None, List, [], IsUtf8, ⊤, MatchOption}
+use Rattle.serde_json.specs.Data.{Data}
+use Rattle.serde_json.specs.Read.{read}
+use Rattle.inventory_model.specs.Places.{Inventory}
+use Rattle.inventory_read.specs.Faults.{number_of}
+use Rattle.inventory_read.specs.Rules.{IsListed, broken}
+use Rattle.inventory_read.specs.Values.{inventory_of}
+use Rattle.inventory_read.specs.declared.fault.ReadFault.{ReadFault}
+
+-- the text is UTF-8 JSON, its value breaks no rule, and the inventory is what the value says
+pub record IsReadAs (text : List ℕ) (inventory : Inventory) : Type 0 where
+  pub utf8 : IsUtf8 text
+  pub document : Data
+  pub reads : read text ≡ Some document
+  pub keeps_all : broken document ≡ []
+  pub says : inventory ≡ inventory_of document
+
+-- 201: the text is no UTF-8 or no JSON
+abbrev pub IsNoJson : List ℕ → Type 0
+IsNoJson text = IsUtf8 text → read text ≡ None
+
+-- the text breaks the rule of this number
+abbrev pub Breaks : List ℕ → ℕ → Type 0
+Breaks text rule =
+    ((rule ≡ 201) × IsNoJson text) ⊎ ((document : Data) × IsUtf8 text × (read text ≡ Some document) × IsListed rule (broken document))
+
+-- the fault names a rule that the text breaks, or want of memory
+abbrev pub IsTrueOf : List ℕ → ReadFault → Type 0
+IsTrueOf text fault = MatchOption (number_of fault) ⊤ (Breaks text)

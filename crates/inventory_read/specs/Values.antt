@@ -1,0 +1,61 @@
+-- What a document says of its groups: limits, variables, hosts, and so the inventory.
+use Rattle.std.specs.Prelude.{ℕ, Option, Some, None, List, map, option_map, option_and_then, nat_le, if◌then◌else◌}
+use Rattle.std.specs.List.{filter_map, flat_map}
+use Rattle.serde_json.specs.Data.{Data, null, boolean, number, string, array, object}
+use Rattle.serde_json.specs.Find.{get, as_number, as_u64, as_i64}
+use Rattle.inventory_model.specs.Variables.{Scalar, Text, Int, Truth, Variable}
+use Rattle.inventory_model.specs.Places.{Place, Row, Inventory}
+use Rattle.inventory_model.specs.Subtrees.{Host}
+use Rattle.inventory_read.specs.Keys.{hosts_key, vars_key, max_down_key}
+use Rattle.inventory_read.specs.Documents.{Entry, Listed, entries_in, part, groups_of}
+
+-- a text, a whole number or a truth value; any other value defines nothing
+abbrev pub scalar_of : Data → Option Scalar
+scalar_of (string text) = Some (Text text)
+scalar_of (number n) = option_map Int (as_i64 n)
+scalar_of (boolean truth) = Some (Truth truth)
+scalar_of null = None
+scalar_of (array _) = None
+scalar_of (object _) = None
+
+abbrev pub variable_of : Entry → Option Variable
+variable_of entry = option_map (λ value. record { name = entry.name; value = value }) (scalar_of entry.value)
+
+abbrev pub variables_of : List Entry → List Variable
+variables_of list = filter_map variable_of list
+
+-- a limit is a whole number from 0 to 65,535
+abbrev pub limit_of : Data → Option ℕ
+limit_of value =
+    option_and_then (λ n. if nat_le n 65535 then Some n else None) (option_and_then as_u64 (as_number value))
+
+abbrev pub host_of : Entry → Host
+host_of entry = record { name = entry.name; variables = variables_of (entries_in entry.value) }
+
+-- what a group's body says: its limit, its variables and its own hosts
+abbrev pub limit_in : Data → Option ℕ
+limit_in body = option_and_then limit_of (get max_down_key (part vars_key body))
+
+abbrev pub variables_in : Data → List Variable
+variables_in body = variables_of (entries_in (part vars_key body))
+
+abbrev pub hosts_in : Data → List Host
+hosts_in body = map host_of (entries_in (part hosts_key body))
+
+abbrev pub place_of : Listed → Place
+place_of group =
+    record { above = group.above; name = group.name; limit = limit_in group.body; variables = variables_in group.body }
+
+abbrev pub row_of : Listed → Host → Row
+row_of group host =
+    record { above = group.above; group = group.name; host = host.name; variables = host.variables }
+
+abbrev pub rows_of : Listed → List Row
+rows_of group = map (row_of group) (hosts_in group.body)
+
+abbrev pub inventory_from : List Listed → Inventory
+inventory_from groups = record { places = map place_of groups; rows = flat_map rows_of groups }
+
+-- the inventory that the document says
+abbrev pub inventory_of : Data → Inventory
+inventory_of document = inventory_from (groups_of document)

@@ -1,0 +1,34 @@
+-- Small documents, written out, against which the definitions are read.
+use Rattle.std.specs.Prelude.{ℕ, List, [], ◌∷◌, codes}
+use Rattle.serde_json.specs.Data.{unsigned, Data, null, number, object, Members, no_members, member}
+use Rattle.inventory_model.specs.Names.{Name}
+use Rattle.inventory_read.specs.Keys.{all_key, hosts_key, children_key, vars_key, max_down_key}
+
+abbrev one : Name → Data → Data
+one key value = object (member key value no_members)
+
+-- members without a value, in the order of their names
+abbrev listed : List Name → Members
+listed [] = no_members
+listed (name ∷ names) = member name null (listed names)
+
+abbrev limit : ℕ → Data
+limit hosts = one max_down_key (number (unsigned hosts))
+
+abbrev rack : ℕ → List Name → Data
+rack most hosts = object (member hosts_key (object (listed hosts)) (member vars_key (limit most) no_members))
+
+-- the region eu (3 may be down), and in it the racks r1 (1 of a, b, c) and r2 (2 of d, e)
+abbrev pub two_racks : Data
+two_racks =
+    one all_key (one children_key (one (codes "eu") (object (member children_key (object (member (codes "r1") (rack 1 (codes "a" ∷ codes "b" ∷ codes "c" ∷ [])) (member (codes "r2") (rack 2 (codes "d" ∷ codes "e" ∷ [])) no_members))) (member vars_key (limit 3) no_members)))))
+
+-- the groups b and d below `all`, and a, b and c beside it; b below `all` lists the host own
+abbrev pub beside_all : Data
+beside_all =
+    object (member (codes "a") null (member all_key (one children_key (object (member (codes "b") (one hosts_key (one (codes "own") null)) (member (codes "d") null no_members)))) (member (codes "b") null (member (codes "c") null no_members))))
+
+-- `all` has a limit that is too large and a key that has no meaning; web stands below itself
+abbrev pub three_faults : Data
+three_faults =
+    object (member all_key (object (member vars_key (limit 65536) (member (codes "x") null no_members))) (member (codes "web") (one children_key (one (codes "web") null)) no_members))

@@ -1,0 +1,98 @@
+//! Why a text is no inventory.
+ghost use Rattle.std.specs.Prelude.{◌≡◌};
+ghost use Rattle.inventory_read.specs.Faults.{number_of};
+
+use group_tree::TreeFault;
+use std::alloc::{AllocError, AllocFailed};
+use thiserror::Error;
+
+/// Why a text is no inventory: the first rule that it breaks. A path `at` is the keys from the top value, joined
+/// by `/`; the top value's is empty.
+#[derive(Debug, PartialEq, Eq, Drop, Error)]
+pub enum ReadFault {
+    #[error("the text is no JSON")]
+    NotJson,
+    /// A value is neither null nor an object, or the top value is no object.
+    #[error("not of the shape that the format asks for: {at:?}")]
+    BadShape { at: String },
+    /// A group's body has a key that the format does not name.
+    #[error("a key that the format does not name: {at:?}")]
+    UnknownKey { at: String },
+    /// A group's `max_down` is no whole number from 0 to 65,535.
+    #[error("not a whole number from 0 to 65535: {at:?}")]
+    BadLimit { at: String },
+    /// A host's `down` is no truth value.
+    #[error("neither true nor false: {at:?}")]
+    BadDown { at: String },
+    /// The name of a group or a host is not 1 to 255 ASCII letters, digits, dots, dashes and underscores.
+    #[error("not a name of letters, digits, dots, dashes and underscores: {name:?}")]
+    BadName { name: String },
+    /// Two groups have one name. `group` is the preorder number, counted from 1, of the first whose name stood before.
+    #[error("group {group} has the name of one before it")]
+    TwicePlaced { group: usize },
+    /// A group is more than 32 deep; `all` has depth 1.
+    #[error("the groups are nested too deep")]
+    TooDeep,
+    /// There are more than 1,024 groups or 16,384 host rows.
+    #[error("too many groups or hosts")]
+    TooMany,
+    #[error("out of memory")]
+    Memory,
+}
+
+impl ReadFault {
+    /// The number of the rule that is broken; want of memory breaks none.
+    pub fn number(&self) -> Option<u16>
+        ensures { result ≡ number_of self.now }
+    {
+        match self {
+            ReadFault::NotJson => Some(201),
+            ReadFault::BadShape { .. } => Some(202),
+            ReadFault::UnknownKey { .. } => Some(203),
+            ReadFault::BadLimit { .. } => Some(204),
+            ReadFault::BadDown { .. } => Some(205),
+            ReadFault::BadName { .. } => Some(101),
+            ReadFault::TwicePlaced { .. } => Some(102),
+            ReadFault::TooDeep => Some(103),
+            ReadFault::TooMany => Some(104),
+            ReadFault::Memory => None,
+        }
+    }
+}
+
+impl From<AllocError> for ReadFault {
+    ghost use Rattle.std.specs.Prelude.{◌≡◌};
+    ghost use Rattle.inventory_read.specs.declared.fault.ReadFault.TheVariants.{Memory};
+
+    ghost from_gives = { λ _ fault. fault ≡ Memory };
+
+    fn from(_refused: AllocError) -> ReadFault {
+        ReadFault::Memory
+    }
+}
+
+impl<T: Drop> From<AllocFailed<T>> for ReadFault {
+    ghost use Rattle.std.specs.Prelude.{◌≡◌};
+    ghost use Rattle.inventory_read.specs.declared.fault.ReadFault.TheVariants.{Memory};
+
+    ghost from_gives = { λ _ fault. fault ≡ Memory };
+
+    fn from(_refused: AllocFailed<T>) -> ReadFault {
+        ReadFault::Memory
+    }
+}
+
+impl From<TreeFault> for ReadFault {
+    ghost use Rattle.std.specs.Prelude.{◌≡◌, Some};
+    ghost use Rattle.inventory_read.specs.Faults.{number_of, tree_rule};
+
+    ghost from_gives = { λ fault found. number_of found ≡ Some (tree_rule fault) };
+
+    fn from(fault: TreeFault) -> ReadFault {
+        match fault {
+            TreeFault::TwicePlaced { group } => ReadFault::TwicePlaced { group },
+            TreeFault::TooDeep => ReadFault::TooDeep,
+            TreeFault::TooMany => ReadFault::TooMany,
+        }
+    }
+}

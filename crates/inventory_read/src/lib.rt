@@ -1,0 +1,19 @@
+//! Reads an inventory from the bytes of a JSON text.
+#![tactic(auto)]
+
+mod build;
+mod fault;
+mod flaw;
+mod limits;
+mod listing;
+mod members;
+mod path;
+mod read;
+mod rules;
+#[cfg(test)]
+mod tests;
+mod variables;
+mod worked;
+
+pub use fault::ReadFault;
+pub use read::read_inventory;

@@ -1,0 +1,111 @@
+//! From the bytes of a text to the tree.
+ghost use Rattle.std.specs.Prelude.{◌≡◌, ◌⊎◌, ◌++◌, [], Some, None, map, IfOk, IfErr, IsUtf8};
+ghost use Rattle.std.specs.List.{flat_map};
+ghost use Rattle.serde_json.specs.Data.{null};
+ghost use Rattle.serde_json.specs.Read.{read};
+ghost use Rattle.serde_json.specs.View.{view};
+ghost use Rattle.inventory_read.specs.Documents as documents;
+ghost use Rattle.inventory_read.specs.Faults.{IsRefusal, Names, number_of};
+ghost use Rattle.inventory_read.specs.Keys.{all_key};
+ghost use Rattle.inventory_read.specs.Listings.{broken_at, seen, listing_of};
+ghost use Rattle.inventory_read.specs.Reads.{IsReadAs, IsTrueOf, IsNoJson};
+ghost use Rattle.inventory_read.specs.Rules as rules;
+ghost use Rattle.inventory_read.specs.Values as values;
+
+use crate::build::build_all;
+use crate::fault::ReadFault;
+use crate::limits::check_tree;
+use crate::listing::{Listed, children_of_all, list_groups};
+use crate::path::fault_at;
+use crate::rules::check_group;
+use group_tree::Tree;
+use serde_json::Value;
+use std::alloc::{Allocator, Global};
+
+fn parse(json: Global, text: &[u8]) -> Result<Value, ReadFault>
+    ensures ok { IfOk result (λ document. IsUtf8 text.now × (read text.now ≡ Some (view document))) }
+    ensures err { IfErr result (λ fault. (number_of fault ≡ None) ⊎ ((number_of fault ≡ Some 201) × IsNoJson text.now)) }
+{
+    match Value::from_slice(json, text) {
+        Ok(document) => Ok(document),
+        Err(error) if error.is_memory() => Err(ReadFault::Memory),
+        Err(_) => Err(ReadFault::NotJson),
+    }
+}
+
+fn check_top(json: Global, document: &Value) -> Result<(), ReadFault>
+    ensures { IsRefusal result (rules.bad_top (view document.now)) }
+{
+    if document.is_object() {
+        Ok(())
+    } else {
+        Err(ReadFault::BadShape {
+            at: String::new(json),
+        })
+    }
+}
+
+fn check_groups(json: Global, groups: &[Listed<'_>]) -> Result<(), ReadFault>
+    ensures { IsRefusal result (flat_map broken_at groups.now) }
+{
+    for index in 0..groups.len() {
+        if let Err(flaw) = check_group(groups[index].name, groups[index].body) {
+            return Err(fault_at(json, groups, index, flaw)?);
+        }
+    }
+    Ok(())
+}
+
+/// The body of `all`; where it is missing, nothing.
+fn body_of_all<'a>(document: &'a Value, nothing: &'a Value) -> &'a Value
+    requires { view nothing.now ≡ null }
+    ensures { view result.now ≡ documents.part all_key (view document.now) }
+{
+    document.get("all").unwrap_or(nothing)
+}
+
+/// The first rule that the document breaks, where these are its groups.
+fn check(json: Global, document: &Value, groups: &[Listed<'_>]) -> Result<(), ReadFault>
+    requires { map seen groups.now ≡ listing_of (documents.groups_of (view document.now)) }
+    ensures { IsRefusal result (rules.broken (view document.now)) }
+{
+    check_top(json, document)?;
+    check_groups(json, groups)?;
+    check_tree(json, groups)
+}
+
+/// The tree that a document says.
+fn tree_of<A: Allocator + Clone>(
+    alloc: A,
+    json: Global,
+    document: &Value,
+) -> Result<Tree<A>, ReadFault>
+    ensures ok { IfOk result (λ tree. (rules.broken (view document.now) ≡ []) × (tree ≡ values.inventory_of (view document.now))) }
+    ensures err { IfErr result (λ fault. Names fault (rules.broken (view document.now))) }
+{
+    let nothing = Value::Null;
+    let all = body_of_all(document, &nothing);
+    let children = children_of_all(json, document, all)?;
+    let groups = list_groups(json, all, children.as_slice())?;
+    check(json, document, groups.as_slice())?;
+    let root = build_all(alloc, json, all, children.as_slice())?;
+    match Tree::new(root) {
+        Ok(tree) => Ok(tree),
+        Err((fault, _root)) => Err(ReadFault::from(fault)),
+    }
+}
+
+/// Reads an inventory into a tree under `alloc`; what is needed on the way is taken from `json` and given back.
+/// A text that breaks no rule is refused for want of memory alone. Of several faults the first is named: those of the
+/// groups in preorder, then a name that stands twice, the depth, and the numbers of groups and rows.
+pub fn read_inventory<A: Allocator + Clone>(
+    alloc: A,
+    json: Global,
+    text: &[u8],
+) -> Result<Tree<A>, ReadFault>
+    ensures ok { IfOk result (IsReadAs text.now) }
+    ensures err { IfErr result (IsTrueOf text.now) }
+{
+    let document = parse(json, text)?;
+    tree_of(alloc, json, &document)
+}

@@ -1,0 +1,137 @@
+//! The rules that each group of a document keeps by itself.
+ghost use Rattle.std.specs.Prelude.{◌≡◌, ◌∷◌, [], true, IsTrue, IfSome, unwrap_or, option_map};
+ghost use Rattle.std.specs.List.{concat, list_all};
+ghost use Rattle.serde_json.specs.Data.{null};
+ghost use Rattle.serde_json.specs.Find.{get};
+ghost use Rattle.serde_json.specs.View.{view, members_view};
+ghost use Rattle.inventory_model.specs.Names.{is_among};
+ghost use Rattle.inventory_read.specs.Documents.{entries, entries_in, part};
+ghost use Rattle.inventory_read.specs.Faults.{IsVerdict};
+ghost use Rattle.inventory_read.specs.Keys.{body_keys, vars_key, hosts_key};
+ghost use Rattle.inventory_read.specs.Rules as rules;
+
+use crate::flaw::Flaw;
+use crate::members::{members_at, members_of};
+use crate::variables::limit_of;
+use group_tree::is_name;
+use serde_json::{Map, Value};
+
+fn check_name<'a>(name: &'a str) -> Result<(), Flaw<'a>>
+    ensures { IsVerdict result (rules.bad_name name.now) }
+{
+    if is_name(name) {
+        Ok(())
+    } else {
+        Err(Flaw::BadName(name))
+    }
+}
+
+fn has_shape(value: &Value) -> bool
+    ensures { rules.bad_shape (view value.now) ≡ rules.unless result 202 }
+{
+    value.is_null() || value.is_object()
+}
+
+fn check_body<'a>(body: &'a Value) -> Result<(), Flaw<'a>>
+    ensures { IsVerdict result (rules.bad_shape (view body.now)) }
+{
+    if has_shape(body) {
+        Ok(())
+    } else {
+        Err(Flaw::BadBody)
+    }
+}
+
+fn is_body_key(key: &str) -> bool
+    ensures { result ≡ is_among key.now body_keys }
+{
+    key == "hosts" || key == "children" || key == "vars"
+}
+
+fn check_keys<'a>(body: &'a Value) -> Result<(), Flaw<'a>>
+    ensures { IsVerdict result (rules.unknown_key (view body.now)) }
+{
+    let Some(members) = members_of(body) else {
+        return Ok(());
+    };
+    for (key, _value) in members {
+        if !is_body_key(key.as_str()) {
+            return Err(Flaw::UnknownKey(key.as_str()));
+        }
+    }
+    Ok(())
+}
+
+fn check_part<'a>(body: &'a Value, key: &'a str) -> Result<(), Flaw<'a>>
+    ensures { IsVerdict result (rules.bad_shape (part key.now (view body.now))) }
+{
+    match body.get(key) {
+        Some(value) if !has_shape(value) => Err(Flaw::BadPart(key)),
+        _ => Ok(()),
+    }
+}
+
+fn check_limit<'a>(body: &'a Value) -> Result<(), Flaw<'a>>
+    ensures { IsVerdict result (rules.bad_limit (part vars_key (view body.now))) }
+{
+    let Some(vars) = body.get("vars") else {
+        return Ok(());
+    };
+    match vars.get("max_down") {
+        Some(value) if limit_of(value).is_none() => Err(Flaw::BadLimit),
+        _ => Ok(()),
+    }
+}
+
+fn check_host_shape<'a>(name: &'a str, variables: &'a Value) -> Result<(), Flaw<'a>>
+    ensures { IsVerdict result (rules.bad_shape (view variables.now)) }
+{
+    if has_shape(variables) {
+        Ok(())
+    } else {
+        Err(Flaw::BadHost(name))
+    }
+}
+
+fn check_down<'a>(name: &'a str, variables: &'a Value) -> Result<(), Flaw<'a>>
+    ensures { IsVerdict result (rules.bad_down (view variables.now)) }
+{
+    match variables.get("down") {
+        Some(value) if !value.is_boolean() => Err(Flaw::BadDown(name)),
+        _ => Ok(()),
+    }
+}
+
+fn check_host<'a>(name: &'a str, variables: &'a Value) -> Result<(), Flaw<'a>>
+    ensures { IsVerdict result (rules.broken_by_host (record { name = name.now; value = view variables.now })) }
+{
+    check_name(name)?;
+    check_host_shape(name, variables)?;
+    check_down(name, variables)
+}
+
+fn check_hosts<'a>(body: &'a Value) -> Result<(), Flaw<'a>>
+    ensures { IsVerdict result (rules.broken_by_hosts (entries_in (part hosts_key (view body.now)))) }
+{
+    let Some(hosts) = members_at(body, "hosts") else {
+        return Ok(());
+    };
+    for (name, variables) in hosts {
+        check_host(name.as_str(), variables)?;
+    }
+    Ok(())
+}
+
+/// The first rule that a group breaks, apart from the groups below it.
+pub(crate) fn check_group<'a>(name: &'a str, body: &'a Value) -> Result<(), Flaw<'a>>
+    ensures { IsVerdict result (rules.broken_by_group name.now (view body.now)) }
+{
+    check_name(name)?;
+    check_body(body)?;
+    check_keys(body)?;
+    check_part(body, "vars")?;
+    check_part(body, "hosts")?;
+    check_part(body, "children")?;
+    check_limit(body)?;
+    check_hosts(body)
+}

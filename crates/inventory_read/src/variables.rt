@@ -1,0 +1,45 @@
+//! Variables and limits as the text gives them.
+ghost use Rattle.std.specs.Prelude.{◌≡◌, IfOk, map, option_map};
+ghost use Rattle.serde_json.specs.View.{view, members_view};
+ghost use Rattle.group_tree.specs.Scalars.{said, given};
+ghost use Rattle.inventory_read.specs.Documents.{entries};
+ghost use Rattle.inventory_read.specs.Values as values;
+
+use group_tree::Scalar;
+use serde_json::{Map, Value};
+use std::alloc::{AllocError, Global};
+
+/// What `max_down` says: a whole number from 0 to 65,535.
+pub(crate) fn limit_of(value: &Value) -> Option<u16>
+    ensures { result ≡ values.limit_of (view value.now) }
+{
+    u16::try_from(value.as_u64()?).ok()
+}
+
+/// A text, a whole number or a truth value; nothing for any other value.
+fn scalar_of(value: &Value) -> Option<Scalar<'_>>
+    ensures { option_map said result ≡ values.scalar_of (view value.now) }
+{
+    match value {
+        Value::String(text) => Some(Scalar::Text(text.as_str())),
+        Value::Bool(truth) => Some(Scalar::Bool(*truth)),
+        Value::Number(number) => Some(Scalar::Int(number.as_i64()?)),
+        _ => None,
+    }
+}
+
+/// The variables that an object defines, in the order of their names.
+pub(crate) fn variables_of<'a>(
+    json: Global,
+    members: &'a Map<String, Value>,
+) -> Result<Vec<(&'a str, Scalar<'a>)>, AllocError>
+    ensures { IfOk result (λ found. map given found.items ≡ values.variables_of (entries (members_view members.now.entries))) }
+{
+    let mut found = Vec::new(json);
+    for (name, value) in members {
+        if let Some(scalar) = scalar_of(value) {
+            found.push((name.as_str(), scalar))?;
+        }
+    }
+    Ok(found)
+}

@@ -1,0 +1,36 @@
+//! The definitions, read against small documents: each clause computes.
+ghost use Rattle.std.specs.Prelude.{◌≡◌, Some, None, [], ◌∷◌, map, codes};
+ghost use Rattle.inventory_model.specs.Places.{Place, Row, row_path};
+ghost use Rattle.inventory_read.specs.Keys.{all_key};
+ghost use Rattle.inventory_read.specs.Rules.{broken};
+ghost use Rattle.inventory_read.specs.Values.{inventory_of};
+ghost use Rattle.inventory_read.specs.Worked.{two_racks, beside_all, three_faults};
+
+/// Four groups in preorder, each with its limit, and five rows.
+pub fn two_racks_are_four_groups()
+    ensures names { map (λ (p : Place). p.name) (inventory_of two_racks).places
+        ≡ all_key ∷ codes "eu" ∷ codes "r1" ∷ codes "r2" ∷ [] }
+    ensures limits { map (λ (p : Place). p.limit) (inventory_of two_racks).places
+        ≡ None ∷ Some 3 ∷ Some 1 ∷ Some 2 ∷ [] }
+    ensures hosts { map (λ (r : Row). r.host) (inventory_of two_racks).rows
+        ≡ codes "a" ∷ codes "b" ∷ codes "c" ∷ codes "d" ∷ codes "e" ∷ [] }
+    ensures path { map row_path (inventory_of two_racks).rows
+        ≡ (all_key ∷ codes "eu" ∷ codes "r1" ∷ []) ∷ (all_key ∷ codes "eu" ∷ codes "r1" ∷ [])
+        ∷ (all_key ∷ codes "eu" ∷ codes "r1" ∷ []) ∷ (all_key ∷ codes "eu" ∷ codes "r2" ∷ [])
+        ∷ (all_key ∷ codes "eu" ∷ codes "r2" ∷ []) ∷ [] }
+    ensures unbroken { broken two_racks ≡ [] }
+{}
+
+/// The groups beside `all` come below it, in name order with its own; of two with one name its own is first.
+pub fn groups_beside_all_come_below_it()
+    ensures names { map (λ (p : Place). p.name) (inventory_of beside_all).places
+        ≡ all_key ∷ codes "a" ∷ codes "b" ∷ codes "b" ∷ codes "c" ∷ codes "d" ∷ [] }
+    ensures above { map (λ (p : Place). p.above) (inventory_of beside_all).places
+        ≡ [] ∷ (all_key ∷ []) ∷ (all_key ∷ []) ∷ (all_key ∷ []) ∷ (all_key ∷ []) ∷ (all_key ∷ []) ∷ [] }
+    ensures twice { broken beside_all ≡ 102 ∷ [] }
+{}
+
+/// Each broken rule is listed, those of the groups before those of the tree.
+pub fn three_faults_are_listed()
+    ensures { broken three_faults ≡ 203 ∷ 204 ∷ 102 ∷ [] }
+{}

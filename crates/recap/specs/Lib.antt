@@ -1,0 +1,2 @@
+pub mod LimitsText
+pub mod LimitsTable

@@ -1,0 +1,43 @@
+-- The table of limits of an inventory.
+use Rattle.std.specs.Prelude.{ℕ, ◌-◌, Option, Some, None, List, [], length, filter, option_map, slice_index_or}
+use Rattle.std.specs.List.{filter_map, range_with_len}
+use Rattle.inventory_model.specs.Places.{Place, Inventory}
+use Rattle.inventory_model.specs.Members.{holds}
+use Rattle.domains.specs.Hosts.{hosts_of}
+use Rattle.domains.specs.Starts.{down_count}
+use Rattle.domains.specs.FleetViews.{FleetView}
+use Rattle.domains.specs.Search.{off_count}
+use Rattle.fleet_numbers.specs.NumberLists.{list_at}
+use Rattle.recap.specs.LimitsText.{LimitLine, line_text, table_text}
+
+-- how many hosts a group of this name holds
+abbrev pub member_count : Inventory → List ℕ → ℕ
+member_count inventory group = length (filter (holds inventory group) (hosts_of inventory))
+
+-- what is said of a group, where it has a limit; the room is what is left of the limit, and none where more are down
+abbrev pub line_of : Inventory → Place → Option LimitLine
+line_of inventory place =
+    option_map (λ limit. record { group = place.name; members = member_count inventory place.name; down = down_count inventory place.name; limit = limit; room = limit - down_count inventory place.name }) place.limit
+
+-- the same of a fleet, by the group's number
+abbrev pub fleet_line : FleetView → ℕ → Option LimitLine
+fleet_line fleet group =
+    option_map (λ limit. record { group = slice_index_or fleet.groups group []; members = length (list_at fleet.members group); down = off_count fleet.off (list_at fleet.members group); limit = limit; room = limit - off_count fleet.off (list_at fleet.members group) }) (slice_index_or fleet.limits group None)
+
+-- the text of a line, where there is one
+abbrev pub lines_text : Option LimitLine → List ℕ
+lines_text None = []
+lines_text (Some line) = line_text line
+
+-- the lines of the first groups
+abbrev pub fleet_lines : FleetView → ℕ → List LimitLine
+fleet_lines fleet count = filter_map (fleet_line fleet) (range_with_len 0 count)
+
+abbrev pub fleet_table : FleetView → List ℕ
+fleet_table fleet =
+    table_text (fleet_lines fleet (length fleet.groups)) (length fleet.hosts)
+
+-- a line for each limited group in preorder, and how many hosts there are
+abbrev pub limits_table : Inventory → List ℕ
+limits_table inventory =
+    table_text (filter_map (line_of inventory) inventory.places) (length (hosts_of inventory))
