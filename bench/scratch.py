@@ -53,8 +53,8 @@ def small_groups(_size):
     )
 
 
-def valid(size):
-    """As large as that with 16,384 hosts at most, each with about a thousand bytes of variables."""
-    variables = members(25, lambda v: f'"name{v:02}":"a value of some thirty bytes {v:02}"')
-    host = lambda h: f'"h{h:05}":{{{variables}}}'
-    return '{"all":{"hosts":{%s}}}' % members(min(16384, size // (len(host(0)) + 1)), host)
+def valid(size, most=16384):
+    """So many hosts, each with so many variables that the text is about as large as that."""
+    variable = lambda v: f'"name{v:04}":"a value of some thirty bytes {v:04}"'
+    variables = members((size // most - 12) // (len(variable(0)) + 1), variable)
+    return '{"all":{"hosts":{%s}}}' % members(most, lambda h: f'"h{h:05}":{{{variables}}}')

@@ -3,7 +3,7 @@ use group_tree::{Group, GroupFault, Scalar, Tree};
 use std::alloc::Allocator;
 
 /// A group with these hosts, which have no variables.
-pub fn group<A: Allocator + Clone>(
+pub(crate) fn group<A: Allocator + Clone>(
     alloc: A,
     name: &str,
     limit: Option<u16>,
@@ -17,7 +17,7 @@ pub fn group<A: Allocator + Clone>(
 }
 
 /// A region with two racks, and beside it a group without hosts and without a limit.
-pub fn region<A: Allocator + Clone>(alloc: A) -> Result<Group<A>, GroupFault> {
+pub(crate) fn region<A: Allocator + Clone>(alloc: A) -> Result<Group<A>, GroupFault> {
     let mut eu = group(alloc.clone()?, "eu", Some(3), &[])?;
     eu.add_child(group(alloc.clone()?, "r1", Some(1), &["a", "b", "c"])?)?;
     let mut r2 = group(alloc.clone()?, "r2", Some(2), &["d"])?;
@@ -38,7 +38,7 @@ pub fn region<A: Allocator + Clone>(alloc: A) -> Result<Group<A>, GroupFault> {
 }
 
 /// The tree of `region`, which breaks no rule.
-pub fn tree<A: Allocator + Clone>(alloc: A) -> Result<Tree<A>, GroupFault> {
+pub(crate) fn tree<A: Allocator + Clone>(alloc: A) -> Result<Tree<A>, GroupFault> {
     match Tree::new(region(alloc)?) {
         Ok(tree) => Ok(tree),
         Err((_, _)) => Err(GroupFault::BadName),

@@ -7,7 +7,7 @@ use crate::status::Status;
 use bounded_io::TextWriter;
 use command_line::command::Line;
 use command_line::{LineFault, Source, line};
-use std::io::Write;
+use std::io::{ErrorKind, Write};
 use std::rt::Runtime;
 use std::{env, io};
 
@@ -29,11 +29,17 @@ fn tell<W: Write>(errors: &mut W, fault: &Fault) {
     let _ = text.finish();
 }
 
+/// The words of the line, the program's name left out. Words that are no text make the line a bad one.
+fn words<R: Runtime + AllocGlobal>(rt: &R) -> Result<Vec<String>, Fault> {
+    match env::args(rt) {
+        Ok(words) => Ok(words.skip(1).collect(rt.alloc())?),
+        Err(error) if error.kind() == ErrorKind::OutOfMemory => Err(Fault::Memory),
+        Err(_) => Err(Fault::BadLine(String::new(rt.alloc()))),
+    }
+}
+
 fn perform<R: Runtime + AllocGlobal>(rt: &R) -> Result<Status, Fault> {
-    let Ok(words) = env::args(rt) else {
-        return Err(Fault::BadLine(String::new(rt.alloc())));
-    };
-    let words: Vec<String> = words.skip(1).collect(rt.alloc())?;
+    let words = words(rt)?;
     match line(rt.alloc(), words.as_slice()) {
         Ok(Line::Limits { inventory }) => limits(rt, inventory),
         Err(LineFault::Asked(text)) => print(rt, text.as_str()),

@@ -5,6 +5,7 @@ use bounded_io::{InputFault, read_input};
 use command_line::Source;
 use std::alloc::Global;
 use std::fs;
+use std::io::ErrorKind;
 use std::rt::Files;
 
 /// Reads a file or standard input whole.
@@ -27,6 +28,7 @@ pub(crate) fn read_source<R: Files + Input + AllocGlobal>(
 fn read_file<R: Files + AllocGlobal>(rt: &R, name: &str) -> Result<Vec<u8>, InputFault> {
     match fs::open(rt, name) {
         Ok(mut file) => read_input(rt.alloc(), &mut file),
+        Err(error) if error.kind() == ErrorKind::OutOfMemory => Err(InputFault::Memory),
         Err(_) => Err(InputFault::File),
     }
 }
