@@ -1,9 +1,9 @@
 //! A tree of groups within the limits of an inventory.
-ghost use Rattle.std.specs.Prelude.{◌≡◌, ◌≤◌, ◌+◌, IfOk, IfErr, Some, MatchOption, length, slice_get};
-ghost use Rattle.inventory_model.specs.Names.{Name};
+ghost use Rattle.std.specs.Prelude.{◌≡◌, ◌≤◌, ◌+◌, IfOk, IfErr, Some, IsTrue, MatchOption, length, slice_get};
+ghost use Rattle.inventory_model.specs.Names.{Name, are_distinct};
 ghost use Rattle.inventory_model.specs.Members as members;
-ghost use Rattle.inventory_model.specs.Subtrees.{inventory_of};
-ghost use Rattle.inventory_model.specs.Limits.{IsWithinLimits};
+ghost use Rattle.inventory_model.specs.Subtrees.{inventory_of, places_of, rows_of};
+ghost use Rattle.inventory_model.specs.Limits.{IsWithinLimits, group_names, are_within_depth, max_depth, max_groups, max_rows};
 ghost use Rattle.group_tree.specs.Trees.{IsRefusal, IsGroupAt};
 
 use crate::fault::TreeFault;
@@ -53,6 +53,19 @@ impl<A: Allocator> Tree<A> {
             return Err((TreeFault::TooMany, root));
         }
         Ok(Tree { root })
+    }
+
+    /// A tree of a group that is known to break no rule. It compares no names.
+    pub fn within_limits(root: Group<A>) -> Tree<A>
+        requires distinct { IsTrue (are_distinct (group_names (places_of root))) }
+        requires depth { IsTrue (are_within_depth max_depth (places_of root)) }
+        requires groups { length (places_of root) ≤ max_groups }
+        requires rows { length (rows_of root) ≤ max_rows }
+        ensures { result ≡ inventory_of root }
+    {
+        // Asked for what it says of the walk.
+        let _groups = root.groups();
+        Tree { root }
     }
 
     /// The outermost group, for a walk over them all.

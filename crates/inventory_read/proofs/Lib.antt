@@ -6,3 +6,4 @@ pub mod Counts
 pub mod Builds
 pub mod Verdicts
 pub mod Refusals
+pub mod Unbroken

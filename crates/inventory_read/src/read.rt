@@ -89,10 +89,7 @@ fn tree_of<A: Allocator + Clone>(
     let groups = list_groups(json, all, children.as_slice())?;
     check(json, document, groups.as_slice())?;
     let root = build_all(alloc, json, all, children.as_slice())?;
-    match Tree::new(root) {
-        Ok(tree) => Ok(tree),
-        Err((fault, _root)) => Err(ReadFault::from(fault)),
-    }
+    Ok(Tree::within_limits(root))
 }
 
 /// Reads an inventory into a tree under `alloc`; what is needed on the way is taken from `json` and given back.

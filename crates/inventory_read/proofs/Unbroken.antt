@@ -1,0 +1,44 @@
+-- What a document that breaks no rule keeps.
+use Rattle.std.proofs.Common.{◌≡◌, ℕ, ◌≤◌, Bool, true, false, ◌&&◌, List, [], ◌∷◌, ◌++◌, length, nat_le, refl}
+use Rattle.std.proofs.lemmas.Bool.{and_parts, leb-true}
+use Rattle.serde_json.specs.Data.{Data}
+use Rattle.inventory_model.specs.Names.{are_distinct}
+use Rattle.inventory_model.specs.Places.{Inventory}
+use Rattle.inventory_model.specs.Limits.{max_depth, max_groups, max_rows, group_names, are_within_depth}
+use Rattle.inventory_read.specs.Rules.{unless, twice_placed, too_deep, too_many, broken_by_tree, broken}
+use Rattle.inventory_read.specs.Values.{inventory_of}
+
+first_nil : (xs ys : List ℕ) → xs ++ ys ≡ [] → xs ≡ []
+first_nil [] ys e = refl
+first_nil (x ∷ xs) ys e = cc
+
+rest_nil : (xs ys : List ℕ) → xs ++ ys ≡ [] → ys ≡ []
+rest_nil [] ys e = e
+rest_nil (x ∷ xs) ys e = cc
+
+kept : (test : Bool) (rule : ℕ) → unless test rule ≡ [] → test ≡ true
+kept true rule e = refl
+kept false rule e = cc
+
+pub unbroken-tree : (document : Data) → broken document ≡ [] → broken_by_tree (inventory_of document) ≡ []
+unbroken-tree document e = first_nil (broken_by_tree (inventory_of document)) [] (rest_nil _ _ (rest_nil _ _ e))
+
+module _ (inventory : Inventory) (e : broken_by_tree inventory ≡ []) where
+  pub keeps-distinct : are_distinct (group_names inventory.places) ≡ true
+  keeps-distinct = kept (are_distinct (group_names inventory.places)) 102 (first_nil (twice_placed inventory) _ e)
+
+  pub keeps-depth : are_within_depth max_depth inventory.places ≡ true
+  keeps-depth =
+      kept (are_within_depth max_depth inventory.places) 103 (first_nil (too_deep inventory) _ (rest_nil (twice_placed inventory) _ e))
+
+  numbers : (nat_le (length inventory.places) max_groups && nat_le (length inventory.rows) max_rows) ≡ true
+  numbers =
+      kept (nat_le (length inventory.places) max_groups && nat_le (length inventory.rows) max_rows) 104 (first_nil (too_many inventory) [] (rest_nil (too_deep inventory) _ (rest_nil (twice_placed inventory) _ e)))
+
+  pub keeps-groups : length inventory.places ≤ max_groups
+  keeps-groups =
+      leb-true _ _ (and_parts (nat_le (length inventory.places) max_groups) (nat_le (length inventory.rows) max_rows) numbers).0
+
+  pub keeps-rows : length inventory.rows ≤ max_rows
+  keeps-rows =
+      leb-true _ _ (and_parts (nat_le (length inventory.places) max_groups) (nat_le (length inventory.rows) max_rows) numbers).1
