@@ -5,5 +5,4 @@ pub mod Repeats
 pub mod Counts
 pub mod Builds
 pub mod Verdicts
-pub mod Refusals
 pub mod Unbroken

@@ -48,7 +48,7 @@ pub Names-groups : (fault : ReadFault) (document : Data) (part : List ℕ) → p
 Names-groups fault document part e is =
     weaker (number_of fault) part (broken document) (λ rule here. listed_right rule (bad_top document) _ (listed_left rule (by_groups (groups_of document)) _ (rw e at here))) is
 
-pub listed-tree : (rule : ℕ) (document : Data) → IsListed rule (broken_by_tree (inventory_of document)) → IsListed rule (broken document)
+listed-tree : (rule : ℕ) (document : Data) → IsListed rule (broken_by_tree (inventory_of document)) → IsListed rule (broken document)
 listed-tree rule document here =
     listed_right rule (bad_top document) _ (listed_right rule (by_groups (groups_of document)) _ (listed_left rule (broken_by_tree (inventory_of document)) [] here))
 

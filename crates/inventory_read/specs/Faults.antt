@@ -1,7 +1,5 @@
 -- Which rule a fault names.
 use Rattle.std.specs.Prelude.{◌≡◌, ℕ, Option, Some, None, Result, [], List, MatchResult, MatchOption, ⊤}
-use Rattle.group_tree.specs.declared.fault.TreeFault.{TreeFault}
-use Rattle.group_tree.specs.declared.fault.TreeFault.TheVariants as tree
 use Rattle.inventory_read.specs.Rules.{IsListed}
 use Rattle.inventory_read.specs.declared.flaw.Flaw.{Flaw}
 use Rattle.inventory_read.specs.declared.flaw.Flaw.TheVariants as flaw
@@ -40,9 +38,3 @@ Names found rules = MatchOption (number_of found) ⊤ (λ rule. IsListed rule ru
 
 abbrev pub IsRefusal : {T : Type 0} → Result T ReadFault → List ℕ → Type 0
 IsRefusal result rules = MatchResult result (λ _. rules ≡ []) (λ found. Names found rules)
-
--- the rule that a tree's fault names
-abbrev pub tree_rule : TreeFault → ℕ
-tree_rule (tree.TwicePlaced group) = 102
-tree_rule tree.TooDeep = 103
-tree_rule tree.TooMany = 104

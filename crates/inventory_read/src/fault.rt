@@ -2,7 +2,6 @@
 ghost use Rattle.std.specs.Prelude.{◌≡◌};
 ghost use Rattle.inventory_read.specs.Faults.{number_of};
 
-use group_tree::TreeFault;
 use std::alloc::{AllocError, AllocFailed};
 use thiserror::Error;
 
@@ -79,20 +78,5 @@ impl<T: Drop> From<AllocFailed<T>> for ReadFault {
 
     fn from(_refused: AllocFailed<T>) -> ReadFault {
         ReadFault::Memory
-    }
-}
-
-impl From<TreeFault> for ReadFault {
-    ghost use Rattle.std.specs.Prelude.{◌≡◌, Some};
-    ghost use Rattle.inventory_read.specs.Faults.{number_of, tree_rule};
-
-    ghost from_gives = { λ fault found. number_of found ≡ Some (tree_rule fault) };
-
-    fn from(fault: TreeFault) -> ReadFault {
-        match fault {
-            TreeFault::TwicePlaced { group } => ReadFault::TwicePlaced { group },
-            TreeFault::TooDeep => ReadFault::TooDeep,
-            TreeFault::TooMany => ReadFault::TooMany,
-        }
     }
 }
