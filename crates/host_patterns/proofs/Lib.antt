@@ -1,0 +1,4 @@
+pub mod EndLemmas
+pub mod TrimLemmas
+pub mod CutLemmas
+pub mod PartLemmas
