@@ -4,7 +4,7 @@ ghost use Rattle.std.specs.String.{string_bytes};
 ghost use Rattle.fleet_numbers.specs.SortedNames.{sorted_names};
 
 use crate::rows::HostRow;
-use fleet_numbers::{find_name, make_distinct};
+use fleet_numbers::{find_name_near, make_distinct};
 use std::alloc::{AllocError, Allocator, Global};
 
 fn own_names(alloc: Global, names: &[&str]) -> Result<Vec<String>, AllocError>
@@ -39,7 +39,7 @@ pub(crate) fn list_hosts<A: Allocator>(
     ensures { IfOk result (λ hosts. map string_bytes hosts.items ≡ sorted_names (map (λ row. row.host.now.name) rows.now)) }
 {
     let mut names = names_of(alloc, rows)?;
-    make_distinct(&mut names);
+    make_distinct(&mut names)?;
     own_names(alloc, names.as_slice())
 }
 
@@ -55,9 +55,12 @@ pub(crate) fn number_rows<A: Allocator>(
     ensures hosts_in { IfOk result (λ numbers. All (λ number. number.0 < length hosts.now) numbers.items) }
 {
     let mut numbers = Vec::with_capacity(alloc, rows.len())?;
+    // a group lists its hosts by name, so that the next one is likely to stand behind this one
+    let mut near = 0;
     for row in rows {
-        let host = find_name(hosts, row.host.name()).unwrap();
+        let host = find_name_near(hosts, near, row.host.name()).unwrap();
         numbers.push((host, row.group))?;
+        near = host + 1;
     }
     Ok(numbers)
 }

@@ -1,10 +1,10 @@
 -- The first two groups of a chain that cut across each other, by two searches.
-use Rattle.std.proofs.Common.{◌≡◌, ℕ, zero, suc, ◌+◌, ◌-◌, ◌≤◌, ◌<◌, Bool, true, false, ◌||◌, cond, nat_eq, nat_lt, Option, Some, None, List, [], ◌∷◌, length, get_or, find, sym, ap, ◌∙◌, refl, subst, arith, sub-one, inl, inr, ◌⊎◌}
+use Rattle.std.proofs.Common.{◌≡◌, ℕ, suc, ◌-◌, ◌≤◌, ◌<◌, Bool, true, false, ◌||◌, cond, nat_eq, nat_lt, Some, None, List, [], ◌∷◌, length, get_or, find, sym, ap, ◌∙◌, refl, subst, arith, sub-one, inl, inr, ◌⊎◌}
 use Rattle.std.proofs.lemmas.Bool.{eqb-true, eq-eqb, ltb-true, ltb-false, lt-ltb, le-ltb, cases_lt, false≢true, or_right}
 use Rattle.std.proofs.lemmas.List.Folds.{list_any_at}
-use Rattle.fleet_numbers.specs.NumberLists.{has_number, IsRising}
+use Rattle.fleet_numbers.specs.NumberLists.{has_number}
 use Rattle.fleet_numbers.specs.Chains.{cuts, IsUncut, IsLeastCut}
-use Rattle.fleet_numbers.proofs.RisingLemmas.{Ascends, Ascends-rising, has_number-within}
+use Rattle.fleet_numbers.proofs.RisingLemmas.{Ascends, has_number-within}
 
 pub found_in : (p : ℕ → Bool) (xs : List ℕ) (x : ℕ) → find p xs ≡ Some x → (has_number x xs ≡ true) × (p x ≡ true)
 found_in p [] x e = absurd (cc)

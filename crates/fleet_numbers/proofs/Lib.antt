@@ -6,3 +6,4 @@ pub mod ChainLemmas
 pub mod LoopLemmas
 pub mod DealLemmas
 pub mod PathLemmas
+pub mod HeldLemmas

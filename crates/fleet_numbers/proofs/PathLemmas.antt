@@ -1,12 +1,11 @@
 -- The paths of groups that are numbered in preorder.
-use Rattle.std.proofs.Common.{◌≡◌, ℕ, zero, suc, ◌+◌, ◌-◌, ◌≤◌, ◌<◌, Bool, true, false, ◌||◌, ◌&&◌, not, cond, nat_eq, nat_lt, List, [], ◌∷◌, ◌++◌, length, get_or, take, sym, ap, ◌∙◌, refl, subst, arith, add-one, inl, inr, ◌⊎◌}
-use Rattle.std.specs.List.{list_any, list_all}
-use Rattle.std.proofs.lemmas.Bool.{eqb-true, eq-eqb, ne_eqb, ltb-true, ltb-false, lt-ltb, le-ltb, cases_lt, cases_eq, false≢true, or_right, or_left, or_cases}
-use Rattle.std.proofs.lemmas.List.{length-append}
+use Rattle.std.proofs.Common.{◌≡◌, ℕ, zero, suc, ◌+◌, ◌-◌, ◌≤◌, ◌<◌, Bool, true, false, ◌||◌, ◌&&◌, not, cond, nat_eq, nat_lt, List, [], ◌∷◌, ◌++◌, length, get_or, take, sym, ap, ◌∙◌, refl, subst, arith, inl, inr, ◌⊎◌}
+use Rattle.std.specs.List.{list_all}
+use Rattle.std.proofs.lemmas.Bool.{eqb-true, eq-eqb, ne_eqb, lt-ltb, le-ltb, cases_lt, cases_eq, false≢true, or_right, or_left, or_cases}
 use Rattle.std.proofs.lemmas.List.Folds.{list_any-append}
 use Rattle.fleet_numbers.specs.NumberLists.{has_number, list_at, last_where, are_below}
 use Rattle.fleet_numbers.specs.GroupPaths.{paths_from}
-use Rattle.fleet_numbers.proofs.RisingLemmas.{Ascends, has_number-within, are_below-ascends}
+use Rattle.fleet_numbers.proofs.RisingLemmas.{Ascends, Ascends-higher, has_number-within, are_below-ascends}
 
 pub length-paths_from : (path : List ℕ) (number : ℕ) (depths : List ℕ) → length (paths_from path number depths) ≡ length depths
 length-paths_from path number [] = refl
@@ -192,8 +191,3 @@ paths_below bound number path [] up l = refl
 paths_below bound number path (d ∷ depths) up l =
     let next = Ascends-push 0 number number (take d path) (Ascends-take d 0 number path up) (omega arith) (omega arith) in
     ap (λ b. b && list_all (are_below bound) (paths_from (take d path ++ number ∷ []) (suc number) depths)) (are_below-ascends 0 bound (take d path ++ number ∷ []) (Ascends-higher 0 (suc number) bound (take d path ++ number ∷ []) (omega (arith, l)) next)) ∙ paths_below bound (suc number) (take d path ++ number ∷ []) depths next (omega (arith, l))
-  where
-    Ascends-higher : (low high higher : ℕ) (xs : List ℕ) → high ≤ higher → Ascends low high xs → Ascends low higher xs
-    Ascends-higher low high higher [] l up = tt
-    Ascends-higher low high higher (x ∷ xs) l up =
-        (up.0, omega (arith, up.1), Ascends-higher (suc x) high higher xs l up.2)

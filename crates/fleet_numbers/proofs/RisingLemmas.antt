@@ -1,18 +1,12 @@
 -- Rising numbers: what stands in them says what they are.
-use Rattle.std.proofs.Common.{◌≡◌, ℕ, zero, suc, ◌+◌, ◌≤◌, ◌<◌, Bool, true, false, ◌||◌, ◌&&◌, not, cond, nat_eq, nat_lt, List, [], ◌∷◌, ◌++◌, length, get_or, take, filter, IsPermutation, IsSorted, sym, ap, ◌∙◌, refl, subst, arith, add-one, inl, inr, ◌⊎◌}
-use Rattle.std.specs.List.{list_any, list_all, range_with_len, dedup, dedup_from, AllByRecursion}
-use Rattle.std.specs.List.Sorted.{IsStrictlySortedBy}
-use Rattle.std.specs.Ordering.{nat_cmp}
-use Rattle.std.specs.declared.cmp.Ordering.TheVariants.{Less}
+use Rattle.std.proofs.Common.{◌≡◌, ℕ, zero, suc, ◌+◌, ◌≤◌, ◌<◌, Bool, true, false, ◌||◌, ◌&&◌, cond, nat_eq, nat_lt, List, [], ◌∷◌, ◌++◌, length, get_or, take, filter, sym, ap, ◌∙◌, refl, subst, arith, add-one, inl, inr, ◌⊎◌}
+use Rattle.std.specs.List.{range_with_len}
 use Rattle.std.proofs.lemmas.List.{map-id}
 use Rattle.std.proofs.lemmas.List.Elements.{filter-append}
 use Rattle.std.proofs.lemmas.List.Folds.{list_any-append, list_any_at}
 use Rattle.std.proofs.lemmas.List.Recursion.{and_at}
 use Rattle.std.proofs.lemmas.List.FromFn.{map-range_with_len_more}
-use Rattle.std.proofs.lemmas.Bool.{le-ltb, and_parts, eqb-true, eq-eqb, ne_eqb, ltb-true, lt-ltb, cases_lt, cases_eq, or_parts}
-use Rattle.std.proofs.lemmas.Cmp.{ranked}
-use Rattle.std.proofs.lemmas.List.Sorted.{list_any-IsPermutation, IsPermutation-sym}
-use Rattle.std.proofs.lemmas.Map.Keys.{sorted_head, sorted_tail, sorted_from_strictly_increasing, IsStrictlyIncreasing-dedup}
+use Rattle.std.proofs.lemmas.Bool.{le-ltb, eqb-true, eq-eqb, ne_eqb, ltb-true, lt-ltb, cases_lt, cases_eq}
 use Rattle.fleet_numbers.specs.NumberLists.{has_number, numbers_where, are_below, IsRising}
 
 -- the numbers rise, from `low` on and below `high`
@@ -25,6 +19,11 @@ has_number-below n low high [] up l = refl
 has_number-below n low high (x ∷ xs) up l =
     let apart : nat_eq n x ≡ false = ne_eqb n x (λ e. omega (arith, up.0)) in
     ap (λ b. b || has_number n xs) apart ∙ has_number-below n (suc x) high xs up.2 (omega (arith, up.0))
+
+pub Ascends-higher : (low high higher : ℕ) (xs : List ℕ) → high ≤ higher → Ascends low high xs → Ascends low higher xs
+Ascends-higher low high higher [] l up = tt
+Ascends-higher low high higher (x ∷ xs) l up =
+    (up.0, omega (arith, up.1), Ascends-higher (suc x) high higher xs l up.2)
 
 pub Ascends-lower : (low lower high : ℕ) (xs : List ℕ) → lower ≤ low → Ascends low high xs → Ascends lower high xs
 Ascends-lower low lower high [] l up = tt
@@ -73,73 +72,6 @@ filtered_range p (suc count) low (x ∷ xs) up agree =
 pub rising_is : (p : ℕ → Bool) (bound : ℕ) (xs : List ℕ) → Ascends 0 bound xs → ((n : ℕ) → n < bound → has_number n xs ≡ p n) → xs ≡ numbers_where p bound
 rising_is p bound xs up agree =
     filtered_range p bound 0 xs (subst (λ (h : ℕ). Ascends 0 h xs) (omega arith) up) (λ n l h. agree n (omega arith))
-
-Ascends-from_sorted : (low high : ℕ) (xs : List ℕ) → AllByRecursion (λ y. low ≤ y) xs → IsStrictlySortedBy nat_cmp xs → are_below high xs ≡ true → Ascends low high xs
-Ascends-from_sorted low high [] above up e = tt
-Ascends-from_sorted low high (x ∷ xs) above up e =
-    let parts = and_parts (nat_lt x high) (are_below high xs) e in
-    (above.0, ltb-true x high parts.0, Ascends-from_sorted (suc x) high xs (higher xs (sorted_head nat_cmp x xs up)) (sorted_tail nat_cmp x xs up) parts.1)
-  where
-    higher : (ys : List ℕ) → AllByRecursion (λ y. nat_cmp x y ≡ Less) ys → AllByRecursion (λ y. suc x ≤ y) ys
-    higher [] all = tt
-    higher (y ∷ ys) all = (ranked x y Less (sym all.0), higher ys all.1)
-
-zeros : (xs : List ℕ) → AllByRecursion (λ y. 0 ≤ y) xs
-zeros [] = tt
-zeros (x ∷ xs) = (omega arith, zeros xs)
-
--- `dedup` drops nothing that a test could tell
-pub any-dedup : {X : Type 0} (same : X → X → Bool) (test : X → Bool) → ((x y : X) → same x y ≡ true → test x ≡ test y) → (xs : List X) → list_any test (dedup same xs) ≡ list_any test xs
-any-dedup same test alike [] = refl
-any-dedup {X = X} same test alike (x ∷ xs) = from x xs
-  where
-    or_again : (a b : Bool) → (a || b) ≡ (a || (a || b))
-    or_again true b = refl
-    or_again false b = refl
-
-    from : (k : X) (ys : List X) → list_any test (dedup_from same k ys) ≡ (test k || list_any test ys)
-    from k [] = refl
-    from k (y ∷ ys) = by_case (from k ys) (from y ys) (same y k) refl
-      where
-        by_case : list_any test (dedup_from same k ys) ≡ (test k || list_any test ys) → list_any test (dedup_from same y ys) ≡ (test y || list_any test ys) → (b : Bool) → same y k ≡ b → list_any test (cond b (dedup_from same k ys) (k ∷ dedup_from same y ys)) ≡ (test k || (test y || list_any test ys))
-        by_case here later true s =
-            here ∙ or_again (test k) (list_any test ys) ∙ ap (λ b. test k || (b || list_any test ys)) (sym (alike y k s))
-        by_case here later false s = ap (λ b. test k || b) later
-
-pub all-dedup : (bound : ℕ) (xs : List ℕ) → are_below bound xs ≡ true → are_below bound (dedup nat_eq xs) ≡ true
-all-dedup bound [] e = refl
-all-dedup bound (x ∷ xs) e =
-    let parts = and_parts (nat_lt x bound) (are_below bound xs) e in
-    from x xs parts.0 parts.1
-  where
-    from : (k : ℕ) (ys : List ℕ) → nat_lt k bound ≡ true → are_below bound ys ≡ true → are_below bound (dedup_from nat_eq k ys) ≡ true
-    from k [] here later = ap (λ b. b && true) here
-    from k (y ∷ ys) here later =
-        let parts = and_parts (nat_lt y bound) (are_below bound ys) later in
-        by_case (from k ys here parts.1) (from y ys parts.0 parts.1) (nat_eq y k)
-      where
-        by_case : are_below bound (dedup_from nat_eq k ys) ≡ true → are_below bound (dedup_from nat_eq y ys) ≡ true → (b : Bool) → are_below bound (cond b (dedup_from nat_eq k ys) (k ∷ dedup_from nat_eq y ys)) ≡ true
-        by_case drops keeps true = drops
-        by_case drops keeps false = ap (λ b. b && are_below bound (dedup_from nat_eq y ys)) here ∙ keeps
-
--- a test of each element holds of the elements in another order
-pub list_all-IsPermutation : (p : ℕ → Bool) (xs ys : List ℕ) → IsPermutation xs ys → list_all p xs ≡ list_all p ys
-list_all-IsPermutation p xs ys moved =
-    by_not xs ∙ ap not (list_any-IsPermutation (λ x. not (p x)) xs ys moved) ∙ sym (by_not ys)
-  where
-    by_not : (zs : List ℕ) → list_all p zs ≡ not (list_any (λ x. not (p x)) zs)
-    by_not [] = refl
-    by_not (z ∷ zs) = by_case (p z) (by_not zs)
-      where
-        by_case : (b : Bool) → list_all p zs ≡ not (list_any (λ x. not (p x)) zs) → (b && list_all p zs) ≡ not (not b || list_any (λ x. not (p x)) zs)
-        by_case true e = e
-        by_case false e = refl
-
-pub rising-dedup : (xs sorted kept : List ℕ) → IsPermutation xs sorted → IsSorted nat_cmp sorted → kept ≡ dedup nat_eq sorted → (bound : ℕ) → are_below bound xs ≡ true → kept ≡ numbers_where (λ number. has_number number xs) bound
-rising-dedup xs sorted kept moved up is bound below =
-    let below' : are_below bound sorted ≡ true = sym (list_all-IsPermutation (λ n. nat_lt n bound) xs sorted moved) ∙ below in
-    let rises = Ascends-from_sorted 0 bound (dedup nat_eq sorted) (zeros (dedup nat_eq sorted)) (sorted_from_strictly_increasing (dedup nat_eq sorted) (IsStrictlyIncreasing-dedup sorted up)) (all-dedup bound sorted below') in
-    is ∙ rising_is (λ number. has_number number xs) bound (dedup nat_eq sorted) rises (λ n l. any-dedup nat_eq (nat_eq n) (λ x y s. ap (nat_eq n) (eqb-true x y s)) sorted ∙ sym (list_any-IsPermutation (nat_eq n) xs sorted moved))
 
 Ascends-filter : (p : ℕ → Bool) (count low : ℕ) → Ascends low (low + count) (filter p (range_with_len low count))
 Ascends-filter p zero low = tt

@@ -1,7 +1,7 @@
 -- Groups by their numbers in preorder, each with the numbers from the outermost group down to it.
-use Rattle.std.specs.Prelude.{ℕ, suc, Bool, List, [], ◌∷◌, ◌++◌, take, ◌&&◌, nat_eq}
+use Rattle.std.specs.Prelude.{◌≡◌, ◌<◌, ◌≤◌, ℕ, suc, Bool, true, List, [], ◌∷◌, ◌++◌, take, ◌&&◌, nat_eq, length}
 use Rattle.std.specs.List.{list_any}
-use Rattle.fleet_numbers.specs.NumberLists.{has_number, list_at}
+use Rattle.fleet_numbers.specs.NumberLists.{has_number, list_at, IsRising}
 
 -- the paths of the groups from `number` on, after a group with this path; a depth is how many groups stand above
 abbrev pub paths_from : List ℕ → ℕ → List ℕ → List (List ℕ)
@@ -13,3 +13,8 @@ paths_from path number (depth ∷ depths) =
 abbrev pub is_member : List (List ℕ) → List (ℕ × ℕ) → ℕ → ℕ → Bool
 is_member paths rows group host =
     list_any (λ row. nat_eq host row.0 && has_number group (list_at paths row.1)) rows
+
+-- a path rises and has no group after its own; the groups that have a group on their paths stand in one run from it on
+pub record ArePreorderPaths (paths : List (List ℕ)) : Type 0 where
+  pub rising : (group : ℕ) → group < length paths → IsRising (suc group) (list_at paths group)
+  pub run : (above group later : ℕ) → above ≤ group → group ≤ later → later < length paths → has_number above (list_at paths later) ≡ true → has_number above (list_at paths group) ≡ true

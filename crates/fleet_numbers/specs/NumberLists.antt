@@ -1,5 +1,5 @@
 -- Lists of numbers of hosts and groups.
-use Rattle.std.specs.Prelude.{◌≡◌, nat_lt, ℕ, Bool, nat_eq, List, [], filter, ◌&&◌, ◌==◌, slice_index_or, zero, suc, cond}
+use Rattle.std.specs.Prelude.{◌≡◌, nat_lt, ℕ, Bool, true, nat_eq, List, [], ◌∷◌, filter, length, slice_index_or, zero, suc, cond}
 use Rattle.std.specs.List.{list_any, list_all, range_with_len}
 
 -- the number stands in the list
@@ -26,3 +26,8 @@ are_below bound numbers = list_all (λ number. nat_lt number bound) numbers
 -- the numbers rise, and each is below the bound
 abbrev pub IsRising : ℕ → List ℕ → Type 0
 IsRising bound numbers = numbers ≡ numbers_where (λ number. has_number number numbers) bound
+
+-- the number comes after the last of the list
+abbrev pub is_past : List ℕ → ℕ → Bool
+is_past [] number = true
+is_past (first ∷ rest) number = nat_lt (slice_index_or (first ∷ rest) (length rest) 0) number

@@ -21,7 +21,7 @@ fn limited_of(
 ) -> Result<Vec<usize>, AllocError>
     ensures { IfOk result (λ limited. limited.items ≡ filter (is_limited limits.now) groups.now) }
 {
-    let mut limited = Vec::new(alloc);
+    let mut limited = Vec::with_capacity(alloc, groups.len())?;
     for group in groups {
         if is_limited(limits, *group) {
             limited.push(*group)?;
@@ -41,7 +41,7 @@ pub fn list_chains(
     let mut chains = NumberLists::new(alloc);
     for host in 0..held.len() {
         let limited = limited_of(alloc, held.at(host), limits)?;
-        chains.push(limited.as_slice())?;
+        chains.push(limited)?;
     }
     Ok(chains)
 }

@@ -10,7 +10,7 @@ mod paths;
 
 pub use chains::{first_cut, list_chains, list_lasts};
 pub use deal::{list_deal_order, list_deal_places};
-pub use lists::{NumberLists, make_rising};
+pub use lists::NumberLists;
 pub use members::{list_held, list_members};
-pub use names::{find_name, make_distinct};
+pub use names::{find_name, find_name_near, make_distinct};
 pub use paths::list_paths;

@@ -15,11 +15,11 @@ among_names : {X : Type 0} (name : X → Name) (xs : List X) (i : ℕ) (x : X) �
 among_names name xs i x within is =
     list_any_at (same_name (name x)) (map name xs) i (name x) (simp length-map within) (ap (same_name (name x)) (get_or-map name xs i x (name x) within ∙ ap name (sym is)) ∙ same_name-itself (name x))
 
-pub find_name-requires : goal.find_name-requires
-find_name-requires g c =
+pub find_name_near-requires : goal.find_name_near-requires
+find_name_near-requires g c =
     subst (λ (names : List Name). IsStrictlySortedBy name_cmp names) (sym c.requires) (is_rising-sorted_names (map (λ row. row.host.now.name) c.args.rows.now))
 
 pub unwrap-host-requires : goal.unwrap-host-requires
 unwrap-host-requires g c =
     let among : is_among c.name.result.now (map (string_bytes {Z = Global}) c.args.hosts.now) ≡ true = ap (λ (name : Name). is_among name (map (string_bytes {Z = Global}) c.args.hosts.now)) c.name.ensures ∙ ap (is_among c.row-item.result.host.now.name) c.requires ∙ is_among-sorted_names c.row-item.result.host.now.name (map (λ row. row.host.now.name) c.args.rows.now) ∙ among_names (λ row. row.host.now.name) c.args.rows.now c.loop-row.row-index c.row-item.result c.loop-row-test.true c.row-item.is in
-    some_since c.find_name.result _ _ c.find_name.ensures (λ none. false≢true (sym none ∙ among))
+    some_since c.find_name_near.result _ _ c.find_name_near.ensures (λ none. false≢true (sym none ∙ among))

@@ -12,19 +12,16 @@ all_below depths paths is =
 
 pub list_held-requires-clause-groups_in : goal.list_held-requires-clause-groups_in
 list_held-requires-clause-groups_in c = λ k d l.
-    omega (arith, c.requires.groups_in k d l, ap length c.in_ok-paths.ensures, length-paths_from [] 0 c.args.depths.now)
-
-pub list_held-requires-clause-paths_in : goal.list_held-requires-clause-paths_in
-list_held-requires-clause-paths_in c = all_below c.args.depths.now c.in_ok-paths.paths c.in_ok-paths.ensures
+    omega (arith, c.requires.groups_in k d l, ap length c.in_ok-paths.ensures.paths, length-paths_from [] 0 c.args.depths.now)
 
 pub list_members-requires : goal.list_members-requires
 list_members-requires c =
-    let long : length c.in_ok-paths.paths ≡ length c.args.depths.now = ap length c.in_ok-paths.ensures ∙ length-paths_from [] 0 c.args.depths.now in
+    let long : length c.in_ok-paths.paths ≡ length c.args.depths.now = ap length c.in_ok-paths.ensures.paths ∙ length-paths_from [] 0 c.args.depths.now in
     λ k d l.
     subst (λ (n : ℕ). IsRising n (get_or c.in_ok-held.held k d)) long (lists_rise (λ host group. is_member c.in_ok-paths.paths c.args.rows.now group host) (length c.in_ok-paths.paths) c.args.hosts c.in_ok-held.held c.in_ok-held.ensures k d l)
 
 pub list_lasts-requires : goal.list_lasts-requires
-list_lasts-requires c = all_below c.args.depths.now c.in_ok-paths.paths c.in_ok-paths.ensures
+list_lasts-requires c = all_below c.args.depths.now c.in_ok-paths.paths c.in_ok-paths.ensures.paths
 
 pub returns : goal.returns
 returns c =
@@ -33,8 +30,8 @@ returns c =
     let long = length-paths_from [] 0 depths in
     record {
       held = c.in_ok-held.held;
-      held_are = subst (λ (n : ℕ). c.in_ok-held.held ≡ map (λ host. numbers_where (λ group. is_member (paths_from [] 0 depths) rows group host) n) (range_with_len 0 c.args.hosts)) long (subst (λ (p : List (List ℕ)). c.in_ok-held.held ≡ map (λ host. numbers_where (λ group. is_member p rows group host) (length p)) (range_with_len 0 c.args.hosts)) c.in_ok-paths.ensures c.in_ok-held.ensures);
+      held_are = subst (λ (n : ℕ). c.in_ok-held.held ≡ map (λ host. numbers_where (λ group. is_member (paths_from [] 0 depths) rows group host) n) (range_with_len 0 c.args.hosts)) long (subst (λ (p : List (List ℕ)). c.in_ok-held.held ≡ map (λ host. numbers_where (λ group. is_member p rows group host) (length p)) (range_with_len 0 c.args.hosts)) c.in_ok-paths.ensures.paths c.in_ok-held.ensures);
       chains_are = c.in_ok-chains.ensures;
       members_are = c.in_ok-members.ensures;
-      lasts_are = subst (λ (n : ℕ). c.in_ok-lasts.lasts.items ≡ map (λ group. last_where (λ number. has_number group (list_at (paths_from [] 0 depths) number)) n) (range_with_len 0 n)) long (subst (λ (p : List (List ℕ)). c.in_ok-lasts.lasts.items ≡ map (λ group. last_where (λ number. has_number group (list_at p number)) (length p)) (range_with_len 0 (length p))) c.in_ok-paths.ensures c.in_ok-lasts.ensures);
+      lasts_are = subst (λ (n : ℕ). c.in_ok-lasts.lasts.items ≡ map (λ group. last_where (λ number. has_number group (list_at (paths_from [] 0 depths) number)) n) (range_with_len 0 n)) long (subst (λ (p : List (List ℕ)). c.in_ok-lasts.lasts.items ≡ map (λ group. last_where (λ number. has_number group (list_at p number)) (length p)) (range_with_len 0 (length p))) c.in_ok-paths.ensures.paths c.in_ok-lasts.ensures);
     }

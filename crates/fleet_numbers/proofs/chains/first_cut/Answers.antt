@@ -1,4 +1,4 @@
-use Rattle.std.proofs.Common.{◌≡◌, ◌<◌, ◌-◌, ℕ, None, Some, find, get_or, length, arith, sym, ap, ◌∙◌}
+use Rattle.std.proofs.Common.{◌≡◌, ◌-◌, ℕ, find, get_or, length, arith, sym, ap, ◌∙◌}
 use Rattle.fleet_numbers.specs.Chains.{cuts}
 use Rattle.fleet_numbers.proofs.RisingLemmas.{Ascends-rising, are_below-rising}
 use Rattle.fleet_numbers.proofs.ChainLemmas.{uncut_none, cut_least, cut_some}

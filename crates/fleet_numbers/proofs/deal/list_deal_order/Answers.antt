@@ -1,4 +1,4 @@
-use Rattle.std.proofs.Common.{◌≡◌, ℕ, List, map, take, length, ap, ◌∙◌}
+use Rattle.std.proofs.Common.{◌≡◌, ℕ, map, ap, ◌∙◌}
 use Rattle.std.proofs.lemmas.List.{take_all}
 use Rattle.fleet_numbers.proofs.DealLemmas.{dealt_once, dealt_by_key}
 use Rattle.fleet_numbers.proofs.deal.list_deal_order.Goals as goal

@@ -1,4 +1,4 @@
-use Rattle.std.proofs.Common.{◌≡◌, ◌<◌, length, get_or, arith, ◌∙◌, refl}
+use Rattle.std.proofs.Common.{◌<◌, length, get_or, arith, ◌∙◌, refl}
 use Rattle.std.proofs.lemmas.List.{length-set}
 use Rattle.fleet_numbers.proofs.DealLemmas.{in_range, places_more}
 use Rattle.fleet_numbers.proofs.deal.list_deal_places.Goals as goal

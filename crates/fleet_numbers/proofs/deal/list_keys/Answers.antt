@@ -1,4 +1,4 @@
-use Rattle.std.proofs.Common.{◌≡◌, ap, ◌∙◌}
+use Rattle.std.proofs.Common.{ap, ◌∙◌}
 use Rattle.fleet_numbers.specs.DealOrder.{deal_key}
 use Rattle.fleet_numbers.proofs.DealLemmas.{keys_more}
 use Rattle.fleet_numbers.proofs.deal.list_keys.Goals as goal

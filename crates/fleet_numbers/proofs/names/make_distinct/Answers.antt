@@ -4,4 +4,4 @@ use Rattle.fleet_numbers.proofs.names.make_distinct.Goals as goal
 
 pub returns : goal.returns
 returns c =
-    sorted_names-dedup c.args.names.now.items _ _ c.sort_unstable.ensures.permutation c.sort_unstable.ensures.sorted (dedup_is _ _ _ c.dedup.ensures.filtered)
+    sorted_names-dedup c.args.names.now.items _ _ c.sort.ensures.permutation c.in_ok-sort.ensures.sorted (dedup_is _ _ _ c.dedup.ensures.filtered)
