@@ -1,8 +1,9 @@
 -- What the lists of a fleet say of the inventory.
-use Rattle.std.proofs.Common.{◌≡◌, ℕ, ◌≤◌, ◌<◌, Bool, true, false, ◌&&◌, nat_lt, ◌∷◌, Option, None, All, List, [], map, filter, length, get_or, sym, ap, ◌∙◌, subst, arith, IsPermutation}
+use Rattle.std.proofs.Common.{◌≡◌, ℕ, ◌≤◌, ◌<◌, Bool, true, false, ◌&&◌, nat_eq, nat_lt, ◌∷◌, Option, Some, None, All, List, [], map, filter, length, get_or, sym, ap, ◌∙◌, refl, subst, arith, inl, inr, ◌⊎◌, IsPermutation}
 use Rattle.std.specs.List.{range_with_len}
-use Rattle.std.proofs.lemmas.List.{length-map, get_or-map}
-use Rattle.std.proofs.lemmas.Bool.{and_parts, lt-ltb, ltb-true}
+use Rattle.std.proofs.lemmas.List.{length-map, get_or-map, get_or_default, get_or_past}
+use Rattle.std.proofs.lemmas.Bool.{and_parts, lt-ltb, ltb-true, cases_lt, eq-eqb}
+use Rattle.std.proofs.lemmas.List.Folds.{list_any_at}
 use Rattle.std.proofs.lemmas.List.FromFn.{length-map-range_with_len, get_or-map-range_with_len}
 use Rattle.inventory_model.specs.Names.{Name, are_distinct}
 use Rattle.inventory_model.specs.Places.{Place, Inventory, is_preorder}
@@ -11,16 +12,17 @@ use Rattle.fleet_numbers.specs.NumberLists.{has_number, list_at, numbers_where, 
 use Rattle.fleet_numbers.specs.GroupPaths.{paths_from, is_member}
 use Rattle.fleet_numbers.specs.Chains.{is_limited, IsUncut}
 use Rattle.fleet_numbers.specs.DealOrder.{IsDealt, max_groups}
-use Rattle.fleet_numbers.proofs.RisingLemmas.{are_below-rising}
-use Rattle.fleet_numbers.proofs.PathLemmas.{on_path}
+use Rattle.fleet_numbers.proofs.RisingLemmas.{Ascends, Ascends-rising, are_below-rising}
+use Rattle.fleet_numbers.proofs.PathLemmas.{on_path, length-paths_from}
 use Rattle.domains.specs.Hosts.{is_off}
 use Rattle.domains.specs.Starts.{place_at, nowhere, exceeds, StartsWithin, IsFirstOver}
 use Rattle.domains.specs.Nested.{IsNested, IsLeastCrossing}
 use Rattle.domains.specs.Numbered.{host_at, IsNumbering}
-use Rattle.domains.specs.Parts.{ArePartsOf}
+use Rattle.domains.specs.Parts.{ArePartsOf, parent_on}
 use Rattle.domains.specs.Search.{off_count, IsFirstCutHost, IsFirstOverGroup}
-use Rattle.domains.specs.FleetViews.{FleetView, IsSound, IsFleetOf}
-use Rattle.domains.proofs.PlaceLemmas.{depths_of}
+use Rattle.domains.specs.FleetViews.{FleetView, IsParentOf, IsOutermostFirst, IsSound, IsFleetOf}
+use Rattle.domains.proofs.PlaceLemmas.{depths_of, path_at}
+use Rattle.domains.proofs.ParentLemmas.{ascends_at, is_parent, parent_before, above_of}
 use Rattle.domains.proofs.FleetLemmas as facts
 
 pub lists_rise : (p : ℕ → ℕ → Bool) (n count : ℕ) (lists : List (List ℕ)) → lists ≡ map (λ k. numbers_where (p k) n) (range_with_len 0 count) → All (IsRising n) lists
@@ -35,7 +37,7 @@ are_below-more low high (x ∷ xs) l e =
     let parts = and_parts (nat_lt x low) (are_below low xs) e in
     ap (λ b. b && are_below high xs) (lt-ltb x high (omega (arith, ltb-true x low parts.0))) ∙ are_below-more low high xs l parts.1
 
-module _ (inventory : Inventory) (hosts groups : List Name) (limits : List (Option ℕ)) (depths : List ℕ) (rows : List (ℕ × ℕ)) (off : List Bool) (numbered : IsNumbering inventory hosts groups limits depths rows off) (distinct : are_distinct (group_names inventory.places) ≡ true) (preorder : is_preorder inventory.places ≡ true) (chains members : List (List ℕ)) (lasts : List ℕ) (parts : ArePartsOf (length hosts) limits depths rows chains members lasts) where
+module _ (inventory : Inventory) (hosts groups : List Name) (limits : List (Option ℕ)) (depths : List ℕ) (rows : List (ℕ × ℕ)) (off : List Bool) (numbered : IsNumbering inventory hosts groups limits depths rows off) (distinct : are_distinct (group_names inventory.places) ≡ true) (preorder : is_preorder inventory.places ≡ true) (chains members : List (List ℕ)) (parents : List (Option ℕ)) (lasts : List ℕ) (parts : ArePartsOf (length hosts) limits depths rows chains members parents lasts) where
   long : length (depths_of inventory.places) ≡ length inventory.places
   long = length-map inventory.places (λ (p : Place). length p.above)
 
@@ -99,27 +101,69 @@ module _ (inventory : Inventory) (hosts groups : List Name) (limits : List (Opti
   starts_within =
       facts.starts_within inventory hosts groups limits depths rows off numbered distinct preorder parts.held chains members lasts held_are parts.chains_are members_are lasts_are
 
-  pub fleet_of : (order : List ℕ) → ((h : ℕ) → h < length chains → IsUncut lasts (list_at chains h)) → ((group : ℕ) → group < length members → exceeds (get_or limits group None) (off_count off (list_at members group)) ≡ false) → IsFleetOf inventory (record { hosts = hosts; groups = groups; limits = limits; members = members; chains = chains; off = off; order = order })
+  groups_len : length groups ≡ length inventory.places
+  groups_len = ap length numbered.all_groups ∙ length-map inventory.places (λ (p : Place). p.name)
+
+  paths_len : length (paths_from [] 0 (depths_of inventory.places)) ≡ length inventory.places
+  paths_len = length-paths_from [] 0 (depths_of inventory.places) ∙ long
+
+  parents_are : parents ≡ map parent_on (paths_from [] 0 (depths_of inventory.places))
+  parents_are = parts.parents_are ∙ ap (λ (d : List ℕ). map parent_on (paths_from [] 0 d)) numbered.all_depths
+
+  parents_len : length parents ≡ length inventory.places
+  parents_len = ap length parents_are ∙ length-map (paths_from [] 0 (depths_of inventory.places)) parent_on ∙ paths_len
+
+  parent_is : (g : ℕ) → g < length inventory.places → IsParentOf inventory.places g (get_or parents g None)
+  parent_is g l =
+      let here : get_or parents g None ≡ parent_on (path_at inventory.places g) = ap (λ (o : List (Option ℕ)). get_or o g None) parents_are ∙ get_or-map parent_on (paths_from [] 0 (depths_of inventory.places)) g [] None (omega (arith, l, paths_len)) in
+      subst (IsParentOf inventory.places g) (sym here) (is_parent inventory.places distinct preorder g l)
+
+  parents_before : (g parent : ℕ) → get_or parents g None ≡ Some parent → parent < g
+  parents_before g parent e = by_case (cases_lt g (length inventory.places))
+    where
+      by_case : (g < length inventory.places) ⊎ (length inventory.places ≤ g) → parent < g
+      by_case (inl l) = parent_before inventory.places g parent (get_or parents g None) (parent_is g l) e
+      by_case (inr l) =
+          let past : get_or parents g None ≡ None = get_or_past parents g None (omega (arith, l, parents_len)) in
+          absurd (cc)
+
+  outermost_first : ((h : ℕ) → h < length chains → IsUncut lasts (list_at chains h)) → All (IsOutermostFirst inventory.places) chains
+  outermost_first uncut h d l i j before within =
+      let chain = get_or chains h d in
+      let same : chain ≡ list_at chains h = get_or_default chains h d [] l in
+      let inside : h < length hosts = omega (arith, l, facts.chains_len inventory hosts groups limits depths rows off numbered distinct preorder parts.held chains members lasts held_are parts.chains_are members_are lasts_are) in
+      let up : Ascends 0 (length inventory.places) chain = Ascends-rising (length inventory.places) chain (groups_rise h d l) in
+      let rises : get_or chain i 0 < get_or chain j 0 = ascends_at 0 (length inventory.places) chain i j up before within in
+      let first_in : has_number (get_or chain i 0) (list_at chains h) ≡ true = ap (has_number (get_or chain i 0)) (sym same) ∙ list_any_at (nat_eq (get_or chain i 0)) chain i 0 (omega (arith, before, within)) (eq-eqb _ _ refl) in
+      let second_in : has_number (get_or chain j 0) (list_at chains h) ≡ true = ap (has_number (get_or chain j 0)) (sym same) ∙ list_any_at (nat_eq (get_or chain j 0)) chain j 0 within (eq-eqb _ _ refl) in
+      let below = facts.chain_within inventory hosts groups limits depths rows off numbered distinct preorder parts.held chains members lasts held_are parts.chains_are members_are lasts_are (get_or chain j 0) h inside second_in in
+      above_of inventory.places distinct preorder (get_or chain i 0) (get_or chain j 0) rises below (facts.cuts_at inventory hosts groups limits depths rows off numbered distinct preorder parts.held chains members lasts held_are parts.chains_are members_are lasts_are (get_or chain i 0) (get_or chain j 0) rises below ∙ uncut h l (get_or chain i 0) (get_or chain j 0) first_in second_in)
+
+  pub fleet_of : (order : List ℕ) → ((h : ℕ) → h < length chains → IsUncut lasts (list_at chains h)) → ((group : ℕ) → group < length members → exceeds (get_or limits group None) (off_count off (list_at members group)) ≡ false) → IsFleetOf inventory (record { hosts = hosts; groups = groups; limits = limits; parents = parents; members = members; chains = chains; off = off; order = order })
   fleet_of order uncut none =
       record {
         hosts = numbered.all_hosts;
         groups = numbered.all_groups;
         limits = numbered.all_limits;
+        parents = λ g l. parent_is g (omega (arith, l, groups_len));
         members = facts.all_members inventory hosts groups limits depths rows off numbered distinct preorder parts.held chains members lasts held_are parts.chains_are members_are lasts_are;
         chains = facts.all_chains inventory hosts groups limits depths rows off numbered distinct preorder parts.held chains members lasts held_are parts.chains_are members_are lasts_are;
+        outermost_first = outermost_first uncut;
         off = numbered.all_off;
         nested = nested uncut;
         starts_within = starts_within none;
       }
 
-  pub sound : (order : List ℕ) → length hosts ≤ 4096 → ((h : ℕ) → h < length chains → IsUncut lasts (list_at chains h)) → ((group : ℕ) → group < length members → exceeds (get_or limits group None) (off_count off (list_at members group)) ≡ false) → IsPermutation (range_with_len 0 (length chains)) order → IsDealt chains order → IsSound (record { hosts = hosts; groups = groups; limits = limits; members = members; chains = chains; off = off; order = order })
+  pub sound : (order : List ℕ) → length hosts ≤ 4096 → ((h : ℕ) → h < length chains → IsUncut lasts (list_at chains h)) → ((group : ℕ) → group < length members → exceeds (get_or limits group None) (off_count off (list_at members group)) ≡ false) → IsPermutation (range_with_len 0 (length chains)) order → IsDealt chains order → IsSound (record { hosts = hosts; groups = groups; limits = limits; parents = parents; members = members; chains = chains; off = off; order = order })
   sound order few uncut none once dealt =
       let chains_len : length chains ≡ length hosts = facts.chains_len inventory hosts groups limits depths rows off numbered distinct preorder parts.held chains members lasts held_are parts.chains_are members_are lasts_are in
-      let groups_len : length groups ≡ length inventory.places = ap length numbered.all_groups ∙ length-map inventory.places (λ (p : Place). p.name) in
       record {
         few_hosts = few;
         hosts_rise = facts.hosts_rise inventory hosts groups limits depths rows off numbered distinct preorder;
+        distinct_groups = ap are_distinct numbered.all_groups ∙ distinct;
         all_limits = limits_long ∙ sym groups_len;
+        all_parents = parents_len ∙ sym groups_len;
+        parents_before = parents_before;
         all_members = members_len ∙ sym groups_len;
         members_rise = facts.members_rise inventory hosts groups limits depths rows off numbered distinct preorder parts.held chains members lasts held_are parts.chains_are members_are lasts_are;
         all_chains = chains_len;

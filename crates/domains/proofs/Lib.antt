@@ -1,7 +1,9 @@
 pub mod WalkLemmas
 pub mod OffLemmas
 pub mod PlaceLemmas
+pub mod ParentLemmas
 pub mod NumberLemmas
+pub mod NameLemmas
 pub mod FleetLemmas
 pub mod BuildLemmas
 pub mod ReaderLemmas

@@ -14,6 +14,7 @@ use Rattle.inventory_model.specs.Places.{Place, Row, Inventory, path_of, row_pat
 use Rattle.inventory_model.specs.Subtrees.{Host, Subtree}
 use Rattle.inventory_model.specs.Members.{holds, is_row_of}
 use Rattle.inventory_model.specs.Variables.{value_of}
+use Rattle.inventory_model.specs.Limits.{group_names}
 use Rattle.fleet_numbers.specs.SortedNames.{name_cmp, sorted_names}
 use Rattle.fleet_numbers.specs.NumberLists.{has_number, list_at}
 use Rattle.fleet_numbers.specs.GroupPaths.{paths_from, is_member}
@@ -34,7 +35,7 @@ map-same f g [] e = refl
 map-same {Y = Y} f g (x ∷ xs) e =
     ap (λ (y : Y). y ∷ map f xs) (e x) ∙ ap (λ (l : List Y). g x ∷ l) (map-same f g xs e)
 
-list_any-map : {X Y : Type 0} (test : Y → Bool) (f : X → Y) (xs : List X) → list_any test (map f xs) ≡ list_any (λ x. test (f x)) xs
+pub list_any-map : {X Y : Type 0} (test : Y → Bool) (f : X → Y) (xs : List X) → list_any test (map f xs) ≡ list_any (λ x. test (f x)) xs
 list_any-map test f [] = refl
 list_any-map test f (x ∷ xs) = ap (λ b. test (f x) || b) (list_any-map test f xs)
 
@@ -126,6 +127,11 @@ module _ (inventory : Inventory) (hosts : List Name) (numbers : List (ℕ × ℕ
 pub over_walk : {Y : Type 0} (f : Subtree × ℕ → Y) (h : Place → Y) → ((s : Spot) → f (with_depth 0 s) ≡ h (place_of s)) → (inventory : Inventory) (walk : List (Subtree × ℕ)) → IsWalkOf inventory 0 walk → map f walk ≡ map h inventory.places
 over_walk f h agree inventory walk w =
     ap (map f) w.walked ∙ map-map f (with_depth 0) w.spots ∙ map-same (λ s. f (with_depth 0 s)) (λ s. h (place_of s)) w.spots agree ∙ sym (map-map h place_of w.spots) ∙ sym (ap (map h) w.places)
+
+-- the names of the groups that were walked are those of the places
+pub walk_names : {S : Type 0} (group : S → Subtree) (depth : S → ℕ) (inventory : Inventory) (walk : List (Subtree × ℕ)) (spots : List S) → IsWalkOf inventory 0 walk → map {B = Subtree × ℕ} (λ s. (group s, depth s)) spots ≡ walk → map (λ s. (group s).name) spots ≡ group_names inventory.places
+walk_names group depth inventory walk spots w walked =
+    sym (map-map (λ (v : Subtree × ℕ). v.0.name) (λ s. (group s, depth s)) spots) ∙ ap (map (λ (v : Subtree × ℕ). v.0.name)) walked ∙ over_walk (λ (v : Subtree × ℕ). v.0.name) (λ (p : Place). p.name) (λ s. refl) inventory walk w
 
 -- the rows of a walk, by the numbers of their groups
 pub walk_rows : (inventory : Inventory) (walk : List (Subtree × ℕ)) → IsWalkOf inventory 0 walk → map (numbered_row inventory.places) (rows_from 0 (map (λ (v : Subtree × ℕ). v.0) walk)) ≡ inventory.rows

@@ -83,7 +83,7 @@ goes_next prev (p ∷ places) (suc k) e l =
     goes_next (path_of p) places k (and_parts (begins p.above prev) (goes_on (path_of p) places) e).1 (omega arith)
 
 -- names at two places differ
-distinct_at : (names : List Name) (i j : ℕ) (d : Name) → are_distinct names ≡ true → i < j → j < length names → same_name (get_or names i d) (get_or names j d) ≡ false
+pub distinct_at : (names : List Name) (i j : ℕ) (d : Name) → are_distinct names ≡ true → i < j → j < length names → same_name (get_or names i d) (get_or names j d) ≡ false
 distinct_at [] i j d e l m = absurd (omega arith)
 distinct_at (n ∷ names) zero zero d e l m = absurd (omega arith)
 distinct_at (n ∷ names) zero (suc j) d e l m =

@@ -1,14 +1,21 @@
 -- The lists of a fleet as they follow from the numbers on paths and rows.
-use Rattle.std.specs.Prelude.{◌≡◌, ℕ, Bool, Option, List, [], map, filter, length}
+use Rattle.std.specs.Prelude.{◌≡◌, ℕ, ◌-◌, Bool, Option, None, Some, List, [], ◌∷◌, map, filter, length, slice_index_or}
 use Rattle.std.specs.List.{range_with_len}
 use Rattle.fleet_numbers.specs.NumberLists.{has_number, list_at, numbers_where, last_where}
 use Rattle.fleet_numbers.specs.GroupPaths.{paths_from, is_member}
 use Rattle.fleet_numbers.specs.Chains.{is_limited}
 
--- the groups of each host, its limited ones, the hosts of each group, and the last group at or below each
-pub record ArePartsOf (hosts : ℕ) (limits : List (Option ℕ)) (depths : List ℕ) (rows : List (ℕ × ℕ)) (chains members : List (List ℕ)) (lasts : List ℕ) : Type 0 where
+-- the group before the last on a path, and none where the path has one group alone
+abbrev pub parent_on : List ℕ → Option ℕ
+parent_on [] = None
+parent_on (group ∷ []) = None
+parent_on (group ∷ (next ∷ path)) = Some (slice_index_or (group ∷ (next ∷ path)) (length path) 0)
+
+-- the groups of each host, its limited ones, the hosts of each group, its parent, and the last group at or below each
+pub record ArePartsOf (hosts : ℕ) (limits : List (Option ℕ)) (depths : List ℕ) (rows : List (ℕ × ℕ)) (chains members : List (List ℕ)) (parents : List (Option ℕ)) (lasts : List ℕ) : Type 0 where
   pub held : List (List ℕ)
   pub held_are : held ≡ map (λ host. numbers_where (λ group. is_member (paths_from [] 0 depths) rows group host) (length depths)) (range_with_len 0 hosts)
   pub chains_are : chains ≡ map (filter (is_limited limits)) held
   pub members_are : members ≡ map (λ group. numbers_where (λ host. has_number group (list_at held host)) (length held)) (range_with_len 0 (length depths))
+  pub parents_are : parents ≡ map parent_on (paths_from [] 0 depths)
   pub lasts_are : lasts ≡ map (λ group. last_where (λ number. has_number group (list_at (paths_from [] 0 depths) number)) (length depths)) (range_with_len 0 (length depths))

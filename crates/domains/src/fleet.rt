@@ -1,6 +1,6 @@
 //! A fleet: hosts, groups with their members, and how limits nest.
-ghost use Rattle.std.specs.Prelude.{◌≡◌, ◌<◌, IfOk, IfErr, IsFalse, MatchOption, None, false, length, map, slice_index_or, []};
-ghost use Rattle.inventory_model.specs.Names.{is_among};
+ghost use Rattle.std.specs.Prelude.{◌≡◌, ◌<◌, IfOk, IfErr, IfSome, IsFalse, MatchOption, None, false, length, map, option_map, position, slice_index_or, []};
+ghost use Rattle.inventory_model.specs.Names.{is_among, same_name};
 ghost use Rattle.fleet_numbers.specs.NumberLists.{list_at, has_number};
 ghost use Rattle.domains.specs.Numbered.{host_at};
 ghost use Rattle.std.specs.String.{string_bytes};
@@ -13,6 +13,7 @@ use crate::parts::list_parts;
 use crate::search::{find_crossing, find_over};
 use fleet_numbers::{NumberLists, find_name, list_deal_order, list_deal_places};
 use group_tree::{GroupId, HostId, Tree};
+use indexmap::IndexSet;
 use std::alloc::{AllocError, Allocator, Global};
 use std::marker::Model;
 
@@ -24,8 +25,9 @@ pub const MAX_HOSTS: usize = 4096;
 #[derive(Drop)]
 pub struct Fleet {
     hosts: Vec<String>,
-    groups: Vec<String>,
+    groups: IndexSet<String>,
     limits: Vec<Option<u16>>,
+    parents: Vec<Option<usize>>,
     members: NumberLists,
     chains: NumberLists,
     off: Vec<bool>,
@@ -42,8 +44,9 @@ impl Model for Fleet {
 
     ghost view = { λ f. record {
       hosts = map string_bytes f.hosts.items;
-      groups = map string_bytes f.groups.items;
+      groups = map string_bytes f.groups.keys;
       limits = f.limits.items;
+      parents = f.parents.items;
       members = f.members;
       chains = f.chains;
       off = f.off.items;
@@ -52,8 +55,9 @@ impl Model for Fleet {
 
     ghost invariant = { λ f. IsKept (record {
       hosts = map string_bytes f.hosts.items;
-      groups = map string_bytes f.groups.items;
+      groups = map string_bytes f.groups.keys;
       limits = f.limits.items;
+      parents = f.parents.items;
       members = f.members;
       chains = f.chains;
       off = f.off.items;
@@ -102,6 +106,7 @@ impl Fleet {
             hosts: numbers.hosts,
             groups: numbers.groups,
             limits: numbers.limits,
+            parents: parts.parents,
             members: parts.members,
             chains: parts.chains,
             off: numbers.off,
@@ -147,6 +152,18 @@ impl Fleet {
         }
     }
 
+    /// The group of this name. No memory is taken.
+    pub fn group(&self, name: &str) -> Option<GroupId>
+        ensures index { option_map (λ group. group.index) result ≡ position (same_name name.now) self.now.groups }
+        ensures named { MatchOption result (IsFalse (is_among name.now self.now.groups))
+            (λ group. (group.index < length self.now.groups) × (host_at self.now.groups group.index ≡ name.now)) }
+    {
+        match self.groups.get_index_of(name) {
+            Some(index) => Some(GroupId { index }),
+            None => None,
+        }
+    }
+
     pub fn name(&self, host: HostId) -> &str
         requires { host.index < length self.now.hosts }
         ensures { result.now ≡ host_at self.now.hosts host.index }
@@ -169,7 +186,19 @@ impl Fleet {
         self.limits[group.index]
     }
 
-    /// The numbers of the group's hosts, rising.
+    /// The group directly above, and none for the outermost.
+    pub fn parent(&self, group: GroupId) -> Option<GroupId>
+        requires { group.index < length self.now.groups }
+        ensures index { option_map (λ parent. parent.index) result ≡ slice_index_or self.now.parents group.index None }
+        ensures before { IfSome result (λ parent. parent.index < group.index) }
+    {
+        match self.parents[group.index] {
+            Some(index) => Some(GroupId { index }),
+            None => None,
+        }
+    }
+
+    /// The group's hosts, rising, each as the `index` of its `HostId`.
     pub fn members(&self, group: GroupId) -> &[usize]
         requires { group.index < length self.now.groups }
         ensures { result.now ≡ list_at self.now.members group.index }
@@ -177,7 +206,7 @@ impl Fleet {
         self.members.at(group.index)
     }
 
-    /// The numbers of the host's limited groups, from the outermost in.
+    /// The host's limited groups, from the outermost in, each as the `index` of its `GroupId`.
     pub fn chain(&self, host: HostId) -> &[usize]
         requires { host.index < length self.now.hosts }
         ensures { result.now ≡ list_at self.now.chains host.index }
@@ -193,7 +222,7 @@ impl Fleet {
         self.off[host.index]
     }
 
-    /// The numbers of all hosts, as they are dealt to batches.
+    /// All hosts as they are dealt to batches, each as the `index` of its `HostId`.
     pub fn deal_order(&self) -> &[usize]
         ensures { result.now ≡ self.now.order }
     {

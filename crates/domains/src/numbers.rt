@@ -1,6 +1,7 @@
 //! An inventory by the numbers of its hosts and groups.
-ghost use Rattle.std.specs.Prelude.{◌≡◌, ◌<◌, IfOk, map};
+ghost use Rattle.std.specs.Prelude.{◌≡◌, ◌<◌, IfOk, IsTrue, map};
 ghost use Rattle.std.specs.String.{string_bytes};
+ghost use Rattle.inventory_model.specs.Names.{are_distinct};
 ghost use Rattle.inventory_model.specs.Limits.{IsWithinLimits};
 ghost use Rattle.domains.specs.Numbered.{IsNumbering};
 
@@ -9,13 +10,14 @@ use crate::offs::list_off;
 use crate::rows::list_rows;
 use crate::walk::{Spot, list_spots};
 use group_tree::Tree;
+use indexmap::IndexSet;
 use std::alloc::{AllocError, Allocator, Global};
 
 /// Hosts in the order of their names, groups in preorder; a row is a host's and a group's number.
 #[derive(Drop)]
 pub(crate) struct Numbers {
     pub(crate) hosts: Vec<String>,
-    pub(crate) groups: Vec<String>,
+    pub(crate) groups: IndexSet<String>,
     pub(crate) limits: Vec<Option<u16>>,
     pub(crate) depths: Vec<usize>,
     pub(crate) rows: Vec<(usize, usize)>,
@@ -25,12 +27,13 @@ pub(crate) struct Numbers {
 fn names_of_groups<A: Allocator>(
     alloc: Global,
     spots: &[Spot<'_, A>],
-) -> Result<Vec<String>, AllocError>
-    ensures { IfOk result (λ names. map string_bytes names.items ≡ map (λ spot. spot.group.now.name) spots.now) }
+) -> Result<IndexSet<String>, AllocError>
+    requires { IsTrue (are_distinct (map (λ spot. spot.group.now.name) spots.now)) }
+    ensures { IfOk result (λ names. map string_bytes names.keys ≡ map (λ spot. spot.group.now.name) spots.now) }
 {
-    let mut names = Vec::with_capacity(alloc, spots.len())?;
+    let mut names = IndexSet::with_capacity(alloc, spots.len())?;
     for spot in spots {
-        names.push(String::from_str(alloc, spot.group.name())?)?;
+        names.insert(String::from_str(alloc, spot.group.name())?)?;
     }
     Ok(names)
 }
@@ -64,7 +67,7 @@ pub(crate) fn number_tree<A: Allocator>(
     tree: &Tree<A>,
 ) -> Result<Numbers, AllocError>
     ensures within { IfOk result (λ _. IsWithinLimits tree.now) }
-    ensures numbered { IfOk result (λ numbers. IsNumbering tree.now (map string_bytes numbers.hosts.items) (map string_bytes numbers.groups.items)
+    ensures numbered { IfOk result (λ numbers. IsNumbering tree.now (map string_bytes numbers.hosts.items) (map string_bytes numbers.groups.keys)
         numbers.limits.items numbers.depths.items numbers.rows.items numbers.off.items) }
 {
     let mut walk = Vec::new(alloc);

@@ -2,6 +2,7 @@
 use crate::Fleet;
 use group_tree::{Group, GroupFault, GroupId, HostId, Tree};
 use std::alloc::{AllocError, Allocator, Global};
+use std::test::Fail;
 
 /// A group with these hosts, which have no variables.
 pub fn group<A: Allocator + Clone>(
@@ -24,6 +25,14 @@ pub fn with<A: Allocator + Clone>(
 ) -> Result<Group<A>, GroupFault> {
     group.add_child(child)?;
     Ok(group)
+}
+
+/// The fleet of a group that is accepted.
+pub fn fleet_of<A: Allocator + Drop>(alloc: Global, root: Group<A>) -> Result<Fleet, Fail> {
+    let Ok(tree) = Tree::new(root) else {
+        return Err(Fail::new("no tree"));
+    };
+    Ok(Fleet::build(alloc, &tree)?)
 }
 
 /// The hosts in deal order, each with its chain, then the groups, each with its members; or why there is no fleet.

@@ -1,5 +1,6 @@
 //! Inventories whose answers are worked by hand.
-use super::text::{group, told, with};
+use super::text::{fleet_of, group, told, with};
+use crate::Fleet;
 use group_tree::{Group, GroupFault, Scalar};
 use std::alloc::Allocator;
 use std::test::Fail;
@@ -58,6 +59,29 @@ fn racks_in_a_region_are_dealt_rack_by_rack(rt: HostRuntime) -> Result<(), Fail>
         told.as_str(),
         "a eu r1;b eu r1;c eu r1;d eu r2;e eu r2; all=abcde eu=abcde r1=abc r2=de"
     );
+    Ok(())
+}
+
+/// The name of the group directly above the group of this name.
+fn above<'a>(fleet: &'a Fleet, name: &str) -> &'a str {
+    match fleet.group(name) {
+        Some(group) => match fleet.parent(group) {
+            Some(parent) => fleet.group_name(parent),
+            None => "nothing",
+        },
+        None => "no group",
+    }
+}
+
+#[test]
+fn a_group_is_found_by_its_name(rt: HostRuntime) -> Result<(), Fail> {
+    let fleet = fleet_of(rt.alloc(), region(rt.alloc())?)?;
+    assert_eq!(rt; above(&fleet, "all"), "nothing");
+    assert_eq!(rt; above(&fleet, "eu"), "all");
+    assert_eq!(rt; above(&fleet, "r1"), "eu");
+    assert_eq!(rt; above(&fleet, "r2"), "eu");
+    assert_eq!(rt; above(&fleet, "a"), "no group");
+    assert_eq!(rt; above(&fleet, "r"), "no group");
     Ok(())
 }
 

@@ -2,6 +2,7 @@ use Rattle.std.proofs.Common.{◌≡◌, ◌∙◌, ℕ, List, [], map, length, 
 use Rattle.std.specs.List.{list_all, range_with_len}
 use Rattle.fleet_numbers.specs.NumberLists.{are_below, IsRising, numbers_where, has_number, list_at, last_where}
 use Rattle.fleet_numbers.specs.GroupPaths.{paths_from, is_member}
+use Rattle.domains.specs.Parts.{parent_on}
 use Rattle.fleet_numbers.proofs.PathLemmas.{length-paths_from, paths_below}
 use Rattle.domains.proofs.BuildLemmas.{lists_rise}
 use Rattle.domains.proofs.parts.list_parts.Goals as goal
@@ -33,5 +34,6 @@ returns c =
       held_are = subst (λ (n : ℕ). c.in_ok-held.held ≡ map (λ host. numbers_where (λ group. is_member (paths_from [] 0 depths) rows group host) n) (range_with_len 0 c.args.hosts)) long (subst (λ (p : List (List ℕ)). c.in_ok-held.held ≡ map (λ host. numbers_where (λ group. is_member p rows group host) (length p)) (range_with_len 0 c.args.hosts)) c.in_ok-paths.ensures.paths c.in_ok-held.ensures);
       chains_are = c.in_ok-chains.ensures;
       members_are = c.in_ok-members.ensures;
+      parents_are = c.in_ok-parents.ensures ∙ ap (map parent_on) c.in_ok-paths.ensures.paths;
       lasts_are = subst (λ (n : ℕ). c.in_ok-lasts.lasts.items ≡ map (λ group. last_where (λ number. has_number group (list_at (paths_from [] 0 depths) number)) n) (range_with_len 0 n)) long (subst (λ (p : List (List ℕ)). c.in_ok-lasts.lasts.items ≡ map (λ group. last_where (λ number. has_number group (list_at p number)) (length p)) (range_with_len 0 (length p))) c.in_ok-paths.ensures.paths c.in_ok-lasts.ensures);
     }

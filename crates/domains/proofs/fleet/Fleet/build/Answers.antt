@@ -14,75 +14,88 @@ use Rattle.domains.specs.Parts.{ArePartsOf}
 use Rattle.domains.proofs.BuildLemmas.{chains_rise, crossing_fault, limits_len, nested, over_fault, chains_below, fleet_of, sound}
 use Rattle.domains.proofs.fleet.Fleet.build.Goals as goal
 
+pub list_parts-requires-clause-hosts_in : goal.list_parts-requires-clause-hosts_in
+list_parts-requires-clause-hosts_in g c = λ k d l.
+    let rows = c.in_ok-numbers.numbers.rows.items in
+    let same : get_or c.as_slice-2.result.now k d ≡ get_or rows k d = ap (λ (r : List (ℕ × ℕ)). get_or r k d) c.as_slice-2.ensures.value in
+    let inside : (get_or rows k d).0 < length (map (string_bytes {Z = Global}) c.in_ok-numbers.numbers.hosts.items) = c.in_ok-numbers.ensures.numbered.hosts_in k d (omega (arith, l, ap length c.as_slice-2.ensures.value)) in
+    let count : length (map (string_bytes {Z = Global}) c.in_ok-numbers.numbers.hosts.items) ≡ length c.as_slice-hosts.result.now = length-map c.in_ok-numbers.numbers.hosts.items (string_bytes {Z = Global}) ∙ sym (ap length c.as_slice-hosts.ensures.value) in
+    omega (arith, inside, count, ap (λ (r : ℕ × ℕ). r.0) same)
+
 pub find_crossing-requires : goal.find_crossing-requires
 find_crossing-requires g c =
     let numbers = c.in_ok-numbers.numbers in
     let hosts : List Name = map (string_bytes {Z = Global}) numbers.hosts.items in
-    let groups : List Name = map (string_bytes {Z = Global}) numbers.groups.items in
+    let groups : List Name = map (string_bytes {Z = Global}) numbers.groups.keys in
     let within = c.in_ok-numbers.ensures.within in
     let chains = c.in_ok-parts.parts.chains in
     let members = c.in_ok-parts.parts.members in
+    let parents = c.in_ok-parts.parts.parents.items in
     let lasts = c.in_ok-parts.parts.lasts.items in
-    let parts : ArePartsOf (length hosts) numbers.limits.items numbers.depths.items numbers.rows.items chains members lasts = subst (λ (n : ℕ). ArePartsOf n numbers.limits.items numbers.depths.items numbers.rows.items chains members lasts) (sym (length-map numbers.hosts.items (string_bytes {Z = Global}))) (rw (c.as_slice-hosts.ensures.value, c.as_slice-limits.ensures.value, c.as_slice.ensures.value, c.as_slice-2.ensures.value) at c.in_ok-parts.ensures) in
-    λ k d l. rw c.as_slice-3.ensures.value (chains_rise c.args.tree.now hosts groups numbers.limits.items numbers.depths.items numbers.rows.items numbers.off.items c.in_ok-numbers.ensures.numbered within.distinct within.preorder chains members lasts parts k d l)
+    let parts : ArePartsOf (length hosts) numbers.limits.items numbers.depths.items numbers.rows.items chains members parents lasts = subst (λ (n : ℕ). ArePartsOf n numbers.limits.items numbers.depths.items numbers.rows.items chains members parents lasts) (sym (length-map numbers.hosts.items (string_bytes {Z = Global}))) (rw (c.as_slice-hosts.ensures.value, c.as_slice-limits.ensures.value, c.as_slice.ensures.value, c.as_slice-2.ensures.value) at c.in_ok-parts.ensures) in
+    λ k d l. rw c.as_slice-3.ensures.value (chains_rise c.args.tree.now hosts groups numbers.limits.items numbers.depths.items numbers.rows.items numbers.off.items c.in_ok-numbers.ensures.numbered within.distinct within.preorder chains members parents lasts parts k d l)
 
 pub returns-in-Some-clause-err : goal.returns-in-Some-clause-err
 returns-in-Some-clause-err g c =
     let numbers = c.in_ok-numbers.numbers in
     let hosts : List Name = map (string_bytes {Z = Global}) numbers.hosts.items in
-    let groups : List Name = map (string_bytes {Z = Global}) numbers.groups.items in
+    let groups : List Name = map (string_bytes {Z = Global}) numbers.groups.keys in
     let within = c.in_ok-numbers.ensures.within in
     let chains = c.in_ok-parts.parts.chains in
     let members = c.in_ok-parts.parts.members in
+    let parents = c.in_ok-parts.parts.parents.items in
     let lasts = c.in_ok-parts.parts.lasts.items in
-    let parts : ArePartsOf (length hosts) numbers.limits.items numbers.depths.items numbers.rows.items chains members lasts = subst (λ (n : ℕ). ArePartsOf n numbers.limits.items numbers.depths.items numbers.rows.items chains members lasts) (sym (length-map numbers.hosts.items (string_bytes {Z = Global}))) (rw (c.as_slice-hosts.ensures.value, c.as_slice-limits.ensures.value, c.as_slice.ensures.value, c.as_slice-2.ensures.value) at c.in_ok-parts.ensures) in
+    let parts : ArePartsOf (length hosts) numbers.limits.items numbers.depths.items numbers.rows.items chains members parents lasts = subst (λ (n : ℕ). ArePartsOf n numbers.limits.items numbers.depths.items numbers.rows.items chains members parents lasts) (sym (length-map numbers.hosts.items (string_bytes {Z = Global}))) (rw (c.as_slice-hosts.ensures.value, c.as_slice-limits.ensures.value, c.as_slice.ensures.value, c.as_slice-2.ensures.value) at c.in_ok-parts.ensures) in
     let few : length (hosts_of c.args.tree.now) ≤ 4096 = omega (arith, c.if-hosts-gt-MAX_HOSTS.false, ap length c.in_ok-numbers.ensures.numbered.all_hosts, length-map numbers.hosts.items (string_bytes {Z = Global}), ap length c.as_slice-hosts.ensures.value) in
     let found = rw c.as_slice-3.ensures.value at c.in-Some.ensures in
     let host : string_bytes {Z = Global} c.in_ok-name_at.field-0 ≡ host_at hosts c.in-Some.crossing.host = c.in_ok-name_at.ensures ∙ ap (λ (l : List _). get_or (map (string_bytes {Z = Global}) l) c.in-Some.crossing.host []) c.as_slice-hosts.ensures.value in
-    let first : string_bytes {Z = Global} c.in_ok-name_at-2.field-0 ≡ host_at groups c.in-Some.crossing.first = c.in_ok-name_at-2.ensures ∙ ap (λ (l : List _). get_or (map (string_bytes {Z = Global}) l) c.in-Some.crossing.first []) c.as_slice-groups.ensures.value in
-    let second : string_bytes {Z = Global} c.in_ok-name_at-3.field-0 ≡ host_at groups c.in-Some.crossing.second = c.in_ok-name_at-3.ensures ∙ ap (λ (l : List _). get_or (map (string_bytes {Z = Global}) l) c.in-Some.crossing.second []) c.as_slice-groups.ensures.value in
-    let least = crossing_fault c.args.tree.now hosts groups numbers.limits.items numbers.depths.items numbers.rows.items numbers.off.items c.in_ok-numbers.ensures.numbered within.distinct within.preorder chains members lasts parts c.in-Some.crossing.host c.in-Some.crossing.first c.in-Some.crossing.second found in
+    let first : string_bytes {Z = Global} c.in_ok-name_at-2.field-0 ≡ host_at groups c.in-Some.crossing.first = c.in_ok-name_at-2.ensures ∙ ap (λ (l : List _). get_or (map (string_bytes {Z = Global}) l) c.in-Some.crossing.first []) c.as_slice-groups.ensures.keys in
+    let second : string_bytes {Z = Global} c.in_ok-name_at-3.field-0 ≡ host_at groups c.in-Some.crossing.second = c.in_ok-name_at-3.ensures ∙ ap (λ (l : List _). get_or (map (string_bytes {Z = Global}) l) c.in-Some.crossing.second []) c.as_slice-groups.ensures.keys in
+    let least = crossing_fault c.args.tree.now hosts groups numbers.limits.items numbers.depths.items numbers.rows.items numbers.off.items c.in_ok-numbers.ensures.numbered within.distinct within.preorder chains members parents lasts parts c.in-Some.crossing.host c.in-Some.crossing.first c.in-Some.crossing.second found in
     (few, rw (host, first, second) least)
 
 pub find_over-requires : goal.find_over-requires
 find_over-requires g c =
     let numbers = c.in_ok-numbers.numbers in
     let hosts : List Name = map (string_bytes {Z = Global}) numbers.hosts.items in
-    let groups : List Name = map (string_bytes {Z = Global}) numbers.groups.items in
+    let groups : List Name = map (string_bytes {Z = Global}) numbers.groups.keys in
     let within = c.in_ok-numbers.ensures.within in
     let chains = c.in_ok-parts.parts.chains in
     let members = c.in_ok-parts.parts.members in
+    let parents = c.in_ok-parts.parts.parents.items in
     let lasts = c.in_ok-parts.parts.lasts.items in
-    let parts : ArePartsOf (length hosts) numbers.limits.items numbers.depths.items numbers.rows.items chains members lasts = subst (λ (n : ℕ). ArePartsOf n numbers.limits.items numbers.depths.items numbers.rows.items chains members lasts) (sym (length-map numbers.hosts.items (string_bytes {Z = Global}))) (rw (c.as_slice-hosts.ensures.value, c.as_slice-limits.ensures.value, c.as_slice.ensures.value, c.as_slice-2.ensures.value) at c.in_ok-parts.ensures) in
-    rw c.as_slice-limits.ensures.value (limits_len c.args.tree.now hosts groups numbers.limits.items numbers.depths.items numbers.rows.items numbers.off.items c.in_ok-numbers.ensures.numbered within.distinct within.preorder chains members lasts parts)
+    let parts : ArePartsOf (length hosts) numbers.limits.items numbers.depths.items numbers.rows.items chains members parents lasts = subst (λ (n : ℕ). ArePartsOf n numbers.limits.items numbers.depths.items numbers.rows.items chains members parents lasts) (sym (length-map numbers.hosts.items (string_bytes {Z = Global}))) (rw (c.as_slice-hosts.ensures.value, c.as_slice-limits.ensures.value, c.as_slice.ensures.value, c.as_slice-2.ensures.value) at c.in_ok-parts.ensures) in
+    rw c.as_slice-limits.ensures.value (limits_len c.args.tree.now hosts groups numbers.limits.items numbers.depths.items numbers.rows.items numbers.off.items c.in_ok-numbers.ensures.numbered within.distinct within.preorder chains members parents lasts parts)
 
 pub returns-in-Some-find_over-clause-err : goal.returns-in-Some-find_over-clause-err
 returns-in-Some-find_over-clause-err g c =
     let numbers = c.in_ok-numbers.numbers in
     let hosts : List Name = map (string_bytes {Z = Global}) numbers.hosts.items in
-    let groups : List Name = map (string_bytes {Z = Global}) numbers.groups.items in
+    let groups : List Name = map (string_bytes {Z = Global}) numbers.groups.keys in
     let within = c.in_ok-numbers.ensures.within in
     let chains = c.in_ok-parts.parts.chains in
     let members = c.in_ok-parts.parts.members in
+    let parents = c.in_ok-parts.parts.parents.items in
     let lasts = c.in_ok-parts.parts.lasts.items in
-    let parts : ArePartsOf (length hosts) numbers.limits.items numbers.depths.items numbers.rows.items chains members lasts = subst (λ (n : ℕ). ArePartsOf n numbers.limits.items numbers.depths.items numbers.rows.items chains members lasts) (sym (length-map numbers.hosts.items (string_bytes {Z = Global}))) (rw (c.as_slice-hosts.ensures.value, c.as_slice-limits.ensures.value, c.as_slice.ensures.value, c.as_slice-2.ensures.value) at c.in_ok-parts.ensures) in
+    let parts : ArePartsOf (length hosts) numbers.limits.items numbers.depths.items numbers.rows.items chains members parents lasts = subst (λ (n : ℕ). ArePartsOf n numbers.limits.items numbers.depths.items numbers.rows.items chains members parents lasts) (sym (length-map numbers.hosts.items (string_bytes {Z = Global}))) (rw (c.as_slice-hosts.ensures.value, c.as_slice-limits.ensures.value, c.as_slice.ensures.value, c.as_slice-2.ensures.value) at c.in_ok-parts.ensures) in
     let few : length (hosts_of c.args.tree.now) ≤ 4096 = omega (arith, c.if-hosts-gt-MAX_HOSTS.false, ap length c.in_ok-numbers.ensures.numbered.all_hosts, length-map numbers.hosts.items (string_bytes {Z = Global}), ap length c.as_slice-hosts.ensures.value) in
     let uncut = rw c.as_slice-3.ensures.value at c.in_default.ensures in
     let found = rw (c.as_slice-limits.ensures.value, c.as_slice-4.ensures.value) at c.in-Some-find_over.ensures in
-    let group : string_bytes {Z = Global} c.in_ok-name_at-4.field-0 ≡ host_at groups c.in-Some-find_over.over.group = c.in_ok-name_at-4.ensures ∙ ap (λ (l : List _). get_or (map (string_bytes {Z = Global}) l) c.in-Some-find_over.over.group []) c.as_slice-groups.ensures.value in
-    (few, nested c.args.tree.now hosts groups numbers.limits.items numbers.depths.items numbers.rows.items numbers.off.items c.in_ok-numbers.ensures.numbered within.distinct within.preorder chains members lasts parts uncut, rw group (over_fault c.args.tree.now hosts groups numbers.limits.items numbers.depths.items numbers.rows.items numbers.off.items c.in_ok-numbers.ensures.numbered within.distinct within.preorder chains members lasts parts c.in-Some-find_over.over.group c.in-Some-find_over.over.down c.in-Some-find_over.over.limit found))
+    let group : string_bytes {Z = Global} c.in_ok-name_at-4.field-0 ≡ host_at groups c.in-Some-find_over.over.group = c.in_ok-name_at-4.ensures ∙ ap (λ (l : List _). get_or (map (string_bytes {Z = Global}) l) c.in-Some-find_over.over.group []) c.as_slice-groups.ensures.keys in
+    (few, nested c.args.tree.now hosts groups numbers.limits.items numbers.depths.items numbers.rows.items numbers.off.items c.in_ok-numbers.ensures.numbered within.distinct within.preorder chains members parents lasts parts uncut, rw group (over_fault c.args.tree.now hosts groups numbers.limits.items numbers.depths.items numbers.rows.items numbers.off.items c.in_ok-numbers.ensures.numbered within.distinct within.preorder chains members parents lasts parts c.in-Some-find_over.over.group c.in-Some-find_over.over.down c.in-Some-find_over.over.limit found))
 
 pub list_deal_order-requires : goal.list_deal_order-requires
 list_deal_order-requires g c =
     let numbers = c.in_ok-numbers.numbers in
     let hosts : List Name = map (string_bytes {Z = Global}) numbers.hosts.items in
-    let groups : List Name = map (string_bytes {Z = Global}) numbers.groups.items in
+    let groups : List Name = map (string_bytes {Z = Global}) numbers.groups.keys in
     let within = c.in_ok-numbers.ensures.within in
     let chains = c.in_ok-parts.parts.chains in
     let members = c.in_ok-parts.parts.members in
+    let parents = c.in_ok-parts.parts.parents.items in
     let lasts = c.in_ok-parts.parts.lasts.items in
-    let parts : ArePartsOf (length hosts) numbers.limits.items numbers.depths.items numbers.rows.items chains members lasts = subst (λ (n : ℕ). ArePartsOf n numbers.limits.items numbers.depths.items numbers.rows.items chains members lasts) (sym (length-map numbers.hosts.items (string_bytes {Z = Global}))) (rw (c.as_slice-hosts.ensures.value, c.as_slice-limits.ensures.value, c.as_slice.ensures.value, c.as_slice-2.ensures.value) at c.in_ok-parts.ensures) in
-    chains_below c.args.tree.now hosts groups numbers.limits.items numbers.depths.items numbers.rows.items numbers.off.items c.in_ok-numbers.ensures.numbered within.distinct within.preorder chains members lasts parts within.groups
+    let parts : ArePartsOf (length hosts) numbers.limits.items numbers.depths.items numbers.rows.items chains members parents lasts = subst (λ (n : ℕ). ArePartsOf n numbers.limits.items numbers.depths.items numbers.rows.items chains members parents lasts) (sym (length-map numbers.hosts.items (string_bytes {Z = Global}))) (rw (c.as_slice-hosts.ensures.value, c.as_slice-limits.ensures.value, c.as_slice.ensures.value, c.as_slice-2.ensures.value) at c.in_ok-parts.ensures) in
+    chains_below c.args.tree.now hosts groups numbers.limits.items numbers.depths.items numbers.rows.items numbers.off.items c.in_ok-numbers.ensures.numbered within.distinct within.preorder chains members parents lasts parts within.groups
 
 pub list_deal_places-requires : goal.list_deal_places-requires
 list_deal_places-requires g c =
@@ -94,26 +107,28 @@ pub invariant_of-result : goal.invariant_of-result
 invariant_of-result g c =
     let numbers = c.in_ok-numbers.numbers in
     let hosts : List Name = map (string_bytes {Z = Global}) numbers.hosts.items in
-    let groups : List Name = map (string_bytes {Z = Global}) numbers.groups.items in
+    let groups : List Name = map (string_bytes {Z = Global}) numbers.groups.keys in
     let within = c.in_ok-numbers.ensures.within in
     let chains = c.in_ok-parts.parts.chains in
     let members = c.in_ok-parts.parts.members in
+    let parents = c.in_ok-parts.parts.parents.items in
     let lasts = c.in_ok-parts.parts.lasts.items in
-    let parts : ArePartsOf (length hosts) numbers.limits.items numbers.depths.items numbers.rows.items chains members lasts = subst (λ (n : ℕ). ArePartsOf n numbers.limits.items numbers.depths.items numbers.rows.items chains members lasts) (sym (length-map numbers.hosts.items (string_bytes {Z = Global}))) (rw (c.as_slice-hosts.ensures.value, c.as_slice-limits.ensures.value, c.as_slice.ensures.value, c.as_slice-2.ensures.value) at c.in_ok-parts.ensures) in
+    let parts : ArePartsOf (length hosts) numbers.limits.items numbers.depths.items numbers.rows.items chains members parents lasts = subst (λ (n : ℕ). ArePartsOf n numbers.limits.items numbers.depths.items numbers.rows.items chains members parents lasts) (sym (length-map numbers.hosts.items (string_bytes {Z = Global}))) (rw (c.as_slice-hosts.ensures.value, c.as_slice-limits.ensures.value, c.as_slice.ensures.value, c.as_slice-2.ensures.value) at c.in_ok-parts.ensures) in
     let none = rw (c.as_slice-limits.ensures.value, c.as_slice-4.ensures.value) at c.in_default-find_over.ensures in
     let few : length hosts ≤ 4096 = omega (arith, c.if-hosts-gt-MAX_HOSTS.false, length-map numbers.hosts.items (string_bytes {Z = Global}), ap length c.as_slice-hosts.ensures.value) in
-    record { sound = sound c.args.tree.now hosts groups numbers.limits.items numbers.depths.items numbers.rows.items numbers.off.items c.in_ok-numbers.ensures.numbered within.distinct within.preorder chains members lasts parts c.in_ok-order.order.items few (rw c.as_slice-3.ensures.value at c.in_default.ensures) none c.in_ok-order.ensures.each_once c.in_ok-order.ensures.dealt; placed = rw c.as_slice-5.ensures.value at c.in_ok-places.ensures }
+    record { sound = sound c.args.tree.now hosts groups numbers.limits.items numbers.depths.items numbers.rows.items numbers.off.items c.in_ok-numbers.ensures.numbered within.distinct within.preorder chains members parents lasts parts c.in_ok-order.order.items few (rw c.as_slice-3.ensures.value at c.in_default.ensures) none c.in_ok-order.ensures.each_once c.in_ok-order.ensures.dealt; placed = rw c.as_slice-5.ensures.value at c.in_ok-places.ensures }
 
 pub returns-clause-ok : goal.returns-clause-ok
 returns-clause-ok g c =
     let numbers = c.in_ok-numbers.numbers in
     let hosts : List Name = map (string_bytes {Z = Global}) numbers.hosts.items in
-    let groups : List Name = map (string_bytes {Z = Global}) numbers.groups.items in
+    let groups : List Name = map (string_bytes {Z = Global}) numbers.groups.keys in
     let within = c.in_ok-numbers.ensures.within in
     let chains = c.in_ok-parts.parts.chains in
     let members = c.in_ok-parts.parts.members in
+    let parents = c.in_ok-parts.parts.parents.items in
     let lasts = c.in_ok-parts.parts.lasts.items in
-    let parts : ArePartsOf (length hosts) numbers.limits.items numbers.depths.items numbers.rows.items chains members lasts = subst (λ (n : ℕ). ArePartsOf n numbers.limits.items numbers.depths.items numbers.rows.items chains members lasts) (sym (length-map numbers.hosts.items (string_bytes {Z = Global}))) (rw (c.as_slice-hosts.ensures.value, c.as_slice-limits.ensures.value, c.as_slice.ensures.value, c.as_slice-2.ensures.value) at c.in_ok-parts.ensures) in
+    let parts : ArePartsOf (length hosts) numbers.limits.items numbers.depths.items numbers.rows.items chains members parents lasts = subst (λ (n : ℕ). ArePartsOf n numbers.limits.items numbers.depths.items numbers.rows.items chains members parents lasts) (sym (length-map numbers.hosts.items (string_bytes {Z = Global}))) (rw (c.as_slice-hosts.ensures.value, c.as_slice-limits.ensures.value, c.as_slice.ensures.value, c.as_slice-2.ensures.value) at c.in_ok-parts.ensures) in
     let none = rw (c.as_slice-limits.ensures.value, c.as_slice-4.ensures.value) at c.in_default-find_over.ensures in
     let uncut = rw c.as_slice-3.ensures.value at c.in_default.ensures in
-    fleet_of c.args.tree.now hosts groups numbers.limits.items numbers.depths.items numbers.rows.items numbers.off.items c.in_ok-numbers.ensures.numbered within.distinct within.preorder chains members lasts parts c.in_ok-order.order.items uncut none
+    fleet_of c.args.tree.now hosts groups numbers.limits.items numbers.depths.items numbers.rows.items numbers.off.items c.in_ok-numbers.ensures.numbered within.distinct within.preorder chains members parents lasts parts c.in_ok-order.order.items uncut none

@@ -1,0 +1,86 @@
+-- Distinct names in a set, in the order in which they were put in.
+use Rattle.std.proofs.Common.{◌≡◌, ℕ, zero, suc, ◌+◌, ◌<◌, Bool, true, false, ◌||◌, not, cond, if◌then◌else◌, nat_lt, Option, Some, None, List, [], ◌∷◌, ◌++◌, length, get_or, map, take, option_map, sym, ap, ◌∙◌, refl, subst, arith, inl, inr, ◌⊎◌}
+use Rattle.std.specs.List.{list_any, position, position_or_len}
+use Rattle.std.specs.Prelude.{String}
+use Rattle.std.specs.String.{string_bytes, string_eq}
+use Rattle.std.proofs.lemmas.Bool.{false≢true, lt-ltb, ltb-false, le-ltb}
+use Rattle.std.proofs.lemmas.List.{map-append, take_more}
+use Rattle.std.proofs.lemmas.List.Quantifiers.{position-Some}
+use Rattle.inventory_model.specs.Names.{Name, same_name, is_among, are_distinct}
+use Rattle.fleet_numbers.proofs.SortedNamesLemmas.{same_name-true, same_name-itself}
+use Rattle.indexmap.specs.IndexSet.{insert_key}
+use Rattle.domains.proofs.PlaceLemmas.{distinct_at}
+use Rattle.domains.proofs.NumberLemmas.{list_any-map}
+
+same_back : (x y : Name) → same_name x y ≡ false → same_name y x ≡ false
+same_back x y e = by_case (same_name y x) refl
+  where
+    by_case : (b : Bool) → same_name y x ≡ b → b ≡ false
+    by_case true f =
+        let same : y ≡ x = same_name-true y x f in
+        absurd (false≢true (sym e ∙ ap (same_name x) same ∙ same_name-itself x))
+    by_case false f = refl
+
+-- none of the first names is the one after them
+fresh_among : (names : List Name) (name : Name) (i : ℕ) → ((k : ℕ) → k < i → same_name name (get_or names k []) ≡ false) → i < length names → is_among name (take i names) ≡ false
+fresh_among names name zero apart l = refl
+fresh_among [] name (suc i) apart l = absurd (omega arith)
+fresh_among (x ∷ names) name (suc i) apart l =
+    ap (λ b. b || is_among name (take i names)) (apart 0 (omega arith)) ∙ fresh_among names name i (λ k m. apart (suc k) (omega arith)) (omega arith)
+
+-- a set that holds the first of distinct names holds one more once the next is put in
+pub one_more_name : {Z : Type 0} (old : List (String Z)) (names : List Name) (i : ℕ) (name : String Z) → are_distinct names ≡ true → i < length names → string_bytes name ≡ get_or names i [] → map string_bytes old ≡ take i names → map string_bytes (insert_key string_eq old name) ≡ take (i + 1) names
+one_more_name {Z} old names i name distinct within is before =
+    ap (λ b. map string_bytes (if b then old else old ++ name ∷ [])) new ∙ map-append string_bytes old (name ∷ []) ∙ ap (λ l. l ++ string_bytes name ∷ []) before ∙ ap (λ (n : Name). take i names ++ n ∷ []) is ∙ sym (take_more names i [] within)
+  where
+    apart : (k : ℕ) → k < i → same_name (string_bytes name) (get_or names k []) ≡ false
+    apart k l =
+        same_back (get_or names k []) (string_bytes name) (ap (same_name (get_or names k [])) is ∙ distinct_at names k i [] distinct l within)
+
+    new : list_any (string_eq name) old ≡ false
+    new =
+        sym (list_any-map (same_name (string_bytes name)) (string_bytes {Z = Z}) old) ∙ ap (is_among (string_bytes name)) before ∙ fresh_among names (string_bytes name) i apart within
+
+-- the place of a name among texts
+pub position-map : {X Y : Type 0} (test : Y → Bool) (f : X → Y) (xs : List X) → position test (map f xs) ≡ position (λ x. test (f x)) xs
+position-map {X = X} test f xs =
+    ap (λ (n : ℕ). cond (nat_lt n (length (map f xs))) (Some n) None) (places xs) ∙ ap (λ (n : ℕ). cond (nat_lt (position_or_len (λ x. test (f x)) xs) n) (Some (position_or_len (λ x. test (f x)) xs)) None) (lengths xs)
+  where
+    places : (l : List X) → position_or_len test (map f l) ≡ position_or_len (λ x. test (f x)) l
+    places [] = refl
+    places (x ∷ l) = ap (λ (n : ℕ). cond (not (test (f x))) (1 + n) 0) (places l)
+
+    lengths : (l : List X) → length (map f l) ≡ length l
+    lengths [] = refl
+    lengths (x ∷ l) = ap suc (lengths l)
+
+-- a name that has a place stands there
+pub position_found : (name : Name) (names : List Name) (i : ℕ) → position (same_name name) names ≡ Some i → (i < length names) × (get_or names i [] ≡ name)
+position_found name names i e =
+    let found = position-Some (same_name name) names i [] e in
+    (found.0, sym (same_name-true name (get_or names i []) found.1))
+
+-- where the search goes past the end, the name is not there
+absent : (name : Name) (names : List Name) → nat_lt (position_or_len (same_name name) names) (length names) ≡ false → is_among name names ≡ false
+absent name [] e = refl
+absent name (x ∷ names) e = by_case (absent name names) (same_name name x) refl
+  where
+    less : (n m : ℕ) → nat_lt (1 + n) (suc m) ≡ false → nat_lt n m ≡ false
+    less n m f = le-ltb n m (omega (arith, ltb-false (1 + n) (suc m) f))
+
+    by_case : (nat_lt (position_or_len (same_name name) names) (length names) ≡ false → is_among name names ≡ false) → (b : Bool) → same_name name x ≡ b → (same_name name x || is_among name names) ≡ false
+    by_case later true f =
+        absurd (false≢true (sym e ∙ ap (λ b. nat_lt (cond (not b) (1 + position_or_len (same_name name) names) 0) (suc (length names))) f ∙ lt-ltb 0 (suc (length names)) (omega arith)))
+    by_case later false f =
+        let whole : nat_lt (1 + position_or_len (same_name name) names) (suc (length names)) ≡ false = sym (ap (λ b. nat_lt (cond (not b) (1 + position_or_len (same_name name) names) 0) (suc (length names))) f) ∙ e in
+        ap (λ b. b || is_among name names) f ∙ later (less (position_or_len (same_name name) names) (length names) whole)
+
+-- a name that has no place stands nowhere
+pub position_missing : (name : Name) (names : List Name) → position (same_name name) names ≡ None → is_among name names ≡ false
+position_missing name names e = absent name names (by_case (nat_lt (position_or_len (same_name name) names) (length names)) refl)
+  where
+    by_case : (b : Bool) → nat_lt (position_or_len (same_name name) names) (length names) ≡ b → b ≡ false
+    by_case true f =
+        let some : position (same_name name) names ≡ Some (position_or_len (same_name name) names) = ap (λ b. cond b (Some (position_or_len (same_name name) names)) None) f in
+        absurd (cc)
+    by_case false f = refl
