@@ -7,3 +7,4 @@ pub mod NameLemmas
 pub mod FleetLemmas
 pub mod BuildLemmas
 pub mod ReaderLemmas
+pub mod MarkLemmas

@@ -42,8 +42,8 @@ one_more_name {Z} old names i name distinct within is before =
         sym (list_any-map (same_name (string_bytes name)) (string_bytes {Z = Z}) old) ∙ ap (is_among (string_bytes name)) before ∙ fresh_among names (string_bytes name) i apart within
 
 -- the place of a name among texts
-pub position-map : {X Y : Type 0} (test : Y → Bool) (f : X → Y) (xs : List X) → position test (map f xs) ≡ position (λ x. test (f x)) xs
-position-map {X = X} test f xs =
+pub position_of_map : {X Y : Type 0} (test : Y → Bool) (f : X → Y) (xs : List X) → position test (map f xs) ≡ position (λ x. test (f x)) xs
+position_of_map {X = X} test f xs =
     ap (λ (n : ℕ). cond (nat_lt n (length (map f xs))) (Some n) None) (places xs) ∙ ap (λ (n : ℕ). cond (nat_lt (position_or_len (λ x. test (f x)) xs) n) (Some (position_or_len (λ x. test (f x)) xs)) None) (lengths xs)
   where
     places : (l : List X) → position_or_len test (map f l) ≡ position_or_len (λ x. test (f x)) l

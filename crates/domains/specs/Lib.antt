@@ -8,3 +8,4 @@ pub mod Members
 pub mod FleetViews
 pub mod Faults
 pub mod Parts
+pub mod Patterns

@@ -1,7 +1,7 @@
 //! A fleet: hosts, groups with their members, and how limits nest.
 ghost use Rattle.std.specs.Prelude.{◌≡◌, ◌<◌, IfOk, IfErr, IfSome, IsFalse, MatchOption, None, false, length, map, option_map, position, slice_index_or, []};
 ghost use Rattle.inventory_model.specs.Names.{is_among, same_name};
-ghost use Rattle.fleet_numbers.specs.NumberLists.{list_at, has_number};
+ghost use Rattle.fleet_numbers.specs.NumberLists.{list_at, has_number, IsRising};
 ghost use Rattle.domains.specs.Numbered.{host_at};
 ghost use Rattle.std.specs.String.{string_bytes};
 ghost use Rattle.domains.specs.FleetViews.{IsSound, IsFleetOf};
@@ -153,6 +153,7 @@ impl Fleet {
     }
 
     /// The group of this name. No memory is taken.
+    #[tactic(auto, using(crate::proofs::NameLemmas::position_missing, crate::proofs::NameLemmas::position_of_map))]
     pub fn group(&self, name: &str) -> Option<GroupId>
         ensures index { option_map (λ group. group.index) result ≡ position (same_name name.now) self.now.groups }
         ensures named { MatchOption result (IsFalse (is_among name.now self.now.groups))
@@ -201,7 +202,8 @@ impl Fleet {
     /// The group's hosts, rising, each as the `index` of its `HostId`.
     pub fn members(&self, group: GroupId) -> &[usize]
         requires { group.index < length self.now.groups }
-        ensures { result.now ≡ list_at self.now.members group.index }
+        ensures members { result.now ≡ list_at self.now.members group.index }
+        ensures rise { IsRising (length self.now.hosts) result.now }
     {
         self.members.at(group.index)
     }

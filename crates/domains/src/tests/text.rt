@@ -27,6 +27,14 @@ pub fn with<A: Allocator + Clone>(
     Ok(group)
 }
 
+/// Two racks of a region: the hosts are `a` to `e`, the groups `all`, `eu`, `r1` and `r2`.
+pub fn region<A: Allocator + Clone>(alloc: A) -> Result<Group<A>, GroupFault> {
+    let r1 = group(alloc.clone()?, "r1", Some(1), &["a", "b", "c"])?;
+    let r2 = group(alloc.clone()?, "r2", Some(2), &["d", "e"])?;
+    let eu = group(alloc.clone()?, "eu", Some(3), &[])?;
+    with(group(alloc, "all", None, &[])?, with(with(eu, r1)?, r2)?)
+}
+
 /// The fleet of a group that is accepted.
 pub fn fleet_of<A: Allocator + Drop>(alloc: Global, root: Group<A>) -> Result<Fleet, Fail> {
     let Ok(tree) = Tree::new(root) else {

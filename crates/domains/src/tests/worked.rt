@@ -1,17 +1,9 @@
 //! Inventories whose answers are worked by hand.
-use super::text::{fleet_of, group, told, with};
+use super::text::{fleet_of, group, region, told, with};
 use crate::Fleet;
 use group_tree::{Group, GroupFault, Scalar};
 use std::alloc::Allocator;
 use std::test::Fail;
-
-/// Two racks of a region.
-fn region<A: Allocator + Clone>(alloc: A) -> Result<Group<A>, GroupFault> {
-    let r1 = group(alloc.clone()?, "r1", Some(1), &["a", "b", "c"])?;
-    let r2 = group(alloc.clone()?, "r2", Some(2), &["d", "e"])?;
-    let eu = group(alloc.clone()?, "eu", Some(3), &[])?;
-    with(group(alloc, "all", None, &[])?, with(with(eu, r1)?, r2)?)
-}
 
 /// A host in a limited rack, and in a row of this limit.
 fn row_of_racks<A: Allocator + Clone>(

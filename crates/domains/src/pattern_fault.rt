@@ -1,0 +1,23 @@
+//! Why a pattern names no hosts.
+use std::alloc::AllocError;
+use thiserror::Error;
+
+#[derive(Debug, Drop, Error)]
+pub enum PatternFault {
+    /// No group and no host has this name.
+    #[error("no group and no host is named {name}")]
+    NoSuchName { name: String },
+    #[error("out of memory")]
+    Memory,
+}
+
+impl From<AllocError> for PatternFault {
+    ghost use Rattle.std.specs.Prelude.{◌≡◌};
+    ghost use Rattle.domains.specs.declared.pattern_fault.PatternFault.TheVariants.{Memory};
+
+    ghost from_gives = { λ _ fault. fault ≡ Memory };
+
+    fn from(_refused: AllocError) -> PatternFault {
+        PatternFault::Memory
+    }
+}

@@ -1,0 +1,52 @@
+//! Want of memory is told as such and passes: this test holds whatever one request `rt try --test --fail-alloc N` refuses.
+use super::text::region;
+use crate::{Fleet, FleetFault, PatternFault};
+use group_tree::{Group, GroupFault, HostId, Tree};
+use std::alloc::Global;
+use std::test::Fail;
+
+/// A call that was refused memory is made again.
+fn region_again(alloc: Global) -> Result<Group<Global>, GroupFault> {
+    match region(alloc) {
+        Err(GroupFault::Memory) => region(alloc),
+        answer => answer,
+    }
+}
+
+fn build_again(alloc: Global, tree: &Tree<Global>) -> Result<Fleet, FleetFault> {
+    match Fleet::build(alloc, tree) {
+        Err(FleetFault::Memory) => Fleet::build(alloc, tree),
+        answer => answer,
+    }
+}
+
+fn target_again(fleet: &Fleet, alloc: Global, pattern: &str) -> Result<Vec<HostId>, PatternFault> {
+    match fleet.target(alloc, pattern) {
+        Err(PatternFault::Memory) => fleet.target(alloc, pattern),
+        answer => answer,
+    }
+}
+
+fn are(hosts: &[HostId], wanted: &[usize]) -> bool {
+    hosts.len() == wanted.len()
+        && hosts
+            .iter()
+            .zip(wanted)
+            .all(|(host, wanted)| host.index == *wanted)
+}
+
+#[test]
+fn a_call_that_was_refused_memory_answers_again(rt: HostRuntime) -> Result<(), Fail> {
+    let Ok(tree) = Tree::new(region_again(rt.alloc())?) else {
+        return Err(Fail::new("no tree"));
+    };
+    let fleet = build_again(rt.alloc(), &tree)?;
+    assert!(rt; fleet.deal_order() == [0usize, 1, 2, 3, 4].as_slice());
+    let hosts = target_again(&fleet, rt.alloc(), "r1:d")?;
+    assert!(rt; are(hosts.as_slice(), &[0, 1, 2, 3]));
+    match target_again(&fleet, rt.alloc(), "r1:x*") {
+        Err(PatternFault::NoSuchName { name }) => assert_eq!(rt; name.as_str(), "x*"),
+        _ => return Err(Fail::new("x* names a host")),
+    }
+    Ok(())
+}
