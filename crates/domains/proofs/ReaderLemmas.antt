@@ -11,16 +11,8 @@ use Rattle.std.proofs.lemmas.List.Recursion.{or_from_places}
 use Rattle.std.proofs.lemmas.List.Sorted.{searched, Contains-permutation}
 use Rattle.fleet_numbers.specs.NumberLists.{has_number, IsRising}
 use Rattle.fleet_numbers.specs.DealOrder.{ArePlacesOf}
-use Rattle.fleet_numbers.proofs.RisingLemmas.{Ascends, Ascends-rising, has_number-within}
-
-ascends_le : (low high : ℕ) (xs : List ℕ) (i j : ℕ) → Ascends low high xs → i ≤ j → j < length xs → get_or xs i 0 ≤ get_or xs j 0
-ascends_le low high [] i j up l m = absurd (omega arith)
-ascends_le low high (x ∷ xs) zero zero up l m = omega arith
-ascends_le low high (x ∷ xs) zero (suc j) up l m =
-    let r = has_number-within (get_or xs j 0) (suc x) high xs up.2 (list_any_at (nat_eq (get_or xs j 0)) xs j 0 (omega arith) (eq-eqb _ _ refl)) in
-    omega (arith, r.0)
-ascends_le low high (x ∷ xs) (suc i) zero up l m = absurd (omega arith)
-ascends_le low high (x ∷ xs) (suc i) (suc j) up l m = ascends_le (suc x) high xs i j up.2 (omega arith) (omega arith)
+use Rattle.fleet_numbers.proofs.HeldLemmas.{ascends_le}
+use Rattle.fleet_numbers.proofs.RisingLemmas.{Ascends-rising}
 
 pub is_found : (bound : ℕ) (xs : List ℕ) (x : ℕ) (r : Result ℕ ℕ) → IsRising bound xs → IsBinarySearchResult (λ y. nat_cmp y x) xs r → is_ok r ≡ has_number x xs
 is_found bound xs x (Ok i) up h =
