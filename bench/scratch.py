@@ -8,8 +8,9 @@ TOP = os.path.dirname(os.path.dirname(os.path.abspath(__file__)))
 MIB = 1 << 20
 
 
-def build(folder, crates, name, needs, source, words):
-    """Proves and builds a program over crates of the repository, in a repository of its own; it is run once with the words."""
+def build(folder, crates, name, needs, source, words, proofs={}):
+    """Proves and builds a program over crates of the repository, in a repository of its own; it is run once with the words. Its proofs
+    are texts by their paths."""
     for crate in crates:
         shutil.copytree(
             os.path.join(TOP, "crates", crate),
@@ -25,6 +26,11 @@ def build(folder, crates, name, needs, source, words):
     os.makedirs(os.path.join(folder, "crates", name, "src"))
     with open(os.path.join(folder, "crates", name, "src", "main.rt"), "w") as main:
         main.write(source)
+    for path, text in proofs.items():
+        proof = os.path.join(folder, "crates", name, "proofs", path)
+        os.makedirs(os.path.dirname(proof), exist_ok=True)
+        with open(proof, "w") as file:
+            file.write(text)
     done = subprocess.run(
         ["rt", "run", "--"] + words,
         cwd=os.path.join(folder, "crates", name),

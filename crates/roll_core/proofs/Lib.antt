@@ -1,0 +1,13 @@
+pub mod NumberLemmas
+pub mod CountLemmas
+pub mod StatusLemmas
+pub mod FrontLemmas
+pub mod RunningCounts
+pub mod HeldLemmas
+pub mod SetLemmas
+pub mod ChangeLemmas
+pub mod OverLemmas
+pub mod TrialLemmas
+pub mod MachineLemmas
+pub mod CoreLemmas
+pub mod StepLemmas

@@ -1,0 +1,27 @@
+use Rattle.std.proofs.Common.{length, arith, refl, ◌∙◌}
+use Rattle.std.proofs.lemmas.List.{length-set}
+use Rattle.roll_core.proofs.RunningCounts.{group_within, lowered_more, some_left}
+use Rattle.roll_core.proofs.counts.lower.Goals as goal
+
+pub bounds-counts-group : goal.bounds-counts-group
+bounds-counts-group c =
+    omega (arith, group_within (length c.args.counts.now) c.args.groups.now c.loop-group.group-index c.requires.rising c.loop-group-test.true, c.loop-group.invariant.len)
+
+pub bounds-counts-group-in-loop-group : goal.bounds-counts-group-in-loop-group
+bounds-counts-group-in-loop-group c =
+    omega (arith, group_within (length c.args.counts.now) c.args.groups.now c.loop-group.group-index c.requires.rising c.loop-group-test.true, c.loop-group.invariant.len)
+
+pub offset_bounds-counts-group : goal.offset_bounds-counts-group
+offset_bounds-counts-group c =
+    omega (arith, group_within (length c.args.counts.now) c.args.groups.now c.loop-group.group-index c.requires.rising c.loop-group-test.true, c.loop-group.invariant.len)
+
+pub overflow_sub-counts : goal.overflow_sub-counts
+overflow_sub-counts c =
+    some_left (length c.args.counts.now) c.args.groups.now c.loop-group.group-index c.requires.rising c.loop-group-test.true c.args.counts.now c.loop-group.counts c.loop-group.invariant.len c.requires.some c.loop-group.invariant.lowered
+
+pub loop-group-preserved : goal.loop-group-preserved
+loop-group-preserved c =
+    record {
+      len = length-set c.loop-group.counts _ _ ∙ c.loop-group.invariant.len;
+      lowered = λ group inside. lowered_more (length c.args.counts.now) c.args.groups.now c.loop-group.group-index c.requires.rising c.loop-group-test.true c.args.counts.now c.loop-group.counts _ c.loop-group.invariant.len refl (some_left (length c.args.counts.now) c.args.groups.now c.loop-group.group-index c.requires.rising c.loop-group-test.true c.args.counts.now c.loop-group.counts c.loop-group.invariant.len c.requires.some c.loop-group.invariant.lowered) group (c.loop-group.invariant.lowered group inside);
+    }

@@ -1,0 +1,12 @@
+-- What holds of every legal log, whoever makes it.
+use Rattle.std.specs.Prelude.{List}
+use Rattle.roll_core.specs.declared.status.Status.{Status}
+use Rattle.roll_core.specs.declared.event.Event.{Event}
+use Rattle.roll_core.specs.Groups.{LimitedGroup, IsSafe}
+use Rattle.roll_core.specs.States.{start_state}
+use Rattle.roll_core.specs.Logs.{IsLegal, FrontsAreSafe}
+
+-- from a safe start a legal log is safe at every moment
+abbrev pub LegalLogsAreSafe : Type 0
+LegalLogsAreSafe =
+    (groups : List LimitedGroup) (start : List Status) (log : List Event) → IsSafe groups start → IsLegal groups (start_state start) log → FrontsAreSafe groups (start_state start) log

@@ -1,0 +1,66 @@
+//! Why a batch is not opened or not ended.
+ghost use Rattle.std.specs.Prelude.{◌≡◌};
+ghost use Rattle.roll_core.specs.Refusals.{number_of};
+
+use group_tree::{GroupId, HostId};
+use std::alloc::AllocError;
+
+/// Why a batch is not opened: the first rule that it breaks, in this order.
+#[derive(Clone, Copy, Debug, PartialEq, Eq)]
+pub enum OpenFault {
+    /// A batch is open.
+    NotBoundary,
+    /// The first host of the list that is not waiting, or stood in the list before. A number that no host has is not
+    /// waiting.
+    NotWaiting { host: HostId },
+    /// The first group of which the list names more members than it has room for, by its place from 0.
+    Full { group: GroupId },
+    Memory,
+}
+
+impl OpenFault {
+    /// The number of the rule that is broken; want of memory breaks none.
+    pub fn number(&self) -> Option<u16>
+        ensures { result ≡ number_of self.now }
+    {
+        match self {
+            OpenFault::NotBoundary => Some(811),
+            OpenFault::NotWaiting { .. } => Some(812),
+            OpenFault::Full { .. } => Some(813),
+            OpenFault::Memory => None,
+        }
+    }
+}
+
+impl From<AllocError> for OpenFault {
+    ghost use Rattle.std.specs.Prelude.{◌≡◌};
+    ghost use Rattle.roll_core.specs.declared.fault.OpenFault.TheVariants.{Memory};
+
+    ghost from_gives = { λ _ fault. fault ≡ Memory };
+
+    fn from(_refused: AllocError) -> OpenFault {
+        OpenFault::Memory
+    }
+}
+
+/// A host of the batch has not reported yet.
+#[derive(Clone, Copy, Debug, PartialEq, Eq)]
+pub struct Busy {
+    pub host: HostId,
+}
+
+impl Busy {
+    /// The number of the rule that is broken.
+    pub fn number(&self) -> u16
+        ensures { result ≡ 814 }
+    {
+        814
+    }
+}
+
+/// What comes after a barrier.
+#[derive(Clone, Copy, Debug, PartialEq, Eq)]
+pub enum Next {
+    /// The batch is over, and is to be closed.
+    BatchEnd,
+}

@@ -1,0 +1,25 @@
+//! The core of a roll: one batch at a time, its log, and the limits that each moment of it keeps.
+#![tactic(auto)]
+
+mod batch;
+mod counts;
+mod event;
+mod fault;
+mod held;
+mod laws;
+mod machine;
+mod rolling;
+mod stage;
+mod status;
+mod statuses;
+mod trial;
+
+pub use batch::Batch;
+pub use event::Event;
+pub use fault::{Busy, Next, OpenFault};
+pub use laws::legal_logs_are_safe;
+pub use rolling::Core;
+pub use status::Status;
+
+#[cfg(test)]
+mod tests;
