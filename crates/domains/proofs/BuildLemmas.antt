@@ -1,5 +1,5 @@
 -- What the lists of a fleet say of the inventory.
-use Rattle.std.proofs.Common.{◌≡◌, ℕ, ◌≤◌, ◌<◌, Bool, true, false, ◌&&◌, nat_eq, nat_lt, ◌∷◌, Option, Some, None, All, List, [], map, filter, length, get_or, sym, ap, ◌∙◌, refl, subst, arith, inl, inr, ◌⊎◌, IsPermutation}
+use Rattle.std.proofs.Common.{◌≡◌, ℕ, ◌≤◌, ◌<◌, Bool, true, false, ◌&&◌, nat_eq, nat_lt, ◌∷◌, Option, Some, None, All, List, [], map, length, get_or, sym, ap, ◌∙◌, refl, subst, arith, inl, inr, ◌⊎◌, IsPermutation}
 use Rattle.std.specs.List.{range_with_len}
 use Rattle.std.proofs.lemmas.List.{length-map, get_or-map, get_or_default, get_or_past}
 use Rattle.std.proofs.lemmas.Bool.{and_parts, lt-ltb, ltb-true, cases_lt, eq-eqb}
@@ -10,7 +10,7 @@ use Rattle.inventory_model.specs.Places.{Place, Inventory, is_preorder}
 use Rattle.inventory_model.specs.Limits.{group_names}
 use Rattle.fleet_numbers.specs.NumberLists.{has_number, list_at, numbers_where, last_where, are_below, IsRising}
 use Rattle.fleet_numbers.specs.GroupPaths.{paths_from, is_member}
-use Rattle.fleet_numbers.specs.Chains.{is_limited, IsUncut}
+use Rattle.fleet_numbers.specs.Chains.{IsUncut}
 use Rattle.fleet_numbers.specs.DealOrder.{IsDealt, max_groups}
 use Rattle.fleet_numbers.proofs.RisingLemmas.{Ascends, Ascends-rising, are_below-rising}
 use Rattle.fleet_numbers.proofs.PathLemmas.{on_path, length-paths_from}
@@ -20,16 +20,21 @@ use Rattle.domains.specs.Nested.{IsNested, IsLeastCrossing}
 use Rattle.domains.specs.Numbered.{host_at, IsNumbering}
 use Rattle.domains.specs.Parts.{ArePartsOf, parent_on}
 use Rattle.domains.specs.Search.{off_count, IsFirstCutHost, IsFirstOverGroup}
-use Rattle.domains.specs.FleetViews.{FleetView, IsParentOf, IsOutermostFirst, IsSound, IsFleetOf}
+use Rattle.domains.specs.FleetViews.{IsParentOf, IsOutermostFirst, IsSound, IsFleetOf}
 use Rattle.domains.proofs.PlaceLemmas.{depths_of, path_at}
 use Rattle.domains.proofs.ParentLemmas.{ascends_at, is_parent, parent_before, above_of}
+use Rattle.domains.proofs.WhereLemmas.{rising-numbers_where}
+use Rattle.domains.proofs.FleetLemmas.{AreListsOf}
 use Rattle.domains.proofs.FleetLemmas as facts
+use Rattle.domains.proofs.CrossingLemmas as crossings
+use Rattle.domains.proofs.StartLemmas as starts
+use Rattle.domains.proofs.TogetherLemmas as deals
 
 pub lists_rise : (p : ℕ → ℕ → Bool) (n count : ℕ) (lists : List (List ℕ)) → lists ≡ map (λ k. numbers_where (p k) n) (range_with_len 0 count) → All (IsRising n) lists
 lists_rise p n count lists is k d l =
     let long : length lists ≡ count = ap length is ∙ length-map-range_with_len (λ k. numbers_where (p k) n) 0 count in
     let at : get_or lists k d ≡ numbers_where (p k) n = ap (λ (x : List (List ℕ)). get_or x k d) is ∙ get_or-map-range_with_len (λ k. numbers_where (p k) n) 0 count k k d (omega (arith, l, long)) (omega arith) in
-    subst (λ (x : List ℕ). IsRising n x) (sym at) (facts.rising-numbers_where (p k) n)
+    subst (λ (x : List ℕ). IsRising n x) (sym at) (rising-numbers_where (p k) n)
 
 are_below-more : (low high : ℕ) (xs : List ℕ) → low ≤ high → are_below low xs ≡ true → are_below high xs ≡ true
 are_below-more low high [] l e = e
@@ -57,6 +62,10 @@ module _ (inventory : Inventory) (hosts groups : List Name) (limits : List (Opti
   lasts_len =
       ap length lasts_are ∙ length-map-range_with_len (λ group. last_where (on_path (depths_of inventory.places) group) (length inventory.places)) 0 (length inventory.places)
 
+  known : AreListsOf inventory hosts limits off chains members lasts
+  known =
+      facts.known inventory hosts groups limits depths rows off numbered distinct preorder parts.held chains members lasts held_are parts.chains_are members_are lasts_are
+
   groups_rise : All (IsRising (length inventory.places)) chains
   groups_rise =
       facts.chains_rise inventory hosts groups limits depths rows off numbered distinct preorder parts.held chains members lasts held_are parts.chains_are members_are lasts_are
@@ -67,7 +76,7 @@ module _ (inventory : Inventory) (hosts groups : List Name) (limits : List (Opti
 
   pub members_len : length members ≡ length inventory.places
   members_len =
-      facts.members_len inventory hosts groups limits depths rows off numbered distinct preorder parts.held chains members lasts held_are parts.chains_are members_are lasts_are
+      known.members_len
 
   limits_long : length limits ≡ length inventory.places
   limits_long = ap length numbered.all_limits ∙ length-map inventory.places (λ (p : Place). p.limit)
@@ -82,24 +91,24 @@ module _ (inventory : Inventory) (hosts groups : List Name) (limits : List (Opti
   pub crossing_fault : (h first second : ℕ) → IsFirstCutHost lasts chains h first second → IsLeastCrossing inventory (host_at hosts h) (host_at groups first) (host_at groups second)
   crossing_fault h first second found =
       let name : (g : ℕ) → g < length inventory.places → (place_at inventory.places g).name ≡ host_at groups g = λ (g : ℕ) l. sym (get_or-map (λ (p : Place). p.name) inventory.places g nowhere [] l) ∙ sym (ap (λ (l : List Name). host_at l g) numbered.all_groups) in
-      let least = facts.least_crossing inventory hosts groups limits depths rows off numbered distinct preorder parts.held chains members lasts held_are parts.chains_are members_are lasts_are h first second found in
-      let inside : h < length hosts = omega (arith, found.within, facts.chains_len inventory hosts groups limits depths rows off numbered distinct preorder parts.held chains members lasts held_are parts.chains_are members_are lasts_are) in
-      let in_first : first < length inventory.places = facts.chain_within inventory hosts groups limits depths rows off numbered distinct preorder parts.held chains members lasts held_are parts.chains_are members_are lasts_are first h inside found.least.first_in in
-      let in_second : second < length inventory.places = facts.chain_within inventory hosts groups limits depths rows off numbered distinct preorder parts.held chains members lasts held_are parts.chains_are members_are lasts_are second h inside found.least.second_in in
+      let least = crossings.least_crossing inventory hosts limits off chains members lasts known h first second found in
+      let inside : h < length hosts = omega (arith, found.within, known.chains_len) in
+      let in_first : first < length inventory.places = known.chain_within first h inside found.least.first_in in
+      let in_second : second < length inventory.places = known.chain_within second h inside found.least.second_in in
       subst (λ (n : Name). IsLeastCrossing inventory (host_at hosts h) (host_at groups first) n) (name second in_second) (subst (λ (n : Name). IsLeastCrossing inventory (host_at hosts h) n (place_at inventory.places second).name) (name first in_first) least)
 
   pub nested : ((h : ℕ) → h < length chains → IsUncut lasts (list_at chains h)) → IsNested inventory
   nested =
-      facts.nested inventory hosts groups limits depths rows off numbered distinct preorder parts.held chains members lasts held_are parts.chains_are members_are lasts_are
+      crossings.nested inventory hosts limits off chains members lasts known
 
   pub over_fault : (group down limit : ℕ) → IsFirstOverGroup members limits off group down limit → IsFirstOver inventory (host_at groups group) down limit
   over_fault group down limit found =
       let inside : group < length inventory.places = omega (arith, found.within, members_len) in
-      subst (λ (n : Name). IsFirstOver inventory n down limit) (sym (get_or-map (λ (p : Place). p.name) inventory.places group nowhere [] inside) ∙ sym (ap (λ (l : List Name). host_at l group) numbered.all_groups)) (facts.first_over inventory hosts groups limits depths rows off numbered distinct preorder parts.held chains members lasts held_are parts.chains_are members_are lasts_are group down limit found)
+      subst (λ (n : Name). IsFirstOver inventory n down limit) (sym (get_or-map (λ (p : Place). p.name) inventory.places group nowhere [] inside) ∙ sym (ap (λ (l : List Name). host_at l group) numbered.all_groups)) (starts.first_over inventory hosts limits off chains members lasts known group down limit found)
 
   pub starts_within : ((group : ℕ) → group < length members → exceeds (get_or limits group None) (off_count off (list_at members group)) ≡ false) → StartsWithin inventory
   starts_within =
-      facts.starts_within inventory hosts groups limits depths rows off numbered distinct preorder parts.held chains members lasts held_are parts.chains_are members_are lasts_are
+      starts.starts_within inventory hosts limits off chains members lasts known
 
   groups_len : length groups ≡ length inventory.places
   groups_len = ap length numbered.all_groups ∙ length-map inventory.places (λ (p : Place). p.name)
@@ -131,13 +140,13 @@ module _ (inventory : Inventory) (hosts groups : List Name) (limits : List (Opti
   outermost_first uncut h d l i j before within =
       let chain = get_or chains h d in
       let same : chain ≡ list_at chains h = get_or_default chains h d [] l in
-      let inside : h < length hosts = omega (arith, l, facts.chains_len inventory hosts groups limits depths rows off numbered distinct preorder parts.held chains members lasts held_are parts.chains_are members_are lasts_are) in
+      let inside : h < length hosts = omega (arith, l, known.chains_len) in
       let up : Ascends 0 (length inventory.places) chain = Ascends-rising (length inventory.places) chain (groups_rise h d l) in
       let rises : get_or chain i 0 < get_or chain j 0 = ascends_at 0 (length inventory.places) chain i j up before within in
       let first_in : has_number (get_or chain i 0) (list_at chains h) ≡ true = ap (has_number (get_or chain i 0)) (sym same) ∙ list_any_at (nat_eq (get_or chain i 0)) chain i 0 (omega (arith, before, within)) (eq-eqb _ _ refl) in
       let second_in : has_number (get_or chain j 0) (list_at chains h) ≡ true = ap (has_number (get_or chain j 0)) (sym same) ∙ list_any_at (nat_eq (get_or chain j 0)) chain j 0 within (eq-eqb _ _ refl) in
-      let below = facts.chain_within inventory hosts groups limits depths rows off numbered distinct preorder parts.held chains members lasts held_are parts.chains_are members_are lasts_are (get_or chain j 0) h inside second_in in
-      above_of inventory.places distinct preorder (get_or chain i 0) (get_or chain j 0) rises below (facts.cuts_at inventory hosts groups limits depths rows off numbered distinct preorder parts.held chains members lasts held_are parts.chains_are members_are lasts_are (get_or chain i 0) (get_or chain j 0) rises below ∙ uncut h l (get_or chain i 0) (get_or chain j 0) first_in second_in)
+      let below = known.chain_within (get_or chain j 0) h inside second_in in
+      above_of inventory.places distinct preorder (get_or chain i 0) (get_or chain j 0) rises below (known.cuts_at (get_or chain i 0) (get_or chain j 0) rises below ∙ uncut h l (get_or chain i 0) (get_or chain j 0) first_in second_in)
 
   pub fleet_of : (order : List ℕ) → ((h : ℕ) → h < length chains → IsUncut lasts (list_at chains h)) → ((group : ℕ) → group < length members → exceeds (get_or limits group None) (off_count off (list_at members group)) ≡ false) → IsFleetOf inventory (record { hosts = hosts; groups = groups; limits = limits; parents = parents; members = members; chains = chains; off = off; order = order })
   fleet_of order uncut none =
@@ -156,10 +165,10 @@ module _ (inventory : Inventory) (hosts groups : List Name) (limits : List (Opti
 
   pub sound : (order : List ℕ) → length hosts ≤ 4096 → ((h : ℕ) → h < length chains → IsUncut lasts (list_at chains h)) → ((group : ℕ) → group < length members → exceeds (get_or limits group None) (off_count off (list_at members group)) ≡ false) → IsPermutation (range_with_len 0 (length chains)) order → IsDealt chains order → IsSound (record { hosts = hosts; groups = groups; limits = limits; parents = parents; members = members; chains = chains; off = off; order = order })
   sound order few uncut none once dealt =
-      let chains_len : length chains ≡ length hosts = facts.chains_len inventory hosts groups limits depths rows off numbered distinct preorder parts.held chains members lasts held_are parts.chains_are members_are lasts_are in
+      let chains_len : length chains ≡ length hosts = known.chains_len in
       record {
         few_hosts = few;
-        hosts_rise = facts.hosts_rise inventory hosts groups limits depths rows off numbered distinct preorder;
+        hosts_rise = known.hosts_rise;
         distinct_groups = ap are_distinct numbered.all_groups ∙ distinct;
         all_limits = limits_long ∙ sym groups_len;
         all_parents = parents_len ∙ sym groups_len;
@@ -171,5 +180,5 @@ module _ (inventory : Inventory) (hosts groups : List Name) (limits : List (Opti
         within_limits = none;
         dealt_once = subst (λ (n : ℕ). IsPermutation (range_with_len 0 n) order) chains_len once;
         dealt = dealt;
-        together = facts.together inventory hosts groups limits depths rows off numbered distinct preorder parts.held chains members lasts held_are parts.chains_are members_are lasts_are order dealt (subst (λ (n : ℕ). IsPermutation (range_with_len 0 n) order) chains_len once) uncut;
+        together = deals.together inventory hosts limits off chains members lasts known order dealt (subst (λ (n : ℕ). IsPermutation (range_with_len 0 n) order) chains_len once) uncut;
       }

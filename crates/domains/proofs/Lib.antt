@@ -4,7 +4,11 @@ pub mod PlaceLemmas
 pub mod ParentLemmas
 pub mod NumberLemmas
 pub mod NameLemmas
+pub mod WhereLemmas
 pub mod FleetLemmas
+pub mod CrossingLemmas
+pub mod StartLemmas
+pub mod TogetherLemmas
 pub mod BuildLemmas
 pub mod ReaderLemmas
 pub mod MarkLemmas

@@ -1,6 +1,5 @@
 -- Flags of the hosts that names name.
-use Rattle.std.proofs.Common.{◌≡◌, ℕ, ◌+◌, ◌≤◌, ◌<◌, Bool, true, false, ◌||◌, not, cond, nat_eq, Option, Some, None, All, List, [], ◌∷◌, ◌++◌, length, get_or, map, position, slice_set, sym, ap, ◌∙◌, refl, subst, arith, inl, inr, ◌⊎◌}
-use Rattle.std.specs.List.{list_any}
+use Rattle.std.proofs.Common.{◌≡◌, ℕ, ◌+◌, ◌≤◌, ◌<◌, Bool, true, false, ◌||◌, not, cond, nat_eq, None, All, List, [], ◌∷◌, ◌++◌, length, get_or, position, slice_set, sym, ap, ◌∙◌, refl, subst, arith, inl, inr, ◌⊎◌}
 use Rattle.std.specs.List.Sorted.{IsStrictlySortedBy}
 use Rattle.std.proofs.lemmas.Bool.{cases_eq, cases_lt, eq-eqb, ne_eqb, false≢true, or_left, or_right}
 use Rattle.std.proofs.lemmas.List.{get_or-set_same, get_or-set_other, get_or_default, get_or_past, length-set}
@@ -14,7 +13,7 @@ use Rattle.domains.specs.Numbered.{host_at}
 use Rattle.domains.specs.FleetViews.{FleetView}
 use Rattle.domains.specs.Patterns.{AreFlags, is_meant, is_named_by, names_nothing}
 use Rattle.domains.proofs.NumberLemmas.{same_host}
-use Rattle.domains.proofs.FleetLemmas.{numbers_where-same}
+use Rattle.domains.proofs.WhereLemmas.{numbers_where-same}
 
 pub rising_below : (bound : ℕ) (xs : List ℕ) → IsRising bound xs → All (λ (x : ℕ). x < bound) xs
 rising_below bound xs up k d l =

@@ -1,22 +1,21 @@
 -- What the numbers of hosts and groups say of an inventory.
-use Rattle.std.proofs.Common.{◌≡◌, ℕ, zero, suc, ◌+◌, ◌≤◌, ◌<◌, Bool, true, false, ◌||◌, ◌&&◌, cond, nat_eq, Option, Some, None, All, List, [], ◌∷◌, ◌++◌, length, get_or, map, unwrap_or, sym, ap, ◌∙◌, refl, subst, arith, inl, inr, ◌⊎◌}
-use Rattle.std.specs.List.{list_any, flat_map, range_with_len}
+use Rattle.std.proofs.Common.{◌≡◌, ℕ, suc, ◌+◌, ◌<◌, Bool, true, false, ◌||◌, ◌&&◌, cond, nat_eq, Option, None, All, List, [], ◌∷◌, ◌++◌, length, get_or, map, unwrap_or, sym, ap, ◌∙◌, refl, subst, arith, inl, inr, ◌⊎◌}
+use Rattle.std.specs.List.{list_any, flat_map}
 use Rattle.std.specs.List.Sorted.{IsStrictlySortedBy}
 use Rattle.std.specs.Option.{option_or}
 use Rattle.std.specs.declared.cmp.Ordering.TheVariants.{Less, Equal}
-use Rattle.std.proofs.lemmas.Bool.{cases_order, eq-eqb, ne_eqb, false≢true}
+use Rattle.std.proofs.lemmas.Bool.{cases_order, eq-eqb, ne_eqb}
 use Rattle.std.proofs.lemmas.Cmp.{nat_list_cmp_total, tied_itself}
 use Rattle.std.proofs.lemmas.List.{length-map, get_or-map, same_lists, get_or_default, map-append, get_or_at, length-append, append_assoc}
 use Rattle.std.proofs.lemmas.List.Elements.{All-head, All-tail, All-append, All-map, All-weaker}
 use Rattle.std.proofs.lemmas.Map.Keys.{Less-from_sorted}
 use Rattle.inventory_model.specs.Names.{Name, same_name, is_among}
-use Rattle.inventory_model.specs.Places.{Place, Row, Inventory, path_of, row_path}
+use Rattle.inventory_model.specs.Places.{Place, Row, Inventory, path_of}
 use Rattle.inventory_model.specs.Subtrees.{Host, Subtree}
-use Rattle.inventory_model.specs.Members.{holds, is_row_of}
+use Rattle.inventory_model.specs.Members.{holds}
 use Rattle.inventory_model.specs.Variables.{value_of}
 use Rattle.inventory_model.specs.Limits.{group_names}
 use Rattle.fleet_numbers.specs.SortedNames.{name_cmp, sorted_names}
-use Rattle.fleet_numbers.specs.NumberLists.{has_number, list_at}
 use Rattle.fleet_numbers.specs.GroupPaths.{paths_from, is_member}
 use Rattle.fleet_numbers.proofs.SortedNamesLemmas.{same_name-true, same_name-itself, is_rising-sorted_names}
 use Rattle.fleet_numbers.proofs.PathLemmas.{on_path}
@@ -24,7 +23,7 @@ use Rattle.domains.specs.Spots.{Spot, place_of, row_at, own_rows, with_depth, Is
 use Rattle.domains.specs.Hosts.{truth_of, down, last_down, last_down_of, is_off}
 use Rattle.domains.specs.Starts.{place_at, nowhere}
 use Rattle.domains.specs.Numbered.{host_at, host_and_path, named_row, IsNumbering}
-use Rattle.domains.proofs.PlaceLemmas.{depths_of, path_at}
+use Rattle.domains.proofs.PlaceLemmas.{depths_of}
 
 pub map-map : {X Y Z : Type 0} (f : Y → Z) (g : X → Y) (xs : List X) → map f (map g xs) ≡ map (λ x. f (g x)) xs
 map-map f g [] = refl

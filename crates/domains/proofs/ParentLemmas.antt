@@ -1,12 +1,12 @@
 -- The group directly above a group, and a chain from the outermost group in.
-use Rattle.std.proofs.Common.{◌≡◌, ℕ, zero, suc, ◌+◌, ◌-◌, ◌≤◌, ◌<◌, min, Bool, true, false, ◌||◌, ◌&&◌, not, Option, Some, None, List, [], ◌∷◌, ◌++◌, length, get_or, take, map, sym, ap, ◌∙◌, refl, subst, arith, inl, inr, ◌⊎◌}
+use Rattle.std.proofs.Common.{◌≡◌, ℕ, zero, suc, ◌+◌, ◌-◌, ◌≤◌, ◌<◌, min, Bool, true, false, ◌||◌, not, Option, Some, None, List, [], ◌∷◌, ◌++◌, length, get_or, take, map, sym, ap, ◌∙◌, refl, subst, arith, inl, inr, ◌⊎◌}
 use Rattle.std.proofs.lemmas.Bool.{cases_lt, eq-eqb, false≢true}
 use Rattle.std.proofs.lemmas.List.{length-map, length-append, length-take, take-map, take-take, take-append-le, take_all, get_or_append_left, get_or-append_right, get_or-take}
 use Rattle.std.proofs.lemmas.List.Folds.{list_any_at}
 use Rattle.inventory_model.specs.Names.{Name, are_distinct, begins}
 use Rattle.inventory_model.specs.Places.{Place, path_of, is_preorder}
 use Rattle.inventory_model.specs.Limits.{group_names}
-use Rattle.fleet_numbers.specs.NumberLists.{has_number, list_at}
+use Rattle.fleet_numbers.specs.NumberLists.{list_at}
 use Rattle.fleet_numbers.specs.GroupPaths.{paths_from}
 use Rattle.fleet_numbers.proofs.RisingLemmas.{Ascends, has_number-within}
 use Rattle.fleet_numbers.proofs.PathLemmas.{on_path, first_path, path_next, path_ascends, on_within}

@@ -1,8 +1,7 @@
 -- Paths of names and paths of numbers say the same.
-use Rattle.std.proofs.Common.{◌≡◌, ℕ, zero, suc, ◌+◌, ◌≤◌, ◌<◌, Bool, true, false, ◌||◌, ◌&&◌, not, nat_eq, nat_lt, List, [], ◌∷◌, ◌++◌, length, get_or, take, map, sym, ap, ◌∙◌, refl, subst, arith, inl, inr, ◌⊎◌}
-use Rattle.std.specs.List.{list_any}
-use Rattle.std.proofs.lemmas.Bool.{cases_eq, cases_order, eq-eqb, ne_eqb, eqb-true, false≢true, and_parts, or_cases, or_left, or_right, cases_Bool}
-use Rattle.std.proofs.lemmas.List.{length-map, get_or-map, take-map, get_or_default, map-append}
+use Rattle.std.proofs.Common.{◌≡◌, ℕ, zero, suc, ◌≤◌, ◌<◌, Bool, true, false, ◌||◌, ◌&&◌, not, nat_eq, nat_lt, List, [], ◌∷◌, ◌++◌, length, get_or, take, map, sym, ap, ◌∙◌, refl, subst, arith, inl, inr, ◌⊎◌}
+use Rattle.std.proofs.lemmas.Bool.{cases_eq, cases_order, eq-eqb, ne_eqb, false≢true, and_parts, or_cases, or_left, or_right}
+use Rattle.std.proofs.lemmas.List.{length-map, get_or-map, take-map, map-append}
 use Rattle.std.proofs.lemmas.List.Folds.{list_any-append}
 use Rattle.inventory_model.specs.Names.{Name, same_name, is_among, are_distinct, begins}
 use Rattle.inventory_model.specs.Places.{Place, path_of, goes_on, is_preorder}
@@ -11,7 +10,7 @@ use Rattle.fleet_numbers.specs.NumberLists.{has_number, list_at, last_where}
 use Rattle.fleet_numbers.specs.GroupPaths.{paths_from}
 use Rattle.fleet_numbers.proofs.SortedNamesLemmas.{same_name-true, same_name-itself}
 use Rattle.fleet_numbers.proofs.RisingLemmas.{Ascends, has_number-within}
-use Rattle.fleet_numbers.proofs.PathLemmas.{on_path, first_path, path_next, path_ascends, on_own, on_next, on_before, on_within, on_path-last, Ascends-take}
+use Rattle.fleet_numbers.proofs.PathLemmas.{on_path, first_path, path_next, path_ascends, on_before, on_within, on_path-last, Ascends-take}
 use Rattle.domains.specs.Starts.{place_at, nowhere}
 use Rattle.domains.specs.Nested.{are_apart}
 

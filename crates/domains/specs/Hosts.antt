@@ -1,5 +1,5 @@
 -- The hosts of an inventory, and which of them are off when a run starts.
-use Rattle.std.specs.Prelude.{ℕ, Bool, true, false, cond, Option, Some, None, List, [], ◌∷◌, map, codes, unwrap_or, nat_eq}
+use Rattle.std.specs.Prelude.{ℕ, Bool, false, cond, Option, Some, None, List, [], ◌∷◌, map, codes, unwrap_or, nat_eq}
 use Rattle.std.specs.Option.{option_or}
 use Rattle.inventory_model.specs.Names.{Name}
 use Rattle.inventory_model.specs.Variables.{Scalar, Text, Int, Truth, value_of}

@@ -1,5 +1,5 @@
 -- Whether limited groups lie inside each other wherever they share a host.
-use Rattle.std.specs.Prelude.{◌≡◌, ℕ, ◌<◌, ◌≤◌, ◌⊎◌, Bool, true, false, not, ◌&&◌, ◌||◌, is_some, List}
+use Rattle.std.specs.Prelude.{◌≡◌, ℕ, ◌<◌, ◌≤◌, ◌⊎◌, Bool, true, false, not, ◌&&◌, ◌||◌, is_some}
 use Rattle.std.specs.declared.cmp.Ordering.TheVariants.{Less}
 use Rattle.inventory_model.specs.Names.{Name, begins}
 use Rattle.inventory_model.specs.Places.{Place, Inventory, path_of}

@@ -1,5 +1,5 @@
 -- The lists of a fleet as they follow from the numbers on paths and rows.
-use Rattle.std.specs.Prelude.{◌≡◌, ℕ, ◌-◌, Bool, Option, None, Some, List, [], ◌∷◌, map, filter, length, slice_index_or}
+use Rattle.std.specs.Prelude.{◌≡◌, ℕ, Option, None, Some, List, [], ◌∷◌, map, filter, length, slice_index_or}
 use Rattle.std.specs.List.{range_with_len}
 use Rattle.fleet_numbers.specs.NumberLists.{has_number, list_at, numbers_where, last_where}
 use Rattle.fleet_numbers.specs.GroupPaths.{paths_from, is_member}

@@ -1,5 +1,5 @@
 -- Which hosts the parts of a pattern name.
-use Rattle.std.specs.Prelude.{◌≡◌, ℕ, ◌<◌, Bool, true, false, not, ◌||◌, Option, Some, None, List, [], length, position, slice_index_or}
+use Rattle.std.specs.Prelude.{◌≡◌, ℕ, Bool, true, false, not, ◌||◌, Option, Some, None, List, length, position, slice_index_or}
 use Rattle.std.specs.List.{list_any, find}
 use Rattle.std.specs.String.{string_bytes}
 use Rattle.inventory_model.specs.Names.{Name, same_name, is_among}

@@ -3,6 +3,8 @@ use Rattle.std.specs.Prelude.{◌≡◌, ℕ, ◌<◌, Bool, false, Option, Some
 use Rattle.fleet_numbers.specs.NumberLists.{list_at}
 use Rattle.fleet_numbers.specs.Chains.{IsUncut, IsLeastCut}
 use Rattle.domains.specs.Starts.{exceeds}
+use Rattle.domains.specs.declared.search.Breach.{Breach}
+use Rattle.domains.specs.declared.search.Breach.TheVariants.{Nesting, Start}
 
 abbrev pub off_count : List Bool → List ℕ → ℕ
 off_count off hosts = count_by (λ host. slice_index_or off host false) hosts
@@ -20,3 +22,19 @@ pub record IsFirstOverGroup (members : List (List ℕ)) (limits : List (Option �
   pub counted : down ≡ off_count off (list_at members group)
   pub over : limit < down
   pub before : (earlier : ℕ) → earlier < group → exceeds (slice_index_or limits earlier None) (off_count off (list_at members earlier)) ≡ false
+
+-- no two groups of a chain cut across each other
+abbrev pub IsNowhereCut : List ℕ → List (List ℕ) → Type 0
+IsNowhereCut lasts chains = (host : ℕ) → host < length chains → IsUncut lasts (list_at chains host)
+
+-- no group has more hosts off than its limit
+abbrev pub IsNowhereOver : List (List ℕ) → List (Option ℕ) → List Bool → Type 0
+IsNowhereOver members limits off =
+    (group : ℕ) → group < length members → exceeds (slice_index_or limits group None) (off_count off (list_at members group)) ≡ false
+
+-- how limits nest goes before the start
+abbrev pub IsFirstBreach : List ℕ → List (List ℕ) → List (List ℕ) → List (Option ℕ) → List Bool → Breach → Type 0
+IsFirstBreach lasts chains members limits off (Nesting crossing) =
+    IsFirstCutHost lasts chains crossing.host crossing.first crossing.second
+IsFirstBreach lasts chains members limits off (Start over) =
+    IsNowhereCut lasts chains × IsFirstOverGroup members limits off over.group over.down over.limit

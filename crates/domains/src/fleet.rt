@@ -1,20 +1,20 @@
 //! A fleet: hosts, groups with their members, and how limits nest.
-ghost use Rattle.std.specs.Prelude.{◌≡◌, ◌<◌, IfOk, IfErr, IfSome, IsFalse, MatchOption, None, false, length, map, option_map, position, slice_index_or, []};
+ghost use Rattle.std.specs.Prelude.{◌≡◌, ◌<◌, IfOk, IfErr, IfSome, IsFalse, MatchOption, None, false, length, option_map, position, slice_index_or};
 ghost use Rattle.inventory_model.specs.Names.{is_among, same_name};
 ghost use Rattle.fleet_numbers.specs.NumberLists.{list_at, has_number, IsRising};
 ghost use Rattle.domains.specs.Numbered.{host_at};
-ghost use Rattle.std.specs.String.{string_bytes};
 ghost use Rattle.domains.specs.FleetViews.{IsSound, IsFleetOf};
 ghost use Rattle.domains.specs.Faults.{IsFaultOf};
 
 use crate::fault::FleetFault;
+use crate::names::name_at;
 use crate::numbers::number_tree;
 use crate::parts::list_parts;
-use crate::search::{find_crossing, find_over};
+use crate::search::{Breach, find_breach};
 use fleet_numbers::{NumberLists, find_name, list_deal_order, list_deal_places};
 use group_tree::{GroupId, HostId, Tree};
 use indexmap::IndexSet;
-use std::alloc::{AllocError, Allocator, Global};
+use std::alloc::{Allocator, Global};
 use std::marker::Model;
 
 /// The most hosts that a fleet has.
@@ -86,19 +86,29 @@ impl Fleet {
             numbers.depths.as_slice(),
             numbers.rows.as_slice(),
         )?;
-        if let Some(crossing) = find_crossing(&parts.chains, parts.lasts.as_slice()) {
-            return Err(FleetFault::NotNested {
-                host: name_at(alloc, hosts, crossing.host)?,
-                first: name_at(alloc, groups, crossing.first)?,
-                second: name_at(alloc, groups, crossing.second)?,
-            });
-        }
-        if let Some(over) = find_over(&parts.members, limits, numbers.off.as_slice()) {
-            return Err(FleetFault::StartOver {
-                group: name_at(alloc, groups, over.group)?,
-                down: over.down,
-                limit: over.limit,
-            });
+        let off = numbers.off.as_slice();
+        match find_breach(
+            &parts.chains,
+            parts.lasts.as_slice(),
+            &parts.members,
+            limits,
+            off,
+        ) {
+            Some(Breach::Nesting(crossing)) => {
+                return Err(FleetFault::NotNested {
+                    host: name_at(alloc, hosts, crossing.host)?,
+                    first: name_at(alloc, groups, crossing.first)?,
+                    second: name_at(alloc, groups, crossing.second)?,
+                });
+            }
+            Some(Breach::Start(over)) => {
+                return Err(FleetFault::StartOver {
+                    group: name_at(alloc, groups, over.group)?,
+                    down: over.down,
+                    limit: over.limit,
+                });
+            }
+            None => {}
         }
         let order = list_deal_order(alloc, &parts.chains)?;
         let places = list_deal_places(alloc, order.as_slice())?;
@@ -113,16 +123,6 @@ impl Fleet {
             order,
             places,
         })
-    }
-}
-
-/// The name of a number, and no text past the end.
-fn name_at(alloc: Global, names: &[String], number: usize) -> Result<String, AllocError>
-    ensures { IfOk result (λ name. string_bytes name ≡ slice_index_or (map string_bytes names.now) number []) }
-{
-    match names.get(number) {
-        Some(name) => String::from_str(alloc, name.as_str()),
-        None => Ok(String::new(alloc)),
     }
 }
 

@@ -64,3 +64,13 @@ pub(crate) fn number_rows<A: Allocator>(
     }
     Ok(numbers)
 }
+
+/// The name of a number, and no text past the end.
+pub(crate) fn name_at(alloc: Global, names: &[String], number: usize) -> Result<String, AllocError>
+    ensures { IfOk result (λ name. string_bytes name ≡ slice_index_or (map string_bytes names.now) number []) }
+{
+    match names.get(number) {
+        Some(name) => String::from_str(alloc, name.as_str()),
+        None => Ok(String::new(alloc)),
+    }
+}

@@ -3,7 +3,7 @@ ghost use Rattle.std.specs.Prelude.{◌≡◌, ℕ, ◌<◌, length, MatchOption
 ghost use Rattle.fleet_numbers.specs.NumberLists.{list_at, IsRising};
 ghost use Rattle.fleet_numbers.specs.Chains.{IsUncut, IsLeastCut};
 ghost use Rattle.domains.specs.Starts.{exceeds};
-ghost use Rattle.domains.specs.Search.{off_count, IsFirstCutHost, IsFirstOverGroup};
+ghost use Rattle.domains.specs.Search.{off_count, IsFirstCutHost, IsFirstOverGroup, IsNowhereCut, IsNowhereOver, IsFirstBreach};
 
 use fleet_numbers::{NumberLists, first_cut};
 
@@ -15,7 +15,7 @@ pub(crate) struct Crossing {
     pub(crate) second: usize,
 }
 
-pub(crate) fn find_crossing(chains: &NumberLists, lasts: &[usize]) -> Option<Crossing>
+fn find_crossing(chains: &NumberLists, lasts: &[usize]) -> Option<Crossing>
     requires { All (IsRising (length lasts.now)) chains.now }
     ensures { MatchOption result ((host : ℕ) → host < length chains.now → IsUncut lasts.now (list_at chains.now host))
         (λ crossing. IsFirstCutHost lasts.now chains.now crossing.host crossing.first crossing.second) }
@@ -64,7 +64,7 @@ fn over_limit(limit: Option<u16>, down: usize) -> Option<u16>
     }
 }
 
-pub(crate) fn find_over(members: &NumberLists, limits: &[Option<u16>], off: &[bool]) -> Option<Over>
+fn find_over(members: &NumberLists, limits: &[Option<u16>], off: &[bool]) -> Option<Over>
     requires { length limits.now ≡ length members.now }
     ensures { MatchOption result ((group : ℕ) → group < length members.now
         → exceeds (slice_index_or limits.now group None) (off_count off.now (list_at members.now group)) ≡ false)
@@ -77,4 +77,33 @@ pub(crate) fn find_over(members: &NumberLists, limits: &[Option<u16>], off: &[bo
         }
     }
     None
+}
+
+/// Why numbered hosts and groups are no fleet.
+#[derive(Clone, Copy)]
+pub(crate) enum Breach {
+    Nesting(Crossing),
+    Start(Over),
+}
+
+/// The first rule that is broken: how limits nest goes before the start.
+pub(crate) fn find_breach(
+    chains: &NumberLists,
+    lasts: &[usize],
+    members: &NumberLists,
+    limits: &[Option<u16>],
+    off: &[bool],
+) -> Option<Breach>
+    requires rising { All (IsRising (length lasts.now)) chains.now }
+    requires len { length limits.now ≡ length members.now }
+    ensures { MatchOption result (IsNowhereCut lasts.now chains.now × IsNowhereOver members.now limits.now off.now)
+        (λ breach. IsFirstBreach lasts.now chains.now members.now limits.now off.now breach) }
+{
+    if let Some(crossing) = find_crossing(chains, lasts) {
+        return Some(Breach::Nesting(crossing));
+    }
+    match find_over(members, limits, off) {
+        Some(over) => Some(Breach::Start(over)),
+        None => None,
+    }
 }

@@ -13,7 +13,7 @@ use Rattle.fleet_numbers.specs.NumberLists.{list_at, numbers_where}
 use Rattle.domains.specs.FleetViews.{FleetView, IsFleetOf}
 use Rattle.domains.specs.Hosts.{hosts_of, is_off}
 use Rattle.domains.specs.Numbered.{host_at}
-use Rattle.domains.proofs.FleetLemmas.{filtered_names, filter-filter}
+use Rattle.domains.proofs.WhereLemmas.{filtered_names, filter-filter}
 use Rattle.std.proofs.lemmas.List.Sums.{length-filter}
 use Rattle.domains.specs.Starts.{place_at, nowhere, down_count}
 use Rattle.domains.specs.Search.{off_count}

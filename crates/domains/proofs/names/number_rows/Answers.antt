@@ -1,4 +1,4 @@
-use Rattle.std.proofs.Common.{◌≡◌, ◌∙◌, ◌<◌, List, ℕ, Option, true, false, map, length, get_or, sym, ap, subst, refl, MatchOption}
+use Rattle.std.proofs.Common.{◌≡◌, ◌∙◌, ◌<◌, List, ℕ, true, map, length, get_or, sym, ap, subst}
 use Rattle.std.specs.String.{string_bytes}
 use Rattle.std.specs.List.Sorted.{IsStrictlySortedBy}
 use Rattle.std.proofs.Common.{Global}
@@ -6,7 +6,7 @@ use Rattle.std.proofs.lemmas.Bool.{some_since, false≢true}
 use Rattle.std.proofs.lemmas.List.{get_or-map, length-map}
 use Rattle.std.proofs.lemmas.List.Folds.{list_any_at}
 use Rattle.inventory_model.specs.Names.{Name, same_name, is_among}
-use Rattle.fleet_numbers.specs.SortedNames.{name_cmp, sorted_names}
+use Rattle.fleet_numbers.specs.SortedNames.{name_cmp}
 use Rattle.fleet_numbers.proofs.SortedNamesLemmas.{is_rising-sorted_names, is_among-sorted_names, same_name-itself}
 use Rattle.domains.proofs.names.number_rows.Goals as goal
 

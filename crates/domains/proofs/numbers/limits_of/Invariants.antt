@@ -1,5 +1,4 @@
 use Rattle.std.proofs.Common.{◌≡◌, map, take}
-use Rattle.std.specs.String.{string_bytes}
 use Rattle.domains.proofs.numbers.limits_of.Given as goal
 
 abbrev pub invariant-loop-spot : goal.invariant-loop-spot

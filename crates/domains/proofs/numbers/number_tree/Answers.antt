@@ -1,8 +1,7 @@
-use Rattle.std.proofs.Common.{◌≡◌, ◌∙◌, ℕ, List, map, length, sym, ap, subst, arith, Global}
+use Rattle.std.proofs.Common.{◌∙◌, map, ap, subst, arith, Global}
 use Rattle.std.specs.String.{string_bytes}
 use Rattle.std.proofs.lemmas.List.{length-map}
 use Rattle.inventory_model.specs.Places.{Inventory}
-use Rattle.inventory_model.specs.Subtrees.{Subtree}
 use Rattle.inventory_model.specs.Names.{are_distinct}
 use Rattle.domains.specs.Spots.{IsWalkOf}
 use Rattle.domains.proofs.NumberLemmas.{numbered_tree, walk_names}

@@ -1,5 +1,3 @@
-use Rattle.std.proofs.Common.{◌∙◌, ap, ◌≡◌}
-use Rattle.inventory_model.specs.Subtrees.{Host}
 use Rattle.domains.proofs.WalkLemmas.{rows_more}
 use Rattle.domains.proofs.rows.list_rows.Goals as goal
 

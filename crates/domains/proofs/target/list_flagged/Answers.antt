@@ -1,4 +1,4 @@
-use Rattle.std.proofs.Common.{◌≡◌, ◌∙◌, ℕ, ◌++◌, ◌∷◌, cond, false, List, [], get_or, sym, ap}
+use Rattle.std.proofs.Common.{◌∙◌, ℕ, ◌++◌, ◌∷◌, cond, false, List, [], get_or, sym, ap}
 use Rattle.domains.proofs.MarkLemmas.{listed_more}
 use Rattle.domains.proofs.target.list_flagged.Goals as goal
 

@@ -1,5 +1,5 @@
-use Rattle.std.proofs.Common.{◌≡◌, ℕ, ◌+◌, ◌<◌, ◌^◌, List, [], ◌∷◌, ◌++◌, map, take, length, sym, ap, ◌∙◌, subst, refl, arith, rules, append_assoc, append-nil}
-use Rattle.std.proofs.lemmas.List.{map-append, take_all}
+use Rattle.std.proofs.Common.{ℕ, ◌+◌, ◌<◌, ◌^◌, List, [], ◌∷◌, ◌++◌, length, sym, ap, ◌∙◌, subst, arith, rules, append_assoc, append-nil}
+use Rattle.std.proofs.lemmas.List.{take_all}
 use Rattle.inventory_model.specs.Subtrees.{Subtree, side_by_side}
 use Rattle.domains.specs.Spots.{IsWalkOf}
 use Rattle.domains.proofs.WalkLemmas.{walk_none, walk_more, walk_group, smaller_child, after_push}

@@ -7,10 +7,9 @@ use Rattle.std.proofs.lemmas.List.Sorted.{length_permutation}
 use Rattle.std.proofs.Common.{IsPermutation}
 use Rattle.inventory_model.specs.Names.{Name}
 use Rattle.domains.specs.Hosts.{hosts_of}
-use Rattle.domains.specs.Nested.{IsLeastCrossing}
-use Rattle.domains.specs.Starts.{IsFirstOver}
 use Rattle.domains.specs.Numbered.{host_at}
 use Rattle.domains.specs.Parts.{ArePartsOf}
+use Rattle.domains.specs.Search.{IsFirstCutHost, IsFirstOverGroup, IsNowhereCut}
 use Rattle.domains.proofs.BuildLemmas.{chains_rise, crossing_fault, limits_len, nested, over_fault, chains_below, fleet_of, sound}
 use Rattle.domains.proofs.fleet.Fleet.build.Goals as goal
 
@@ -22,8 +21,8 @@ list_parts-requires-clause-hosts_in g c = λ k d l.
     let count : length (map (string_bytes {Z = Global}) c.in_ok-numbers.numbers.hosts.items) ≡ length c.as_slice-hosts.result.now = length-map c.in_ok-numbers.numbers.hosts.items (string_bytes {Z = Global}) ∙ sym (ap length c.as_slice-hosts.ensures.value) in
     omega (arith, inside, count, ap (λ (r : ℕ × ℕ). r.0) same)
 
-pub find_crossing-requires : goal.find_crossing-requires
-find_crossing-requires g c =
+pub find_breach-requires-clause-rising : goal.find_breach-requires-clause-rising
+find_breach-requires-clause-rising g c =
     let numbers = c.in_ok-numbers.numbers in
     let hosts : List Name = map (string_bytes {Z = Global}) numbers.hosts.items in
     let groups : List Name = map (string_bytes {Z = Global}) numbers.groups.keys in
@@ -35,8 +34,8 @@ find_crossing-requires g c =
     let parts : ArePartsOf (length hosts) numbers.limits.items numbers.depths.items numbers.rows.items chains members parents lasts = subst (λ (n : ℕ). ArePartsOf n numbers.limits.items numbers.depths.items numbers.rows.items chains members parents lasts) (sym (length-map numbers.hosts.items (string_bytes {Z = Global}))) (rw (c.as_slice-hosts.ensures.value, c.as_slice-limits.ensures.value, c.as_slice.ensures.value, c.as_slice-2.ensures.value) at c.in_ok-parts.ensures) in
     λ k d l. rw c.as_slice-3.ensures.value (chains_rise c.args.tree.now hosts groups numbers.limits.items numbers.depths.items numbers.rows.items numbers.off.items c.in_ok-numbers.ensures.numbered within.distinct within.preorder chains members parents lasts parts k d l)
 
-pub returns-in-Some-clause-err : goal.returns-in-Some-clause-err
-returns-in-Some-clause-err g c =
+pub returns-in-Some-Nesting-clause-err : goal.returns-in-Some-Nesting-clause-err
+returns-in-Some-Nesting-clause-err g c =
     let numbers = c.in_ok-numbers.numbers in
     let hosts : List Name = map (string_bytes {Z = Global}) numbers.hosts.items in
     let groups : List Name = map (string_bytes {Z = Global}) numbers.groups.keys in
@@ -47,15 +46,15 @@ returns-in-Some-clause-err g c =
     let lasts = c.in_ok-parts.parts.lasts.items in
     let parts : ArePartsOf (length hosts) numbers.limits.items numbers.depths.items numbers.rows.items chains members parents lasts = subst (λ (n : ℕ). ArePartsOf n numbers.limits.items numbers.depths.items numbers.rows.items chains members parents lasts) (sym (length-map numbers.hosts.items (string_bytes {Z = Global}))) (rw (c.as_slice-hosts.ensures.value, c.as_slice-limits.ensures.value, c.as_slice.ensures.value, c.as_slice-2.ensures.value) at c.in_ok-parts.ensures) in
     let few : length (hosts_of c.args.tree.now) ≤ 4096 = omega (arith, c.if-hosts-gt-MAX_HOSTS.false, ap length c.in_ok-numbers.ensures.numbered.all_hosts, length-map numbers.hosts.items (string_bytes {Z = Global}), ap length c.as_slice-hosts.ensures.value) in
-    let found = rw c.as_slice-3.ensures.value at c.in-Some.ensures in
-    let host : string_bytes {Z = Global} c.in_ok-name_at.field-0 ≡ host_at hosts c.in-Some.crossing.host = c.in_ok-name_at.ensures ∙ ap (λ (l : List _). get_or (map (string_bytes {Z = Global}) l) c.in-Some.crossing.host []) c.as_slice-hosts.ensures.value in
-    let first : string_bytes {Z = Global} c.in_ok-name_at-2.field-0 ≡ host_at groups c.in-Some.crossing.first = c.in_ok-name_at-2.ensures ∙ ap (λ (l : List _). get_or (map (string_bytes {Z = Global}) l) c.in-Some.crossing.first []) c.as_slice-groups.ensures.keys in
-    let second : string_bytes {Z = Global} c.in_ok-name_at-3.field-0 ≡ host_at groups c.in-Some.crossing.second = c.in_ok-name_at-3.ensures ∙ ap (λ (l : List _). get_or (map (string_bytes {Z = Global}) l) c.in-Some.crossing.second []) c.as_slice-groups.ensures.keys in
-    let least = crossing_fault c.args.tree.now hosts groups numbers.limits.items numbers.depths.items numbers.rows.items numbers.off.items c.in_ok-numbers.ensures.numbered within.distinct within.preorder chains members parents lasts parts c.in-Some.crossing.host c.in-Some.crossing.first c.in-Some.crossing.second found in
+    let found : IsFirstCutHost lasts chains c.in-Some-Nesting.crossing.host c.in-Some-Nesting.crossing.first c.in-Some-Nesting.crossing.second = rw (c.as_slice-3.ensures.value, c.in-Some-Nesting.field-0-is) at c.in-Some-Nesting.ensures in
+    let host : string_bytes {Z = Global} c.in_ok-name_at-in-Some-Nesting.field-0 ≡ host_at hosts c.in-Some-Nesting.crossing.host = c.in_ok-name_at-in-Some-Nesting.ensures ∙ ap (λ (l : List _). get_or (map (string_bytes {Z = Global}) l) c.in-Some-Nesting.crossing.host []) c.as_slice-hosts.ensures.value in
+    let first : string_bytes {Z = Global} c.in_ok-name_at-in-Some-Nesting-2.field-0 ≡ host_at groups c.in-Some-Nesting.crossing.first = c.in_ok-name_at-in-Some-Nesting-2.ensures ∙ ap (λ (l : List _). get_or (map (string_bytes {Z = Global}) l) c.in-Some-Nesting.crossing.first []) c.as_slice-groups.ensures.keys in
+    let second : string_bytes {Z = Global} c.in_ok-name_at-in-Some-Nesting-3.field-0 ≡ host_at groups c.in-Some-Nesting.crossing.second = c.in_ok-name_at-in-Some-Nesting-3.ensures ∙ ap (λ (l : List _). get_or (map (string_bytes {Z = Global}) l) c.in-Some-Nesting.crossing.second []) c.as_slice-groups.ensures.keys in
+    let least = crossing_fault c.args.tree.now hosts groups numbers.limits.items numbers.depths.items numbers.rows.items numbers.off.items c.in_ok-numbers.ensures.numbered within.distinct within.preorder chains members parents lasts parts c.in-Some-Nesting.crossing.host c.in-Some-Nesting.crossing.first c.in-Some-Nesting.crossing.second found in
     (few, rw (host, first, second) least)
 
-pub find_over-requires : goal.find_over-requires
-find_over-requires g c =
+pub find_breach-requires-clause-len : goal.find_breach-requires-clause-len
+find_breach-requires-clause-len g c =
     let numbers = c.in_ok-numbers.numbers in
     let hosts : List Name = map (string_bytes {Z = Global}) numbers.hosts.items in
     let groups : List Name = map (string_bytes {Z = Global}) numbers.groups.keys in
@@ -67,8 +66,8 @@ find_over-requires g c =
     let parts : ArePartsOf (length hosts) numbers.limits.items numbers.depths.items numbers.rows.items chains members parents lasts = subst (λ (n : ℕ). ArePartsOf n numbers.limits.items numbers.depths.items numbers.rows.items chains members parents lasts) (sym (length-map numbers.hosts.items (string_bytes {Z = Global}))) (rw (c.as_slice-hosts.ensures.value, c.as_slice-limits.ensures.value, c.as_slice.ensures.value, c.as_slice-2.ensures.value) at c.in_ok-parts.ensures) in
     rw c.as_slice-limits.ensures.value (limits_len c.args.tree.now hosts groups numbers.limits.items numbers.depths.items numbers.rows.items numbers.off.items c.in_ok-numbers.ensures.numbered within.distinct within.preorder chains members parents lasts parts)
 
-pub returns-in-Some-find_over-clause-err : goal.returns-in-Some-find_over-clause-err
-returns-in-Some-find_over-clause-err g c =
+pub returns-in-Some-Start-clause-err : goal.returns-in-Some-Start-clause-err
+returns-in-Some-Start-clause-err g c =
     let numbers = c.in_ok-numbers.numbers in
     let hosts : List Name = map (string_bytes {Z = Global}) numbers.hosts.items in
     let groups : List Name = map (string_bytes {Z = Global}) numbers.groups.keys in
@@ -79,10 +78,11 @@ returns-in-Some-find_over-clause-err g c =
     let lasts = c.in_ok-parts.parts.lasts.items in
     let parts : ArePartsOf (length hosts) numbers.limits.items numbers.depths.items numbers.rows.items chains members parents lasts = subst (λ (n : ℕ). ArePartsOf n numbers.limits.items numbers.depths.items numbers.rows.items chains members parents lasts) (sym (length-map numbers.hosts.items (string_bytes {Z = Global}))) (rw (c.as_slice-hosts.ensures.value, c.as_slice-limits.ensures.value, c.as_slice.ensures.value, c.as_slice-2.ensures.value) at c.in_ok-parts.ensures) in
     let few : length (hosts_of c.args.tree.now) ≤ 4096 = omega (arith, c.if-hosts-gt-MAX_HOSTS.false, ap length c.in_ok-numbers.ensures.numbered.all_hosts, length-map numbers.hosts.items (string_bytes {Z = Global}), ap length c.as_slice-hosts.ensures.value) in
-    let uncut = rw c.as_slice-3.ensures.value at c.in_default.ensures in
-    let found = rw (c.as_slice-limits.ensures.value, c.as_slice-4.ensures.value) at c.in-Some-find_over.ensures in
-    let group : string_bytes {Z = Global} c.in_ok-name_at-4.field-0 ≡ host_at groups c.in-Some-find_over.over.group = c.in_ok-name_at-4.ensures ∙ ap (λ (l : List _). get_or (map (string_bytes {Z = Global}) l) c.in-Some-find_over.over.group []) c.as_slice-groups.ensures.keys in
-    (few, nested c.args.tree.now hosts groups numbers.limits.items numbers.depths.items numbers.rows.items numbers.off.items c.in_ok-numbers.ensures.numbered within.distinct within.preorder chains members parents lasts parts uncut, rw group (over_fault c.args.tree.now hosts groups numbers.limits.items numbers.depths.items numbers.rows.items numbers.off.items c.in_ok-numbers.ensures.numbered within.distinct within.preorder chains members parents lasts parts c.in-Some-find_over.over.group c.in-Some-find_over.over.down c.in-Some-find_over.over.limit found))
+    let broken : IsNowhereCut lasts chains × IsFirstOverGroup members numbers.limits.items numbers.off.items c.in-Some-Start.over.group c.in-Some-Start.over.down c.in-Some-Start.over.limit = rw (c.as_slice-3.ensures.value, c.as_slice-limits.ensures.value, c.as_slice-off.ensures.value, c.in-Some-Start.field-0-is) at c.in-Some-Start.ensures in
+    let uncut = broken.0 in
+    let found = broken.1 in
+    let group : string_bytes {Z = Global} c.in_ok-name_at-in-Some-Start.field-0 ≡ host_at groups c.in-Some-Start.over.group = c.in_ok-name_at-in-Some-Start.ensures ∙ ap (λ (l : List _). get_or (map (string_bytes {Z = Global}) l) c.in-Some-Start.over.group []) c.as_slice-groups.ensures.keys in
+    (few, nested c.args.tree.now hosts groups numbers.limits.items numbers.depths.items numbers.rows.items numbers.off.items c.in_ok-numbers.ensures.numbered within.distinct within.preorder chains members parents lasts parts uncut, rw group (over_fault c.args.tree.now hosts groups numbers.limits.items numbers.depths.items numbers.rows.items numbers.off.items c.in_ok-numbers.ensures.numbered within.distinct within.preorder chains members parents lasts parts c.in-Some-Start.over.group c.in-Some-Start.over.down c.in-Some-Start.over.limit found))
 
 pub list_deal_order-requires : goal.list_deal_order-requires
 list_deal_order-requires g c =
@@ -101,7 +101,7 @@ pub list_deal_places-requires : goal.list_deal_places-requires
 list_deal_places-requires g c =
     let once = c.in_ok-order.ensures.each_once in
     let long : length c.in_ok-order.order.items ≡ length c.in_ok-parts.parts.chains = length_permutation _ _ once ∙ length-range_with_len 0 (length c.in_ok-parts.parts.chains) in
-    rw c.as_slice-5.ensures.value (subst (λ (n : ℕ). IsPermutation (range_with_len 0 n) c.in_ok-order.order.items) (sym long) once)
+    rw c.as_slice-4.ensures.value (subst (λ (n : ℕ). IsPermutation (range_with_len 0 n) c.in_ok-order.order.items) (sym long) once)
 
 pub invariant_of-result : goal.invariant_of-result
 invariant_of-result g c =
@@ -114,9 +114,11 @@ invariant_of-result g c =
     let parents = c.in_ok-parts.parts.parents.items in
     let lasts = c.in_ok-parts.parts.lasts.items in
     let parts : ArePartsOf (length hosts) numbers.limits.items numbers.depths.items numbers.rows.items chains members parents lasts = subst (λ (n : ℕ). ArePartsOf n numbers.limits.items numbers.depths.items numbers.rows.items chains members parents lasts) (sym (length-map numbers.hosts.items (string_bytes {Z = Global}))) (rw (c.as_slice-hosts.ensures.value, c.as_slice-limits.ensures.value, c.as_slice.ensures.value, c.as_slice-2.ensures.value) at c.in_ok-parts.ensures) in
-    let none = rw (c.as_slice-limits.ensures.value, c.as_slice-4.ensures.value) at c.in_default-find_over.ensures in
+    let kept = rw (c.as_slice-3.ensures.value, c.as_slice-limits.ensures.value, c.as_slice-off.ensures.value) at c.in-None.ensures in
+    let uncut = kept.0 in
+    let none = kept.1 in
     let few : length hosts ≤ 4096 = omega (arith, c.if-hosts-gt-MAX_HOSTS.false, length-map numbers.hosts.items (string_bytes {Z = Global}), ap length c.as_slice-hosts.ensures.value) in
-    record { sound = sound c.args.tree.now hosts groups numbers.limits.items numbers.depths.items numbers.rows.items numbers.off.items c.in_ok-numbers.ensures.numbered within.distinct within.preorder chains members parents lasts parts c.in_ok-order.order.items few (rw c.as_slice-3.ensures.value at c.in_default.ensures) none c.in_ok-order.ensures.each_once c.in_ok-order.ensures.dealt; placed = rw c.as_slice-5.ensures.value at c.in_ok-places.ensures }
+    record { sound = sound c.args.tree.now hosts groups numbers.limits.items numbers.depths.items numbers.rows.items numbers.off.items c.in_ok-numbers.ensures.numbered within.distinct within.preorder chains members parents lasts parts c.in_ok-order.order.items few uncut none c.in_ok-order.ensures.each_once c.in_ok-order.ensures.dealt; placed = rw c.as_slice-4.ensures.value at c.in_ok-places.ensures }
 
 pub returns-clause-ok : goal.returns-clause-ok
 returns-clause-ok g c =
@@ -129,6 +131,7 @@ returns-clause-ok g c =
     let parents = c.in_ok-parts.parts.parents.items in
     let lasts = c.in_ok-parts.parts.lasts.items in
     let parts : ArePartsOf (length hosts) numbers.limits.items numbers.depths.items numbers.rows.items chains members parents lasts = subst (λ (n : ℕ). ArePartsOf n numbers.limits.items numbers.depths.items numbers.rows.items chains members parents lasts) (sym (length-map numbers.hosts.items (string_bytes {Z = Global}))) (rw (c.as_slice-hosts.ensures.value, c.as_slice-limits.ensures.value, c.as_slice.ensures.value, c.as_slice-2.ensures.value) at c.in_ok-parts.ensures) in
-    let none = rw (c.as_slice-limits.ensures.value, c.as_slice-4.ensures.value) at c.in_default-find_over.ensures in
-    let uncut = rw c.as_slice-3.ensures.value at c.in_default.ensures in
+    let kept = rw (c.as_slice-3.ensures.value, c.as_slice-limits.ensures.value, c.as_slice-off.ensures.value) at c.in-None.ensures in
+    let uncut = kept.0 in
+    let none = kept.1 in
     fleet_of c.args.tree.now hosts groups numbers.limits.items numbers.depths.items numbers.rows.items numbers.off.items c.in_ok-numbers.ensures.numbered within.distinct within.preorder chains members parents lasts parts c.in_ok-order.order.items uncut none

@@ -1,4 +1,4 @@
-use Rattle.std.proofs.Common.{◌≡◌, ◌∙◌, Some, position, Global, sym, ap}
+use Rattle.std.proofs.Common.{◌∙◌, position, Global, sym, ap}
 use Rattle.std.specs.String.{string_bytes}
 use Rattle.inventory_model.specs.Names.{same_name}
 use Rattle.domains.specs.FleetViews.{FleetView}

@@ -1,4 +1,4 @@
-use Rattle.std.proofs.Common.{◌≡◌, ◌∙◌, ◌<◌, ℕ, List, [], map, Global, length, sym, ap, subst, arith}
+use Rattle.std.proofs.Common.{◌∙◌, ◌<◌, ℕ, List, [], map, Global, length, sym, ap, subst, arith}
 use Rattle.fleet_numbers.specs.NumberLists.{has_number, list_at, IsRising}
 use Rattle.std.specs.String.{string_bytes}
 use Rattle.domains.specs.FleetViews.{FleetView}

@@ -1,4 +1,4 @@
-use Rattle.std.proofs.Common.{◌≡◌, ◌∙◌, ℕ, ◌<◌, ◌||◌, Bool, false, List, map, length, get_or, sym, ap, subst, arith}
+use Rattle.std.proofs.Common.{false, map, get_or}
 use Rattle.std.specs.List.{list_any}
 use Rattle.host_patterns.specs.Patterns.{parts_of}
 use Rattle.domains.specs.Patterns.{is_named_by}

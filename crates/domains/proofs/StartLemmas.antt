@@ -1,0 +1,52 @@
+-- How many hosts of a group are off at the start, by numbers and by names.
+use Rattle.std.proofs.Common.{◌≡◌, ℕ, ◌+◌, ◌≤◌, ◌<◌, Bool, false, ◌&&◌, Option, None, List, [], length, get_or, filter, sym, ap, ◌∙◌, refl, arith, inl, inr, ◌⊎◌}
+use Rattle.std.specs.List.{range_with_len}
+use Rattle.std.proofs.lemmas.Bool.{cases_lt}
+use Rattle.std.proofs.lemmas.List.{get_or-map, get_or_past}
+use Rattle.std.proofs.lemmas.List.Sums.{length-filter}
+use Rattle.inventory_model.specs.Names.{Name}
+use Rattle.inventory_model.specs.Places.{Place, Inventory}
+use Rattle.inventory_model.specs.Members.{holds}
+use Rattle.fleet_numbers.specs.NumberLists.{list_at, numbers_where}
+use Rattle.domains.specs.Hosts.{is_off}
+use Rattle.domains.specs.Starts.{place_at, nowhere, exceeds, down_count, is_over, StartsWithin, IsFirstOver}
+use Rattle.domains.specs.Numbered.{host_at}
+use Rattle.domains.specs.Search.{off_count, IsFirstOverGroup}
+use Rattle.domains.proofs.WhereLemmas.{filter-filter, filtered_names}
+use Rattle.domains.proofs.FleetLemmas.{AreListsOf}
+
+module _ (inventory : Inventory) (hosts : List Name) (limits : List (Option ℕ)) (off : List Bool) (chains members : List (List ℕ)) (lasts : List ℕ) (known : AreListsOf inventory hosts limits off chains members lasts) where
+  -- how many hosts of a group are off, by numbers and by names
+  pub down_at : (g : ℕ) → g < length inventory.places → off_count off (list_at members g) ≡ down_count inventory (place_at inventory.places g).name
+  down_at g l =
+      ap (off_count off) (known.members_at g l) ∙ sym (length-filter (λ host. get_or off host false) (numbers_where (λ host. holds inventory (place_at inventory.places g).name (host_at hosts host)) (length hosts))) ∙ ap length (filter-filter (λ host. get_or off host false) (λ host. holds inventory (place_at inventory.places g).name (host_at hosts host)) (range_with_len 0 (length hosts))) ∙ filtered_names (λ host. holds inventory (place_at inventory.places g).name (host_at hosts host) && get_or off host false) (λ host. holds inventory (place_at inventory.places g).name host && is_off inventory host) hosts 0 (λ k m. at k m (zero_add k)) ∙ ap (λ (names : List Name). length (filter (λ host. holds inventory (place_at inventory.places g).name host && is_off inventory host) names)) known.all_hosts
+    where
+      zero_add : (n : ℕ) → 0 + n ≡ n
+      zero_add n = omega arith
+
+      at : (k : ℕ) → k < length hosts → 0 + k ≡ k → (holds inventory (place_at inventory.places g).name (host_at hosts (0 + k)) && get_or off (0 + k) false) ≡ (holds inventory (place_at inventory.places g).name (host_at hosts k) && is_off inventory (host_at hosts k))
+      at k m e =
+          ap (λ (n : ℕ). holds inventory (place_at inventory.places g).name (host_at hosts n) && get_or off n false) e ∙ ap (λ b. holds inventory (place_at inventory.places g).name (host_at hosts k) && b) (ap (λ (o : List Bool). get_or o k false) known.all_off ∙ get_or-map (is_off inventory) hosts k [] false m)
+
+  pub starts_within : ((group : ℕ) → group < length members → exceeds (get_or limits group None) (off_count off (list_at members group)) ≡ false) → StartsWithin inventory
+  starts_within none number = by_case (cases_lt number (length inventory.places))
+    where
+      by_case : (number < length inventory.places) ⊎ (length inventory.places ≤ number) → is_over inventory number ≡ false
+      by_case (inl l) =
+          ap (exceeds (place_at inventory.places number).limit) (sym (down_at number l)) ∙ ap (λ (o : Option ℕ). exceeds o (off_count off (list_at members number))) (sym (known.limit_at number)) ∙ none number (omega (arith, l, known.members_len))
+      by_case (inr l) =
+          ap (λ (p : Place). exceeds p.limit (down_count inventory p.name)) (get_or_past inventory.places number nowhere l)
+
+  pub first_over : (group down limit : ℕ) → IsFirstOverGroup members limits off group down limit → IsFirstOver inventory (place_at inventory.places group).name down limit
+  first_over group down limit found =
+      record {
+        number = group;
+        name = refl;
+        limited = sym (known.limit_at group) ∙ found.limited;
+        counted = found.counted ∙ down_at group inside;
+        over = found.over;
+        first = λ earlier l. ap (exceeds (place_at inventory.places earlier).limit) (sym (down_at earlier (omega (arith, l, inside)))) ∙ ap (λ (o : Option ℕ). exceeds o (off_count off (list_at members earlier))) (sym (known.limit_at earlier)) ∙ found.before earlier l;
+      }
+    where
+      inside : group < length inventory.places
+      inside = omega (arith, found.within, known.members_len)

@@ -1,0 +1,57 @@
+-- Numbers and names that pass a test.
+use Rattle.std.proofs.Common.{◌≡◌, ℕ, suc, ◌+◌, ◌<◌, Bool, true, false, ◌&&◌, cond, List, [], ◌∷◌, length, filter, sym, ap, ◌∙◌, refl, arith}
+use Rattle.std.specs.List.{range_with_len}
+use Rattle.std.proofs.lemmas.Bool.{lt-ltb}
+use Rattle.inventory_model.specs.Names.{Name}
+use Rattle.fleet_numbers.specs.NumberLists.{has_number, numbers_where, IsRising}
+use Rattle.fleet_numbers.proofs.RisingLemmas.{Ascends-numbers_where, rising_is, has_number-numbers_where}
+use Rattle.domains.specs.Numbered.{host_at}
+
+-- tests that agree below the end give the same numbers
+pub numbers_where-same : (p q : ℕ → Bool) (n : ℕ) → ((k : ℕ) → k < n → p k ≡ q k) → numbers_where p n ≡ numbers_where q n
+numbers_where-same p q n agree =
+    rising_is q n (numbers_where p n) (Ascends-numbers_where p n) (λ k l. has_number-numbers_where p n k ∙ ap (λ b. b && p k) (lt-ltb k n l) ∙ agree k l)
+
+pub rising-numbers_where : (p : ℕ → Bool) (n : ℕ) → IsRising n (numbers_where p n)
+rising-numbers_where p n =
+    rising_is (λ k. has_number k (numbers_where p n)) n (numbers_where p n) (Ascends-numbers_where p n) (λ k l. refl)
+
+pub filter-filter : (p q : ℕ → Bool) (xs : List ℕ) → filter p (filter q xs) ≡ filter (λ x. q x && p x) xs
+filter-filter p q [] = refl
+filter-filter p q (x ∷ xs) = by_case (q x) (p x) refl (filter-filter p q xs)
+  where
+    by_case : (a b : Bool) → p x ≡ b → filter p (filter q xs) ≡ filter (λ x. q x && p x) xs → filter p (cond a (x ∷ filter q xs) (filter q xs)) ≡ cond (a && p x) (x ∷ filter (λ x. q x && p x) xs) (filter (λ x. q x && p x) xs)
+    by_case true true e rest =
+        ap (λ c. cond c (x ∷ filter p (filter q xs)) (filter p (filter q xs))) e ∙ ap (λ (l : List ℕ). x ∷ l) rest ∙ sym (ap (λ c. cond c (x ∷ filter (λ x. q x && p x) xs) (filter (λ x. q x && p x) xs)) e)
+    by_case true false e rest =
+        ap (λ c. cond c (x ∷ filter p (filter q xs)) (filter p (filter q xs))) e ∙ rest ∙ sym (ap (λ c. cond c (x ∷ filter (λ x. q x && p x) xs) (filter (λ x. q x && p x) xs)) e)
+    by_case false b e rest = rest
+
+pub filtered_names : (t : ℕ → Bool) (u : Name → Bool) (names : List Name) (from : ℕ) → ((k : ℕ) → k < length names → t (from + k) ≡ u (host_at names k)) → length (filter t (range_with_len from (length names))) ≡ length (filter u names)
+filtered_names t u [] from at = refl
+filtered_names t u (name ∷ names) from at =
+    by_case (u name) here (filtered_names t u names (from + 1) (λ k l. shift k l))
+  where
+    at_zero : (n : ℕ) → n ≡ n + 0
+    at_zero n = omega arith
+
+    more : (n k : ℕ) → (n + 1) + k ≡ n + suc k
+    more n k = omega arith
+
+    here : t from ≡ u name
+    here = ap t (at_zero from) ∙ at 0 (omega arith)
+
+    shift : (k : ℕ) → k < length names → t ((from + 1) + k) ≡ u (host_at names k)
+    shift k l = ap t (more from k) ∙ at (suc k) (omega arith)
+
+    by_case : (b : Bool) → t from ≡ b → length (filter t (range_with_len (from + 1) (length names))) ≡ length (filter u names) → length (cond (t from) (from ∷ filter t (range_with_len (from + 1) (length names))) (filter t (range_with_len (from + 1) (length names)))) ≡ length (cond b (name ∷ filter u names) (filter u names))
+    by_case true e rest =
+        ap (λ b. length (cond b (from ∷ filter t (range_with_len (from + 1) (length names))) (filter t (range_with_len (from + 1) (length names))))) e ∙ ap suc rest
+    by_case false e rest =
+        ap (λ b. length (cond b (from ∷ filter t (range_with_len (from + 1) (length names))) (filter t (range_with_len (from + 1) (length names))))) e ∙ rest
+
+pub and_swap : (a b : Bool) → (a && b) ≡ (b && a)
+and_swap true true = refl
+and_swap true false = refl
+and_swap false true = refl
+and_swap false false = refl
