@@ -71,6 +71,13 @@ text '{"all":{"children":{"web":{"hosts":{"x":null}},"rb":{"vars":{"max_down":1}
 check 'an unlimited group beside a rack' 0 'rack9 members=1 down=0 limit=1 room=1%rb members=0 down=0 limit=1 room=1%hosts=1 limited=2%' ''
 text '{"all":{"children":{"g":{"vars":{"max_down":1},"children":{"p":{"hosts":{"a":null}},"q":{"hosts":{"a":null}}}}}}}'
 check 'a host at two places' 0 'g members=1 down=0 limit=1 room=1%hosts=1 limited=1%' ''
+hosts() {
+    printf '{"all":{"hosts":{"h0":null%s}}}' "$(awk -v most="$1" 'BEGIN { for (i = 1; i < most; i++) printf ",\"h%d\":null", i }')"
+}
+text "$(hosts 4096)"
+check 'as many hosts as a fleet has' 0 'hosts=4096 limited=0%' ''
+text "$(hosts 4097)"
+check 'one host too many' 1 '' 'rollout: 303 TooManyHosts%'
 
 run limits "$work/missing.json"
 check 'a missing file' 1 '' "rollout: 902 File name=$work/missing.json%"
