@@ -37,6 +37,7 @@ kept_more old new start log log' owed owed' capacity capacity' event kept allowe
       state = state ∙ ap (λ s. next s event) kept.state ∙ sym (state_after-push (start_state start) log event) ∙ ap (state_after (start_state start)) (sym grown);
       legal = subst (λ (g : List LimitedGroup). IsLegal g (start_state start) log') (sym groups) (subst (λ (l : List Event). IsLegal old.groups (start_state start) l) (sym grown) (legal_push old.groups (start_state start) log event kept.legal (subst (λ (s : State). Allowed old.groups s event) kept.state allowed)));
       safe = subst (λ (g : List LimitedGroup). IsSafe g start) (sym groups) kept.safe;
+      rests = kept.rests;
       owes = owes ∙ ap owed_by (sym state);
       places = omega (arith, room, ap length grown, length-append log (event ∷ []));
     }

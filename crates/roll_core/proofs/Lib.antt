@@ -11,3 +11,4 @@ pub mod TrialLemmas
 pub mod MachineLemmas
 pub mod CoreLemmas
 pub mod StepLemmas
+pub mod RestLemmas

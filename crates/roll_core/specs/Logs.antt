@@ -1,6 +1,8 @@
 -- Logs: events from the oldest on.
-use Rattle.std.specs.Prelude.{ℕ, List, [], ◌∷◌, take}
+use Rattle.std.specs.Prelude.{◌≡◌, ℕ, List, [], ◌∷◌, take}
 use Rattle.roll_core.specs.declared.event.Event.{Event}
+use Rattle.roll_core.specs.declared.stage.Stage.TheVariants.{Boundary}
+use Rattle.roll_core.specs.Statuses.{NobodyRuns}
 use Rattle.roll_core.specs.Groups.{LimitedGroup, IsSafe}
 use Rattle.roll_core.specs.States.{State, Allowed, next}
 
@@ -16,3 +18,8 @@ IsLegal groups state (event ∷ log) = Allowed groups state event × IsLegal gro
 -- after each of its first events no group is over its limit
 abbrev pub FrontsAreSafe : List LimitedGroup → State → List Event → Type 0
 FrontsAreSafe groups state log = (n : ℕ) → IsSafe groups (state_after state (take n log)).statuses
+
+-- after each of its first events nobody runs where no batch is open
+abbrev pub RestsAtBoundaries : State → List Event → Type 0
+RestsAtBoundaries state log =
+    (n : ℕ) → (state_after state (take n log)).stage ≡ Boundary → NobodyRuns (state_after state (take n log)).statuses

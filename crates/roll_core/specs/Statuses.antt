@@ -1,5 +1,5 @@
 -- The statuses of hosts, found by the hosts' numbers.
-use Rattle.std.specs.Prelude.{ℕ, Bool, true, false, List, cond, map, length, slice_index_or}
+use Rattle.std.specs.Prelude.{◌≡◌, ℕ, Bool, true, false, List, All, cond, map, length, slice_index_or}
 use Rattle.std.specs.List.{range_with_len}
 use Rattle.fleet_numbers.specs.NumberLists.{has_number}
 use Rattle.roll_core.specs.declared.status.Status.{Status}
@@ -42,3 +42,16 @@ status_at statuses host = slice_index_or statuses host Idle
 abbrev pub changed : (Status → Status) → List ℕ → List Status → List Status
 changed change hosts statuses =
     map (λ host. cond (has_number host hosts) (change (status_at statuses host)) (status_at statuses host)) (range_with_len 0 (length statuses))
+
+-- no host is at work
+abbrev pub is_running : Status → Bool
+is_running Idle = false
+is_running Waiting = false
+is_running Running = true
+is_running Updated = false
+is_running Failed = false
+is_running Halted = false
+is_running Off = false
+
+abbrev pub NobodyRuns : List Status → Type 0
+NobodyRuns statuses = All (λ status. is_running status ≡ false) statuses

@@ -1,15 +1,15 @@
 -- What clauses see of the machine and of the core, and what these keep.
-use Rattle.std.specs.Prelude.{◌≡◌, ℕ, ◌+◌, ◌<◌, ◌≤◌, Bool, true, false, not, Option, Some, None, List, [], ◌∷◌, ◌++◌, length, All, find, count_by, slice_index_or}
+use Rattle.std.specs.Prelude.{◌≡◌, ℕ, ◌+◌, ◌<◌, ◌≤◌, Bool, true, false, not, Option, Some, None, List, [], ◌∷◌, ◌++◌, length, find, count_by, slice_index_or}
 use Rattle.fleet_numbers.specs.NumberLists.{has_number, are_below}
 use Rattle.roll_core.specs.declared.status.Status.{Status}
 use Rattle.group_tree.specs.declared.ids.HostId.{HostId}
-use Rattle.roll_core.specs.declared.status.Status.TheVariants.{Idle, Waiting, Running, Updated, Failed, Halted, Off}
 use Rattle.roll_core.specs.declared.event.Event.{Event}
 use Rattle.roll_core.specs.declared.event.Event.TheVariants.{Claim}
 use Rattle.roll_core.specs.declared.stage.Stage.{Stage}
 use Rattle.roll_core.specs.declared.stage.Stage.TheVariants.{Boundary, Working, Ended}
 use Rattle.roll_core.specs.declared.stage.Progress.{Progress}
 use Rattle.roll_core.specs.declared.stage.Progress.TheVariants.{Due, Claimed, Reported}
+use Rattle.roll_core.specs.Statuses.{NobodyRuns}
 use Rattle.roll_core.specs.Groups.{LimitedGroup, IsSafe, are_distinct}
 use Rattle.roll_core.specs.States.{State, MayReport, start_state, progress_at, has_reported}
 use Rattle.roll_core.specs.Logs.{state_after, IsLegal}
@@ -76,19 +76,6 @@ state_of core = state_after (start_state core.start) core.log
 abbrev pub with_event : CoreView → Event → CoreView
 with_event core event = record core { log = core.log ++ event ∷ [] }
 
--- no host is at work
-abbrev pub is_running : Status → Bool
-is_running Idle = false
-is_running Waiting = false
-is_running Running = true
-is_running Updated = false
-is_running Failed = false
-is_running Halted = false
-is_running Off = false
-
-abbrev pub NobodyRuns : List Status → Type 0
-NobodyRuns statuses = All (λ status. is_running status ≡ false) statuses
-
 -- the core after a claim of this host, which may report from now on; where there is none, nothing has changed and no
 -- host is due
 abbrev pub IsClaim : CoreView → CoreView → Option HostId → Type 0
@@ -100,5 +87,6 @@ pub record IsKept (machine : MachineView) (start : List Status) (log : List Even
   pub state : machine.state ≡ state_after (start_state start) log
   pub legal : IsLegal machine.groups (start_state start) log
   pub safe : IsSafe machine.groups start
+  pub rests : NobodyRuns start
   pub owes : owed ≡ owed_by machine.state
   pub places : length log + owed ≤ capacity

@@ -17,7 +17,7 @@ mod trial;
 pub use batch::Batch;
 pub use event::Event;
 pub use fault::{Busy, Next, OpenFault};
-pub use laws::legal_logs_are_safe;
+pub use laws::{legal_logs_are_safe, legal_logs_rest_between_batches};
 pub use rolling::Core;
 pub use status::Status;
 

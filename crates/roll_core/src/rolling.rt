@@ -2,12 +2,12 @@
 ghost use Rattle.std.specs.Prelude.{◌≡◌, ◌<◌, ◌≤◌, ◌++◌, ◌∷◌, [], IfOk, IfErr, OnErr, OnOk, Some, length, vec_capacity, vec_len};
 ghost use Rattle.roll_core.specs.declared.stage.Stage.TheVariants.{Working, Ended};
 ghost use Rattle.roll_core.specs.declared.event.Event.TheVariants.{Open, Claim, Report, Barrier, Close};
-ghost use Rattle.roll_core.specs.Statuses.{status_at};
+ghost use Rattle.roll_core.specs.Statuses.{NobodyRuns, status_at};
 ghost use Rattle.roll_core.specs.Groups.{AreGroups, IsSafe, groups_of, numbers_of};
 ghost use Rattle.roll_core.specs.States.{MayEnd, MayOpen, MayReport, start_state};
-ghost use Rattle.roll_core.specs.Logs.{IsLegal, FrontsAreSafe};
+ghost use Rattle.roll_core.specs.Logs.{IsLegal, FrontsAreSafe, RestsAtBoundaries};
 ghost use Rattle.roll_core.specs.Refusals.{IsRefusalOf};
-ghost use Rattle.roll_core.specs.Views.{state_of, first_busy, IsClaim, NobodyRuns, with_event};
+ghost use Rattle.roll_core.specs.Views.{state_of, first_busy, IsClaim, with_event};
 
 use crate::batch::Batch;
 use crate::event::Event;
@@ -131,6 +131,7 @@ impl Core {
         ensures value { result.now ≡ self.now.log }
         ensures legal { IsLegal self.now.groups (start_state self.now.start) self.now.log }
         ensures safe { FrontsAreSafe self.now.groups (start_state self.now.start) self.now.log }
+        ensures rests { RestsAtBoundaries (start_state self.now.start) self.now.log }
     {
         self.log.as_slice()
     }

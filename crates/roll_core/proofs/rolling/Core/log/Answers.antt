@@ -1,10 +1,15 @@
 use Rattle.std.proofs.Common.{subst}
 use Rattle.roll_core.specs.States.{start_state}
-use Rattle.roll_core.specs.Logs.{FrontsAreSafe}
+use Rattle.roll_core.specs.Logs.{FrontsAreSafe, RestsAtBoundaries}
 use Rattle.roll_core.specs.Views.{CoreView}
 use Rattle.roll_core.proofs.FrontLemmas.{legal_fronts}
+use Rattle.roll_core.proofs.RestLemmas.{legal_rests}
 use Rattle.roll_core.proofs.rolling.Core.log.Goals as goal
 
 pub returns-clause-safe : goal.returns-clause-safe
 returns-clause-safe c =
     subst (λ (v : CoreView). FrontsAreSafe v.groups (start_state v.start) v.log) c.self.view_is (legal_fronts c.self.inside.machine.groups c.self.inside.start.items c.self.inside.log.items c.self.invariant.safe c.self.invariant.legal)
+
+pub returns-clause-rests : goal.returns-clause-rests
+returns-clause-rests c =
+    subst (λ (v : CoreView). RestsAtBoundaries (start_state v.start) v.log) c.self.view_is (legal_rests c.self.inside.machine.groups c.self.inside.start.items c.self.inside.log.items c.self.invariant.rests c.self.invariant.legal)
