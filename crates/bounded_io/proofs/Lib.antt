@@ -1,3 +1,3 @@
 pub mod SendingLemmas
-pub mod PuttingLemmas
+pub mod WritingLemmas
 pub mod Pieces

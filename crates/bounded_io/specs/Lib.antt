@@ -1,3 +1,4 @@
 pub mod Sending
-pub mod Putting
+pub mod Writing
 pub mod Reading
+pub mod Faults

@@ -1,4 +1,6 @@
 //! What ends the reading of an input.
+ghost use Rattle.std.specs.Prelude.{◌≡◌};
+ghost use Rattle.bounded_io.specs.Faults.{number_of};
 
 use std::error::Error;
 use std::fmt;
@@ -13,9 +15,22 @@ pub enum InputFault {
     Memory,
 }
 
+impl InputFault {
+    /// The fault's number; want of memory has none.
+    pub fn number(&self) -> Option<u16>
+        ensures { result ≡ number_of self.now }
+    {
+        match self {
+            InputFault::File => Some(902),
+            InputFault::TooLarge => Some(903),
+            InputFault::Memory => None,
+        }
+    }
+}
+
 impl fmt::Display for InputFault {
     ghost use Rattle.std.specs.Prelude.{Some};
-    ghost use Rattle.bounded_io.specs.Reading.{text_of};
+    ghost use Rattle.bounded_io.specs.Faults.{text_of};
 
     ghost output = { λ fault. Some (text_of fault) };
 
@@ -23,7 +38,7 @@ impl fmt::Display for InputFault {
         match self {
             InputFault::File => write!(f, "the input could not be read"),
             InputFault::TooLarge => write!(f, "the input has more than 16777216 bytes"),
-            InputFault::Memory => write!(f, "out of memory"),
+            InputFault::Memory => write!(f, "want of memory"),
         }
     }
 }

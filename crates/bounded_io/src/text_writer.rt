@@ -1,6 +1,6 @@
 //! A writer of texts that are made of many pieces.
 ghost use Rattle.std.specs.Prelude.{◌≡◌, ◌<◌, ◌≤◌, ◌+◌, [], length, decimal};
-ghost use Rattle.bounded_io.specs.Putting.{Begins, Puts, Passes, HoldsNone, Finishes, fault_of};
+ghost use Rattle.bounded_io.specs.Writing.{Begins, Writes, Passes, HoldsNone, Finishes, fault_of};
 
 use crate::held_bytes::{CAPACITY, HeldBytes};
 use crate::write_bytes::write_bytes;
@@ -12,11 +12,11 @@ use std::io::Write;
 mod tests;
 
 /// Writes a text piece by piece, and tells at the end how much of it went out. Pieces are held back, so that they go
-/// out in large writes; it takes no memory. After a fault it drops what is put, so no piece has to be looked after by
+/// out in large writes; it takes no memory. After a fault it drops what comes, so no piece has to be looked after by
 /// itself. It can't be dropped, so that no fault gets lost: `finish` ends the text.
 pub struct TextWriter<'a, W> {
     out: &'a mut W,
-    // How many bytes went out, or the fault that ended it.
+    /// How many bytes went out, or the fault that ended it.
     sent: Result<u64, WriteFault>,
     held: HeldBytes,
 }
@@ -34,9 +34,9 @@ impl<'a, W: Write> TextWriter<'a, W> {
     }
 
     /// Goes on with these bytes.
-    #[tactic(auto, using(crate::proofs::PuttingLemmas::puts_two))]
-    pub fn put_bytes(&mut self, bytes: &[u8])
-        ensures { Puts W.contents self.old self.new bytes.now }
+    #[tactic(auto, using(crate::proofs::WritingLemmas::writes_two))]
+    pub fn write_bytes(&mut self, bytes: &[u8])
+        ensures { Writes W.contents self.old self.new bytes.now }
     {
         self.make_room(bytes.len());
         if bytes.len() > CAPACITY {
@@ -47,22 +47,22 @@ impl<'a, W: Write> TextWriter<'a, W> {
     }
 
     /// Goes on with this text.
-    pub fn put(&mut self, text: &str)
-        ensures { Puts W.contents self.old self.new text.now }
+    pub fn write_str(&mut self, text: &str)
+        ensures { Writes W.contents self.old self.new text.now }
     {
-        self.put_bytes(text.as_bytes());
+        self.write_bytes(text.as_bytes());
     }
 
     /// Goes on with the number in decimal, without leading zeros.
-    pub fn put_number(&mut self, number: u64)
-        ensures { Puts W.contents self.old self.new (decimal number) }
+    pub fn write_number(&mut self, number: u64)
+        ensures { Writes W.contents self.old self.new (decimal number) }
     {
-        self.put(Buffer::new().format(number));
+        self.write_str(Buffer::new().format(number));
     }
 
     /// Sends what is held, for a reader who waits for it.
     pub fn flush(&mut self)
-        ensures puts { Puts W.contents self.old self.new [] }
+        ensures writes { Writes W.contents self.old self.new [] }
         ensures holds { HoldsNone self.new }
     {
         self.sent = go_on(self.out, self.held.as_slice(), self.sent);
@@ -77,7 +77,7 @@ impl<'a, W: Write> TextWriter<'a, W> {
     }
 
     /// Ends the text: it went out whole, or the fault says how much of it did.
-    #[tactic(auto, using(crate::proofs::PuttingLemmas::finished))]
+    #[tactic(auto, using(crate::proofs::WritingLemmas::finished))]
     pub fn finish(self) -> Result<(), WriteFault>
         ensures { Finishes W.contents self.entry (W.contents self.exit.0.now) result }
     {
@@ -85,10 +85,10 @@ impl<'a, W: Write> TextWriter<'a, W> {
         go_on(out, held.as_slice(), sent).and(Ok(()))
     }
 
-    // Sends what is held where `len` more bytes would not fit beside it.
-    #[tactic(auto, using(crate::proofs::PuttingLemmas::puts_none))]
+    /// Sends what is held where `len` more bytes would not fit beside it.
+    #[tactic(auto, using(crate::proofs::WritingLemmas::writes_none))]
     fn make_room(&mut self, len: usize)
-        ensures puts { Puts W.contents self.old self.new [] }
+        ensures writes { Writes W.contents self.old self.new [] }
         ensures fits { len ≤ CAPACITY → length self.new.held + len ≤ CAPACITY }
         ensures empty { CAPACITY < len → HoldsNone self.new }
     {
@@ -99,20 +99,20 @@ impl<'a, W: Write> TextWriter<'a, W> {
 
     fn hold(&mut self, bytes: &[u8])
         requires { length self.old.held + length bytes.now ≤ CAPACITY }
-        ensures { Puts W.contents self.old self.new bytes.now }
+        ensures { Writes W.contents self.old self.new bytes.now }
     {
         self.held.push(bytes);
     }
 
     fn send(&mut self, bytes: &[u8])
         requires { HoldsNone self.old }
-        ensures { Puts W.contents self.old self.new bytes.now }
+        ensures { Writes W.contents self.old self.new bytes.now }
     {
         self.sent = go_on(self.out, bytes, self.sent);
     }
 }
 
-// Writes the bytes after those that went out, and nothing after a fault.
+/// Writes the bytes after those that went out, and nothing after a fault.
 fn go_on<W: Write>(
     out: &mut W,
     bytes: &[u8],

@@ -32,7 +32,7 @@ pub(crate) fn write_bytes<W: Write>(
     Ok(end)
 }
 
-// One write, and how many of the bytes it took: none where it failed.
+/// One write, and how many of the bytes it took: none where it failed.
 fn write_some<W: Write>(out: &mut W, bytes: &[u8]) -> usize
     ensures bound { result ≤ length bytes.now }
     ensures sent { Appends (W.contents out.old) (W.contents out.new) (take result bytes.now) }

@@ -1,4 +1,5 @@
 //! What ends the writing of a text.
+ghost use Rattle.std.specs.Prelude.{◌≡◌};
 
 use std::error::Error;
 use std::fmt;
@@ -8,6 +9,15 @@ use std::fmt;
 #[derive(Clone, Copy, Debug, PartialEq, Eq)]
 pub struct WriteFault {
     pub written: u64,
+}
+
+impl WriteFault {
+    /// The fault's number.
+    pub fn number(&self) -> u16
+        ensures { result ≡ 904 }
+    {
+        904
+    }
 }
 
 impl fmt::Display for WriteFault {

@@ -69,43 +69,43 @@ reads_before (a ∷ []) h = reads_before_letter a (eqb a 45) refl
 reads_before (a ∷ b ∷ rest) h = reads_before_long a b rest (no_dash (eqb a 45) h)
 
 one_operand : (word file : Word) (plain : Bool) → is_operand word ≡ plain → cond plain (Some word) None ≡ Some file → Reads (codes "limits" ∷ word ∷ []) file
-one_operand word file true plain said =
+one_operand word file true plain wanted =
     let same : word ≡ file = cc in subst (Reads (codes "limits" ∷ word ∷ [])) same (reads_alone word plain)
-one_operand word file false plain said = cc
+one_operand word file false plain wanted = cc
 
 operand_before : (word file : Word) (plain : Bool) → is_operand word ≡ plain → cond plain (Some word) None ≡ Some file → Reads (codes "limits" ∷ word ∷ codes "--" ∷ []) file
-operand_before word file true plain said =
+operand_before word file true plain wanted =
     let same : word ≡ file = cc in subst (Reads (codes "limits" ∷ word ∷ codes "--" ∷ [])) same (reads_before word plain)
-operand_before word file false plain said = cc
+operand_before word file false plain wanted = cc
 
 two_words : (first second file : Word) (behind before : Bool) → bytes_eq first dashes ≡ behind → bytes_eq second dashes ≡ before
     → cond behind (Some second) (cond before (cond (is_operand first) (Some first) None) None) ≡ Some file → Reads (codes "limits" ∷ first ∷ second ∷ []) file
-two_words first second file true before is_first is_second said =
+two_words first second file true before is_first is_second wanted =
     let is : first ≡ dashes = (bytes_eq-Decides first dashes).0 is_first in
     let same : second ≡ file = cc in
     subst (λ w. Reads (codes "limits" ∷ w ∷ second ∷ []) file) (sym is) (subst (Reads (codes "limits" ∷ dashes ∷ second ∷ [])) same (reads_behind second))
-two_words first second file false true is_first is_second said =
+two_words first second file false true is_first is_second wanted =
     let is : second ≡ dashes = (bytes_eq-Decides second dashes).0 is_second in
-    subst (λ w. Reads (codes "limits" ∷ first ∷ w ∷ []) file) (sym is) (operand_before first file (is_operand first) refl said)
-two_words first second file false false is_first is_second said = cc
+    subst (λ w. Reads (codes "limits" ∷ first ∷ w ∷ []) file) (sym is) (operand_before first file (is_operand first) refl wanted)
+two_words first second file false false is_first is_second wanted = cc
 
 of_operands : (operands : List Word) (file : Word) → lone_operand operands ≡ Some file → Reads (codes "limits" ∷ operands) file
-of_operands [] file said = cc
-of_operands (word ∷ []) file said = one_operand word file (is_operand word) refl said
-of_operands (first ∷ second ∷ []) file said = two_words first second file (bytes_eq first dashes) (bytes_eq second dashes) refl refl said
-of_operands (first ∷ second ∷ third ∷ more) file said = cc
+of_operands [] file wanted = cc
+of_operands (word ∷ []) file wanted = one_operand word file (is_operand word) refl wanted
+of_operands (first ∷ second ∷ []) file wanted = two_words first second file (bytes_eq first dashes) (bytes_eq second dashes) refl refl wanted
+of_operands (first ∷ second ∷ third ∷ more) file wanted = cc
 
 of_command : (command : Word) (operands : List Word) (file : Word) (limits : Bool) → bytes_eq command (codes "limits") ≡ limits → cond limits (lone_operand operands) None ≡ Some file
     → Reads (command ∷ operands) file
-of_command command operands file true same said =
+of_command command operands file true same wanted =
     let is : command ≡ codes "limits" = (bytes_eq-Decides command (codes "limits")).0 same in
-    subst (λ w. Reads (w ∷ operands) file) (sym is) (of_operands operands file said)
-of_command command operands file false same said = cc
+    subst (λ w. Reads (w ∷ operands) file) (sym is) (of_operands operands file wanted)
+of_command command operands file false same wanted = cc
 
 -- clap takes the words that ask for the limits of a file, and reads that file
 pub accepted : (words : List Word) (file : Word) → limits_file words ≡ Some file → Reads words file
-accepted [] file said = cc
-accepted (command ∷ operands) file said = of_command command operands file (bytes_eq command (codes "limits")) refl said
+accepted [] file wanted = cc
+accepted (command ∷ operands) file wanted = of_command command operands file (bytes_eq command (codes "limits")) refl wanted
 
 inventory_found : (found : Option (Text × List Row)) (rows : List Row) → option_map (λ p. p.0) found ≡ Some (codes "limits") → option_map (λ p. p.1) found ≡ Some rows
     → inventory_in found ≡ first_of (codes "INV") rows

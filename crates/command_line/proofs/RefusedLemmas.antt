@@ -1,15 +1,18 @@
--- What is refused is no line of the program, and no request for a text is a bad line.
+-- What is refused is no command, no request for a text is a bad line, and only a request gets a text.
 use Rattle.std.proofs.Common.{◌≡◌, ◌≢◌, true, false, List, [], ◌∷◌, Option, Some, None, codes, length, map, eqb, ap, refl, sym, inl, inr, ◌⊎◌, subst, ◌∙◌, ⊎_elim}
-use Rattle.clap.specs.Words.{HasKind, fault_of, kind_of, subcommand_of, takes}
+use Rattle.clap.specs.Words.{HasKind, IsAmong, fault_of, kind_of, subcommand_of, takes}
 use Rattle.clap.specs.declared.error.Error.{Error}
 use Rattle.clap.specs.declared.error.kind.ErrorKind.{ErrorKind}
 use Rattle.clap.specs.declared.error.kind.ErrorKind.TheVariants.{DisplayHelp, DisplayVersion, OutOfMemory}
 use Rattle.clap.proofs.OnLiterals.{clap_on_literals}
+use Rattle.std.specs.Prelude.{Result, Ok, Err, IfOk, IfErr}
+use Rattle.command_line.specs.declared.command.Line.{Line}
+use Rattle.command_line.specs.declared.command.Line.TheVariants.{Limits, Print}
 use Rattle.command_line.specs.declared.fault.LineFault.{LineFault}
-use Rattle.command_line.specs.declared.fault.LineFault.TheVariants.{Asked, BadLine, Memory}
+use Rattle.command_line.specs.declared.fault.LineFault.TheVariants.{BadLine, Memory}
 use Rattle.command_line.specs.Answers.{AnswersFor, Disagrees}
 use Rattle.command_line.specs.Syntax.{rollout, inventory_in}
-use Rattle.command_line.specs.Words.{Word, is_empty, is_line, limits_file, IsNoneOf, requests, Refuses}
+use Rattle.command_line.specs.Words.{Word, is_empty, is_command, limits_file, IsNoneOf, requests, AskForText, Refuses, Says}
 use Rattle.command_line.proofs.AcceptedLemmas.{accepted}
 
 -- clap answers a request with its text
@@ -60,29 +63,55 @@ no_request words other = (
   ),
 )
 
-no_line : (words : List Word) (read : Option Word) → limits_file words ≡ read → is_empty words ≡ false → ((file : Word) → limits_file words ≢ Some file) → is_line words ≡ false
-no_line words None said some none = rw (some, said) refl
-no_line words (Some file) said some none = absurd (none file said)
+no_line : (words : List Word) (read : Option Word) → limits_file words ≡ read → is_empty words ≡ false → ((file : Word) → limits_file words ≢ Some file) → is_command words ≡ false
+no_line words None wanted some none = rw (some, wanted) refl
+no_line words (Some file) wanted some none = absurd (none file wanted)
+
+-- clap's error is of the one kind that it has for these words
+kind_among : (words : List Word) (e : Error) (kind : ErrorKind) → kind ≢ OutOfMemory → HasKind (fault_of rollout words) e → kind_of e ≡ kind → IsAmong kind (fault_of rollout words)
+kind_among words e kind other has is =
+    ⊎_elim (λ memory. absurd (other (sym is ∙ memory))) (λ among. subst (λ k. IsAmong k (fault_of rollout words)) is among) has
+
+help_is_other : DisplayHelp ≢ OutOfMemory
+help_is_other same = cc
+
+version_is_other : DisplayVersion ≢ OutOfMemory
+version_is_other same = cc
 
 -- words that clap refused
-pub refused : (words : List Word) (e : Error) (fault : LineFault) → is_empty words ≡ false → (takes rollout words ≡ true → kind_of e ≡ OutOfMemory) → HasKind (fault_of rollout words) e
-    → AnswersFor (kind_of e) fault → Refuses words fault
-refused words e Memory some taken has answers = some
-refused words e (Asked text) some taken has answers =
-    no_line words (limits_file words) refl some (λ file said. answers (taken (accepted words file said).taken))
-refused words e (BadLine text) some taken has answers = (
-  no_line words (limits_file words) refl some (λ file said. answers.0 (taken (accepted words file said).taken)),
+pub refused : (words : List Word) (e : Error) (answer : Result Line LineFault) → is_empty words ≡ false → (takes rollout words ≡ true → kind_of e ≡ OutOfMemory) → HasKind (fault_of rollout words) e
+    → AnswersFor (kind_of e) answer → IfErr answer (Refuses words)
+refused words e (Err Memory) some taken has answers = some
+refused words e (Err (BadLine text)) some taken has answers = (
+  no_line words (limits_file words) refl some (λ file wanted. answers.0 (taken (accepted words file wanted).taken)),
   no_request words (λ request kind faults which is.
       let at : HasKind (kind ∷ []) e = subst (λ kinds. HasKind kinds e) (ap (fault_of rollout) is ∙ faults) has in
       ⊎_elim answers.0 (⊎_elim (λ k. ⊎_elim (λ help. answers.1 (k ∙ help)) (λ version. answers.2 (k ∙ version)) which) (λ none. none)) at),
 )
+refused words e (Ok line) some taken has answers = tt
+
+asks : (words : List Word) (e : Error) → HasKind (fault_of rollout words) e → (kind_of e ≡ DisplayHelp) ⊎ (kind_of e ≡ DisplayVersion) → AskForText words
+asks words e has = ⊎_elim (λ is. inl (kind_among words e DisplayHelp help_is_other has is)) (λ is. inr (kind_among words e DisplayVersion version_is_other has is))
+
+is_no_memory : (e : Error) → (kind_of e ≡ DisplayHelp) ⊎ (kind_of e ≡ DisplayVersion) → kind_of e ≢ OutOfMemory
+is_no_memory e which memory = ⊎_elim (λ is. help_is_other (sym is ∙ memory)) (λ is. version_is_other (sym is ∙ memory)) which
+
+-- words that clap answered with a text
+pub requested : (words : List Word) (e : Error) (answer : Result Line LineFault) → is_empty words ≡ false → (takes rollout words ≡ true → kind_of e ≡ OutOfMemory) → HasKind (fault_of rollout words) e
+    → AnswersFor (kind_of e) answer → IfOk answer (Says words)
+requested words e (Err fault) some taken has answers = tt
+requested words e (Ok (Limits inventory)) some taken has answers = absurd answers
+requested words e (Ok (Print text)) some taken has answers = (
+  no_line words (limits_file words) refl some (λ file wanted. is_no_memory e answers (taken (accepted words file wanted).taken)),
+  asks words e has answers,
+)
 
 -- words that clap took
-pub mismatched : (words : List Word) (fault : LineFault) → is_empty words ≡ false → fault_of rollout words ≡ [] → Disagrees words (inventory_in (subcommand_of rollout words)) fault → Refuses words fault
+pub mismatched : (words : List Word) (fault : LineFault) → is_empty words ≡ false → fault_of rollout words ≡ []
+    → Disagrees words (inventory_in (subcommand_of rollout words)) fault → Refuses words fault
 mismatched words Memory some taken disagrees = some
-mismatched words (Asked text) some taken disagrees = absurd disagrees
 mismatched words (BadLine text) some taken disagrees = (
-  no_line words (limits_file words) refl some (λ file said. disagrees file said (accepted words file said).read),
+  no_line words (limits_file words) refl some (λ file wanted. disagrees file wanted (accepted words file wanted).read),
   no_request words (λ request kind faults which is. let none : [] ≡ kind ∷ [] = sym taken ∙ ap (fault_of rollout) is ∙ faults in cc),
 )
 

@@ -1,10 +1,14 @@
 -- What a line of words says, the program's own name left out.
-use Rattle.std.specs.Prelude.{◌≡◌, ◌≢◌, ℕ, Bool, true, false, ◌==◌, ◌||◌, if◌then◌else◌, List, [], ◌∷◌, Option, Some, None, is_some, codes, string_bytes, ⊤}
+use Rattle.std.specs.Prelude.{◌≡◌, ◌≢◌, ◌⊎◌, ℕ, Bool, true, false, ◌==◌, ◌||◌, if◌then◌else◌, List, [], ◌∷◌}
+use Rattle.std.specs.Prelude.{Option, Some, None, is_some, codes, string_bytes, ⊤}
 use Rattle.std.specs.Str.{bytes_eq}
+use Rattle.clap.specs.Words.{IsAmong, fault_of}
+use Rattle.clap.specs.declared.error.kind.ErrorKind.TheVariants.{DisplayHelp, DisplayVersion}
+use Rattle.command_line.specs.Syntax.{rollout}
 use Rattle.command_line.specs.declared.command.Line.{Line}
-use Rattle.command_line.specs.declared.command.Line.TheVariants.{Limits}
+use Rattle.command_line.specs.declared.command.Line.TheVariants.{Limits, Print}
 use Rattle.command_line.specs.declared.fault.LineFault.{LineFault}
-use Rattle.command_line.specs.declared.fault.LineFault.TheVariants.{Asked, BadLine, Memory}
+use Rattle.command_line.specs.declared.fault.LineFault.TheVariants.{BadLine, Memory}
 use Rattle.command_line.specs.declared.command.Source.TheVariants.{StandardInput, File}
 
 abbrev pub Word : Type 0
@@ -36,28 +40,33 @@ abbrev pub limits_file : List Word → Option Word
 limits_file [] = None
 limits_file (command ∷ words) = if bytes_eq command (codes "limits") then lone_operand words else None
 
--- the words are a line of the program
-abbrev pub is_line : List Word → Bool
-is_line words = is_empty words || is_some (limits_file words)
+-- the words are a command: none of them, or a command's name with its file
+abbrev pub is_command : List Word → Bool
+is_command words = is_empty words || is_some (limits_file words)
 
--- the words say this line: none of them, or a command with its file
+-- the words ask for the help or the version, by the program's syntax
+abbrev pub AskForText : List Word → Type 0
+AskForText words = IsAmong DisplayHelp (fault_of rollout words) ⊎ IsAmong DisplayVersion (fault_of rollout words)
+
+-- the words say this line; no command prints a text in place of what it does
 abbrev pub Says : List Word → Line → Type 0
 Says words (Limits StandardInput) = words ≡ []
 Says words (Limits (File file)) = limits_file words ≡ Some (string_bytes file)
+Says words (Print text) = (is_command words ≡ false) × AskForText words
 
--- the lines that ask for a text: the help or the version
+-- lines that ask for the help or the version
 abbrev pub requests : List (List Word)
 requests =
-    (codes "--help" ∷ []) ∷ (codes "-h" ∷ []) ∷ (codes "--version" ∷ []) ∷ (codes "-V" ∷ []) ∷ (codes "limits" ∷ codes "--help" ∷ []) ∷ (codes "limits" ∷ codes "-h" ∷ []) ∷ []
+    (codes "--help" ∷ []) ∷ (codes "-h" ∷ []) ∷ (codes "--version" ∷ []) ∷ (codes "-V" ∷ [])
+    ∷ (codes "limits" ∷ codes "--help" ∷ []) ∷ (codes "limits" ∷ codes "-h" ∷ []) ∷ []
 
 -- the words are none of these lines
 abbrev pub IsNoneOf : List Word → List (List Word) → Type 0
 IsNoneOf words [] = ⊤
 IsNoneOf words (line ∷ lines) = (words ≢ line) × IsNoneOf words lines
 
--- the words may be answered so: no line of the program is refused but for want of memory, which no line without words
--- takes, and no request for a text is a bad line
+-- the words may be refused so: no command but for want of memory, which no line without words takes, and no request for a
+-- text as a bad line
 abbrev pub Refuses : List Word → LineFault → Type 0
 Refuses words Memory = is_empty words ≡ false
-Refuses words (Asked text) = is_line words ≡ false
-Refuses words (BadLine text) = (is_line words ≡ false) × IsNoneOf words requests
+Refuses words (BadLine text) = (is_command words ≡ false) × IsNoneOf words requests

@@ -1,10 +1,12 @@
 //! What a line of words asks for.
 
-/// A command of the program, with the files that it reads.
+/// What the program is asked to do, with the files that it reads.
 #[derive(Debug, Drop)]
 pub enum Line {
     /// Prints the groups that limit how many of their hosts may be down.
     Limits { inventory: Source },
+    /// Prints this text: the help or the version.
+    Print(String),
 }
 
 /// Where an input comes from.

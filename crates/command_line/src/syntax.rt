@@ -11,6 +11,15 @@ use std::alloc::{AllocError, Global};
 
 const INVENTORY: &str = "INV";
 
+const NOTES: &str = "\
+INV is the inventory: a file of JSON that lists groups with their hosts, children and variables.
+Without any word, rollout reads an inventory from standard input and prints its limits.
+
+Exit status:
+  0  what was asked for was done
+  1  the line, an input or a write was refused
+  5  want of memory";
+
 fn rollout<'a>(alloc: Global) -> Result<Command<'a>, AllocError>
     ensures { IfOk result (λ c. app_of c ≡ spec.rollout) }
 {
@@ -20,9 +29,7 @@ fn rollout<'a>(alloc: Global) -> Result<Command<'a>, AllocError>
         .about(
             "Updates a fleet batch by batch, with no group losing more hosts at once than it may",
         )
-        .after_help(
-            "Without any word, rollout reads an inventory from standard input and prints its limits.",
-        )
+        .after_help(NOTES)
         .no_binary_name(true)
         .subcommand_required(true)
         .subcommand(limits(alloc)?)
@@ -32,9 +39,9 @@ fn limits<'a>(alloc: Global) -> Result<Command<'a>, AllocError>
     ensures app { IfOk result (λ c. app_of c ≡ spec.limits_command) }
     ensures local { IfOk result (λ c. (fields_of c).has_globals ≡ false) }
 {
-    let inventory = Arg::new(alloc, INVENTORY)
-        .required(true)
-        .help("The inventory, a file of JSON");
+    let inventory = Arg::new(alloc, INVENTORY).required(true).help(
+        "The inventory: a file of JSON that lists groups with their hosts, children and variables",
+    );
     Command::new(alloc, "limits")
         .about("Prints each limited group: its members, how many are down, its limit and its room")
         .arg(inventory)

@@ -14,7 +14,7 @@ pub(crate) fn limits_file(words: &[String]) -> Option<&str>
     }
 }
 
-// The only operand of the words.
+/// The only operand of the words.
 fn lone_operand(words: &[String]) -> Option<&str>
     ensures { option_map (λ s. s.now) result ≡ spec.lone_operand (map string_bytes words.now) }
 {

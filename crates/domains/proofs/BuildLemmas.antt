@@ -1,143 +1,183 @@
--- What the lists of a fleet say of the inventory.
-use Rattle.std.proofs.Common.{◌≡◌, ℕ, ◌≤◌, ◌<◌, Bool, true, false, ◌&&◌, nat_eq, nat_lt, ◌∷◌, Option, Some, None, All, List, [], map, length, get_or, sym, ap, ◌∙◌, refl, subst, arith, inl, inr, ◌⊎◌, IsPermutation}
-use Rattle.std.specs.List.{range_with_len}
+-- What the numbers and the lists of a fleet say of its inventory.
+use Rattle.std.proofs.Common.{◌≡◌, ℕ, ◌≤◌, ◌<◌, Bool, true, false, ◌&&◌, nat_eq, nat_lt, ◌∷◌, Option, Some, None, All, List, [], map, filter, option_map, length, get_or, sym, ap, ◌∙◌, refl, subst, arith, inl, inr, ◌⊎◌, IsPermutation}
+use Rattle.std.specs.List.{list_all, range_with_len}
 use Rattle.std.proofs.lemmas.List.{length-map, get_or-map, get_or_default, get_or_past}
 use Rattle.std.proofs.lemmas.Bool.{and_parts, lt-ltb, ltb-true, cases_lt, eq-eqb}
 use Rattle.std.proofs.lemmas.List.Folds.{list_any_at}
-use Rattle.std.proofs.lemmas.List.FromFn.{length-map-range_with_len, get_or-map-range_with_len}
+use Rattle.std.proofs.lemmas.List.FromFn.{length-range_with_len, length-map-range_with_len, get_or-map-range_with_len}
+use Rattle.std.proofs.lemmas.List.Sums.{length-filter, count_by-le-length}
 use Rattle.inventory_model.specs.Names.{Name, are_distinct}
 use Rattle.inventory_model.specs.Places.{Place, Inventory, is_preorder}
-use Rattle.inventory_model.specs.Limits.{group_names}
+use Rattle.inventory_model.specs.Bounds.{group_names}
+use Rattle.inventory_model.specs.Limits.{Limit}
 use Rattle.fleet_numbers.specs.NumberLists.{has_number, list_at, numbers_where, last_where, are_below, IsRising}
 use Rattle.fleet_numbers.specs.GroupPaths.{paths_from, is_member}
-use Rattle.fleet_numbers.specs.Chains.{IsUncut}
-use Rattle.fleet_numbers.specs.DealOrder.{IsDealt, max_groups}
+use Rattle.fleet_numbers.specs.Chains.{is_limited, IsNestedChain}
+use Rattle.fleet_numbers.specs.DealOrder.{IsDealt, groups_bound}
 use Rattle.fleet_numbers.proofs.RisingLemmas.{Ascends, Ascends-rising, are_below-rising}
-use Rattle.fleet_numbers.proofs.PathLemmas.{on_path, length-paths_from}
+use Rattle.fleet_numbers.proofs.PathLemmas.{on_path, length-paths_from, paths_below}
 use Rattle.domains.specs.Hosts.{is_off}
-use Rattle.domains.specs.Starts.{place_at, nowhere, exceeds, StartsWithin, IsFirstOver}
+use Rattle.domains.specs.Starts.{place_at, nowhere, allowed_of, exceeds, StartsWithin, IsFirstOver}
 use Rattle.domains.specs.Nested.{IsNested, IsLeastCrossing}
 use Rattle.domains.specs.Numbered.{host_at, IsNumbering}
-use Rattle.domains.specs.Parts.{ArePartsOf, parent_on}
-use Rattle.domains.specs.Search.{off_count, IsFirstCutHost, IsFirstOverGroup}
-use Rattle.domains.specs.FleetViews.{IsParentOf, IsOutermostFirst, IsSound, IsFleetOf}
+use Rattle.domains.specs.FleetLists.{AreFleetLists, allowed_counts, parent_on}
+use Rattle.domains.specs.Search.{IsFirstCrossing, IsFirstOverGroup}
+use Rattle.domains.specs.FleetViews.{AreAmong, IsInSubtree, IsSound, off_count}
+use Rattle.domains.specs.Fleets.{IsParentOf, IsOutermostFirst, IsFleetOf}
 use Rattle.domains.proofs.PlaceLemmas.{depths_of, path_at}
-use Rattle.domains.proofs.ParentLemmas.{ascends_at, is_parent, parent_before, above_of}
+use Rattle.domains.proofs.ParentLemmas.{ascends_at, is_parent, above_of}
 use Rattle.domains.proofs.WhereLemmas.{rising-numbers_where}
 use Rattle.domains.proofs.FleetLemmas.{AreListsOf}
 use Rattle.domains.proofs.FleetLemmas as facts
 use Rattle.domains.proofs.CrossingLemmas as crossings
 use Rattle.domains.proofs.StartLemmas as starts
 use Rattle.domains.proofs.TogetherLemmas as deals
+use Rattle.domains.proofs.SubtreeLemmas as subtrees
+use Rattle.domains.proofs.SoundLemmas as sounds
+use Rattle.std.specs.String.{string_bytes}
+use Rattle.inventory_model.specs.Bounds.{IsWithinBounds}
+use Rattle.group_tree.specs.Limits.{limit_of}
+use Rattle.domains.specs.Faults.{IsFaultOf}
+use Rattle.domains.specs.Search.{AreChainsNested, AreStartsWithin, IsFirstBreach}
+use Rattle.domains.specs.Outcomes.{IsNamed, IsNumberingOf, AreListsFrom, dealt_fleet}
+use Rattle.domains.specs.declared.numbers.Numbers.{Numbers}
+use Rattle.domains.specs.declared.lists.FleetLists.{FleetLists}
+use Rattle.domains.specs.declared.search.Breach.{Breach}
+use Rattle.domains.specs.declared.search.Breach.TheVariants.{Nesting, Start}
+use Rattle.domains.specs.declared.fault.FleetFault.{FleetFault}
+use Rattle.domains.specs.declared.fault.FleetFault.TheVariants.{TooManyHosts, NotNested, StartOver, Memory}
+use Rattle.domains.proofs.MadeLemmas.{are_below-more}
 
-pub lists_rise : (p : ℕ → ℕ → Bool) (n count : ℕ) (lists : List (List ℕ)) → lists ≡ map (λ k. numbers_where (p k) n) (range_with_len 0 count) → All (IsRising n) lists
-lists_rise p n count lists is k d l =
-    let long : length lists ≡ count = ap length is ∙ length-map-range_with_len (λ k. numbers_where (p k) n) 0 count in
-    let at : get_or lists k d ≡ numbers_where (p k) n = ap (λ (x : List (List ℕ)). get_or x k d) is ∙ get_or-map-range_with_len (λ k. numbers_where (p k) n) 0 count k k d (omega (arith, l, long)) (omega arith) in
-    subst (λ (x : List ℕ). IsRising n x) (sym at) (rising-numbers_where (p k) n)
+module _ (inventory : Inventory) (n : Numbers) (l : FleetLists) (numbered : IsNumberingOf inventory n) (within : IsWithinBounds inventory) (lists : AreListsFrom n l) where
+  abbrev hosts : List Name
+  hosts = map string_bytes n.hosts.items
 
-are_below-more : (low high : ℕ) (xs : List ℕ) → low ≤ high → are_below low xs ≡ true → are_below high xs ≡ true
-are_below-more low high [] l e = e
-are_below-more low high (x ∷ xs) l e =
-    let parts = and_parts (nat_lt x low) (are_below low xs) e in
-    ap (λ b. b && are_below high xs) (lt-ltb x high (omega (arith, ltb-true x low parts.0))) ∙ are_below-more low high xs l parts.1
+  abbrev groups : List Name
+  groups = map string_bytes n.groups.keys
 
-module _ (inventory : Inventory) (hosts groups : List Name) (limits : List (Option ℕ)) (depths : List ℕ) (rows : List (ℕ × ℕ)) (off : List Bool) (numbered : IsNumbering inventory hosts groups limits depths rows off) (distinct : are_distinct (group_names inventory.places) ≡ true) (preorder : is_preorder inventory.places ≡ true) (chains members : List (List ℕ)) (parents : List (Option ℕ)) (lasts : List ℕ) (parts : ArePartsOf (length hosts) limits depths rows chains members parents lasts) where
+  abbrev limits : List (Option Limit)
+  limits = map (option_map limit_of) n.limits.items
+
+  abbrev depths : List ℕ
+  depths = n.depths.items
+
+  abbrev rows : List (ℕ × ℕ)
+  rows = n.rows.items
+
+  abbrev off : List Bool
+  off = n.off.items
+
+  abbrev counts : List (Option ℕ)
+  counts = l.limits.items
+
+  abbrev chains : List (List ℕ)
+  chains = l.chains
+
+  abbrev members : List (List ℕ)
+  members = l.members
+
+  abbrev parents : List (Option ℕ)
+  parents = l.parents.items
+
+  abbrev subtree_ends : List ℕ
+  subtree_ends = l.subtree_ends.items
+
+  -- each group's path
+  abbrev paths : List (List ℕ)
+  paths = paths_from [] 0 (depths_of inventory.places)
+
+  distinct : are_distinct (group_names inventory.places) ≡ true
+  distinct = within.distinct
+
+  preorder : is_preorder inventory.places ≡ true
+  preorder = within.preorder
+
   long : length (depths_of inventory.places) ≡ length inventory.places
   long = length-map inventory.places (λ (p : Place). length p.above)
 
-  held_are : parts.held ≡ map (λ host. numbers_where (λ group. is_member (paths_from [] 0 (depths_of inventory.places)) rows group host) (length inventory.places)) (range_with_len 0 (length hosts))
+  held_are : lists.held ≡ map (λ host. numbers_where (λ group. is_member paths rows group host) (length inventory.places)) (range_with_len 0 (length hosts))
   held_are =
-      subst (λ (n : ℕ). parts.held ≡ map (λ host. numbers_where (λ group. is_member (paths_from [] 0 (depths_of inventory.places)) rows group host) n) (range_with_len 0 (length hosts))) long (subst (λ (d : List ℕ). parts.held ≡ map (λ host. numbers_where (λ group. is_member (paths_from [] 0 d) rows group host) (length d)) (range_with_len 0 (length hosts))) numbered.all_depths parts.held_are)
+      subst (λ (n : ℕ). lists.held ≡ map (λ host. numbers_where (λ group. is_member paths rows group host) n) (range_with_len 0 (length hosts))) long (subst (λ (d : List ℕ). lists.held ≡ map (λ host. numbers_where (λ group. is_member (paths_from [] 0 d) rows group host) (length d)) (range_with_len 0 (length hosts))) numbered.all_depths lists.held_are)
 
-  members_are : members ≡ map (λ group. numbers_where (λ host. has_number group (list_at parts.held host)) (length parts.held)) (range_with_len 0 (length inventory.places))
+  members_are : members ≡ map (λ group. numbers_where (λ host. has_number group (list_at lists.held host)) (length lists.held)) (range_with_len 0 (length inventory.places))
   members_are =
-      subst (λ (n : ℕ). members ≡ map (λ group. numbers_where (λ host. has_number group (list_at parts.held host)) (length parts.held)) (range_with_len 0 n)) (ap length numbered.all_depths ∙ long) parts.members_are
+      subst (λ (n : ℕ). members ≡ map (λ group. numbers_where (λ host. has_number group (list_at lists.held host)) (length lists.held)) (range_with_len 0 n)) (ap length numbered.all_depths ∙ long) lists.members_are
 
-  lasts_are : lasts ≡ map (λ group. last_where (on_path (depths_of inventory.places) group) (length inventory.places)) (range_with_len 0 (length inventory.places))
-  lasts_are =
-      subst (λ (n : ℕ). lasts ≡ map (λ group. last_where (on_path (depths_of inventory.places) group) n) (range_with_len 0 n)) long (subst (λ (d : List ℕ). lasts ≡ map (λ group. last_where (on_path d group) (length d)) (range_with_len 0 (length d))) numbered.all_depths parts.lasts_are)
+  subtree_ends_are : subtree_ends ≡ map (λ group. last_where (on_path (depths_of inventory.places) group) (length inventory.places)) (range_with_len 0 (length inventory.places))
+  subtree_ends_are =
+      subst (λ (n : ℕ). subtree_ends ≡ map (λ group. last_where (on_path (depths_of inventory.places) group) n) (range_with_len 0 n)) long (subst (λ (d : List ℕ). subtree_ends ≡ map (λ group. last_where (on_path d group) (length d)) (range_with_len 0 (length d))) numbered.all_depths lists.subtree_ends_are)
 
-  lasts_len : length lasts ≡ length inventory.places
-  lasts_len =
-      ap length lasts_are ∙ length-map-range_with_len (λ group. last_where (on_path (depths_of inventory.places) group) (length inventory.places)) 0 (length inventory.places)
+  subtree_ends_len : length subtree_ends ≡ length inventory.places
+  subtree_ends_len =
+      ap length subtree_ends_are ∙ length-map-range_with_len (λ group. last_where (on_path (depths_of inventory.places) group) (length inventory.places)) 0 (length inventory.places)
 
-  known : AreListsOf inventory hosts limits off chains members lasts
+  known : AreListsOf inventory hosts counts off chains members subtree_ends
   known =
-      facts.known inventory hosts groups limits depths rows off numbered distinct preorder parts.held chains members lasts held_are parts.chains_are members_are lasts_are
+      facts.known inventory hosts groups limits depths rows off numbered distinct preorder counts lists.held chains members subtree_ends held_are lists.counts_are lists.chains_are members_are subtree_ends_are
 
   groups_rise : All (IsRising (length inventory.places)) chains
   groups_rise =
-      facts.chains_rise inventory hosts groups limits depths rows off numbered distinct preorder parts.held chains members lasts held_are parts.chains_are members_are lasts_are
+      known.chains_rise
 
-  pub chains_rise : All (IsRising (length lasts)) chains
+  pub chains_rise : All (IsRising (length subtree_ends)) chains
   chains_rise k d l =
-      subst (λ (n : ℕ). IsRising n (get_or chains k d)) (sym lasts_len) (groups_rise k d l)
+      subst (λ (n : ℕ). IsRising n (get_or chains k d)) (sym subtree_ends_len) (groups_rise k d l)
 
-  pub members_len : length members ≡ length inventory.places
+  members_len : length members ≡ length inventory.places
   members_len =
       known.members_len
 
-  limits_long : length limits ≡ length inventory.places
-  limits_long = ap length numbered.all_limits ∙ length-map inventory.places (λ (p : Place). p.limit)
+  limits_long : length counts ≡ length inventory.places
+  limits_long = ap length known.all_counts ∙ length-map inventory.places (allowed_of inventory)
 
-  pub limits_len : length limits ≡ length members
+  pub limits_len : length counts ≡ length members
   limits_len = limits_long ∙ sym members_len
 
-  pub chains_below : length inventory.places ≤ 1024 → All (λ (chain : List ℕ). are_below max_groups chain ≡ true) chains
-  chains_below few k d l =
-      are_below-more (length inventory.places) max_groups (get_or chains k d) (omega (arith, few)) (are_below-rising (length inventory.places) (get_or chains k d) (groups_rise k d l))
+  pub chains_below : All (λ (chain : List ℕ). are_below groups_bound chain ≡ true) chains
+  chains_below k d at =
+      are_below-more (length inventory.places) groups_bound (get_or chains k d) (omega (arith, within.groups)) (are_below-rising (length inventory.places) (get_or chains k d) (groups_rise k d at))
 
-  pub crossing_fault : (h first second : ℕ) → IsFirstCutHost lasts chains h first second → IsLeastCrossing inventory (host_at hosts h) (host_at groups first) (host_at groups second)
+  crossing_fault : (h first second : ℕ) → IsFirstCrossing subtree_ends chains h first second → IsLeastCrossing inventory (host_at hosts h) (host_at groups first) (host_at groups second)
   crossing_fault h first second found =
       let name : (g : ℕ) → g < length inventory.places → (place_at inventory.places g).name ≡ host_at groups g = λ (g : ℕ) l. sym (get_or-map (λ (p : Place). p.name) inventory.places g nowhere [] l) ∙ sym (ap (λ (l : List Name). host_at l g) numbered.all_groups) in
-      let least = crossings.least_crossing inventory hosts limits off chains members lasts known h first second found in
+      let least = crossings.least_crossing inventory hosts counts off chains members subtree_ends known h first second found in
       let inside : h < length hosts = omega (arith, found.within, known.chains_len) in
       let in_first : first < length inventory.places = known.chain_within first h inside found.least.first_in in
       let in_second : second < length inventory.places = known.chain_within second h inside found.least.second_in in
       subst (λ (n : Name). IsLeastCrossing inventory (host_at hosts h) (host_at groups first) n) (name second in_second) (subst (λ (n : Name). IsLeastCrossing inventory (host_at hosts h) n (place_at inventory.places second).name) (name first in_first) least)
 
-  pub nested : ((h : ℕ) → h < length chains → IsUncut lasts (list_at chains h)) → IsNested inventory
+  nested : AreChainsNested subtree_ends chains → IsNested inventory
   nested =
-      crossings.nested inventory hosts limits off chains members lasts known
+      crossings.nested inventory hosts counts off chains members subtree_ends known
 
-  pub over_fault : (group down limit : ℕ) → IsFirstOverGroup members limits off group down limit → IsFirstOver inventory (host_at groups group) down limit
+  over_fault : (group down limit : ℕ) → IsFirstOverGroup members counts off group down limit → IsFirstOver inventory (host_at groups group) down limit
   over_fault group down limit found =
       let inside : group < length inventory.places = omega (arith, found.within, members_len) in
-      subst (λ (n : Name). IsFirstOver inventory n down limit) (sym (get_or-map (λ (p : Place). p.name) inventory.places group nowhere [] inside) ∙ sym (ap (λ (l : List Name). host_at l group) numbered.all_groups)) (starts.first_over inventory hosts limits off chains members lasts known group down limit found)
+      subst (λ (n : Name). IsFirstOver inventory n down limit) (sym (get_or-map (λ (p : Place). p.name) inventory.places group nowhere [] inside) ∙ sym (ap (λ (l : List Name). host_at l group) numbered.all_groups)) (starts.first_over inventory hosts counts off chains members subtree_ends known group down limit found)
 
-  pub starts_within : ((group : ℕ) → group < length members → exceeds (get_or limits group None) (off_count off (list_at members group)) ≡ false) → StartsWithin inventory
+  starts_within : AreStartsWithin members counts off → StartsWithin inventory
   starts_within =
-      starts.starts_within inventory hosts limits off chains members lasts known
+      starts.starts_within inventory hosts counts off chains members subtree_ends known
 
   groups_len : length groups ≡ length inventory.places
   groups_len = ap length numbered.all_groups ∙ length-map inventory.places (λ (p : Place). p.name)
 
-  paths_len : length (paths_from [] 0 (depths_of inventory.places)) ≡ length inventory.places
+  paths_len : length paths ≡ length inventory.places
   paths_len = length-paths_from [] 0 (depths_of inventory.places) ∙ long
 
-  parents_are : parents ≡ map parent_on (paths_from [] 0 (depths_of inventory.places))
-  parents_are = parts.parents_are ∙ ap (λ (d : List ℕ). map parent_on (paths_from [] 0 d)) numbered.all_depths
+  parents_are : parents ≡ map parent_on paths
+  parents_are = lists.parents_are ∙ ap (λ (d : List ℕ). map parent_on (paths_from [] 0 d)) numbered.all_depths
 
   parents_len : length parents ≡ length inventory.places
-  parents_len = ap length parents_are ∙ length-map (paths_from [] 0 (depths_of inventory.places)) parent_on ∙ paths_len
+  parents_len = ap length parents_are ∙ length-map paths parent_on ∙ paths_len
 
   parent_is : (g : ℕ) → g < length inventory.places → IsParentOf inventory.places g (get_or parents g None)
   parent_is g l =
-      let here : get_or parents g None ≡ parent_on (path_at inventory.places g) = ap (λ (o : List (Option ℕ)). get_or o g None) parents_are ∙ get_or-map parent_on (paths_from [] 0 (depths_of inventory.places)) g [] None (omega (arith, l, paths_len)) in
+      let here : get_or parents g None ≡ parent_on (path_at inventory.places g) = ap (λ (o : List (Option ℕ)). get_or o g None) parents_are ∙ get_or-map parent_on paths g [] None (omega (arith, l, paths_len)) in
       subst (IsParentOf inventory.places g) (sym here) (is_parent inventory.places distinct preorder g l)
 
-  parents_before : (g parent : ℕ) → get_or parents g None ≡ Some parent → parent < g
-  parents_before g parent e = by_case (cases_lt g (length inventory.places))
-    where
-      by_case : (g < length inventory.places) ⊎ (length inventory.places ≤ g) → parent < g
-      by_case (inl l) = parent_before inventory.places g parent (get_or parents g None) (parent_is g l) e
-      by_case (inr l) =
-          let past : get_or parents g None ≡ None = get_or_past parents g None (omega (arith, l, parents_len)) in
-          absurd (cc)
-
-  outermost_first : ((h : ℕ) → h < length chains → IsUncut lasts (list_at chains h)) → All (IsOutermostFirst inventory.places) chains
-  outermost_first uncut h d l i j before within =
+  outermost_first : AreChainsNested subtree_ends chains → All (IsOutermostFirst inventory.places) chains
+  outermost_first nested_chains h d l i j before within =
       let chain = get_or chains h d in
       let same : chain ≡ list_at chains h = get_or_default chains h d [] l in
       let inside : h < length hosts = omega (arith, l, known.chains_len) in
@@ -146,39 +186,88 @@ module _ (inventory : Inventory) (hosts groups : List Name) (limits : List (Opti
       let first_in : has_number (get_or chain i 0) (list_at chains h) ≡ true = ap (has_number (get_or chain i 0)) (sym same) ∙ list_any_at (nat_eq (get_or chain i 0)) chain i 0 (omega (arith, before, within)) (eq-eqb _ _ refl) in
       let second_in : has_number (get_or chain j 0) (list_at chains h) ≡ true = ap (has_number (get_or chain j 0)) (sym same) ∙ list_any_at (nat_eq (get_or chain j 0)) chain j 0 within (eq-eqb _ _ refl) in
       let below = known.chain_within (get_or chain j 0) h inside second_in in
-      above_of inventory.places distinct preorder (get_or chain i 0) (get_or chain j 0) rises below (known.cuts_at (get_or chain i 0) (get_or chain j 0) rises below ∙ uncut h l (get_or chain i 0) (get_or chain j 0) first_in second_in)
+      above_of inventory.places distinct preorder (get_or chain i 0) (get_or chain j 0) rises below (known.ends_before_at (get_or chain i 0) (get_or chain j 0) rises below ∙ nested_chains h l (get_or chain i 0) (get_or chain j 0) first_in second_in)
 
-  pub fleet_of : (order : List ℕ) → ((h : ℕ) → h < length chains → IsUncut lasts (list_at chains h)) → ((group : ℕ) → group < length members → exceeds (get_or limits group None) (off_count off (list_at members group)) ≡ false) → IsFleetOf inventory (record { hosts = hosts; groups = groups; limits = limits; parents = parents; members = members; chains = chains; off = off; order = order })
-  fleet_of order uncut none =
+  pub fleet_of : (order : List ℕ) → AreChainsNested subtree_ends chains → AreStartsWithin members counts off → IsFleetOf inventory (dealt_fleet n l order)
+  fleet_of order nested_chains none =
       record {
         hosts = numbered.all_hosts;
         groups = numbered.all_groups;
-        limits = numbered.all_limits;
+        limits = known.all_counts;
         parents = λ g l. parent_is g (omega (arith, l, groups_len));
-        members = facts.all_members inventory hosts groups limits depths rows off numbered distinct preorder parts.held chains members lasts held_are parts.chains_are members_are lasts_are;
-        chains = facts.all_chains inventory hosts groups limits depths rows off numbered distinct preorder parts.held chains members lasts held_are parts.chains_are members_are lasts_are;
-        outermost_first = outermost_first uncut;
+        members = known.all_members;
+        chains = known.all_chains;
+        outermost_first = outermost_first nested_chains;
         off = numbered.all_off;
-        nested = nested uncut;
+        nested = nested nested_chains;
         starts_within = starts_within none;
       }
 
-  pub sound : (order : List ℕ) → length hosts ≤ 4096 → ((h : ℕ) → h < length chains → IsUncut lasts (list_at chains h)) → ((group : ℕ) → group < length members → exceeds (get_or limits group None) (off_count off (list_at members group)) ≡ false) → IsPermutation (range_with_len 0 (length chains)) order → IsDealt chains order → IsSound (record { hosts = hosts; groups = groups; limits = limits; parents = parents; members = members; chains = chains; off = off; order = order })
-  sound order few uncut none once dealt =
-      let chains_len : length chains ≡ length hosts = known.chains_len in
+  on_length : (g : ℕ) → g < length inventory.places → g < length (depths_of inventory.places)
+  on_length g l = omega (arith, l, long)
+
+  pub sound : (order : List ℕ) → length hosts ≤ 4096 → AreChainsNested subtree_ends chains → AreStartsWithin members counts off → IsPermutation (range_with_len 0 (length chains)) order → IsDealt chains order → IsSound (dealt_fleet n l order)
+  sound order few nested_chains none once dealt =
       record {
         few_hosts = few;
+        few_groups = omega (arith, within.groups, groups_len);
         hosts_rise = known.hosts_rise;
         distinct_groups = ap are_distinct numbered.all_groups ∙ distinct;
         all_limits = limits_long ∙ sym groups_len;
         all_parents = parents_len ∙ sym groups_len;
-        parents_before = parents_before;
         all_members = members_len ∙ sym groups_len;
-        members_rise = facts.members_rise inventory hosts groups limits depths rows off numbered distinct preorder parts.held chains members lasts held_are parts.chains_are members_are lasts_are;
         all_chains = chains_len;
         all_off = ap length numbered.all_off ∙ length-map hosts (is_off inventory);
-        within_limits = none;
-        dealt_once = subst (λ (n : ℕ). IsPermutation (range_with_len 0 n) order) chains_len once;
+        parents_before = subtrees.parent_before (depths_of inventory.places) parents parents_are;
+        preorder = subtrees.child_in_subtree (depths_of inventory.places) parents parents_are;
+        members_rise = known.members_rise;
+        members_above = members_above;
+        chains_rise = subst (λ (n : ℕ). All (IsRising n) chains) (sym groups_len) groups_rise;
+        chain_exact = sounds.chain_exact inventory hosts counts off chains members subtree_ends known;
+        chain_nested = λ h outer inner m e f. subtrees.in_subtree (depths_of inventory.places) parents parents_are outer inner (on_length inner (group_in inner h f)) (above h outer inner m e f);
+        inner_members = λ h outer inner m e f. sounds.members_above inventory hosts counts off chains members subtree_ends known outer inner (above h outer inner m e f) (omega (arith, m, group_in inner h f));
+        within_limits = λ g limit e. sounds.not_over counts g limit (off_count off (list_at members g)) (none g (limited g limit e)) e;
+        dealt_once = all_dealt;
         dealt = dealt;
-        together = deals.together inventory hosts limits off chains members lasts known order dealt (subst (λ (n : ℕ). IsPermutation (range_with_len 0 n) order) chains_len once) uncut;
+        together = deals.together inventory hosts counts off chains members subtree_ends known order dealt all_dealt nested_chains;
       }
+    where
+      chains_len : length chains ≡ length hosts
+      chains_len = known.chains_len
+
+      all_dealt : IsPermutation (range_with_len 0 (length hosts)) order
+      all_dealt = subst (λ (n : ℕ). IsPermutation (range_with_len 0 n) order) chains_len once
+
+      group_in : (g h : ℕ) → has_number g (list_at chains h) ≡ true → g < length inventory.places
+      group_in g h e =
+          (sounds.in_chain inventory hosts counts off chains members subtree_ends known g h e).0
+
+      above : (h outer inner : ℕ) → outer < inner → has_number outer (list_at chains h) ≡ true → has_number inner (list_at chains h) ≡ true → on_path (depths_of inventory.places) outer inner ≡ true
+      above =
+          sounds.chain_above inventory hosts counts off chains members subtree_ends known nested_chains
+
+      members_above : (top group : ℕ) → IsInSubtree parents top group → AreAmong (list_at members group) (list_at members top)
+      members_above top group s host e =
+          let inside = sounds.member_within inventory hosts counts off chains members subtree_ends known group host e in
+          sounds.members_above inventory hosts counts off chains members subtree_ends known top group (subtrees.on_subtree (depths_of inventory.places) parents parents_are top group (on_length group inside.0) s) (omega (arith, s.after, inside.0)) host e
+
+      limited : (g limit : ℕ) → get_or counts g None ≡ Some limit → g < length members
+      limited g limit e = by_case (cases_lt g (length members))
+        where
+          by_case : (g < length members) ⊎ (length members ≤ g) → g < length members
+          by_case (inl l) = l
+          by_case (inr l) =
+              let past : get_or counts g None ≡ None = get_or_past counts g None (omega (arith, l, limits_len)) in
+              absurd (cc)
+
+  pub fault_of : length hosts ≤ 4096 → (breach : Breach) (fault : FleetFault) → IsFirstBreach subtree_ends chains members counts off breach → IsNamed n breach fault → IsFaultOf inventory fault
+  fault_of few (Nesting crossing) (NotNested host first second) found named =
+      (omega (arith, few, ap length numbered.all_hosts), rw (named.0, named.1, named.2) (crossing_fault crossing.host crossing.first crossing.second found))
+  fault_of few (Nesting crossing) TooManyHosts found named = absurd named
+  fault_of few (Nesting crossing) (StartOver group down limit) found named = absurd named
+  fault_of few (Nesting crossing) Memory found named = tt
+  fault_of few (Start over) (StartOver group down limit) found named =
+      (omega (arith, few, ap length numbered.all_hosts), nested found.0, rw (named.0, named.1, named.2) (over_fault over.group over.down over.limit found.1))
+  fault_of few (Start over) TooManyHosts found named = absurd named
+  fault_of few (Start over) (NotNested host first second) found named = absurd named
+  fault_of few (Start over) Memory found named = tt

@@ -1,4 +1,4 @@
--- Limited groups that cut across each other, by numbers and by names.
+-- Limited groups that cross, by numbers and by names.
 use Rattle.std.proofs.Common.{◌≡◌, ℕ, suc, ◌≤◌, ◌<◌, Bool, true, false, ◌||◌, ◌&&◌, not, Option, List, [], ◌∷◌, length, get_or, map, is_some, sym, ap, ◌∙◌, refl, subst, arith, inl, inr, ◌⊎◌}
 use Rattle.std.specs.List.{list_any}
 use Rattle.std.specs.declared.cmp.Ordering.TheVariants.{Less, Equal}
@@ -11,12 +11,12 @@ use Rattle.inventory_model.specs.Places.{Place, Row, Inventory, path_of, row_pat
 use Rattle.inventory_model.specs.Members.{holds, is_row_of}
 use Rattle.fleet_numbers.specs.SortedNames.{name_cmp}
 use Rattle.fleet_numbers.specs.NumberLists.{has_number, list_at}
-use Rattle.fleet_numbers.specs.Chains.{cuts, IsUncut}
+use Rattle.fleet_numbers.specs.Chains.{ends_before, IsNestedChain}
 use Rattle.fleet_numbers.proofs.SortedNamesLemmas.{same_name-true, same_name-itself, is_among-sorted_names}
 use Rattle.domains.specs.Starts.{place_at}
-use Rattle.domains.specs.Nested.{are_apart, is_limited_holder, cut_at, IsNested, IsLeastCrossing}
+use Rattle.domains.specs.Nested.{are_apart, is_limited_holder, is_crossing, IsNested, IsLeastCrossing}
 use Rattle.domains.specs.Numbered.{host_at}
-use Rattle.domains.specs.Search.{IsFirstCutHost}
+use Rattle.domains.specs.Search.{IsFirstCrossing}
 use Rattle.domains.proofs.WhereLemmas.{and_swap}
 use Rattle.domains.proofs.FleetLemmas.{AreListsOf}
 
@@ -46,7 +46,7 @@ held_has_row inventory group host (row ∷ rows) e =
         or_true true e = refl
         or_true false e = e
 
-module _ (inventory : Inventory) (hosts : List Name) (limits : List (Option ℕ)) (off : List Bool) (chains members : List (List ℕ)) (lasts : List ℕ) (known : AreListsOf inventory hosts limits off chains members lasts) where
+module _ (inventory : Inventory) (hosts : List Name) (limits : List (Option ℕ)) (off : List Bool) (chains members : List (List ℕ)) (subtree_ends : List ℕ) (known : AreListsOf inventory hosts limits off chains members subtree_ends) where
   same_begins : (xs : List Name) → begins xs xs ≡ true
   same_begins [] = refl
   same_begins (x ∷ xs) = ap (λ b. b && begins xs xs) (same_name-itself x) ∙ same_begins xs
@@ -60,61 +60,61 @@ module _ (inventory : Inventory) (hosts : List Name) (limits : List (Option ℕ)
       or_swap false true = refl
       or_swap false false = refl
 
-  -- two groups of a host cut across each other at its chain
-  crossing_cuts : (h i j : ℕ) → h < length hosts → i < j → j < length inventory.places → cut_at inventory (host_at hosts h) i j ≡ true → (has_number i (list_at chains h) ≡ true) × (has_number j (list_at chains h) ≡ true) × (cuts lasts i j ≡ true)
-  crossing_cuts h i j l m n e =
+  -- two groups of a host cross at its chain
+  crossing_ends : (h i j : ℕ) → h < length hosts → i < j → j < length inventory.places → is_crossing inventory (host_at hosts h) i j ≡ true → (has_number i (list_at chains h) ≡ true) × (has_number j (list_at chains h) ≡ true) × (ends_before subtree_ends i j ≡ true)
+  crossing_ends h i j l m n e =
       let parts = and_parts (is_limited_holder inventory (host_at hosts h) (place_at inventory.places i) && is_limited_holder inventory (host_at hosts h) (place_at inventory.places j)) (are_apart (place_at inventory.places i) (place_at inventory.places j)) e in
       let both = and_parts (is_limited_holder inventory (host_at hosts h) (place_at inventory.places i)) (is_limited_holder inventory (host_at hosts h) (place_at inventory.places j)) parts.0 in
-      (known.holder_at i h (omega arith) l ∙ both.0, known.holder_at j h n l ∙ both.1, sym (known.cuts_at i j m n) ∙ parts.1)
+      (known.holder_at i h (omega arith) l ∙ both.0, known.holder_at j h n l ∙ both.1, sym (known.ends_before_at i j m n) ∙ parts.1)
 
-  cut_within : (host : Name) (i j : ℕ) → cut_at inventory host i j ≡ true → (i < length inventory.places) × (j < length inventory.places)
-  cut_within host i j e =
+  crossing_within : (host : Name) (i j : ℕ) → is_crossing inventory host i j ≡ true → (i < length inventory.places) × (j < length inventory.places)
+  crossing_within host i j e =
       let parts = and_parts (is_limited_holder inventory host (place_at inventory.places i) && is_limited_holder inventory host (place_at inventory.places j)) (are_apart (place_at inventory.places i) (place_at inventory.places j)) e in
       let both = and_parts (is_limited_holder inventory host (place_at inventory.places i)) (is_limited_holder inventory host (place_at inventory.places j)) parts.0 in
       (known.limited_within i (and_parts (is_some (place_at inventory.places i).limit) (holds inventory (place_at inventory.places i).name host) both.0).0, known.limited_within j (and_parts (is_some (place_at inventory.places j).limit) (holds inventory (place_at inventory.places j).name host) both.1).0)
 
-  cut_host : (host : Name) (i j : ℕ) → cut_at inventory host i j ≡ true → (h : ℕ) × (h < length hosts) × (host_at hosts h ≡ host)
-  cut_host host i j e =
+  crossing_host : (host : Name) (i j : ℕ) → is_crossing inventory host i j ≡ true → (h : ℕ) × (h < length hosts) × (host_at hosts h ≡ host)
+  crossing_host host i j e =
       let parts = and_parts (is_limited_holder inventory host (place_at inventory.places i) && is_limited_holder inventory host (place_at inventory.places j)) (are_apart (place_at inventory.places i) (place_at inventory.places j)) e in
       let both = and_parts (is_limited_holder inventory host (place_at inventory.places i)) (is_limited_holder inventory host (place_at inventory.places j)) parts.0 in
       let held = (and_parts (is_some (place_at inventory.places i).limit) (holds inventory (place_at inventory.places i).name host) both.0).1 in
       let row = held_has_row inventory (place_at inventory.places i).name host inventory.rows held in
       found_at host hosts (ap (is_among host) known.all_hosts ∙ is_among-sorted_names host (map (λ (r : Row). r.host) inventory.rows) ∙ row)
 
-  cut_back : (host : Name) (i j : ℕ) → cut_at inventory host i j ≡ cut_at inventory host j i
-  cut_back host i j =
+  crossing_back : (host : Name) (i j : ℕ) → is_crossing inventory host i j ≡ is_crossing inventory host j i
+  crossing_back host i j =
       ap (λ b. b && are_apart (place_at inventory.places i) (place_at inventory.places j)) (and_swap (is_limited_holder inventory host (place_at inventory.places i)) (is_limited_holder inventory host (place_at inventory.places j))) ∙ ap (λ b. (is_limited_holder inventory host (place_at inventory.places j) && is_limited_holder inventory host (place_at inventory.places i)) && b) (apart_back (place_at inventory.places i) (place_at inventory.places j))
 
-  pub never_cut : (h : ℕ) → h < length hosts → IsUncut lasts (list_at chains h) → (i j : ℕ) → cut_at inventory (host_at hosts h) i j ≡ false
-  never_cut h l uncut i j = by_case (cut_at inventory (host_at hosts h) i j) refl
+  pub never_crossing : (h : ℕ) → h < length hosts → IsNestedChain subtree_ends (list_at chains h) → (i j : ℕ) → is_crossing inventory (host_at hosts h) i j ≡ false
+  never_crossing h l nested_chains i j = by_case (is_crossing inventory (host_at hosts h) i j) refl
     where
-      ordered : (a b : ℕ) → a < b → b < length inventory.places → cut_at inventory (host_at hosts h) a b ≡ true → ⊥
+      ordered : (a b : ℕ) → a < b → b < length inventory.places → is_crossing inventory (host_at hosts h) a b ≡ true → ⊥
       ordered a b m n e =
-          let c = crossing_cuts h a b l m n e in
-          false≢true (sym (uncut a b c.0 c.1) ∙ c.2)
+          let c = crossing_ends h a b l m n e in
+          false≢true (sym (nested_chains a b c.0 c.1) ∙ c.2)
 
-      by_order : cut_at inventory (host_at hosts h) i j ≡ true → (i < length inventory.places) × (j < length inventory.places) → (i ≡ j) ⊎ ((i < j) ⊎ (j < i)) → ⊥
+      by_order : is_crossing inventory (host_at hosts h) i j ≡ true → (i < length inventory.places) × (j < length inventory.places) → (i ≡ j) ⊎ ((i < j) ⊎ (j < i)) → ⊥
       by_order e w (inl q) =
           let parts = and_parts (is_limited_holder inventory (host_at hosts h) (place_at inventory.places i) && is_limited_holder inventory (host_at hosts h) (place_at inventory.places j)) (are_apart (place_at inventory.places i) (place_at inventory.places j)) e in
           let itself : are_apart (place_at inventory.places i) (place_at inventory.places j) ≡ false = ap (λ (n : ℕ). are_apart (place_at inventory.places i) (place_at inventory.places n)) (sym q) ∙ ap (λ b. not (b || b)) (same_begins (path_of (place_at inventory.places i))) in
           false≢true (sym itself ∙ parts.1)
       by_order e w (inr (inl q)) = ordered i j q w.1 e
-      by_order e w (inr (inr q)) = ordered j i q w.0 (cut_back (host_at hosts h) j i ∙ e)
+      by_order e w (inr (inr q)) = ordered j i q w.0 (crossing_back (host_at hosts h) j i ∙ e)
 
-      by_case : (b : Bool) → cut_at inventory (host_at hosts h) i j ≡ b → b ≡ false
-      by_case true e = absurd (by_order e (cut_within (host_at hosts h) i j e) (cases_order i j))
+      by_case : (b : Bool) → is_crossing inventory (host_at hosts h) i j ≡ b → b ≡ false
+      by_case true e = absurd (by_order e (crossing_within (host_at hosts h) i j e) (cases_order i j))
       by_case false e = refl
 
-  pub nested : ((h : ℕ) → h < length chains → IsUncut lasts (list_at chains h)) → IsNested inventory
-  nested uncut host i j = by_case (cut_at inventory host i j) refl
+  pub nested : ((h : ℕ) → h < length chains → IsNestedChain subtree_ends (list_at chains h)) → IsNested inventory
+  nested nested_chains host i j = by_case (is_crossing inventory host i j) refl
     where
-      by_case : (b : Bool) → cut_at inventory host i j ≡ b → b ≡ false
+      by_case : (b : Bool) → is_crossing inventory host i j ≡ b → b ≡ false
       by_case true e =
-          let found = cut_host host i j e in
-          sym e ∙ ap (λ (n : Name). cut_at inventory n i j) (sym found.2) ∙ never_cut found.0 found.1 (uncut found.0 (omega (arith, found.1, known.chains_len))) i j
+          let found = crossing_host host i j e in
+          sym e ∙ ap (λ (n : Name). is_crossing inventory n i j) (sym found.2) ∙ never_crossing found.0 found.1 (nested_chains found.0 (omega (arith, found.1, known.chains_len))) i j
       by_case false e = refl
 
-  pub least_crossing : (h first second : ℕ) → IsFirstCutHost lasts chains h first second → IsLeastCrossing inventory (host_at hosts h) (place_at inventory.places first).name (place_at inventory.places second).name
+  pub least_crossing : (h first second : ℕ) → IsFirstCrossing subtree_ends chains h first second → IsLeastCrossing inventory (host_at hosts h) (place_at inventory.places first).name (place_at inventory.places second).name
   least_crossing h first second found =
       record {
         before = first;
@@ -122,9 +122,9 @@ module _ (inventory : Inventory) (hosts : List Name) (limits : List (Option ℕ)
         first_name = refl;
         second_name = refl;
         in_order = order;
-        crossing = ap (λ b. (b && is_limited_holder inventory (host_at hosts h) (place_at inventory.places second)) && are_apart (place_at inventory.places first) (place_at inventory.places second)) (sym (known.holder_at first h first_in inside) ∙ found.least.first_in) ∙ ap (λ b. b && are_apart (place_at inventory.places first) (place_at inventory.places second)) (sym (known.holder_at second h second_in inside) ∙ found.least.second_in) ∙ known.cuts_at first second order second_in ∙ found.least.cut;
-        least_host = λ other i j less. earlier other i j less (cut_at inventory other i j) refl;
-        least_pair = λ i j m e. pair i j m e (cut_within (host_at hosts h) i j e);
+        crossing = ap (λ b. (b && is_limited_holder inventory (host_at hosts h) (place_at inventory.places second)) && are_apart (place_at inventory.places first) (place_at inventory.places second)) (sym (known.holder_at first h first_in inside) ∙ found.least.first_in) ∙ ap (λ b. b && are_apart (place_at inventory.places first) (place_at inventory.places second)) (sym (known.holder_at second h second_in inside) ∙ found.least.second_in) ∙ known.ends_before_at first second order second_in ∙ found.least.crosses;
+        least_host = λ other i j less. earlier other i j less (is_crossing inventory other i j) refl;
+        least_pair = λ i j m e. pair i j m e (crossing_within (host_at hosts h) i j e);
       }
     where
       inside : h < length hosts
@@ -137,18 +137,18 @@ module _ (inventory : Inventory) (hosts : List Name) (limits : List (Option ℕ)
       second_in = known.chain_within second h inside found.least.second_in
 
       order : first < second
-      order = omega (arith, known.last_above first first_in, ltb-true (get_or lasts first 0) second found.least.cut)
+      order = omega (arith, known.last_above first first_in, ltb-true (get_or subtree_ends first 0) second found.least.crosses)
 
-      pair : (i j : ℕ) → i < j → cut_at inventory (host_at hosts h) i j ≡ true → (i < length inventory.places) × (j < length inventory.places) → (first < i) ⊎ ((first ≡ i) × (second ≤ j))
+      pair : (i j : ℕ) → i < j → is_crossing inventory (host_at hosts h) i j ≡ true → (i < length inventory.places) × (j < length inventory.places) → (first < i) ⊎ ((first ≡ i) × (second ≤ j))
       pair i j m e w =
-          let c = crossing_cuts h i j inside m w.1 e in
+          let c = crossing_ends h i j inside m w.1 e in
           found.least.least i j c.0 c.1 c.2
 
-      earlier : (other : Name) (i j : ℕ) → name_cmp other (host_at hosts h) ≡ Less → (b : Bool) → cut_at inventory other i j ≡ b → b ≡ false
+      earlier : (other : Name) (i j : ℕ) → name_cmp other (host_at hosts h) ≡ Less → (b : Bool) → is_crossing inventory other i j ≡ b → b ≡ false
       earlier other i j less true e =
-          let at = cut_host other i j e in
+          let at = crossing_host other i j e in
           let before = rises at.0 at.1 (subst (λ (n : Name). name_cmp n (host_at hosts h) ≡ Less) (sym at.2) less) in
-          sym e ∙ ap (λ (n : Name). cut_at inventory n i j) (sym at.2) ∙ never_cut at.0 at.1 (found.before at.0 before) i j
+          sym e ∙ ap (λ (n : Name). is_crossing inventory n i j) (sym at.2) ∙ never_crossing at.0 at.1 (found.before at.0 before) i j
         where
           rises : (k : ℕ) → k < length hosts → name_cmp (host_at hosts k) (host_at hosts h) ≡ Less → k < h
           rises k l q = by_case (cases_order k h)

@@ -9,6 +9,9 @@ pub mod FleetLemmas
 pub mod CrossingLemmas
 pub mod StartLemmas
 pub mod TogetherLemmas
+pub mod SubtreeLemmas
+pub mod SoundLemmas
+pub mod MadeLemmas
 pub mod BuildLemmas
 pub mod ReaderLemmas
 pub mod MarkLemmas

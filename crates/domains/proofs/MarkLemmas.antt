@@ -62,12 +62,12 @@ host_known fleet name i l is =
     ap (λ b. not (not b)) (or_right (is_among name fleet.groups) (is_among name fleet.hosts) (stands name fleet.hosts i l is))
 
 -- where no group has the name, the host that has it is the one that is flagged
-pub host_flagged : (fleet : FleetView) (flags : List Bool) (name : Name) (h k : ℕ) → IsStrictlySortedBy name_cmp fleet.hosts → length flags ≡ length fleet.hosts → position (same_name name) fleet.groups ≡ None → h < length fleet.hosts → host_at fleet.hosts h ≡ name → k < length fleet.hosts → get_or (slice_set flags h true) k false ≡ (get_or flags k false || is_named_by fleet k name)
-host_flagged fleet flags name h k sorted len none inside is within = by_case (cases_eq h k)
+pub host_flagged : (fleet : FleetView) (flags : List Bool) (name : Name) (h k : ℕ) → length flags ≡ length fleet.hosts → position (same_name name) fleet.groups ≡ None → h < length fleet.hosts → ((other : ℕ) → other < length fleet.hosts → same_name name (host_at fleet.hosts other) ≡ nat_eq h other) → k < length fleet.hosts → get_or (slice_set flags h true) k false ≡ (get_or flags k false || is_named_by fleet k name)
+host_flagged fleet flags name h k len none inside only within = by_case (cases_eq h k)
   where
     means : is_named_by fleet k name ≡ nat_eq h k
     means =
-        ap (is_meant fleet name k) none ∙ ap (λ (n : Name). same_name n (host_at fleet.hosts k)) (sym is) ∙ same_host fleet.hosts h k sorted inside within
+        ap (is_meant fleet name k) none ∙ only k within
 
     by_case : (h ≡ k) ⊎ (h ≡ k → ⊥) → get_or (slice_set flags h true) k false ≡ (get_or flags k false || is_named_by fleet k name)
     by_case (inl q) =

@@ -14,12 +14,13 @@ use Rattle.inventory_model.specs.Places.{Place, Row, Inventory, path_of}
 use Rattle.inventory_model.specs.Subtrees.{Host, Subtree}
 use Rattle.inventory_model.specs.Members.{holds}
 use Rattle.inventory_model.specs.Variables.{value_of}
-use Rattle.inventory_model.specs.Limits.{group_names}
+use Rattle.inventory_model.specs.Bounds.{group_names}
+use Rattle.inventory_model.specs.Limits.{Limit}
 use Rattle.fleet_numbers.specs.SortedNames.{name_cmp, sorted_names}
 use Rattle.fleet_numbers.specs.GroupPaths.{paths_from, is_member}
 use Rattle.fleet_numbers.proofs.SortedNamesLemmas.{same_name-true, same_name-itself, is_rising-sorted_names}
 use Rattle.fleet_numbers.proofs.PathLemmas.{on_path}
-use Rattle.domains.specs.Spots.{Spot, place_of, row_at, own_rows, with_depth, IsWalkOf, rows_from}
+use Rattle.domains.specs.Walks.{PlacedGroup, place_of, row_at, own_rows, with_depth, IsWalkOf, rows_from}
 use Rattle.domains.specs.Hosts.{truth_of, down, last_down, last_down_of, is_off}
 use Rattle.domains.specs.Starts.{place_at, nowhere}
 use Rattle.domains.specs.Numbered.{host_at, host_and_path, named_row, IsNumbering}
@@ -65,24 +66,24 @@ same_host hosts i j up l m = by_case (cases_order i j)
 abbrev pub numbered_row : List Place → Host × ℕ → Row
 numbered_row places row = row_at (place_at places row.1) row.0
 
-pub rows_numbered : (before : List Place) (places : List Place) (spots : List Spot) → places ≡ before ++ map place_of spots → map (numbered_row places) (rows_from (length before) (map (λ (s : Spot). s.group) spots)) ≡ flat_map own_rows spots
+pub rows_numbered : (before : List Place) (places : List Place) (placed_groups : List PlacedGroup) → places ≡ before ++ map place_of placed_groups → map (numbered_row places) (rows_from (length before) (map (λ (s : PlacedGroup). s.group) placed_groups)) ≡ flat_map own_rows placed_groups
 rows_numbered before places [] is = refl
-rows_numbered before places (spot ∷ spots) is =
-    map-append (numbered_row places) (map (λ host. (host, length before)) spot.group.hosts) (rows_from (suc (length before)) (map (λ (s : Spot). s.group) spots)) ∙ ap (λ (l : List Row). l ++ map (numbered_row places) (rows_from (suc (length before)) (map (λ (s : Spot). s.group) spots))) own ∙ ap (λ (l : List Row). own_rows spot ++ l) (ap (λ (n : ℕ). map (numbered_row places) (rows_from n (map (λ (s : Spot). s.group) spots))) more ∙ rows_numbered (before ++ place_of spot ∷ []) places spots (is ∙ shift))
+rows_numbered before places (placed ∷ placed_groups) is =
+    map-append (numbered_row places) (map (λ host. (host, length before)) placed.group.hosts) (rows_from (suc (length before)) (map (λ (s : PlacedGroup). s.group) placed_groups)) ∙ ap (λ (l : List Row). l ++ map (numbered_row places) (rows_from (suc (length before)) (map (λ (s : PlacedGroup). s.group) placed_groups))) own ∙ ap (λ (l : List Row). own_rows placed ++ l) (ap (λ (n : ℕ). map (numbered_row places) (rows_from n (map (λ (s : PlacedGroup). s.group) placed_groups))) more ∙ rows_numbered (before ++ place_of placed ∷ []) places placed_groups (is ∙ shift))
   where
-    more : suc (length before) ≡ length (before ++ place_of spot ∷ [])
+    more : suc (length before) ≡ length (before ++ place_of placed ∷ [])
     more = simp length-append (omega arith)
 
-    shift : before ++ map place_of (spot ∷ spots) ≡ (before ++ place_of spot ∷ []) ++ map place_of spots
-    shift = sym (append_assoc before (place_of spot ∷ []) (map place_of spots))
+    shift : before ++ map place_of (placed ∷ placed_groups) ≡ (before ++ place_of placed ∷ []) ++ map place_of placed_groups
+    shift = sym (append_assoc before (place_of placed ∷ []) (map place_of placed_groups))
 
-    here : place_at places (length before) ≡ place_of spot
+    here : place_at places (length before) ≡ place_of placed
     here =
-        ap (λ (l : List Place). place_at l (length before)) is ∙ get_or_at before (place_of spot) (map place_of spots) nowhere (length before) refl
+        ap (λ (l : List Place). place_at l (length before)) is ∙ get_or_at before (place_of placed) (map place_of placed_groups) nowhere (length before) refl
 
-    own : map (numbered_row places) (map (λ host. (host, length before)) spot.group.hosts) ≡ own_rows spot
+    own : map (numbered_row places) (map (λ host. (host, length before)) placed.group.hosts) ≡ own_rows placed
     own =
-        map-map (numbered_row places) (λ (host : Host). (host, length before)) spot.group.hosts ∙ ap (λ (p : Place). map (row_at p) spot.group.hosts) here
+        map-map (numbered_row places) (λ (host : Host). (host, length before)) placed.group.hosts ∙ ap (λ (p : Place). map (row_at p) placed.group.hosts) here
 
 pub rows_below : (number : ℕ) (groups : List Subtree) → All (λ (row : Host × ℕ). row.1 < number + length groups) (rows_from number groups)
 rows_below number [] = λ k d l. absurd (omega arith)
@@ -123,31 +124,31 @@ module _ (inventory : Inventory) (hosts : List Name) (numbers : List (ℕ × ℕ
       sym (list_any-map test host_and_path inventory.rows) ∙ ap (list_any test) rows ∙ list_any-map test (named_row hosts inventory.places) numbers ∙ members_of g h numbers l m a b
 
 -- a walk tells of each place what it tells of its group
-pub over_walk : {Y : Type 0} (f : Subtree × ℕ → Y) (h : Place → Y) → ((s : Spot) → f (with_depth 0 s) ≡ h (place_of s)) → (inventory : Inventory) (walk : List (Subtree × ℕ)) → IsWalkOf inventory 0 walk → map f walk ≡ map h inventory.places
+pub over_walk : {Y : Type 0} (f : Subtree × ℕ → Y) (h : Place → Y) → ((s : PlacedGroup) → f (with_depth 0 s) ≡ h (place_of s)) → (inventory : Inventory) (walk : List (Subtree × ℕ)) → IsWalkOf inventory 0 walk → map f walk ≡ map h inventory.places
 over_walk f h agree inventory walk w =
-    ap (map f) w.walked ∙ map-map f (with_depth 0) w.spots ∙ map-same (λ s. f (with_depth 0 s)) (λ s. h (place_of s)) w.spots agree ∙ sym (map-map h place_of w.spots) ∙ sym (ap (map h) w.places)
+    ap (map f) w.walked ∙ map-map f (with_depth 0) w.placed_groups ∙ map-same (λ s. f (with_depth 0 s)) (λ s. h (place_of s)) w.placed_groups agree ∙ sym (map-map h place_of w.placed_groups) ∙ sym (ap (map h) w.places)
 
 -- the names of the groups that were walked are those of the places
-pub walk_names : {S : Type 0} (group : S → Subtree) (depth : S → ℕ) (inventory : Inventory) (walk : List (Subtree × ℕ)) (spots : List S) → IsWalkOf inventory 0 walk → map {B = Subtree × ℕ} (λ s. (group s, depth s)) spots ≡ walk → map (λ s. (group s).name) spots ≡ group_names inventory.places
-walk_names group depth inventory walk spots w walked =
-    sym (map-map (λ (v : Subtree × ℕ). v.0.name) (λ s. (group s, depth s)) spots) ∙ ap (map (λ (v : Subtree × ℕ). v.0.name)) walked ∙ over_walk (λ (v : Subtree × ℕ). v.0.name) (λ (p : Place). p.name) (λ s. refl) inventory walk w
+pub walk_names : {S : Type 0} (group : S → Subtree) (depth : S → ℕ) (inventory : Inventory) (walk : List (Subtree × ℕ)) (placed_groups : List S) → IsWalkOf inventory 0 walk → map {B = Subtree × ℕ} (λ s. (group s, depth s)) placed_groups ≡ walk → map (λ s. (group s).name) placed_groups ≡ group_names inventory.places
+walk_names group depth inventory walk placed_groups w walked =
+    sym (map-map (λ (v : Subtree × ℕ). v.0.name) (λ s. (group s, depth s)) placed_groups) ∙ ap (map (λ (v : Subtree × ℕ). v.0.name)) walked ∙ over_walk (λ (v : Subtree × ℕ). v.0.name) (λ (p : Place). p.name) (λ s. refl) inventory walk w
 
 -- the rows of a walk, by the numbers of their groups
 pub walk_rows : (inventory : Inventory) (walk : List (Subtree × ℕ)) → IsWalkOf inventory 0 walk → map (numbered_row inventory.places) (rows_from 0 (map (λ (v : Subtree × ℕ). v.0) walk)) ≡ inventory.rows
 walk_rows inventory walk w =
-    let groups : map (λ (v : Subtree × ℕ). v.0) walk ≡ map (λ (s : Spot). s.group) w.spots = ap (map (λ (v : Subtree × ℕ). v.0)) w.walked ∙ map-map (λ (v : Subtree × ℕ). v.0) (with_depth 0) w.spots in
-    ap (λ (g : List Subtree). map (numbered_row inventory.places) (rows_from 0 g)) groups ∙ rows_numbered [] inventory.places w.spots w.places ∙ sym w.rows
+    let groups : map (λ (v : Subtree × ℕ). v.0) walk ≡ map (λ (s : PlacedGroup). s.group) w.placed_groups = ap (map (λ (v : Subtree × ℕ). v.0)) w.walked ∙ map-map (λ (v : Subtree × ℕ). v.0) (with_depth 0) w.placed_groups in
+    ap (λ (g : List Subtree). map (numbered_row inventory.places) (rows_from 0 g)) groups ∙ rows_numbered [] inventory.places w.placed_groups w.places ∙ sym w.rows
 
 pub walk_rows_below : (inventory : Inventory) (walk : List (Subtree × ℕ)) → IsWalkOf inventory 0 walk → All (λ (row : Host × ℕ). row.1 < length inventory.places) (rows_from 0 (map (λ (v : Subtree × ℕ). v.0) walk))
 walk_rows_below inventory walk w =
-    let long : 0 + length (map (λ (v : Subtree × ℕ). v.0) walk) ≡ length inventory.places = add_zero (length (map (λ (v : Subtree × ℕ). v.0) walk)) ∙ length-map walk (λ (v : Subtree × ℕ). v.0) ∙ ap length w.walked ∙ length-map w.spots (with_depth 0) ∙ sym (length-map w.spots place_of) ∙ sym (ap length w.places) in
+    let long : 0 + length (map (λ (v : Subtree × ℕ). v.0) walk) ≡ length inventory.places = add_zero (length (map (λ (v : Subtree × ℕ). v.0) walk)) ∙ length-map walk (λ (v : Subtree × ℕ). v.0) ∙ ap length w.walked ∙ length-map w.placed_groups (with_depth 0) ∙ sym (length-map w.placed_groups place_of) ∙ sym (ap length w.places) in
     All-weaker (λ (row : Host × ℕ). row.1 < 0 + length (map (λ (v : Subtree × ℕ). v.0) walk)) (λ (row : Host × ℕ). row.1 < length inventory.places) (λ row l. omega (arith, l, long)) (rows_from 0 (map (λ (v : Subtree × ℕ). v.0) walk)) (rows_below 0 (map (λ (v : Subtree × ℕ). v.0) walk))
   where
     add_zero : (n : ℕ) → 0 + n ≡ n
     add_zero n = omega arith
 
 -- everything that numbering a walk tells
-pub numbering : (inventory : Inventory) (walk : List (Subtree × ℕ)) (rows : List (Host × ℕ)) (hosts groups : List Name) (limits : List (Option ℕ)) (depths : List ℕ) (numbers : List (ℕ × ℕ)) (off : List Bool) → IsWalkOf inventory 0 walk → rows ≡ rows_from 0 (map (λ (v : Subtree × ℕ). v.0) walk) → hosts ≡ sorted_names (map (λ (row : Host × ℕ). row.0.name) rows) → groups ≡ map (λ (v : Subtree × ℕ). v.0.name) walk → limits ≡ map (λ (v : Subtree × ℕ). v.0.limit) walk → depths ≡ map (λ (v : Subtree × ℕ). v.1) walk → map {B = Name × ℕ} (λ (number : ℕ × ℕ). (host_at hosts number.0, number.1)) numbers ≡ map {B = Name × ℕ} (λ (row : Host × ℕ). (row.0.name, row.1)) rows → All (λ (number : ℕ × ℕ). number.0 < length hosts) numbers → length off ≡ length hosts → ((host : ℕ) → host < length hosts → get_or off host false ≡ unwrap_or (last_down_of host numbers (map (λ (row : Host × ℕ). row.0) rows)) false) → IsNumbering inventory hosts groups limits depths numbers off
+pub numbering : (inventory : Inventory) (walk : List (Subtree × ℕ)) (rows : List (Host × ℕ)) (hosts groups : List Name) (limits : List (Option Limit)) (depths : List ℕ) (numbers : List (ℕ × ℕ)) (off : List Bool) → IsWalkOf inventory 0 walk → rows ≡ rows_from 0 (map (λ (v : Subtree × ℕ). v.0) walk) → hosts ≡ sorted_names (map (λ (row : Host × ℕ). row.0.name) rows) → groups ≡ map (λ (v : Subtree × ℕ). v.0.name) walk → limits ≡ map (λ (v : Subtree × ℕ). v.0.limit) walk → depths ≡ map (λ (v : Subtree × ℕ). v.1) walk → map {B = Name × ℕ} (λ (number : ℕ × ℕ). (host_at hosts number.0, number.1)) numbers ≡ map {B = Name × ℕ} (λ (row : Host × ℕ). (row.0.name, row.1)) rows → All (λ (number : ℕ × ℕ). number.0 < length hosts) numbers → length off ≡ length hosts → ((host : ℕ) → host < length hosts → get_or off host false ≡ unwrap_or (last_down_of host numbers (map (λ (row : Host × ℕ). row.0) rows)) false) → IsNumbering inventory hosts groups limits depths numbers off
 numbering inventory walk rows hosts groups limits depths numbers off w rows_are hosts_are groups_are limits_are depths_are named within off_len off_at =
     record {
       all_hosts = all_hosts;
@@ -193,15 +194,15 @@ numbering inventory walk rows hosts groups limits depths numbers off w rows_are 
         omega (arith, here, there, ap (λ (m : List ℕ). get_or m k 0) seconds)
 
 -- the same of the lists that the code makes
-pub numbered_tree : {S R : Type 0} (group : S → Subtree) (depth : S → ℕ) (host : R → Host) (number : R → ℕ) (inventory : Inventory) (walk : List (Subtree × ℕ)) (spots : List S) (listed : List R) (hosts groups : List Name) (limits : List (Option ℕ)) (depths : List ℕ) (numbers : List (ℕ × ℕ)) (off : List Bool) → IsWalkOf inventory 0 walk → map {B = Subtree × ℕ} (λ s. (group s, depth s)) spots ≡ walk → map {B = Host × ℕ} (λ r. (host r, number r)) listed ≡ rows_from 0 (map group spots) → hosts ≡ sorted_names (map (λ r. (host r).name) listed) → groups ≡ map (λ s. (group s).name) spots → limits ≡ map (λ s. (group s).limit) spots → depths ≡ map depth spots → map {B = Name × ℕ} (λ (n : ℕ × ℕ). (host_at hosts n.0, n.1)) numbers ≡ map {B = Name × ℕ} (λ r. ((host r).name, number r)) listed → All (λ (n : ℕ × ℕ). n.0 < length hosts) numbers → length off ≡ length hosts → ((h : ℕ) → h < length hosts → get_or off h false ≡ unwrap_or (last_down_of h numbers (map host listed)) false) → IsNumbering inventory hosts groups limits depths numbers off
-numbered_tree {S = S} {R = R} group depth host number inventory walk spots listed hosts groups limits depths numbers off w walked rows hosts_are groups_are limits_are depths_are named within off_len off_at =
-    numbering inventory walk (map view listed) hosts groups limits depths numbers off w (rows ∙ ap (rows_from 0) (sym (map-map (λ (v : Subtree × ℕ). v.0) spot spots) ∙ ap (map (λ (v : Subtree × ℕ). v.0)) walked)) (hosts_are ∙ ap sorted_names (sym (map-map (λ (v : Host × ℕ). v.0.name) view listed))) (groups_are ∙ sym (map-map (λ (v : Subtree × ℕ). v.0.name) spot spots) ∙ ap (map (λ (v : Subtree × ℕ). v.0.name)) walked) (limits_are ∙ sym (map-map (λ (v : Subtree × ℕ). v.0.limit) spot spots) ∙ ap (map (λ (v : Subtree × ℕ). v.0.limit)) walked) (depths_are ∙ sym (map-map (λ (v : Subtree × ℕ). v.1) spot spots) ∙ ap (map (λ (v : Subtree × ℕ). v.1)) walked) (named ∙ sym (map-map name view listed)) within off_len (λ h l. off_at h l ∙ ap (λ (hs : List Host). unwrap_or (last_down_of h numbers hs) false) (sym (map-map (λ (v : Host × ℕ). v.0) view listed)))
+pub numbered_tree : {S R : Type 0} (group : S → Subtree) (depth : S → ℕ) (host : R → Host) (number : R → ℕ) (inventory : Inventory) (walk : List (Subtree × ℕ)) (placed_groups : List S) (listed : List R) (hosts groups : List Name) (limits : List (Option Limit)) (depths : List ℕ) (numbers : List (ℕ × ℕ)) (off : List Bool) → IsWalkOf inventory 0 walk → map {B = Subtree × ℕ} (λ s. (group s, depth s)) placed_groups ≡ walk → map {B = Host × ℕ} (λ r. (host r, number r)) listed ≡ rows_from 0 (map group placed_groups) → hosts ≡ sorted_names (map (λ r. (host r).name) listed) → groups ≡ map (λ s. (group s).name) placed_groups → limits ≡ map (λ s. (group s).limit) placed_groups → depths ≡ map depth placed_groups → map {B = Name × ℕ} (λ (n : ℕ × ℕ). (host_at hosts n.0, n.1)) numbers ≡ map {B = Name × ℕ} (λ r. ((host r).name, number r)) listed → All (λ (n : ℕ × ℕ). n.0 < length hosts) numbers → length off ≡ length hosts → ((h : ℕ) → h < length hosts → get_or off h false ≡ unwrap_or (last_down_of h numbers (map host listed)) false) → IsNumbering inventory hosts groups limits depths numbers off
+numbered_tree {S = S} {R = R} group depth host number inventory walk placed_groups listed hosts groups limits depths numbers off w walked rows hosts_are groups_are limits_are depths_are named within off_len off_at =
+    numbering inventory walk (map view listed) hosts groups limits depths numbers off w (rows ∙ ap (rows_from 0) (sym (map-map (λ (v : Subtree × ℕ). v.0) placed placed_groups) ∙ ap (map (λ (v : Subtree × ℕ). v.0)) walked)) (hosts_are ∙ ap sorted_names (sym (map-map (λ (v : Host × ℕ). v.0.name) view listed))) (groups_are ∙ sym (map-map (λ (v : Subtree × ℕ). v.0.name) placed placed_groups) ∙ ap (map (λ (v : Subtree × ℕ). v.0.name)) walked) (limits_are ∙ sym (map-map (λ (v : Subtree × ℕ). v.0.limit) placed placed_groups) ∙ ap (map (λ (v : Subtree × ℕ). v.0.limit)) walked) (depths_are ∙ sym (map-map (λ (v : Subtree × ℕ). v.1) placed placed_groups) ∙ ap (map (λ (v : Subtree × ℕ). v.1)) walked) (named ∙ sym (map-map name view listed)) within off_len (λ h l. off_at h l ∙ ap (λ (hs : List Host). unwrap_or (last_down_of h numbers hs) false) (sym (map-map (λ (v : Host × ℕ). v.0) view listed)))
   where
     view : R → Host × ℕ
     view r = (host r, number r)
 
-    spot : S → Subtree × ℕ
-    spot s = (group s, depth s)
+    placed : S → Subtree × ℕ
+    placed s = (group s, depth s)
 
     name : Host × ℕ → Name × ℕ
     name v = (v.0.name, v.1)

@@ -23,9 +23,9 @@ last_down_of-more host (n ∷ numbers) (h ∷ hosts) zero number own l m =
 last_down_of-more host (n ∷ numbers) (h ∷ hosts) (suc i) number own l m =
     ap (λ (o : Option Bool). option_or o (cond (nat_eq host n.0) (truth_of (value_of down h.variables)) None)) (last_down_of-more host numbers hosts i number own (omega arith) (omega arith)) ∙ or_assoc (cond (nat_eq host (get_or numbers i number).0) (truth_of (value_of down (get_or hosts i own).variables)) None) (last_down_of host (take i numbers) (take i hosts)) (cond (nat_eq host n.0) (truth_of (value_of down h.variables)) None)
 
--- what is said of the hosts once one more row is read
-pub said_more : (numbers : List (ℕ × ℕ)) (hosts : List Host) (i : ℕ) (number : ℕ × ℕ) (own : Host) (said new : List (Option Bool)) (host : ℕ) (here : Option Bool) → i < length numbers → i < length hosts → get_or said host None ≡ last_down_of host (take i numbers) (take i hosts) → here ≡ truth_of (value_of down (get_or hosts i own).variables) → (get_or numbers i number).0 < length said → new ≡ set said (get_or numbers i number).0 (option_or here (get_or said (get_or numbers i number).0 None)) → get_or new host None ≡ last_down_of host (take (i + 1) numbers) (take (i + 1) hosts)
-said_more numbers hosts i number own said new host here l m before some within is =
+-- what is last_downs of the hosts once one more row is read
+pub last_downs_more : (numbers : List (ℕ × ℕ)) (hosts : List Host) (i : ℕ) (number : ℕ × ℕ) (own : Host) (last_downs new : List (Option Bool)) (host : ℕ) (here : Option Bool) → i < length numbers → i < length hosts → get_or last_downs host None ≡ last_down_of host (take i numbers) (take i hosts) → here ≡ truth_of (value_of down (get_or hosts i own).variables) → (get_or numbers i number).0 < length last_downs → new ≡ set last_downs (get_or numbers i number).0 (option_or here (get_or last_downs (get_or numbers i number).0 None)) → get_or new host None ≡ last_down_of host (take (i + 1) numbers) (take (i + 1) hosts)
+last_downs_more numbers hosts i number own last_downs new host here l m before some within is =
     by_case (cases_eq host (get_or numbers i number).0)
   where
     told : last_down_of host (take (i + 1) numbers) (take (i + 1) hosts) ≡ option_or (cond (nat_eq host (get_or numbers i number).0) here None) (last_down_of host (take i numbers) (take i hosts))
@@ -34,6 +34,6 @@ said_more numbers hosts i number own said new host here l m before some within i
 
     by_case : (host ≡ (get_or numbers i number).0) ⊎ (host ≡ (get_or numbers i number).0 → ⊥) → get_or new host None ≡ last_down_of host (take (i + 1) numbers) (take (i + 1) hosts)
     by_case (inl e) =
-        ap (λ (o : List (Option Bool)). get_or o host None) is ∙ ap (λ (h : ℕ). get_or (set said (get_or numbers i number).0 (option_or here (get_or said (get_or numbers i number).0 None))) h None) e ∙ get_or-set_same said (get_or numbers i number).0 (option_or here (get_or said (get_or numbers i number).0 None)) None within ∙ ap (λ (h : ℕ). option_or here (get_or said h None)) (sym e) ∙ ap (option_or here) before ∙ sym (told ∙ ap (λ b. option_or (cond b here None) (last_down_of host (take i numbers) (take i hosts))) (eq-eqb host (get_or numbers i number).0 e))
+        ap (λ (o : List (Option Bool)). get_or o host None) is ∙ ap (λ (h : ℕ). get_or (set last_downs (get_or numbers i number).0 (option_or here (get_or last_downs (get_or numbers i number).0 None))) h None) e ∙ get_or-set_same last_downs (get_or numbers i number).0 (option_or here (get_or last_downs (get_or numbers i number).0 None)) None within ∙ ap (λ (h : ℕ). option_or here (get_or last_downs h None)) (sym e) ∙ ap (option_or here) before ∙ sym (told ∙ ap (λ b. option_or (cond b here None) (last_down_of host (take i numbers) (take i hosts))) (eq-eqb host (get_or numbers i number).0 e))
     by_case (inr d) =
-        ap (λ (o : List (Option Bool)). get_or o host None) is ∙ get_or-set_other said (get_or numbers i number).0 host (option_or here (get_or said (get_or numbers i number).0 None)) None d ∙ before ∙ sym (told ∙ ap (λ b. option_or (cond b here None) (last_down_of host (take i numbers) (take i hosts))) (ne_eqb host (get_or numbers i number).0 d))
+        ap (λ (o : List (Option Bool)). get_or o host None) is ∙ get_or-set_other last_downs (get_or numbers i number).0 host (option_or here (get_or last_downs (get_or numbers i number).0 None)) None d ∙ before ∙ sym (told ∙ ap (λ b. option_or (cond b here None) (last_down_of host (take i numbers) (take i hosts))) (ne_eqb host (get_or numbers i number).0 d))

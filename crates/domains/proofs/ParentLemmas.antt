@@ -5,15 +5,15 @@ use Rattle.std.proofs.lemmas.List.{length-map, length-append, length-take, take-
 use Rattle.std.proofs.lemmas.List.Folds.{list_any_at}
 use Rattle.inventory_model.specs.Names.{Name, are_distinct, begins}
 use Rattle.inventory_model.specs.Places.{Place, path_of, is_preorder}
-use Rattle.inventory_model.specs.Limits.{group_names}
+use Rattle.inventory_model.specs.Bounds.{group_names}
 use Rattle.fleet_numbers.specs.NumberLists.{list_at}
 use Rattle.fleet_numbers.specs.GroupPaths.{paths_from}
 use Rattle.fleet_numbers.proofs.RisingLemmas.{Ascends, has_number-within}
 use Rattle.fleet_numbers.proofs.PathLemmas.{on_path, first_path, path_next, path_ascends, on_within}
 use Rattle.domains.specs.Starts.{place_at}
 use Rattle.domains.specs.Nested.{are_apart}
-use Rattle.domains.specs.Parts.{parent_on}
-use Rattle.domains.specs.FleetViews.{IsParentOf}
+use Rattle.domains.specs.FleetLists.{parent_on}
+use Rattle.domains.specs.Fleets.{IsParentOf}
 use Rattle.domains.proofs.PlaceLemmas.{depths_of, path_at, path_names, begins_on}
 
 -- numbers that ascend rise from place to place
@@ -63,12 +63,6 @@ parent_at [] = inl (refl, omega arith)
 parent_at (g ∷ []) = inl (refl, omega arith)
 parent_at (g ∷ (h ∷ path)) = inr (length path, omega arith, refl)
 
-pub parent_before : (places : List Place) (group parent : ℕ) (found : Option ℕ) → IsParentOf places group found → found ≡ Some parent → parent < group
-parent_before places group parent None is e = absurd (cc)
-parent_before places group parent (Some other) is e =
-    let same : other ≡ parent = cc in
-    omega (arith, is.0, same)
-
 module _ (places : List Place) (distinct : are_distinct (group_names places) ≡ true) (preorder : is_preorder places ≡ true) where
   long : length (depths_of places) ≡ length places
   long = length-map places (λ (p : Place). length p.above)
@@ -99,8 +93,8 @@ module _ (places : List Place) (distinct : are_distinct (group_names places) ≡
           let below : get_or (path_at places k) (i + 1) 0 < suc k = (has_number-within (get_or (path_at places k) (i + 1) 0) 0 (suc k) (path_at places k) up (list_any_at _ (path_at places k) (i + 1) 0 (omega (arith, q.1)) (eq-eqb (get_or (path_at places k) (i + 1) 0) (get_or (path_at places k) (i + 1) 0) refl))).1 in
           let before : p < get_or (path_at places k) (i + 1) 0 = ascends_at 0 (suc k) (path_at places k) i (i + 1) up (omega arith) (omega (arith, q.1)) in
           let its_path : path_at places p ≡ take (i + 1) (path_at places k) = path_on (depths_of places) k i (omega (arith, l, long)) (omega (arith, q.1)) in
-          let cut : i + 1 ≡ length (place_at places k).above = omega (arith, q.1, count) in
-          let above : path_of (place_at places p) ≡ (place_at places k).above = sym (path_names places distinct preorder p (omega (arith, below, before, l))) ∙ ap (map (λ (n : ℕ). (place_at places n).name)) its_path ∙ sym (take-map (λ (n : ℕ). (place_at places n).name) (i + 1) (path_at places k)) ∙ ap (take (i + 1)) names ∙ take-append-le (i + 1) (place_at places k).above ((place_at places k).name ∷ []) (omega (arith, cut)) ∙ take_all (i + 1) (place_at places k).above (omega (arith, cut)) in
+          let at_end : i + 1 ≡ length (place_at places k).above = omega (arith, q.1, count) in
+          let above : path_of (place_at places p) ≡ (place_at places k).above = sym (path_names places distinct preorder p (omega (arith, below, before, l))) ∙ ap (map (λ (n : ℕ). (place_at places n).name)) its_path ∙ sym (take-map (λ (n : ℕ). (place_at places n).name) (i + 1) (path_at places k)) ∙ ap (take (i + 1)) names ∙ take-append-le (i + 1) (place_at places k).above ((place_at places k).name ∷ []) (omega (arith, at_end)) ∙ take_all (i + 1) (place_at places k).above (omega (arith, at_end)) in
           subst (IsParentOf places k) (sym q.2) (omega (arith, below, before), above)
 
   -- of two groups that are not apart the one with the lower number is above

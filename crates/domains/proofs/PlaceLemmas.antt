@@ -5,7 +5,7 @@ use Rattle.std.proofs.lemmas.List.{length-map, get_or-map, take-map, map-append}
 use Rattle.std.proofs.lemmas.List.Folds.{list_any-append}
 use Rattle.inventory_model.specs.Names.{Name, same_name, is_among, are_distinct, begins}
 use Rattle.inventory_model.specs.Places.{Place, path_of, goes_on, is_preorder}
-use Rattle.inventory_model.specs.Limits.{group_names}
+use Rattle.inventory_model.specs.Bounds.{group_names}
 use Rattle.fleet_numbers.specs.NumberLists.{has_number, list_at, last_where}
 use Rattle.fleet_numbers.specs.GroupPaths.{paths_from}
 use Rattle.fleet_numbers.proofs.SortedNamesLemmas.{same_name-true, same_name-itself}
@@ -153,9 +153,9 @@ module _ (places : List Place) (distinct : are_distinct (group_names places) ≡
   path_names (suc k) l =
       let next : path_at places (suc k) ≡ take (get_or (depths_of places) (suc k) 0) (path_at places k) ++ suc k ∷ [] = path_next (depths_of places) k (omega (arith, long)) in
       let depth : get_or (depths_of places) (suc k) 0 ≡ length (place_at places (suc k)).above = get_or-map (λ (p : Place). length p.above) places (suc k) nowhere 0 l in
-      let cut : take (length (place_at places (suc k)).above) (path_of (place_at places k)) ≡ (place_at places (suc k)).above = begins_take (place_at places (suc k)).above (path_of (place_at places k)) (goes_next [] places k preorder l) in
+      let cut_off : take (length (place_at places (suc k)).above) (path_of (place_at places k)) ≡ (place_at places (suc k)).above = begins_take (place_at places (suc k)).above (path_of (place_at places k)) (goes_next [] places k preorder l) in
       let name : ℕ → Name = λ (n : ℕ). (place_at places n).name in
-      ap (map name) next ∙ map-append name (take (get_or (depths_of places) (suc k) 0) (path_at places k)) (suc k ∷ []) ∙ ap (λ (xs : List Name). xs ++ name (suc k) ∷ []) (sym (take-map name (get_or (depths_of places) (suc k) 0) (path_at places k)) ∙ ap (take (get_or (depths_of places) (suc k) 0)) (path_names k (omega arith)) ∙ ap (λ (d : ℕ). take d (path_of (place_at places k))) depth ∙ cut)
+      ap (map name) next ∙ map-append name (take (get_or (depths_of places) (suc k) 0) (path_at places k)) (suc k ∷ []) ∙ ap (λ (xs : List Name). xs ++ name (suc k) ∷ []) (sym (take-map name (get_or (depths_of places) (suc k) 0) (path_at places k)) ∙ ap (take (get_or (depths_of places) (suc k) 0)) (path_names k (omega arith)) ∙ ap (λ (d : ℕ). take d (path_of (place_at places k))) depth ∙ cut_off)
 
   -- among the names of rising numbers below the end
   among_numbers : (g low high : ℕ) (xs : List ℕ) → g < length places → high ≤ length places → Ascends low high xs → is_among (place_at places g).name (map (λ (n : ℕ). (place_at places n).name) xs) ≡ has_number g xs
@@ -174,10 +174,10 @@ module _ (places : List Place) (distinct : are_distinct (group_names places) ≡
       empty [] e = refl
       empty (x ∷ xs) e = absurd (false≢true e)
   not_above_itself (suc k) l =
-      let cut : take (length (place_at places (suc k)).above) (path_of (place_at places k)) ≡ (place_at places (suc k)).above = begins_take (place_at places (suc k)).above (path_of (place_at places k)) (goes_next [] places k preorder l) in
+      let cut_off : take (length (place_at places (suc k)).above) (path_of (place_at places k)) ≡ (place_at places (suc k)).above = begins_take (place_at places (suc k)).above (path_of (place_at places k)) (goes_next [] places k preorder l) in
       let d : ℕ = length (place_at places (suc k)).above in
       let name : ℕ → Name = λ (n : ℕ). (place_at places n).name in
-      let numbers : (place_at places (suc k)).above ≡ map name (take (length (place_at places (suc k)).above) (path_at places k)) = sym cut ∙ ap (take (length (place_at places (suc k)).above)) (sym (path_names k (omega arith))) ∙ take-map name (length (place_at places (suc k)).above) (path_at places k) in
+      let numbers : (place_at places (suc k)).above ≡ map name (take (length (place_at places (suc k)).above) (path_at places k)) = sym cut_off ∙ ap (take (length (place_at places (suc k)).above)) (sym (path_names k (omega arith))) ∙ take-map name (length (place_at places (suc k)).above) (path_at places k) in
       let up = Ascends-take (length (place_at places (suc k)).above) 0 (suc k) (path_at places k) (path_ascends (depths_of places) k (omega (arith, long))) in
       ap (is_among (name (suc k))) numbers ∙ among_numbers (suc k) 0 (suc k) (take (length (place_at places (suc k)).above) (path_at places k)) l (omega arith) up ∙ none (has_number (suc k) (take (length (place_at places (suc k)).above) (path_at places k))) refl up
     where
@@ -209,12 +209,12 @@ module _ (places : List Place) (distinct : are_distinct (group_names places) ≡
           let below : g ≤ suc k = on_within (depths_of places) g (suc k) (omega (arith, long)) e in
           let inside : g ≤ k = omega (arith, q) in
           let before : begins (path_of (place_at places g)) (path_of (place_at places k)) ≡ true = later (on_before (depths_of places) g k (omega (arith, long)) inside e) in
-          let cut : take (length (place_at places (suc k)).above) (path_of (place_at places k)) ≡ (place_at places (suc k)).above = begins_take (place_at places (suc k)).above (path_of (place_at places k)) (goes_next [] places k preorder m) in
+          let cut_off : take (length (place_at places (suc k)).above) (path_of (place_at places k)) ≡ (place_at places (suc k)).above = begins_take (place_at places (suc k)).above (path_of (place_at places k)) (goes_next [] places k preorder m) in
           let here : is_among (place_at places g).name (path_of (place_at places (suc k))) ≡ true = among_path g (suc k) l m ∙ e in
           let other : same_name (place_at places g).name (place_at places (suc k)).name ≡ false = same_place g (suc k) l m ∙ ne_eqb g (suc k) q in
           let above : is_among (place_at places g).name (place_at places (suc k)).above ≡ true = drop_last (place_at places g).name (place_at places (suc k)).above (place_at places (suc k)).name other here in
-          let above' : is_among (place_at places g).name (take (length (place_at places (suc k)).above) (path_of (place_at places k))) ≡ true = ap (is_among (place_at places g).name) cut ∙ above in
-          let whole : begins (path_of (place_at places g)) (place_at places (suc k)).above ≡ true = sym (ap (begins (path_of (place_at places g))) cut) ∙ begins_cut (place_at places g).name (place_at places g).above (path_of (place_at places k)) (length (place_at places (suc k)).above) before (not_above_itself g l) above' in
+          let above' : is_among (place_at places g).name (take (length (place_at places (suc k)).above) (path_of (place_at places k))) ≡ true = ap (is_among (place_at places g).name) cut_off ∙ above in
+          let whole : begins (path_of (place_at places g)) (place_at places (suc k)).above ≡ true = sym (ap (begins (path_of (place_at places g))) cut_off) ∙ begins_cut (place_at places g).name (place_at places g).above (path_of (place_at places k)) (length (place_at places (suc k)).above) before (not_above_itself g l) above' in
           begins_more (path_of (place_at places g)) (place_at places (suc k)).above ((place_at places (suc k)).name ∷ []) whole
         where
           drop_last : (z : Name) (xs : List Name) (x : Name) → same_name z x ≡ false → is_among z (xs ++ x ∷ []) ≡ true → is_among z xs ≡ true

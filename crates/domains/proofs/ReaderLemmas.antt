@@ -1,18 +1,26 @@
--- Looking a host up in a group, and in the deal order.
-use Rattle.std.proofs.Common.{◌≡◌, ℕ, zero, suc, ◌+◌, ◌≤◌, ◌<◌, false, nat_eq, List, [], ◌∷◌, length, get_or, Result, Ok, Err, is_ok, IsPermutation, sym, ap, ◌∙◌, refl, arith, inl, inr, ◌⊎◌}
+-- What the readers of a fleet lend and find.
+use Rattle.std.proofs.Common.{◌≡◌, ℕ, zero, suc, ◌+◌, ◌≤◌, ◌<◌, false, nat_eq, List, [], ◌∷◌, length, get_or, Result, Ok, Err, is_ok, IsPermutation, Option, Some, None, IfSome, Vec, Global, All, map, sym, ap, ◌∙◌, refl, subst, arith, inl, inr, ◌⊎◌}
 use Rattle.std.specs.List.{range_with_len}
-use Rattle.std.specs.List.Sorted.{IsBinarySearchResult}
-use Rattle.std.specs.Ordering.{nat_cmp}
+use Rattle.std.specs.List.Sorted.{IsBinarySearchResult, IsSearchInRange, IsNonDecreasingBy}
+use Rattle.std.specs.Ordering.{nat_cmp, ordering_index}
 use Rattle.std.proofs.lemmas.Bool.{cases_lt, eq-eqb, ne_eqb}
-use Rattle.std.proofs.lemmas.List.{get_or_default}
+use Rattle.std.proofs.lemmas.List.{get_or_default, get_or-map, length-map}
 use Rattle.std.proofs.lemmas.List.Folds.{list_any_at}
 use Rattle.std.proofs.lemmas.List.FromFn.{length-range_with_len, get_or-range_with_len}
 use Rattle.std.proofs.lemmas.List.Recursion.{or_from_places}
 use Rattle.std.proofs.lemmas.List.Sorted.{searched, Contains-permutation}
-use Rattle.fleet_numbers.specs.NumberLists.{has_number, IsRising}
+use Rattle.fleet_numbers.specs.NumberLists.{list_at, has_number, IsRising}
 use Rattle.fleet_numbers.specs.DealOrder.{ArePlacesOf}
+use Rattle.group_tree.specs.declared.ids.HostId.{HostId}
 use Rattle.fleet_numbers.proofs.HeldLemmas.{ascends_le}
 use Rattle.fleet_numbers.proofs.RisingLemmas.{Ascends-rising}
+use Rattle.fleet_numbers.proofs.DealLemmas.{in_range}
+use Rattle.group_tree.specs.declared.ids.GroupId.{GroupId}
+use Rattle.domains.specs.Ids.{host_numbers, group_numbers}
+use Rattle.domains.specs.FleetViews.{FleetView, IsSound}
+use Rattle.domains.specs.Inside.{shown}
+use Rattle.domains.specs.declared.fleet.Fleet.TheInside.{Inside}
+use Rattle.domains.proofs.MarkLemmas.{rising_below}
 
 pub is_found : (bound : ℕ) (xs : List ℕ) (x : ℕ) (r : Result ℕ ℕ) → IsRising bound xs → IsBinarySearchResult (λ y. nat_cmp y x) xs r → is_ok r ≡ has_number x xs
 is_found bound xs x (Ok i) up h =
@@ -26,6 +34,43 @@ is_found bound xs x (Err i) up h =
     side k l (inl q) below above = ne_eqb x (get_or xs k 0) (λ e. omega (arith, e, below k q))
     side k l (inr q) below above = ne_eqb x (get_or xs k 0) (λ e. omega (arith, e, above k q l))
 
+-- the same of a search by the numbers of hosts
+pub found_number : (bound : ℕ) (hosts : List HostId) (x : ℕ) (r : Result ℕ ℕ) → IsRising bound (host_numbers hosts) → IsBinarySearchResult (λ (y : HostId). nat_cmp y.index x) hosts r → IsSearchInRange r (length hosts) → is_ok r ≡ has_number x (host_numbers hosts)
+found_number bound hosts x r up h within = is_found bound (host_numbers hosts) x r up (by_number r h within)
+  where
+    any : HostId
+    any = record { index = 0 }
+
+    at : (k : ℕ) (d : HostId) (e : ℕ) → k < length hosts → get_or (host_numbers hosts) k e ≡ (get_or hosts k d).index
+    at k d e l = get_or-map (λ (host : HostId). host.index) hosts k d e l
+
+    by_number : (r : Result ℕ ℕ) → IsBinarySearchResult (λ (y : HostId). nat_cmp y.index x) hosts r → IsSearchInRange r (length hosts) → IsBinarySearchResult (λ (n : ℕ). nat_cmp n x) (host_numbers hosts) r
+    by_number (Ok i) h within = λ e. ap (λ (n : ℕ). nat_cmp n x) (at i any e within) ∙ h any
+    by_number (Err i) h within = λ rises.
+        let split = h (λ i j d l m. omega (arith, ap (λ (n : ℕ). ordering_index (nat_cmp n x)) (at i d 0 (omega arith)), ap (λ (n : ℕ). ordering_index (nat_cmp n x)) (at j d 0 m), rises i j 0 l (simp length-map m))) in
+        (λ k e a b. ap (λ (n : ℕ). nat_cmp n x) (at k any e (omega (arith, b, within))) ∙ split.0 k any a b, λ k e a b. ap (λ (n : ℕ). nat_cmp n x) (at k any e (simp length-map at b)) ∙ split.1 k any a (simp length-map at b))
+
+-- a list that is lent, by its numbers
+pub lent_list : {X : Type 0} (number : X → ℕ) (lists : List (Vec X Global)) (k : ℕ) (own : Vec X Global) (lent : List X) → k < length lists → own ≡ get_or lists k own → lent ≡ own.items → map number lent ≡ list_at (map (λ (list : Vec X Global). map number list.items) lists) k
+lent_list {X} number lists k own lent l is same =
+    ap (map number) same ∙ ap (λ (list : Vec X Global). map number list.items) is ∙ sym (get_or-map (λ (list : Vec X Global). map number list.items) lists k own [] l)
+
+pub at_most : (limit : Option ℕ) (count : ℕ) → ((l : ℕ) → limit ≡ Some l → count ≤ l) → IfSome limit (λ l. count ≤ l)
+at_most None count below = tt
+at_most (Some l) count below = below l refl
+
+-- what rises stays below its bound
+pub lent_within : {X : Type 0} (number : X → ℕ) (bound : ℕ) (lent : List X) → IsRising bound (map number lent) → All (λ (x : X). number x < bound) lent
+lent_within number bound lent up k d l =
+    let below : get_or (map number lent) k (number d) < bound = rising_below bound (map number lent) up k (number d) (simp length-map l) in
+    omega (arith, below, get_or-map number lent k d (number d) l)
+
+pub dealt_within : {X : Type 0} (number : X → ℕ) (bound : ℕ) (order : List ℕ) (lent : List X) → map number lent ≡ order → IsPermutation (range_with_len 0 bound) order → All (λ (x : X). number x < bound) lent
+dealt_within number bound order lent is once k d l =
+    let long : k < length order = omega (arith, l, ap length is, length-map lent number) in
+    let below : get_or order k 0 < bound = in_range bound order once k long in
+    omega (arith, below, get_or-map number lent k d 0 l, ap (λ (o : List ℕ). get_or o k 0) is)
+
 pub placed : (n : ℕ) (order places : List ℕ) (h : ℕ) → IsPermutation (range_with_len 0 n) order → ArePlacesOf order places → h < n → (get_or places h 0 < length order) × (get_or order (get_or places h 0) 0 ≡ h)
 placed n order places h once at l =
     let long : length (range_with_len 0 n) ≡ n = length-range_with_len 0 n in
@@ -36,3 +81,25 @@ placed n order places h once at l =
   where
     zero_add : (k : ℕ) → 0 + k ≡ k
     zero_add k = omega arith
+
+-- the members of a group as they are lent
+pub members_lent : (fleet : Inside) (now : FleetView) (g : ℕ) (own : Vec HostId Global) (lent : List HostId) → shown fleet ≡ now → IsSound (shown fleet) → g < length now.groups → own ≡ get_or fleet.members.items g own → lent ≡ own.items → (host_numbers lent ≡ list_at now.members g) × IsRising (length now.hosts) (host_numbers lent)
+members_lent fleet now g own lent is kept l own_is lent_is =
+    let numbers : Vec HostId Global → List ℕ = λ (list : Vec HostId Global). host_numbers list.items in
+    let sound : IsSound now = subst IsSound is kept in
+    let groups : length (shown fleet).groups ≡ length now.groups = ap (λ (f : FleetView). length f.groups) is in
+    let within : g < length fleet.members.items = omega (arith, l, kept.all_members, length-map fleet.members.items numbers, groups) in
+    let same : host_numbers lent ≡ list_at (shown fleet).members g = lent_list (λ (host : HostId). host.index) fleet.members.items g own lent within own_is lent_is in
+    let here : host_numbers lent ≡ list_at now.members g = same ∙ ap (λ (f : FleetView). list_at f.members g) is in
+    (here, subst (IsRising (length now.hosts)) (sym here) (sound.members_rise g [] (omega (arith, l, sound.all_members))))
+
+-- the chain of a host as it is lent
+pub chain_lent : (fleet : Inside) (now : FleetView) (h : ℕ) (own : Vec GroupId Global) (lent : List GroupId) → shown fleet ≡ now → IsSound (shown fleet) → h < length now.hosts → own ≡ get_or fleet.chains.items h own → lent ≡ own.items → (group_numbers lent ≡ list_at now.chains h) × IsRising (length now.groups) (group_numbers lent)
+chain_lent fleet now h own lent is kept l own_is lent_is =
+    let numbers : Vec GroupId Global → List ℕ = λ (list : Vec GroupId Global). group_numbers list.items in
+    let sound : IsSound now = subst IsSound is kept in
+    let hosts : length (shown fleet).hosts ≡ length now.hosts = ap (λ (f : FleetView). length f.hosts) is in
+    let within : h < length fleet.chains.items = omega (arith, l, kept.all_chains, length-map fleet.chains.items numbers, hosts) in
+    let same : group_numbers lent ≡ list_at (shown fleet).chains h = lent_list (λ (group : GroupId). group.index) fleet.chains.items h own lent within own_is lent_is in
+    let here : group_numbers lent ≡ list_at now.chains h = same ∙ ap (λ (f : FleetView). list_at f.chains h) is in
+    (here, subst (IsRising (length now.groups)) (sym here) (sound.chains_rise h [] (omega (arith, l, sound.all_chains))))

@@ -9,13 +9,14 @@ use Rattle.inventory_model.specs.Places.{Place, Inventory}
 use Rattle.inventory_model.specs.Members.{holds}
 use Rattle.fleet_numbers.specs.NumberLists.{list_at, numbers_where}
 use Rattle.domains.specs.Hosts.{is_off}
-use Rattle.domains.specs.Starts.{place_at, nowhere, exceeds, down_count, is_over, StartsWithin, IsFirstOver}
+use Rattle.domains.specs.Starts.{place_at, nowhere, allowed_of, exceeds, down_count, is_over, StartsWithin, IsFirstOver}
 use Rattle.domains.specs.Numbered.{host_at}
-use Rattle.domains.specs.Search.{off_count, IsFirstOverGroup}
+use Rattle.domains.specs.FleetViews.{off_count}
+use Rattle.domains.specs.Search.{IsFirstOverGroup}
 use Rattle.domains.proofs.WhereLemmas.{filter-filter, filtered_names}
 use Rattle.domains.proofs.FleetLemmas.{AreListsOf}
 
-module _ (inventory : Inventory) (hosts : List Name) (limits : List (Option ℕ)) (off : List Bool) (chains members : List (List ℕ)) (lasts : List ℕ) (known : AreListsOf inventory hosts limits off chains members lasts) where
+module _ (inventory : Inventory) (hosts : List Name) (limits : List (Option ℕ)) (off : List Bool) (chains members : List (List ℕ)) (subtree_ends : List ℕ) (known : AreListsOf inventory hosts limits off chains members subtree_ends) where
   -- how many hosts of a group are off, by numbers and by names
   pub down_at : (g : ℕ) → g < length inventory.places → off_count off (list_at members g) ≡ down_count inventory (place_at inventory.places g).name
   down_at g l =
@@ -33,9 +34,9 @@ module _ (inventory : Inventory) (hosts : List Name) (limits : List (Option ℕ)
     where
       by_case : (number < length inventory.places) ⊎ (length inventory.places ≤ number) → is_over inventory number ≡ false
       by_case (inl l) =
-          ap (exceeds (place_at inventory.places number).limit) (sym (down_at number l)) ∙ ap (λ (o : Option ℕ). exceeds o (off_count off (list_at members number))) (sym (known.limit_at number)) ∙ none number (omega (arith, l, known.members_len))
+          ap (exceeds (allowed_of inventory (place_at inventory.places number))) (sym (down_at number l)) ∙ ap (λ (o : Option ℕ). exceeds o (off_count off (list_at members number))) (sym (known.limit_at number)) ∙ none number (omega (arith, l, known.members_len))
       by_case (inr l) =
-          ap (λ (p : Place). exceeds p.limit (down_count inventory p.name)) (get_or_past inventory.places number nowhere l)
+          ap (λ (p : Place). exceeds (allowed_of inventory p) (down_count inventory p.name)) (get_or_past inventory.places number nowhere l)
 
   pub first_over : (group down limit : ℕ) → IsFirstOverGroup members limits off group down limit → IsFirstOver inventory (place_at inventory.places group).name down limit
   first_over group down limit found =
@@ -45,7 +46,7 @@ module _ (inventory : Inventory) (hosts : List Name) (limits : List (Option ℕ)
         limited = sym (known.limit_at group) ∙ found.limited;
         counted = found.counted ∙ down_at group inside;
         over = found.over;
-        first = λ earlier l. ap (exceeds (place_at inventory.places earlier).limit) (sym (down_at earlier (omega (arith, l, inside)))) ∙ ap (λ (o : Option ℕ). exceeds o (off_count off (list_at members earlier))) (sym (known.limit_at earlier)) ∙ found.before earlier l;
+        first = λ earlier l. ap (exceeds (allowed_of inventory (place_at inventory.places earlier))) (sym (down_at earlier (omega (arith, l, inside)))) ∙ ap (λ (o : Option ℕ). exceeds o (off_count off (list_at members earlier))) (sym (known.limit_at earlier)) ∙ found.before earlier l;
       }
     where
       inside : group < length inventory.places

@@ -7,7 +7,7 @@ use Rattle.inventory_model.specs.Names.{Name}
 use Rattle.inventory_model.specs.Places.{Place, Inventory}
 use Rattle.inventory_model.specs.Members.{holds}
 use Rattle.fleet_numbers.specs.NumberLists.{has_number, list_at, last_where}
-use Rattle.fleet_numbers.specs.Chains.{is_limited, IsUncut}
+use Rattle.fleet_numbers.specs.Chains.{is_limited, IsNestedChain}
 use Rattle.fleet_numbers.proofs.RisingLemmas.{Ascends, Ascends-numbers_where, has_number-numbers_where}
 use Rattle.fleet_numbers.proofs.PathLemmas.{on_path, on_path-last}
 use Rattle.fleet_numbers.proofs.ChainLemmas.{last_greatest}
@@ -20,7 +20,7 @@ use Rattle.domains.specs.Numbered.{host_at}
 use Rattle.domains.proofs.PlaceLemmas.{depths_of}
 use Rattle.domains.proofs.FleetLemmas.{AreListsOf}
 
-module _ (inventory : Inventory) (hosts : List Name) (limits : List (Option ℕ)) (off : List Bool) (chains members : List (List ℕ)) (lasts : List ℕ) (known : AreListsOf inventory hosts limits off chains members lasts) where
+module _ (inventory : Inventory) (hosts : List Name) (limits : List (Option ℕ)) (off : List Bool) (chains members : List (List ℕ)) (subtree_ends : List ℕ) (known : AreListsOf inventory hosts limits off chains members subtree_ends) where
   depths_len : length (depths_of inventory.places) ≡ length inventory.places
   depths_len = length-map inventory.places (λ (p : Place). length p.above)
 
@@ -48,12 +48,12 @@ module _ (inventory : Inventory) (hosts : List Name) (limits : List (Option ℕ)
       less : (k : ℕ) → suc k - 1 ≡ k
       less k = omega arith
 
-  pub together : (order : List ℕ) → IsDealt chains order → IsPermutation (range_with_len 0 (length hosts)) order → ((h : ℕ) → h < length chains → IsUncut lasts (list_at chains h)) → (g place later last : ℕ) → is_limited limits g ≡ true → place ≤ later → later ≤ last → last < length order → has_number (get_or order place 0) (list_at members g) ≡ true → has_number (get_or order last 0) (list_at members g) ≡ true → has_number (get_or order later 0) (list_at members g) ≡ true
-  together order dealt once uncut g place later last limited p q within e f =
+  pub together : (order : List ℕ) → IsDealt chains order → IsPermutation (range_with_len 0 (length hosts)) order → ((h : ℕ) → h < length chains → IsNestedChain subtree_ends (list_at chains h)) → (g place later last : ℕ) → is_limited limits g ≡ true → place ≤ later → later ≤ last → last < length order → has_number (get_or order place 0) (list_at members g) ≡ true → has_number (get_or order last 0) (list_at members g) ≡ true → has_number (get_or order later 0) (list_at members g) ≡ true
+  together order dealt once nested_chains g place later last limited p q within e f =
       let a = get_or order place 0 in
       let b = get_or order later 0 in
       let z = get_or order last 0 in
-      let some : is_some (place_at inventory.places g).limit ≡ true = sym (ap (λ (o : Option ℕ). is_some o) (known.limit_at g)) ∙ limited in
+      let some : is_some (place_at inventory.places g).limit ≡ true = sym (known.limited_at g) ∙ limited in
       let inside : g < length inventory.places = known.limited_within g some in
       let a_in : a < length hosts = in_range (length hosts) order once place (omega arith) in
       let b_in : b < length hosts = in_range (length hosts) order once later (omega arith) in
@@ -67,8 +67,8 @@ module _ (inventory : Inventory) (hosts : List Name) (limits : List (Option ℕ)
       let top_b = top_of (list_at chains b) (omega (arith, above_a, low)) in
       let top_z = top_of (list_at chains z) (omega (arith, above_z)) in
       let t_in : top_b.0 < length inventory.places = known.chain_within top_b.0 b b_in top_b.2 in
-      let uncut_z : nat_lt (get_or lasts g 0) top_z.0 ≡ false = uncut z (omega (arith, z_in, known.chains_len)) g top_z.0 g_z top_z.2 in
-      let below_last : top_z.0 ≤ get_or lasts g 0 = ltb-false (get_or lasts g 0) top_z.0 uncut_z in
+      let nested_z : nat_lt (get_or subtree_ends g 0) top_z.0 ≡ false = nested_chains z (omega (arith, z_in, known.chains_len)) g top_z.0 g_z top_z.2 in
+      let below_last : top_z.0 ≤ get_or subtree_ends g 0 = ltb-false (get_or subtree_ends g 0) top_z.0 nested_z in
       let on : on_path (depths_of inventory.places) g top_b.0 ≡ true = on_path-last (depths_of inventory.places) g top_b.0 (omega (arith, above_a, low, top_b.1)) (omega (arith, t_in, depths_len)) ∙ ap (λ (k : ℕ). not (nat_lt (last_where (on_path (depths_of inventory.places) g) k) top_b.0)) depths_len ∙ ap not (le-ltb (last_where (on_path (depths_of inventory.places) g) (length inventory.places)) top_b.0 (omega (arith, known.last_at g inside, below_last, top_b.1, top_z.1, high))) in
       let held = (and_parts (is_some (place_at inventory.places top_b.0).limit) (holds inventory (place_at inventory.places top_b.0).name (host_at hosts b)) (sym (known.holder_at top_b.0 b t_in b_in) ∙ top_b.2)).1 in
       ap (has_number b) (known.members_at g inside) ∙ has_number-numbers_where (λ host. holds inventory (place_at inventory.places g).name (host_at hosts host)) (length hosts) b ∙ ap (λ t. t && holds inventory (place_at inventory.places g).name (host_at hosts b)) (lt-ltb b (length hosts) b_in) ∙ known.held_above g top_b.0 b inside t_in b_in on held

@@ -8,14 +8,14 @@ use Rattle.domains.specs.Nested.{IsNested, IsLeastCrossing}
 use Rattle.domains.specs.declared.fault.FleetFault.{FleetFault}
 use Rattle.domains.specs.declared.fault.FleetFault.TheVariants.{TooManyHosts, NotNested, StartOver, Memory}
 
-abbrev pub max_hosts : ℕ
-max_hosts = 4096
+abbrev pub hosts_bound : ℕ
+hosts_bound = 4096
 
 -- the fault names the first rule that the inventory breaks: the number of hosts, how limits nest, then the start
 abbrev pub IsFaultOf : Inventory → FleetFault → Type 0
-IsFaultOf inventory TooManyHosts = max_hosts < length (hosts_of inventory)
+IsFaultOf inventory TooManyHosts = hosts_bound < length (hosts_of inventory)
 IsFaultOf inventory (NotNested host first second) =
-    (length (hosts_of inventory) ≤ max_hosts) × IsLeastCrossing inventory (string_bytes host) (string_bytes first) (string_bytes second)
+    (length (hosts_of inventory) ≤ hosts_bound) × IsLeastCrossing inventory (string_bytes host) (string_bytes first) (string_bytes second)
 IsFaultOf inventory (StartOver group down limit) =
-    (length (hosts_of inventory) ≤ max_hosts) × IsNested inventory × IsFirstOver inventory (string_bytes group) down limit
+    (length (hosts_of inventory) ≤ hosts_bound) × IsNested inventory × IsFirstOver inventory (string_bytes group) down limit
 IsFaultOf inventory Memory = Unit {0}

@@ -15,21 +15,21 @@ abbrev pub is_limited_holder : Inventory → Name → Place → Bool
 is_limited_holder inventory host place = is_some place.limit && holds inventory place.name host
 
 -- both groups are limited and hold the host, and neither path begins the other
-abbrev pub cut_at : Inventory → Name → ℕ → ℕ → Bool
-cut_at inventory host first second =
+abbrev pub is_crossing : Inventory → Name → ℕ → ℕ → Bool
+is_crossing inventory host first second =
     (is_limited_holder inventory host (place_at inventory.places first) && is_limited_holder inventory host (place_at inventory.places second)) && are_apart (place_at inventory.places first) (place_at inventory.places second)
 
 -- of any two limited groups that hold a host, the path of one begins the path of the other
 abbrev pub IsNested : Inventory → Type 0
-IsNested inventory = (host : Name) (first second : ℕ) → cut_at inventory host first second ≡ false
+IsNested inventory = (host : Name) (first second : ℕ) → is_crossing inventory host first second ≡ false
 
--- two groups cut across each other at the host; no host before it has such groups, and it has no such pair before them
+-- two groups cross at the host; no host before it has such groups, and it has no such pair before them
 pub record IsLeastCrossing (inventory : Inventory) (host first second : Name) : Type 0 where
   pub before : ℕ
   pub after : ℕ
   pub first_name : (place_at inventory.places before).name ≡ first
   pub second_name : (place_at inventory.places after).name ≡ second
   pub in_order : before < after
-  pub crossing : cut_at inventory host before after ≡ true
-  pub least_host : (other : Name) (i j : ℕ) → name_cmp other host ≡ Less → cut_at inventory other i j ≡ false
-  pub least_pair : (i j : ℕ) → i < j → cut_at inventory host i j ≡ true → (before < i) ⊎ ((before ≡ i) × (after ≤ j))
+  pub crossing : is_crossing inventory host before after ≡ true
+  pub least_host : (other : Name) (i j : ℕ) → name_cmp other host ≡ Less → is_crossing inventory other i j ≡ false
+  pub least_pair : (i j : ℕ) → i < j → is_crossing inventory host i j ≡ true → (before < i) ⊎ ((before ≡ i) × (after ≤ j))

@@ -2,7 +2,8 @@
 use Rattle.std.specs.Prelude.{◌≡◌, ℕ, ◌<◌, Bool, Option, List, [], map, length, slice_index_or, All}
 use Rattle.inventory_model.specs.Names.{Name}
 use Rattle.inventory_model.specs.Places.{Place, Row, Inventory, row_path, path_of}
-use Rattle.inventory_model.specs.Limits.{group_names}
+use Rattle.inventory_model.specs.Bounds.{group_names}
+use Rattle.inventory_model.specs.Limits.{Limit}
 use Rattle.domains.specs.Hosts.{hosts_of, is_off}
 use Rattle.domains.specs.Starts.{place_at}
 
@@ -16,7 +17,7 @@ host_and_path row = (row.host, row_path row)
 abbrev pub named_row : List Name → List Place → ℕ × ℕ → Name × List Name
 named_row hosts places numbers = (host_at hosts numbers.0, path_of (place_at places numbers.1))
 
-pub record IsNumbering (inventory : Inventory) (hosts groups : List Name) (limits : List (Option ℕ)) (depths : List ℕ) (rows : List (ℕ × ℕ)) (off : List Bool) : Type 0 where
+pub record IsNumbering (inventory : Inventory) (hosts groups : List Name) (limits : List (Option Limit)) (depths : List ℕ) (rows : List (ℕ × ℕ)) (off : List Bool) : Type 0 where
   pub all_hosts : hosts ≡ hosts_of inventory
   pub all_groups : groups ≡ group_names inventory.places
   pub all_limits : limits ≡ map (λ (place : Place). place.limit) inventory.places

@@ -1,7 +1,8 @@
 -- How many hosts of a group are off when a run starts, against its limit.
-use Rattle.std.specs.Prelude.{◌≡◌, ℕ, ◌<◌, Bool, false, ◌&&◌, nat_lt, Option, Some, None, List, [], filter, length, slice_index_or}
+use Rattle.std.specs.Prelude.{◌≡◌, ℕ, ◌<◌, Bool, false, ◌&&◌, nat_lt, Option, Some, None, List, [], filter, length, option_map, slice_index_or}
 use Rattle.inventory_model.specs.Names.{Name}
 use Rattle.inventory_model.specs.Places.{Place, Inventory}
+use Rattle.inventory_model.specs.Limits.{Limit, allowed}
 use Rattle.inventory_model.specs.Members.{holds}
 use Rattle.domains.specs.Hosts.{hosts_of, is_off}
 
@@ -20,10 +21,19 @@ abbrev pub exceeds : Option ℕ → ℕ → Bool
 exceeds None count = false
 exceeds (Some limit) count = nat_lt limit count
 
+-- how many hosts a group of this name holds
+abbrev pub member_count : Inventory → Name → ℕ
+member_count inventory group = length (filter (holds inventory group) (hosts_of inventory))
+
+-- how many of the group's hosts may be down at once, where it has a limit
+abbrev pub allowed_of : Inventory → Place → Option ℕ
+allowed_of inventory place =
+    option_map (λ (limit : Limit). allowed limit (member_count inventory place.name)) place.limit
+
 -- the group has a limit, and more of its hosts are off
 abbrev pub is_over : Inventory → ℕ → Bool
 is_over inventory number =
-    exceeds (place_at inventory.places number).limit (down_count inventory (place_at inventory.places number).name)
+    exceeds (allowed_of inventory (place_at inventory.places number)) (down_count inventory (place_at inventory.places number).name)
 
 abbrev pub StartsWithin : Inventory → Type 0
 StartsWithin inventory = (number : ℕ) → is_over inventory number ≡ false
@@ -32,7 +42,7 @@ StartsWithin inventory = (number : ℕ) → is_over inventory number ≡ false
 pub record IsFirstOver (inventory : Inventory) (group : Name) (count limit : ℕ) : Type 0 where
   pub number : ℕ
   pub name : (place_at inventory.places number).name ≡ group
-  pub limited : (place_at inventory.places number).limit ≡ Some limit
+  pub limited : allowed_of inventory (place_at inventory.places number) ≡ Some limit
   pub counted : count ≡ down_count inventory group
   pub over : limit < count
   pub first : (earlier : ℕ) → earlier < number → is_over inventory earlier ≡ false

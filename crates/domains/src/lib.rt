@@ -3,11 +3,12 @@
 
 mod fault;
 mod fleet;
+mod ids;
+mod lists;
 mod marks;
 mod names;
 mod numbers;
-mod offs;
-mod parts;
+mod off_hosts;
 mod pattern_fault;
 mod rows;
 mod search;
@@ -15,7 +16,7 @@ mod target;
 mod walk;
 
 pub use fault::FleetFault;
-pub use fleet::{Fleet, MAX_HOSTS};
+pub use fleet::{Fleet, HOSTS_BOUND};
 pub use pattern_fault::PatternFault;
 
 #[cfg(test)]

@@ -3,11 +3,12 @@ ghost use Rattle.std.specs.Prelude.{◌≡◌, ℕ, ◌<◌, ◌||◌, not, true
 ghost use Rattle.std.specs.List.{list_any, find};
 ghost use Rattle.host_patterns.specs.Patterns.{parts_of};
 ghost use Rattle.fleet_numbers.specs.NumberLists.{list_at, has_number};
+ghost use Rattle.domains.specs.Ids.{host_numbers};
 ghost use Rattle.domains.specs.Patterns.{AreFlags, IsPatternFault, is_named_by, names_nothing};
 
 use crate::fleet::Fleet;
 use crate::pattern_fault::PatternFault;
-use group_tree::GroupId;
+use group_tree::{GroupId, HostId};
 use host_patterns::first_part;
 use std::alloc::{AllocError, Global};
 
@@ -18,14 +19,14 @@ pub(crate) struct Marks {
     pub(crate) hosts: Vec<bool>,
 }
 
-fn flag_all(numbers: &[usize], flags: &mut Vec<bool>)
-    requires { All (λ number. number < length flags.old.items) numbers.now }
+fn flag_all(hosts: &[HostId], flags: &mut Vec<bool>)
+    requires { All (λ host. host.index < length flags.old.items) hosts.now }
     ensures len { length flags.new.items ≡ length flags.old.items }
     ensures flagged { (place : ℕ) → place < length flags.old.items → slice_index_or flags.new.items place false
-        ≡ (slice_index_or flags.old.items place false || has_number place numbers.now) }
+        ≡ (slice_index_or flags.old.items place false || has_number place (host_numbers hosts.now)) }
 {
-    for number in numbers {
-        flags[*number] = true;
+    for host in hosts {
+        flags[host.index] = true;
     }
 }
 
@@ -64,8 +65,6 @@ impl Marks {
         ensures marked { (host : ℕ) → host < length fleet.now.hosts → slice_index_or self.new.hosts.items host false
             ≡ (slice_index_or self.old.hosts.items host false || is_named_by fleet.now host name.now) }
     {
-        // Asked for what it says of the names.
-        let _hosts = fleet.hosts();
         if let Some(group) = fleet.group(name) {
             self.mark_group(fleet, group);
             return true;

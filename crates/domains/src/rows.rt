@@ -1,9 +1,9 @@
 //! The hosts of a tree as its groups list them.
 ghost use Rattle.std.specs.Prelude.{◌≡◌, ℕ, ◌++◌, IfOk, OnOk, map};
 ghost use Rattle.inventory_model.specs.Subtrees as model;
-ghost use Rattle.domains.specs.Spots.{rows_from};
+ghost use Rattle.domains.specs.Walks.{rows_from};
 
-use crate::walk::Spot;
+use crate::walk::WalkedGroup;
 use group_tree::Host;
 use std::alloc::{AllocError, Allocator, Global};
 
@@ -31,14 +31,14 @@ fn add_rows<'a, A: Allocator>(
 /// The host rows of groups in preorder.
 pub(crate) fn list_rows<'a, A: Allocator>(
     alloc: Global,
-    spots: &[Spot<'a, A>],
+    groups: &[WalkedGroup<'a, A>],
 ) -> Result<Vec<HostRow<'a, A>>, AllocError>
     ensures { IfOk result (λ rows. map {B = model.Host × ℕ} (λ row. (row.host.now, row.group)) rows.items
-        ≡ rows_from 0 (map (λ spot. spot.group.now) spots.now)) }
+        ≡ rows_from 0 (map (λ walked. walked.group.now) groups.now)) }
 {
     let mut rows = Vec::new(alloc);
-    for (number, spot) in spots.iter().enumerate() {
-        let group = spot.group;
+    for (number, walked) in groups.iter().enumerate() {
+        let group = walked.group;
         add_rows(group.hosts(), number, &mut rows)?;
     }
     Ok(rows)

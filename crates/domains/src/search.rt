@@ -1,13 +1,15 @@
-//! The first host at which limited groups cut across each other, and the first group over its limit.
+//! The first host at which limited groups cross, and the first group over its limit.
 ghost use Rattle.std.specs.Prelude.{◌≡◌, ℕ, ◌<◌, length, MatchOption, Some, None, All, count_by, false, slice_index_or};
 ghost use Rattle.fleet_numbers.specs.NumberLists.{list_at, IsRising};
-ghost use Rattle.fleet_numbers.specs.Chains.{IsUncut, IsLeastCut};
+ghost use Rattle.fleet_numbers.specs.Chains.{IsNestedChain, IsLeastCrossingPair};
 ghost use Rattle.domains.specs.Starts.{exceeds};
-ghost use Rattle.domains.specs.Search.{off_count, IsFirstCutHost, IsFirstOverGroup, IsNowhereCut, IsNowhereOver, IsFirstBreach};
+ghost use Rattle.domains.specs.FleetViews.{off_count};
+ghost use Rattle.domains.specs.Search.{IsFirstCrossing, IsFirstOverGroup, AreChainsNested, AreStartsWithin, IsFirstBreach};
 
-use fleet_numbers::{NumberLists, first_cut};
+use crate::lists::FleetLists;
+use fleet_numbers::{NumberLists, first_crossing};
 
-/// Two limited groups that cut across each other at a host, all by their numbers.
+/// Two limited groups that cross at a host, all by their numbers.
 #[derive(Clone, Copy)]
 pub(crate) struct Crossing {
     pub(crate) host: usize,
@@ -15,13 +17,13 @@ pub(crate) struct Crossing {
     pub(crate) second: usize,
 }
 
-fn find_crossing(chains: &NumberLists, lasts: &[usize]) -> Option<Crossing>
-    requires { All (IsRising (length lasts.now)) chains.now }
-    ensures { MatchOption result ((host : ℕ) → host < length chains.now → IsUncut lasts.now (list_at chains.now host))
-        (λ crossing. IsFirstCutHost lasts.now chains.now crossing.host crossing.first crossing.second) }
+fn find_crossing(chains: &NumberLists, subtree_ends: &[usize]) -> Option<Crossing>
+    requires { All (IsRising (length subtree_ends.now)) chains.now }
+    ensures { MatchOption result ((host : ℕ) → host < length chains.now → IsNestedChain subtree_ends.now (list_at chains.now host))
+        (λ crossing. IsFirstCrossing subtree_ends.now chains.now crossing.host crossing.first crossing.second) }
 {
     for host in 0..chains.len() {
-        if let Some((first, second)) = first_cut(chains.at(host), lasts) {
+        if let Some((first, second)) = first_crossing(chains.at(host), subtree_ends) {
             return Some(Crossing {
                 host,
                 first,
@@ -32,7 +34,8 @@ fn find_crossing(chains: &NumberLists, lasts: &[usize]) -> Option<Crossing>
     None
 }
 
-fn is_off(off: &[bool], host: usize) -> bool
+/// A number that no host has is up.
+pub(crate) fn is_off(off: &[bool], host: usize) -> bool
     ensures { result ≡ slice_index_or off.now host false }
 {
     match off.get(host) {
@@ -87,22 +90,17 @@ pub(crate) enum Breach {
 }
 
 /// The first rule that is broken: how limits nest goes before the start.
-pub(crate) fn find_breach(
-    chains: &NumberLists,
-    lasts: &[usize],
-    members: &NumberLists,
-    limits: &[Option<u16>],
-    off: &[bool],
-) -> Option<Breach>
-    requires rising { All (IsRising (length lasts.now)) chains.now }
-    requires len { length limits.now ≡ length members.now }
-    ensures { MatchOption result (IsNowhereCut lasts.now chains.now × IsNowhereOver members.now limits.now off.now)
-        (λ breach. IsFirstBreach lasts.now chains.now members.now limits.now off.now breach) }
+pub(crate) fn find_breach(lists: &FleetLists, off: &[bool]) -> Option<Breach>
+    requires rising { All (IsRising (length lists.now.subtree_ends.items)) lists.now.chains }
+    requires len { length lists.now.limits.items ≡ length lists.now.members }
+    ensures { MatchOption result (AreChainsNested lists.now.subtree_ends.items lists.now.chains × AreStartsWithin lists.now.members lists.now.limits.items off.now)
+        (λ breach. IsFirstBreach lists.now.subtree_ends.items lists.now.chains lists.now.members lists.now.limits.items off.now breach) }
 {
-    if let Some(crossing) = find_crossing(chains, lasts) {
+    let subtree_ends = lists.subtree_ends.as_slice();
+    if let Some(crossing) = find_crossing(&lists.chains, subtree_ends) {
         return Some(Breach::Nesting(crossing));
     }
-    match find_over(members, limits, off) {
+    match find_over(&lists.members, lists.limits.as_slice(), off) {
         Some(over) => Some(Breach::Start(over)),
         None => None,
     }

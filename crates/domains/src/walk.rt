@@ -1,32 +1,32 @@
 //! The groups of a tree in preorder.
 ghost use Rattle.std.specs.Prelude.{◌≡◌, ℕ, ◌+◌, ◌<◌, ◌^◌, ◌++◌, OnOk, List, map, length};
 ghost use Rattle.inventory_model.specs.Subtrees.{Subtree, inventory_of};
-ghost use Rattle.domains.specs.Spots.{IsWalkOf};
+ghost use Rattle.domains.specs.Walks.{IsWalkOf};
 
 use group_tree::Group;
 use std::alloc::{AllocError, Allocator};
 
 /// A group, with how many groups stand above it.
 #[derive(Drop)]
-pub(crate) struct Spot<'a, A: Allocator> {
+pub(crate) struct WalkedGroup<'a, A: Allocator> {
     pub(crate) group: &'a Group<A>,
     pub(crate) depth: usize,
 }
 
 /// Adds a group and all below it to a list, in preorder.
-pub(crate) fn list_spots<'a, A: Allocator>(
+pub(crate) fn list_walk<'a, A: Allocator>(
     group: &'a Group<A>,
     depth: usize,
-    spots: &mut Vec<Spot<'a, A>>,
+    groups: &mut Vec<WalkedGroup<'a, A>>,
 ) -> Result<(), AllocError>
     requires { depth + length group.now.below.places < 2 ^ 64 }
     ensures { OnOk result ((walk : List (Subtree × ℕ))
-        × (map (λ spot. (spot.group.now, spot.depth)) spots.new.items ≡ map (λ spot. (spot.group.now, spot.depth)) spots.old.items ++ walk)
+        × (map (λ walked. (walked.group.now, walked.depth)) groups.new.items ≡ map (λ walked. (walked.group.now, walked.depth)) groups.old.items ++ walk)
         × IsWalkOf (inventory_of group.now) depth walk) }
 {
-    spots.push(Spot { group, depth })?;
+    groups.push(WalkedGroup { group, depth })?;
     for child in group.children() {
-        list_spots(child, depth + 1, spots)?;
+        list_walk(child, depth + 1, groups)?;
     }
     Ok(())
 }

@@ -1,9 +1,9 @@
--- The first two groups of a chain that cut across each other, by two searches.
+-- The first two groups of a chain that cross, by two searches.
 use Rattle.std.proofs.Common.{◌≡◌, ℕ, suc, ◌-◌, ◌≤◌, ◌<◌, Bool, true, false, ◌||◌, cond, nat_eq, nat_lt, Some, None, List, [], ◌∷◌, length, get_or, find, sym, ap, ◌∙◌, refl, subst, arith, sub-one, inl, inr, ◌⊎◌}
 use Rattle.std.proofs.lemmas.Bool.{eqb-true, eq-eqb, ltb-true, ltb-false, lt-ltb, le-ltb, cases_lt, false≢true, or_right}
 use Rattle.std.proofs.lemmas.List.Folds.{list_any_at}
 use Rattle.fleet_numbers.specs.NumberLists.{has_number}
-use Rattle.fleet_numbers.specs.Chains.{cuts, IsUncut, IsLeastCut}
+use Rattle.fleet_numbers.specs.Chains.{ends_before, IsNestedChain, IsLeastCrossingPair}
 use Rattle.fleet_numbers.proofs.RisingLemmas.{Ascends, has_number-within}
 
 pub found_in : (p : ℕ → Bool) (xs : List ℕ) (x : ℕ) → find p xs ≡ Some x → (has_number x xs ≡ true) × (p x ≡ true)
@@ -70,49 +70,49 @@ last_greatest low high (x ∷ (y ∷ xs)) n d up h =
     by_case head_below later false s =
         omega (arith, index, later (sym (ap (λ b. b || has_number n (y ∷ xs)) s) ∙ h))
 
-module _ (lasts chain : List ℕ) (up : Ascends 0 (length lasts) chain) where
-  pub uncut_empty : length chain ≡ 0 → IsUncut lasts chain
-  uncut_empty e first second h k = absurd (none chain e h)
+module _ (subtree_ends chain : List ℕ) (up : Ascends 0 (length subtree_ends) chain) where
+  pub nested_empty : length chain ≡ 0 → IsNestedChain subtree_ends chain
+  nested_empty e first second h k = absurd (none chain e h)
     where
       none : (xs : List ℕ) → length xs ≡ 0 → has_number first xs ≡ true → ⊥
       none [] e h = cc
       none (x ∷ xs) e h = absurd (omega (arith, e))
 
-  pub uncut_none : find (λ group. cuts lasts group (get_or chain (length chain - 1) 0)) chain ≡ None → IsUncut lasts chain
-  uncut_none e first second h k =
-      let top : second ≤ get_or chain (length chain - 1) 0 = last_greatest 0 (length lasts) chain second 0 up k in
-      let ends : nat_lt (get_or lasts first 0) (get_or chain (length chain - 1) 0) ≡ false = found_none (λ group. cuts lasts group (get_or chain (length chain - 1) 0)) chain first e h in
-      le-ltb (get_or lasts first 0) second (omega (arith, ltb-false _ _ ends))
+  pub nested_none : find (λ group. ends_before subtree_ends group (get_or chain (length chain - 1) 0)) chain ≡ None → IsNestedChain subtree_ends chain
+  nested_none e first second h k =
+      let top : second ≤ get_or chain (length chain - 1) 0 = last_greatest 0 (length subtree_ends) chain second 0 up k in
+      let ends : nat_lt (get_or subtree_ends first 0) (get_or chain (length chain - 1) 0) ≡ false = found_none (λ group. ends_before subtree_ends group (get_or chain (length chain - 1) 0)) chain first e h in
+      le-ltb (get_or subtree_ends first 0) second (omega (arith, ltb-false _ _ ends))
 
-  pub cut_least : (first second : ℕ) → find (λ group. cuts lasts group (get_or chain (length chain - 1) 0)) chain ≡ Some first → find (nat_lt (get_or lasts first 0)) chain ≡ Some second → IsLeastCut lasts chain first second
-  cut_least first second e f =
-      let a = found_in (λ group. cuts lasts group (get_or chain (length chain - 1) 0)) chain first e in
-      let b = found_in (nat_lt (get_or lasts first 0)) chain second f in
+  pub crossing_least : (first second : ℕ) → find (λ group. ends_before subtree_ends group (get_or chain (length chain - 1) 0)) chain ≡ Some first → find (nat_lt (get_or subtree_ends first 0)) chain ≡ Some second → IsLeastCrossingPair subtree_ends chain first second
+  crossing_least first second e f =
+      let a = found_in (λ group. ends_before subtree_ends group (get_or chain (length chain - 1) 0)) chain first e in
+      let b = found_in (nat_lt (get_or subtree_ends first 0)) chain second f in
       record {
         first_in = a.0;
         second_in = b.0;
-        cut = b.1;
+        crosses = b.1;
         least = λ other later h k q. before other later h k q;
       }
     where
-      before : (other later : ℕ) → has_number other chain ≡ true → has_number later chain ≡ true → cuts lasts other later ≡ true → (first < other) ⊎ ((first ≡ other) × (second ≤ later))
+      before : (other later : ℕ) → has_number other chain ≡ true → has_number later chain ≡ true → ends_before subtree_ends other later ≡ true → (first < other) ⊎ ((first ≡ other) × (second ≤ later))
       before other later h k q =
-          let top : later ≤ get_or chain (length chain - 1) 0 = last_greatest 0 (length lasts) chain later 0 up k in
-          let ends : nat_lt (get_or lasts other 0) (get_or chain (length chain - 1) 0) ≡ true = lt-ltb _ _ (omega (arith, ltb-true _ _ q)) in
-          let least : first ≤ other = found_least (λ group. cuts lasts group (get_or chain (length chain - 1) 0)) 0 (length lasts) chain first other up e h ends in
+          let top : later ≤ get_or chain (length chain - 1) 0 = last_greatest 0 (length subtree_ends) chain later 0 up k in
+          let ends : nat_lt (get_or subtree_ends other 0) (get_or chain (length chain - 1) 0) ≡ true = lt-ltb _ _ (omega (arith, ltb-true _ _ q)) in
+          let least : first ≤ other = found_least (λ group. ends_before subtree_ends group (get_or chain (length chain - 1) 0)) 0 (length subtree_ends) chain first other up e h ends in
           by_case (cases_lt first other) least
         where
           by_case : (first < other) ⊎ (other ≤ first) → first ≤ other → (first < other) ⊎ ((first ≡ other) × (second ≤ later))
           by_case (inl l) m = inl l
           by_case (inr l) m =
               let same : first ≡ other = omega arith in
-              inr (same, found_least (nat_lt (get_or lasts first 0)) 0 (length lasts) chain second later up f k (subst (λ (g : ℕ). cuts lasts g later ≡ true) (sym same) q))
+              inr (same, found_least (nat_lt (get_or subtree_ends first 0)) 0 (length subtree_ends) chain second later up f k (subst (λ (g : ℕ). ends_before subtree_ends g later ≡ true) (sym same) q))
 
   -- where some group ends before the last one, something comes past it
-  pub cut_some : (first : ℕ) → find (λ group. cuts lasts group (get_or chain (length chain - 1) 0)) chain ≡ Some first → find (nat_lt (get_or lasts first 0)) chain ≡ None → 0 < length chain → ⊥
-  cut_some first e f some =
-      let a = found_in (λ group. cuts lasts group (get_or chain (length chain - 1) 0)) chain first e in
-      let none : nat_lt (get_or lasts first 0) (get_or chain (length chain - 1) 0) ≡ false = found_none (nat_lt (get_or lasts first 0)) chain (get_or chain (length chain - 1) 0) f (at_last chain some) in
+  pub crossing_some : (first : ℕ) → find (λ group. ends_before subtree_ends group (get_or chain (length chain - 1) 0)) chain ≡ Some first → find (nat_lt (get_or subtree_ends first 0)) chain ≡ None → 0 < length chain → ⊥
+  crossing_some first e f some =
+      let a = found_in (λ group. ends_before subtree_ends group (get_or chain (length chain - 1) 0)) chain first e in
+      let none : nat_lt (get_or subtree_ends first 0) (get_or chain (length chain - 1) 0) ≡ false = found_none (nat_lt (get_or subtree_ends first 0)) chain (get_or chain (length chain - 1) 0) f (at_last chain some) in
       false≢true (sym none ∙ a.1)
     where
       at_last : (xs : List ℕ) → 0 < length xs → has_number (get_or xs (length xs - 1) 0) xs ≡ true

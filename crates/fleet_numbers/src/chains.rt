@@ -1,8 +1,8 @@
-//! Each host's limited groups, and limited groups that cut across each other.
+//! Each host's limited groups, and limited groups that cross.
 ghost use Rattle.std.specs.Prelude.{◌≡◌, ℕ, ◌<◌, length, map, filter, IfOk, IfSome, IsTrue, MatchOption, slice_index_or, find, cond, nat_lt};
 ghost use Rattle.std.specs.List.{list_all, range_with_len};
 ghost use Rattle.fleet_numbers.specs.NumberLists.{list_at, has_number, are_below, last_where, IsRising};
-ghost use Rattle.fleet_numbers.specs.Chains.{is_limited, cuts, IsUncut, IsLeastCut};
+ghost use Rattle.fleet_numbers.specs.Chains.{is_limited, ends_before, IsNestedChain, IsLeastCrossingPair};
 
 use crate::lists::NumberLists;
 use std::alloc::{AllocError, Global};
@@ -47,27 +47,27 @@ pub fn list_chains(
 }
 
 /// Writes the number at each place of a path.
-fn mark_path(lasts: &mut [usize], path: &[usize], number: usize)
-    requires { IsTrue (are_below (length lasts.old) path.now) }
-    ensures { (group : ℕ) → group < length lasts.old
-        → slice_index_or lasts.new group 0 ≡ cond (has_number group path.now) number (slice_index_or lasts.old group 0) }
+fn mark_path(subtree_ends: &mut [usize], path: &[usize], number: usize)
+    requires { IsTrue (are_below (length subtree_ends.old) path.now) }
+    ensures { (group : ℕ) → group < length subtree_ends.old
+        → slice_index_or subtree_ends.new group 0 ≡ cond (has_number group path.now) number (slice_index_or subtree_ends.old group 0) }
 {
     for group in path {
-        lasts[*group] = number;
+        subtree_ends[*group] = number;
     }
 }
 
 /// For each group the last one at or below it.
-pub fn list_lasts(alloc: Global, paths: &NumberLists) -> Result<Vec<usize>, AllocError>
+pub fn list_subtree_ends(alloc: Global, paths: &NumberLists) -> Result<Vec<usize>, AllocError>
     requires { IsTrue (list_all (are_below (length paths.now)) paths.now) }
-    ensures { IfOk result (λ lasts. lasts.items
+    ensures { IfOk result (λ subtree_ends. subtree_ends.items
         ≡ map (λ group. last_where (λ number. has_number group (list_at paths.now number)) (length paths.now)) (range_with_len 0 (length paths.now))) }
 {
-    let mut lasts = vec![in alloc; 0; paths.len()]?;
+    let mut subtree_ends = vec![in alloc; 0; paths.len()]?;
     for number in 0..paths.len() {
-        mark_path(&mut lasts, paths.at(number), number);
+        mark_path(&mut subtree_ends, paths.at(number), number);
     }
-    Ok(lasts)
+    Ok(subtree_ends)
 }
 
 /// The first number past a bound.
@@ -78,32 +78,32 @@ fn first_past(numbers: &[usize], bound: usize) -> Option<usize>
 }
 
 /// The first group whose last one comes before `top`.
-fn first_ending(groups: &[usize], lasts: &[usize], top: usize) -> Option<usize>
-    requires { IsTrue (are_below (length lasts.now) groups.now) }
-    ensures value { result ≡ find (λ group. cuts lasts.now group top) groups.now }
-    ensures within { IfSome result (λ group. group < length lasts.now) }
+fn first_ending(groups: &[usize], subtree_ends: &[usize], top: usize) -> Option<usize>
+    requires { IsTrue (are_below (length subtree_ends.now) groups.now) }
+    ensures value { result ≡ find (λ group. ends_before subtree_ends.now group top) groups.now }
+    ensures within { IfSome result (λ group. group < length subtree_ends.now) }
 {
     for group in groups {
-        if lasts[*group] < top {
+        if subtree_ends[*group] < top {
             return Some(*group);
         }
     }
     None
 }
 
-/// The first two groups of a chain of which the second does not stand below the first; `lasts` has for each group the
+/// The first two groups of a chain of which the second does not stand below the first; `subtree_ends` has for each group the
 /// last one at or below it.
-pub fn first_cut(chain: &[usize], lasts: &[usize]) -> Option<(usize, usize)>
-    requires { IsRising (length lasts.now) chain.now }
-    ensures { MatchOption result (IsUncut lasts.now chain.now) (λ (first, second). IsLeastCut lasts.now chain.now first second) }
+pub fn first_crossing(chain: &[usize], subtree_ends: &[usize]) -> Option<(usize, usize)>
+    requires { IsRising (length subtree_ends.now) chain.now }
+    ensures { MatchOption result (IsNestedChain subtree_ends.now chain.now) (λ (first, second). IsLeastCrossingPair subtree_ends.now chain.now first second) }
 {
     let Some(top) = chain.last() else {
         return None;
     };
-    let Some(first) = first_ending(chain, lasts, *top) else {
+    let Some(first) = first_ending(chain, subtree_ends, *top) else {
         return None;
     };
-    let Some(second) = first_past(chain, lasts[first]) else {
+    let Some(second) = first_past(chain, subtree_ends[first]) else {
         return None;
     };
     Some((first, second))

@@ -2,14 +2,14 @@
 ghost use Rattle.std.specs.Prelude.{◌≡◌, length, map, IfOk, All, IsTrue, IsPermutation};
 ghost use Rattle.std.specs.List.{range_with_len};
 ghost use Rattle.fleet_numbers.specs.NumberLists.{list_at, are_below};
-ghost use Rattle.fleet_numbers.specs.DealOrder.{deal_key, max_groups, IsDealt, ArePlacesOf};
+ghost use Rattle.fleet_numbers.specs.DealOrder.{deal_key, groups_bound, IsDealt, ArePlacesOf};
 
 use crate::lists::NumberLists;
 use std::alloc::{AllocError, Global};
 
 /// The number of the last group, counted from 1, and 0 where there is none.
 fn deal_key(chain: &[usize]) -> usize
-    requires { IsTrue (are_below max_groups chain.now) }
+    requires { IsTrue (are_below groups_bound chain.now) }
     ensures { result ≡ deal_key chain.now }
 {
     match chain.last() {
@@ -20,7 +20,7 @@ fn deal_key(chain: &[usize]) -> usize
 
 /// Each host's key with its number, in order.
 fn list_keys(alloc: Global, chains: &NumberLists) -> Result<Vec<(usize, usize)>, AllocError>
-    requires { All (λ chain. IsTrue (are_below max_groups chain)) chains.now }
+    requires { All (λ chain. IsTrue (are_below groups_bound chain)) chains.now }
     ensures { IfOk result (λ keys. keys.items
         ≡ map (λ host. (deal_key (list_at chains.now host), host)) (range_with_len 0 (length chains.now))) }
 {
@@ -35,7 +35,7 @@ fn list_keys(alloc: Global, chains: &NumberLists) -> Result<Vec<(usize, usize)>,
 /// The hosts by the innermost of their limited groups, those without one first, then by number; `chains` has each
 /// host's limited groups.
 pub fn list_deal_order(alloc: Global, chains: &NumberLists) -> Result<Vec<usize>, AllocError>
-    requires { All (λ chain. IsTrue (are_below max_groups chain)) chains.now }
+    requires { All (λ chain. IsTrue (are_below groups_bound chain)) chains.now }
     ensures each_once { IfOk result (λ order. IsPermutation (range_with_len 0 (length chains.now)) order.items) }
     ensures dealt { IfOk result (λ order. IsDealt chains.now order.items) }
 {

@@ -8,7 +8,7 @@ mod members;
 mod names;
 mod paths;
 
-pub use chains::{first_cut, list_chains, list_lasts};
+pub use chains::{first_crossing, list_chains, list_subtree_ends};
 pub use deal::{list_deal_order, list_deal_places};
 pub use lists::NumberLists;
 pub use members::{list_held, list_members};

@@ -5,5 +5,6 @@ pub mod Preorder
 pub mod WellFormed
 pub mod Depths
 pub mod NamesWithin
+pub mod Stands
 pub mod Nth
 pub mod Repeats

@@ -77,19 +77,19 @@ module _ (group : Subtree) (children : List Subtree) (parts : side_by_side child
   below_parts test =
       ap (λ (below : Inventory). list_any test below.rows) (sym parts) ∙ list_any-flat_map test rows_of children
 
-  -- at a child for which the answer is said
+  -- at a child that holds it
   below_child : (test : Row → Bool) (i : ℕ) (child : Subtree) → i < length children → child ≡ get_or children i child → true ≡ list_any test (rows_of child) → list_any test group.below.rows ≡ true
-  below_child test i child within is said =
-      below_parts test ∙ list_any_at (λ child. list_any test (rows_of child)) children i child within (rw (← is) (sym said))
+  below_child test i child within is held =
+      below_parts test ∙ list_any_at (λ child. list_any test (rows_of child)) children i child within (rw (← is) (sym held))
 
-  -- past the last child, none of which said said
+  -- past the last child, none of which holds it
   below_none : (test : Row → Bool) (i : ℕ) → length children ≤ i → list_any (λ child. list_any test (rows_of child)) (take i children) ≡ false → list_any test group.below.rows ≡ false
   below_none test i past none = below_parts test ∙ (rw (take_all i children past) at none)
 
   -- `lists`: the group itself, a child, or none
   pub is_listed-child : (host : Name) (i : ℕ) (child : Subtree) → i < length children → child ≡ get_or children i child → true ≡ list_any (is_of host) (rows_of child) → true ≡ list_any (is_of host) (rows_of group)
-  is_listed-child host i child within is said =
-      sym (is_listed-split group host ∙ or_right _ _ (below_child (is_of host) i child within is said))
+  is_listed-child host i child within is held =
+      sym (is_listed-split group host ∙ or_right _ _ (below_child (is_of host) i child within is held))
 
   pub is_listed-none : (host : Name) (i : ℕ) → list_any (λ (own : Host). same_name host own.name) group.hosts ≡ false → length children ≤ i → list_any (λ child. list_any (is_of host) (rows_of child)) (take i children) ≡ false → false ≡ list_any (is_of host) (rows_of group)
   is_listed-none host i here past none =
@@ -97,8 +97,8 @@ module _ (group : Subtree) (children : List Subtree) (parts : side_by_side child
 
   -- `holds`, elsewhere than at the group of the name: a child, or none
   pub holds-child : (name host : Name) (i : ℕ) (child : Subtree) → same_name name group.name ≡ false → i < length children → child ≡ get_or children i child → true ≡ holds (inventory_of child) name host → true ≡ holds (inventory_of group) name host
-  holds-child name host i child elsewhere within is said =
-      sym (holds-elsewhere group name host elsewhere ∙ below_child (is_row_of name host) i child within is said)
+  holds-child name host i child elsewhere within is held =
+      sym (holds-elsewhere group name host elsewhere ∙ below_child (is_row_of name host) i child within is held)
 
   pub holds-none : (name host : Name) (i : ℕ) → same_name name group.name ≡ false → length children ≤ i → list_any (λ child. holds (inventory_of child) name host) (take i children) ≡ false → false ≡ holds (inventory_of group) name host
   holds-none name host i elsewhere past none =

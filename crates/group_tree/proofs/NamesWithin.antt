@@ -6,7 +6,7 @@ use Rattle.std.proofs.lemmas.List.Folds.{list_any-append}
 use Rattle.inventory_model.specs.Names.{Name, same_name, is_among}
 use Rattle.inventory_model.specs.Places.{Place, Inventory}
 use Rattle.inventory_model.specs.Subtrees.{Subtree, place_under, places_of, side_by_side}
-use Rattle.inventory_model.specs.Limits.{group_names}
+use Rattle.inventory_model.specs.Bounds.{group_names}
 
 -- the names of several groups, each with all below it
 abbrev names_of : List Subtree → List Name

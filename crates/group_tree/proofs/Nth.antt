@@ -3,9 +3,10 @@ use Rattle.std.proofs.Common.{◌≡◌, ℕ, zero, suc, ◌+◌, ◌-◌, ◌<�
 use Rattle.std.specs.Option.{option_map}
 use Rattle.std.proofs.lemmas.Option.{slice_get-map}
 use Rattle.inventory_model.specs.Places.{Inventory}
-use Rattle.inventory_model.specs.Subtrees.{Subtree, own_place, place_under, places_of, side_by_side}
-use Rattle.group_tree.specs.Trees.{IsGroupAt}
+use Rattle.inventory_model.specs.Subtrees.{Subtree, own_place, place_under, places_of, inventory_of, side_by_side}
+use Rattle.group_tree.specs.Trees.{IsGroupAt, under_path}
 use Rattle.group_tree.proofs.NamesWithin.{places-split}
+use Rattle.group_tree.proofs.Stands.{stands-itself, stands-child}
 
 -- the place looked for among the children is the one that is left among those still to come
 pub record IsAtChild (children : List Subtree) (i left start : ℕ) : Type 0 where
@@ -24,17 +25,22 @@ slice_get-append_right (x ∷ xs) ys zero past = absurd (omega arith)
 slice_get-append_right (x ∷ xs) ys (suc i) past =
     slice_get-append_right xs ys i (omega arith) ∙ (let e : i - length xs ≡ suc i - suc (length xs) = omega arith in ap (slice_get ys) e)
 
+pub IsGroupAt-itself : (group : Subtree) (index : ℕ) → index ≡ 0 → IsGroupAt (inventory_of group) index group 1
+IsGroupAt-itself group index first =
+    record { above = []; here = rw first refl; whole = stands-itself (inventory_of group); deep = refl }
+
 module _ (group : Subtree) (children : List Subtree) (parts : side_by_side children ≡ group.below) (i : ℕ) (child : Subtree) (within : i < length children) (is : child ≡ get_or children i child) where
   -- the group found in a child stands one deeper in its parent
-  pub IsGroupAt-child : (left start index : ℕ) (found : Subtree) (depth : ℕ) → index ≡ start + 1 → slice_get (side_by_side (drop i children)).places left ≡ slice_get (side_by_side children).places start → left < length (places_of child) → IsGroupAt (places_of child) left found depth → IsGroupAt (places_of group) index found (depth + 1)
+  pub IsGroupAt-child : (left start index : ℕ) (found : Subtree) (depth : ℕ) → index ≡ start + 1 → slice_get (side_by_side (drop i children)).places left ≡ slice_get (side_by_side children).places start → left < length (places_of child) → IsGroupAt (inventory_of child) left found depth → IsGroupAt (inventory_of group) index found (depth + 1)
   IsGroupAt-child left start index found depth next same inside at =
       let below = same_below left start same inside at in record {
         above = group.name ∷ at.above;
         here = rw (next, let e : start + 1 ≡ suc start = omega arith in e) (slice_get-map (place_under group.name) group.below.places start ∙ ap (option_map (place_under group.name)) below);
+        whole = stands-child group children parts i child within is (under_path at.above (inventory_of found)) at.whole;
         deep = rw at.deep (let e : suc (length at.above) + 1 ≡ length at.above + 1 + 1 = omega arith in sym e);
       }
     where
-      same_below : (left start : ℕ) → slice_get (side_by_side (drop i children)).places left ≡ slice_get (side_by_side children).places start → left < length (places_of child) → (at : IsGroupAt (places_of child) left found depth) → slice_get group.below.places start ≡ Some (record (own_place found) { above = at.above })
+      same_below : (left start : ℕ) → slice_get (side_by_side (drop i children)).places left ≡ slice_get (side_by_side children).places start → left < length (places_of child) → (at : IsGroupAt (inventory_of child) left found depth) → slice_get group.below.places start ≡ Some (record (own_place found) { above = at.above })
       same_below left start same inside at =
           ap (λ (below : Inventory). slice_get below.places start) (sym parts) ∙ sym same ∙ ap (λ places. slice_get places left) (places-split children i child within is) ∙ slice_get-append_left (places_of child) (side_by_side (drop (i + 1) children)).places left inside ∙ at.here
 

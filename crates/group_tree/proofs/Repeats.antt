@@ -7,9 +7,9 @@ use Rattle.std.proofs.lemmas.Option.{slice_get-map, get_or_from_slice_get}
 use Rattle.std.specs.Option.{option_map}
 use lib.Pointwise.{bytes_decides}
 use Rattle.inventory_model.specs.Names.{Name, same_name, is_among, are_distinct}
-use Rattle.inventory_model.specs.Places.{Place}
+use Rattle.inventory_model.specs.Places.{Place, Inventory}
 use Rattle.inventory_model.specs.Subtrees.{Subtree}
-use Rattle.inventory_model.specs.Limits.{group_names}
+use Rattle.inventory_model.specs.Bounds.{group_names}
 use Rattle.group_tree.specs.Trees.{IsGroupAt}
 use Rattle.group_tree.proofs.Preorder.{same_name-self}
 
@@ -30,6 +30,6 @@ are_distinct-more names i within distinct new =
     ap are_distinct (take_more names i [] within) ∙ are_distinct-push (take i names) (get_or names i []) distinct new
 
 -- the name of the group at a place
-pub IsGroupAt-name : (places : List Place) (index : ℕ) (group : Subtree) (depth : ℕ) → IsGroupAt places index group depth → group.name ≡ get_or (group_names places) index []
-IsGroupAt-name places index group depth at =
-    sym (get_or_from_slice_get (group_names places) index group.name [] (slice_get-map (λ (place : Place). place.name) places index ∙ ap (option_map (λ (place : Place). place.name)) at.here))
+pub IsGroupAt-name : (tree : Inventory) (index : ℕ) (group : Subtree) (depth : ℕ) → IsGroupAt tree index group depth → group.name ≡ get_or (group_names tree.places) index []
+IsGroupAt-name tree index group depth at =
+    sym (get_or_from_slice_get (group_names tree.places) index group.name [] (slice_get-map (λ (place : Place). place.name) tree.places index ∙ ap (option_map (λ (place : Place). place.name)) at.here))

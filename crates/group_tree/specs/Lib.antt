@@ -1,3 +1,4 @@
+pub mod Limits
 pub mod Scalars
 pub mod Parts
 pub mod Trees

@@ -8,16 +8,16 @@ use Rattle.group_tree.specs.declared.scalar.Scalar.TheVariants as lent
 use Rattle.group_tree.specs.declared.variable.Kept.{Kept}
 use Rattle.group_tree.specs.declared.variable.Kept.TheVariants as kept
 
-abbrev pub said : Scalar → model.Scalar
-said (lent.Text text) = model.Text text.now
-said (lent.Int number) = model.Int number
-said (lent.Bool truth) = model.Truth truth
+abbrev pub lent_scalar : Scalar → model.Scalar
+lent_scalar (lent.Text text) = model.Text text.now
+lent_scalar (lent.Int number) = model.Int number
+lent_scalar (lent.Bool truth) = model.Truth truth
 
-abbrev pub said_by_kept : {A : Type 0} → Kept A → model.Scalar
-said_by_kept (kept.Text text) = model.Text (string_bytes text)
-said_by_kept (kept.Int number) = model.Int number
-said_by_kept (kept.Bool truth) = model.Truth truth
+abbrev pub kept_scalar : {A : Type 0} → Kept A → model.Scalar
+kept_scalar (kept.Text text) = model.Text (string_bytes text)
+kept_scalar (kept.Int number) = model.Int number
+kept_scalar (kept.Bool truth) = model.Truth truth
 
 -- a variable as it is handed in
-abbrev pub given : Bor (List ℕ) × Scalar → model.Variable
-given variable = record { name = variable.0.now; value = said variable.1 }
+abbrev pub lent_variable : Bor (List ℕ) × Scalar → model.Variable
+lent_variable variable = record { name = variable.0.now; value = lent_scalar variable.1 }

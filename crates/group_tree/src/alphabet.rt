@@ -4,14 +4,14 @@ ghost use Rattle.std.specs.List.{list_all};
 ghost use Rattle.inventory_model.specs.Names as names;
 
 /// The longest name, in bytes.
-pub const MAX_NAME: usize = 255;
+pub const NAME_BOUND: usize = 255;
 
 /// Whether a text may name a group or a host: 1 to 255 bytes, each an ASCII letter or digit, `.`, `-` or `_`.
 pub fn is_name(text: &str) -> bool
     ensures { result ≡ names.is_name text.now }
 {
     let bytes = text.as_bytes();
-    0 < bytes.len() && bytes.len() <= MAX_NAME && has_name_bytes(bytes)
+    0 < bytes.len() && bytes.len() <= NAME_BOUND && has_name_bytes(bytes)
 }
 
 fn has_name_bytes(bytes: &[u8]) -> bool

@@ -58,9 +58,9 @@ impl<T: Drop> From<AllocFailed<T>> for GroupFault {
 pub enum TreeFault {
     /// Two groups have one name. `group` is the preorder number, counted from 1, of the first whose name stood before.
     TwicePlaced { group: usize },
-    /// A group is deeper than `MAX_DEPTH`.
+    /// A group is deeper than `DEPTH_BOUND`.
     TooDeep,
-    /// There are more than `MAX_GROUPS` groups or `MAX_ROWS` host rows.
+    /// There are more than `GROUPS_BOUND` groups or `ROWS_BOUND` host rows.
     TooMany,
 }
 

@@ -6,11 +6,13 @@ ghost use Rattle.inventory_model.specs.Names as names;
 ghost use Rattle.inventory_model.specs.Places.{is_preorder};
 ghost use Rattle.inventory_model.specs.Variables as model;
 ghost use Rattle.inventory_model.specs.Subtrees as subtrees;
-ghost use Rattle.group_tree.specs.Scalars.{said, given};
+ghost use Rattle.group_tree.specs.Limits.{limit_of};
+ghost use Rattle.group_tree.specs.Scalars.{lent_scalar, lent_variable};
 
 use crate::alphabet::is_name;
 use crate::fault::GroupFault;
 use crate::host::{Host, copy_hosts};
+use crate::limit::Limit;
 use crate::scalar::Scalar;
 use crate::variable::{Variable, copy_variables, keep_all, look_up};
 use std::alloc::{AllocError, AllocFailed, Allocator};
@@ -21,7 +23,7 @@ use std::marker::Model;
 #[derive(Drop)]
 pub struct Group<A: Allocator> {
     name: String<A>,
-    limit: Option<u16>,
+    limit: Option<Limit>,
     variables: Vec<Variable<A>, A>,
     hosts: Vec<Host<A>, A>,
     children: Vec<Group<A>, A>,
@@ -35,11 +37,13 @@ impl<A: Allocator> Model for Group<A> {
     ghost use Rattle.std.specs.String.{string_bytes};
     ghost use Rattle.std.proofs.Common.{arith};
     ghost use Rattle.inventory_model.specs.Subtrees as subtrees;
+    ghost use Rattle.std.specs.Option.{option_map};
+    ghost use Rattle.group_tree.specs.Limits.{limit_of};
     ghost use Rattle.group_tree.specs.Parts.{groups_below, most_le-groups_below, IsWellFormed};
 
     ghost Value = { subtrees.Subtree };
 
-    ghost view = { λ g. record { name = string_bytes g.name; limit = g.limit; variables = g.variables.items; hosts = g.hosts.items; below = subtrees.side_by_side g.children.items } };
+    ghost view = { λ g. record { name = string_bytes g.name; limit = option_map limit_of g.limit; variables = g.variables.items; hosts = g.hosts.items; below = subtrees.side_by_side g.children.items } };
 
     ghost invariant = { λ g. IsWellFormed (subtrees.side_by_side g.children.items) g.hosts.items g.groups g.rows };
 
@@ -56,8 +60,8 @@ impl<A: Allocator> Group<A> {
     }
 
     /// How many of the hosts at or below this group may be down at once, where it says so.
-    pub fn limit(&self) -> Option<u16>
-        ensures { result ≡ self.now.limit }
+    pub fn limit(&self) -> Option<Limit>
+        ensures { option_map limit_of result ≡ self.now.limit }
     {
         self.limit
     }
@@ -70,7 +74,7 @@ impl<A: Allocator> Group<A> {
 
     /// The value of the group's own variable of this name.
     pub fn variable(&self, name: &str) -> Option<Scalar<'_>>
-        ensures { option_map said result ≡ model.value_of name.now self.now.variables }
+        ensures { option_map lent_scalar result ≡ model.value_of name.now self.now.variables }
     {
         look_up(self.variables.as_slice(), name)
     }
@@ -109,11 +113,11 @@ impl<A: Allocator + Clone> Group<A> {
     pub fn new(
         alloc: A,
         name: &str,
-        limit: Option<u16>,
+        limit: Option<Limit>,
         variables: &[(&str, Scalar<'_>)],
     ) -> Result<Group<A>, GroupFault>
         ensures ok { IfOk result (λ group. group
-            ≡ record { name = name.now; limit = limit; variables = map given variables.now; hosts = []; below = subtrees.side_by_side [] }) }
+            ≡ record { name = name.now; limit = option_map limit_of limit; variables = map lent_variable variables.now; hosts = []; below = subtrees.side_by_side [] }) }
         ensures bad_name { IsErrOf result GroupFault.BadName ↔ IsFalse (names.is_name name.now) }
     {
         if !is_name(name) {
@@ -137,7 +141,7 @@ impl<A: Allocator + Clone> Group<A> {
         variables: &[(&str, Scalar<'_>)],
     ) -> Result<(), GroupFault>
         ensures ok { OnOk result (self.new
-            ≡ subtrees.with_host self.old (record { name = name.now; variables = map given variables.now })) }
+            ≡ subtrees.with_host self.old (record { name = name.now; variables = map lent_variable variables.now })) }
         ensures bad_name { IsErrOf result GroupFault.BadName ↔ IsFalse (names.is_name name.now) }
         ensures err { OnErr result (self.new ≡ self.old) }
     {

@@ -2,7 +2,7 @@
 ghost use Rattle.std.specs.Prelude.{◌≡◌, IfOk, map};
 ghost use Rattle.std.specs.Option.{option_map};
 ghost use Rattle.inventory_model.specs.Variables as model;
-ghost use Rattle.group_tree.specs.Scalars.{said};
+ghost use Rattle.group_tree.specs.Scalars.{lent_scalar};
 
 use crate::scalar::Scalar;
 use crate::variable::{Variable, copy_variables, look_up};
@@ -40,7 +40,7 @@ impl<A: Allocator> Host<A> {
 
     /// The value of the host's variable of this name, at this place.
     pub fn variable(&self, name: &str) -> Option<Scalar<'_>>
-        ensures { option_map said result ≡ model.value_of name.now self.now.variables }
+        ensures { option_map lent_scalar result ≡ model.value_of name.now self.now.variables }
     {
         look_up(self.variables.as_slice(), name)
     }

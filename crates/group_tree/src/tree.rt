@@ -1,9 +1,9 @@
-//! A tree of groups within the limits of an inventory.
+//! A tree of groups within the bounds of an inventory.
 ghost use Rattle.std.specs.Prelude.{◌≡◌, ◌≤◌, ◌+◌, IfOk, IfErr, Some, IsTrue, MatchOption, length, slice_get};
 ghost use Rattle.inventory_model.specs.Names.{Name, are_distinct};
 ghost use Rattle.inventory_model.specs.Members as members;
 ghost use Rattle.inventory_model.specs.Subtrees.{inventory_of, places_of, rows_of};
-ghost use Rattle.inventory_model.specs.Limits.{IsWithinLimits, group_names, are_within_depth, max_depth, max_groups, max_rows};
+ghost use Rattle.inventory_model.specs.Bounds.{IsWithinBounds, group_names, are_within_depth, depth_bound, groups_bound, rows_bound};
 ghost use Rattle.group_tree.specs.Trees.{IsRefusal, IsGroupAt};
 
 use crate::fault::TreeFault;
@@ -12,13 +12,13 @@ use std::alloc::{AllocError, Allocator};
 use std::marker::Model;
 
 /// The outermost group has depth 1.
-pub const MAX_DEPTH: usize = 32;
+pub const DEPTH_BOUND: usize = 32;
 
-pub const MAX_GROUPS: usize = 1024;
+pub const GROUPS_BOUND: usize = 1024;
 
-pub const MAX_ROWS: usize = 16384;
+pub const ROWS_BOUND: usize = 16384;
 
-/// Groups of distinct names, at most `MAX_DEPTH` deep, with at most `MAX_GROUPS` groups and `MAX_ROWS` host rows.
+/// Groups of distinct names, at most `DEPTH_BOUND` deep, with at most `GROUPS_BOUND` groups and `ROWS_BOUND` host rows.
 #[derive(Drop)]
 pub struct Tree<A: Allocator> {
     root: Group<A>,
@@ -27,40 +27,40 @@ pub struct Tree<A: Allocator> {
 impl<A: Allocator> Model for Tree<A> {
     ghost use Rattle.inventory_model.specs.Places.{Inventory};
     ghost use Rattle.inventory_model.specs.Subtrees.{inventory_of};
-    ghost use Rattle.inventory_model.specs.Limits.{IsWithinLimits};
+    ghost use Rattle.inventory_model.specs.Bounds.{IsWithinBounds};
 
     ghost Value = { Inventory };
 
     ghost view = { λ t. inventory_of t.root };
 
-    ghost invariant = { λ t. IsWithinLimits (inventory_of t.root) };
+    ghost invariant = { λ t. IsWithinBounds (inventory_of t.root) };
 }
 
 impl<A: Allocator> Tree<A> {
     /// Takes no memory. The first rule that is broken refuses it, in the order of `TreeFault`, and hands the group back.
     /// It compares each name with those before it, so its time grows with the square of the number of groups.
     pub fn new(root: Group<A>) -> Result<Tree<A>, (TreeFault, Group<A>)>
-        ensures ok { IfOk result (λ tree. (tree ≡ inventory_of root) × IsWithinLimits (inventory_of root)) }
+        ensures ok { IfOk result (λ tree. (tree ≡ inventory_of root) × IsWithinBounds (inventory_of root)) }
         ensures err { IfErr result (λ (fault, back). (back ≡ root) × IsRefusal fault (inventory_of root)) }
     {
         if let Some(group) = root.first_repeat() {
             return Err((TreeFault::TwicePlaced { group }, root));
         }
-        if !root.is_within_depth(MAX_DEPTH) {
+        if !root.is_within_depth(DEPTH_BOUND) {
             return Err((TreeFault::TooDeep, root));
         }
-        if root.groups() > MAX_GROUPS || root.rows() > MAX_ROWS {
+        if root.groups() > GROUPS_BOUND || root.rows() > ROWS_BOUND {
             return Err((TreeFault::TooMany, root));
         }
         Ok(Tree { root })
     }
 
     /// A tree of a group that is known to break no rule. It compares no names.
-    pub fn within_limits(root: Group<A>) -> Tree<A>
+    pub fn within_bounds(root: Group<A>) -> Tree<A>
         requires distinct { IsTrue (are_distinct (group_names (places_of root))) }
-        requires depth { IsTrue (are_within_depth max_depth (places_of root)) }
-        requires groups { length (places_of root) ≤ max_groups }
-        requires rows { length (rows_of root) ≤ max_rows }
+        requires depth { IsTrue (are_within_depth depth_bound (places_of root)) }
+        requires groups { length (places_of root) ≤ groups_bound }
+        requires rows { length (rows_of root) ≤ rows_bound }
         ensures { result ≡ inventory_of root }
     {
         // Asked for what it says of the walk.
@@ -71,7 +71,7 @@ impl<A: Allocator> Tree<A> {
     /// The outermost group, for a walk over them all.
     pub fn root(&self) -> &Group<A>
         ensures root { inventory_of result.now ≡ self.now }
-        ensures within { IsWithinLimits self.now }
+        ensures within { IsWithinBounds self.now }
     {
         &self.root
     }
@@ -83,10 +83,10 @@ impl<A: Allocator> Tree<A> {
         self.root.groups()
     }
 
-    /// The group at this place in preorder, counted from 0, with its depth.
+    /// The group at this place in preorder, counted from 0, with its depth; what is lent holds its hosts and all below it.
     pub fn row(&self, index: usize) -> Option<(&Group<A>, usize)>
         ensures { MatchOption result (length self.now.places ≤ index)
-            (λ (group, depth). IsGroupAt self.now.places index group.now depth) }
+            (λ (group, depth). IsGroupAt self.now index group.now depth) }
     {
         self.root.nth(index)
     }

@@ -1,6 +1,6 @@
 //! A variable of a group or a host, as it is kept.
 ghost use Rattle.std.specs.Prelude.{◌≡◌, IfOk, map};
-ghost use Rattle.group_tree.specs.Scalars.{said, said_by_kept, given};
+ghost use Rattle.group_tree.specs.Scalars.{lent_scalar, kept_scalar, lent_variable};
 ghost use Rattle.std.specs.Option.{option_map};
 ghost use Rattle.inventory_model.specs.Variables as model;
 
@@ -28,13 +28,13 @@ impl<A: Allocator> Model for Variable<A> {
 
     ghost Value = { model.Variable };
 
-    ghost use Rattle.group_tree.specs.Scalars.{said_by_kept};
+    ghost use Rattle.group_tree.specs.Scalars.{kept_scalar};
 
-    ghost view = { λ v. record { name = string_bytes v.name; value = said_by_kept v.value } };
+    ghost view = { λ v. record { name = string_bytes v.name; value = kept_scalar v.value } };
 }
 
 fn keep<A: Allocator>(alloc: A, value: Scalar<'_>) -> Result<Kept<A>, AllocError>
-    ensures { IfOk result (λ kept. said_by_kept kept ≡ said value.entry) }
+    ensures { IfOk result (λ kept. kept_scalar kept ≡ lent_scalar value.entry) }
 {
     match value {
         Scalar::Text(text) => Ok(Kept::Text(String::from_str(alloc, text)?)),
@@ -51,7 +51,7 @@ impl<A: Allocator> Variable<A> {
     }
 
     pub fn value(&self) -> Scalar<'_>
-        ensures { said result ≡ self.now.value }
+        ensures { lent_scalar result ≡ self.now.value }
     {
         match &self.value {
             Kept::Text(text) => Scalar::Text(text.as_str()),
@@ -64,7 +64,7 @@ impl<A: Allocator> Variable<A> {
 impl<A: Allocator + Clone> Variable<A> {
     fn new(alloc: A, name: &str, value: Scalar<'_>) -> Result<Variable<A>, AllocError>
         ensures { IfOk result (λ variable. variable
-            ≡ record { name = name.now; value = said value.entry }) }
+            ≡ record { name = name.now; value = lent_scalar value.entry }) }
     {
         let name = String::from_str(alloc.clone()?, name)?;
         let value = keep(alloc, value)?;
@@ -77,7 +77,7 @@ pub(crate) fn keep_all<A: Allocator + Clone>(
     alloc: A,
     variables: &[(&str, Scalar<'_>)],
 ) -> Result<Vec<Variable<A>, A>, AllocError>
-    ensures { IfOk result (λ kept. kept.items ≡ map given variables.now) }
+    ensures { IfOk result (λ kept. kept.items ≡ map lent_variable variables.now) }
 {
     let mut kept = Vec::with_capacity(alloc.clone()?, variables.len())?;
     for (name, value) in variables {
@@ -91,7 +91,7 @@ pub(crate) fn look_up<'a, A: Allocator>(
     variables: &'a [Variable<A>],
     name: &str,
 ) -> Option<Scalar<'a>>
-    ensures { option_map said result ≡ model.value_of name.now variables.now }
+    ensures { option_map lent_scalar result ≡ model.value_of name.now variables.now }
 {
     let mut found = None;
     for variable in variables {

@@ -1,8 +1,8 @@
 //! Walks over a group and all below it, in preorder.
 ghost use Rattle.std.specs.Prelude.{◌≡◌, ◌≤◌, ◌+◌, ◌<◌, [], IsTrue, IfSome, MatchOption, length, take, get_or};
 ghost use Rattle.inventory_model.specs.Names.{is_among, are_distinct};
-ghost use Rattle.inventory_model.specs.Subtrees.{places_of};
-ghost use Rattle.inventory_model.specs.Limits.{group_names, are_within_depth, IsFirstRepeat};
+ghost use Rattle.inventory_model.specs.Subtrees.{places_of, inventory_of};
+ghost use Rattle.inventory_model.specs.Bounds.{group_names, are_within_depth, IsFirstRepeat};
 ghost use Rattle.group_tree.specs.Trees.{IsGroupAt};
 
 use crate::group::Group;
@@ -12,7 +12,7 @@ impl<A: Allocator> Group<A> {
     /// The group at this place, counted from 0 at this one, with its depth, counted from 1 here.
     pub(crate) fn nth(&self, index: usize) -> Option<(&Group<A>, usize)>
         ensures at { MatchOption result (length (places_of self.now) ≤ index)
-            (λ (group, depth). IsGroupAt (places_of self.now) index group.now depth) }
+            (λ (group, depth). IsGroupAt (inventory_of self.now) index group.now depth) }
         ensures shallow { IfSome result (λ (_, depth). depth ≤ index + 1) }
     {
         if index >= self.groups() {

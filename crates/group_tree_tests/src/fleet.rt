@@ -1,12 +1,12 @@
 //! Trees that the tests share.
-use group_tree::{Group, GroupFault, Scalar, Tree};
+use group_tree::{Group, GroupFault, Limit, Percentage, Scalar, Tree};
 use std::alloc::Allocator;
 
 /// A group with these hosts, which have no variables.
 pub(crate) fn group<A: Allocator + Clone>(
     alloc: A,
     name: &str,
-    limit: Option<u16>,
+    limit: Option<Limit>,
     hosts: &[&str],
 ) -> Result<Group<A>, GroupFault> {
     let mut group = Group::new(alloc, name, limit, &[])?;
@@ -18,9 +18,15 @@ pub(crate) fn group<A: Allocator + Clone>(
 
 /// A region with two racks, and beside it a group without hosts and without a limit.
 pub(crate) fn region<A: Allocator + Clone>(alloc: A) -> Result<Group<A>, GroupFault> {
-    let mut eu = group(alloc.clone()?, "eu", Some(3), &[])?;
-    eu.add_child(group(alloc.clone()?, "r1", Some(1), &["a", "b", "c"])?)?;
-    let mut r2 = group(alloc.clone()?, "r2", Some(2), &["d"])?;
+    let half = Percentage::new(50).map(Limit::Percent);
+    let mut eu = group(alloc.clone()?, "eu", Some(Limit::Count(3)), &[])?;
+    eu.add_child(group(
+        alloc.clone()?,
+        "r1",
+        Some(Limit::Count(1)),
+        &["a", "b", "c"],
+    )?)?;
+    let mut r2 = group(alloc.clone()?, "r2", half, &["d"])?;
     r2.add_host(
         "e",
         &[("down", Scalar::Bool(true)), ("rank", Scalar::Int(-7))],

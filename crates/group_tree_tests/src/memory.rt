@@ -1,6 +1,6 @@
 //! Each allocation refused in turn, by heaps of every size up to one that is large enough.
 use crate::fleet::{group, tree};
-use group_tree::{GroupFault, Scalar};
+use group_tree::{GroupFault, Limit, Scalar};
 use linked_list_allocator::LocalHeap;
 use std::test::Fail;
 
@@ -45,7 +45,7 @@ fn a_refused_copy_leaves_its_source(rt: HostRuntime) -> Result<(), Fail> {
 /// What a second host is answered, and how many hosts the group lists then; none where the heap is too small for the
 /// group.
 fn after_a_second_host(heap: &LocalHeap) -> Option<(Result<(), GroupFault>, usize)> {
-    let mut group = group(heap, "g", Some(1), &["a"]).ok()?;
+    let mut group = group(heap, "g", Some(Limit::Count(1)), &["a"]).ok()?;
     let answer = group.add_host("b", &[("note", Scalar::Text("kept apart"))]);
     Some((answer, group.hosts().len()))
 }
@@ -75,7 +75,7 @@ fn a_refused_child_comes_back(rt: HostRuntime) -> Result<(), Fail> {
     let mut refused = 0usize;
     for step in 0..STEPS {
         let heap = LocalHeap::new(rt.alloc(), 8 * step)?;
-        let mut parent = group(&heap, "g", Some(1), &[]);
+        let mut parent = group(&heap, "g", Some(Limit::Count(1)), &[]);
         let child = group(&heap, "c", None, &["x"]);
         let (Ok(parent), Ok(child)) = (&mut parent, child) else {
             continue;

@@ -1,7 +1,7 @@
 //! Each call with ample memory.
 use crate::fleet::{group, region, tree};
 use bumpalo::Bump;
-use group_tree::{Group, GroupFault, Scalar, Tree, TreeFault, is_name};
+use group_tree::{Group, GroupFault, Limit, Percentage, Scalar, Tree, TreeFault, is_name};
 use std::alloc::{Allocator, Global};
 use std::process::Abort;
 use std::test::Fail;
@@ -23,9 +23,9 @@ fn line<A: Allocator>(alloc: Global, tree: &Tree<A>, index: usize) -> Result<Str
 
 const LINES: [&str; 6] = [
     "all 1 None",
-    "eu 2 Some(3)",
-    "r1 3 Some(1) a b c",
-    "r2 3 Some(2) d e",
+    "eu 2 Some(Count(3))",
+    "r1 3 Some(Count(1)) a b c",
+    "r2 3 Some(Percent(Percentage { value: 50 })) d e",
     "spare 2 None",
     "",
 ];
@@ -122,6 +122,23 @@ fn a_name_is_1_to_255_bytes_of_the_alphabet(rt: HostRuntime) -> Result<(), Fail>
     Ok(())
 }
 
+#[test]
+fn a_percentage_is_at_most_100_and_rounded_down(rt: HostRuntime) -> Result<(), Fail> {
+    assert_eq!(rt; Percentage::new(101), None);
+    for (share, members, allowed) in [
+        (0, 7, 0),
+        (33, 3, 0),
+        (50, 3, 1),
+        (58, 50, 29),
+        (100, 65535, 65535),
+    ] {
+        let share = Percentage::new(share).ok_or("a share")?;
+        assert_eq!(rt; Limit::Percent(share).allowed(members), allowed);
+    }
+    assert_eq!(rt; Limit::Count(3).allowed(2), 3);
+    Ok(())
+}
+
 /// A group without hosts and children, whose name ends in a number.
 fn bare<A: Allocator + Clone>(alloc: A, number: usize) -> Result<Group<A>, Fail> {
     let name = format!(in alloc.clone()?; "g{number}")?;
@@ -169,7 +186,7 @@ fn fault<A: Allocator + Drop>(group: Group<A>) -> Option<TreeFault> {
 }
 
 #[test]
-fn a_tree_keeps_its_limits(rt: HostRuntime) -> Result<(), Fail> {
+fn a_tree_keeps_its_bounds(rt: HostRuntime) -> Result<(), Fail> {
     assert_eq!(rt; fault(chain(rt.alloc(), 32)?), None);
     assert_eq!(rt; fault(chain(rt.alloc(), 33)?), Some(TreeFault::TooDeep));
     assert_eq!(rt; fault(wide(rt.alloc(), 1023, 0)?), None);
@@ -179,6 +196,21 @@ fn a_tree_keeps_its_limits(rt: HostRuntime) -> Result<(), Fail> {
         fault(wide(rt.alloc(), 0, 16385)?),
         Some(TreeFault::TooMany)
     );
+    Ok(())
+}
+
+#[test]
+fn the_largest_trees_are_copied_and_walked(rt: HostRuntime) -> Result<(), Fail> {
+    let widest = Tree::new(wide(rt.alloc(), 1023, 16384)?)
+        .ok()
+        .ok_or("a wide tree")?;
+    let copy = widest.copy_to(rt.alloc())?;
+    assert_eq!(rt; copy.groups(), 1024);
+    assert!(rt; copy.holds("all", "h") && !copy.holds("g1022", "h"));
+    assert_eq!(rt; line(rt.alloc(), &copy, 1023)?.as_str(), "g1022 2 None");
+    let deepest = Tree::new(chain(rt.alloc(), 32)?).ok().ok_or("a deep tree")?;
+    let copy = deepest.copy_to(rt.alloc())?;
+    assert_eq!(rt; line(rt.alloc(), &copy, 31)?.as_str(), "g0 32 None");
     Ok(())
 }
 

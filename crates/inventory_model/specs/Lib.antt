@@ -1,7 +1,8 @@
 pub mod Names
 pub mod Variables
+pub mod Limits
 pub mod Places
 pub mod Members
 pub mod Subtrees
-pub mod Limits
+pub mod Bounds
 pub mod Worked

@@ -1,37 +1,12 @@
--- What an inventory has to keep to be accepted as a tree of groups.
-use Rattle.std.specs.Prelude.{◌≡◌, ℕ, ◌≤◌, ◌<◌, ◌+◌, Bool, IsTrue, nat_le, List, [], map, take, get_or, length}
-use Rattle.std.specs.List.{list_all}
-use Rattle.inventory_model.specs.Names.{Name, is_among, are_distinct}
-use Rattle.inventory_model.specs.Places.{Place, Inventory, depth_of, is_preorder}
+-- How many hosts of a group may be down at once.
+use Rattle.std.specs.Prelude.{ℕ, ◌*◌, ◌/◌}
 
-abbrev pub max_depth : ℕ
-max_depth = 32
+-- a number of hosts, or so many of each hundred of the group's hosts
+pub data Limit : Type 0 where
+  Count : ℕ → Limit
+  Percent : ℕ → Limit
 
-abbrev pub max_groups : ℕ
-max_groups = 1024
-
-abbrev pub max_rows : ℕ
-max_rows = 16384
-
-abbrev pub group_names : List Place → List Name
-group_names places = map (λ (place : Place). place.name) places
-
--- no place is deeper than this
-abbrev pub are_within_depth : ℕ → List Place → Bool
-are_within_depth depth places = list_all (λ place. nat_le (depth_of place) depth) places
-
--- group names are distinct, and depth, groups and rows are within their limits; the places are a preorder walk
-pub record IsWithinLimits (inventory : Inventory) : Type 0 where
-  pub distinct : IsTrue (are_distinct (group_names inventory.places))
-  pub depth : IsTrue (are_within_depth max_depth inventory.places)
-  pub groups : length inventory.places ≤ max_groups
-  pub rows : length inventory.rows ≤ max_rows
-  pub preorder : IsTrue (is_preorder inventory.places)
-
--- the number, counted from 1, of the first name that stood before
-pub record IsFirstRepeat (names : List Name) (number : ℕ) : Type 0 where
-  pub index : ℕ
-  pub counted : number ≡ index + 1
-  pub within : index < length names
-  pub repeated : IsTrue (is_among (get_or names index []) (take index names))
-  pub first : IsTrue (are_distinct (take index names))
+-- the number of hosts that a limit allows to be down in a group with so many members, rounded down
+abbrev pub allowed : Limit → ℕ → ℕ
+allowed (Count hosts) members = hosts
+allowed (Percent share) members = share * members / 100

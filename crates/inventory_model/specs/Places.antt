@@ -1,6 +1,7 @@
 -- What an inventory is: its places in preorder, and its rows.
 use Rattle.std.specs.Prelude.{ℕ, ◌+◌, Bool, true, ◌&&◌, Option, List, [], ◌∷◌, ◌++◌, length}
 use Rattle.inventory_model.specs.Names.{Name, begins}
+use Rattle.inventory_model.specs.Limits.{Limit}
 use Rattle.inventory_model.specs.Variables.{Variable}
 
 -- a group: the names above it from the outermost in, its own name, how many of its hosts may be down at once, if it
@@ -8,7 +9,7 @@ use Rattle.inventory_model.specs.Variables.{Variable}
 pub record Place : Type 0 where
   pub above : List Name
   pub name : Name
-  pub limit : Option ℕ
+  pub limit : Option Limit
   pub variables : List Variable
 
 -- a host where it stands: the names above its group, the group, the host, and the host's variables there

@@ -2,6 +2,7 @@
 use Rattle.std.specs.Prelude.{ℕ, Option, List, [], ◌∷◌, ◌++◌, map}
 use Rattle.std.specs.List.{flat_map}
 use Rattle.inventory_model.specs.Names.{Name}
+use Rattle.inventory_model.specs.Limits.{Limit}
 use Rattle.inventory_model.specs.Variables.{Variable}
 use Rattle.inventory_model.specs.Places.{Place, Row, Inventory}
 
@@ -13,7 +14,7 @@ pub record Host : Type 0 where
 -- a group's own parts, and the places and rows of its children, with paths that begin at the child
 pub record Subtree : Type 0 where
   pub name : Name
-  pub limit : Option ℕ
+  pub limit : Option Limit
   pub variables : List Variable
   pub hosts : List Host
   pub below : Inventory

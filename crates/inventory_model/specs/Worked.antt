@@ -1,6 +1,7 @@
 -- Small inventories, written out, against which the definitions are read.
 use Rattle.std.specs.Prelude.{ℕ, Some, None, List, [], ◌∷◌, pos, codes}
 use Rattle.inventory_model.specs.Names.{Name}
+use Rattle.inventory_model.specs.Limits.{Count}
 use Rattle.inventory_model.specs.Variables.{Variable, Text, Int}
 use Rattle.inventory_model.specs.Subtrees.{Host, Subtree, side_by_side}
 
@@ -13,7 +14,7 @@ host name = record { name = name; variables = [] }
 -- a group that limits how many of its hosts may be down
 abbrev limited : Name → ℕ → List Host → List Subtree → Subtree
 limited name limit hosts children =
-    record { name = name; limit = Some limit; variables = []; hosts = hosts; below = side_by_side children }
+    record { name = name; limit = Some (Count limit); variables = []; hosts = hosts; below = side_by_side children }
 
 abbrev unlimited : Name → List Host → List Subtree → Subtree
 unlimited name hosts children =

@@ -2,6 +2,7 @@
 ghost use Rattle.std.specs.Prelude.{◌≡◌, IsTrue, IsFalse, Some, None, [], ◌∷◌, map, length, codes, pos};
 ghost use Rattle.inventory_model.specs.Places.{path_of, row_path, depth_of, is_preorder, Place, Row};
 ghost use Rattle.inventory_model.specs.Variables.{value_of, Int};
+ghost use Rattle.inventory_model.specs.Limits.{Count, Percent, allowed};
 ghost use Rattle.inventory_model.specs.Members.{holds};
 ghost use Rattle.inventory_model.specs.Subtrees.{places_of, rows_of, inventory_of};
 ghost use Rattle.inventory_model.specs.Worked.{two_racks, empty_web, tier_twice, all};
@@ -40,4 +41,13 @@ fn an_empty_group_is_a_place()
 fn the_later_variable_counts()
     ensures later { value_of (codes "tier") tier_twice ≡ Some (Int (pos 2)) }
     ensures unknown { value_of (codes "Tier") tier_twice ≡ None }
+{}
+
+/// A count allows itself, a percentage so many of each hundred members, rounded down.
+fn a_percentage_is_rounded_down()
+    ensures count { allowed (Count 3) 2 ≡ 3 }
+    ensures exact { allowed (Percent 58) 50 ≡ 29 }
+    ensures none_of_three { allowed (Percent 33) 3 ≡ 0 }
+    ensures one_of_three { allowed (Percent 50) 3 ≡ 1 }
+    ensures all_of_them { allowed (Percent 100) 7 ≡ 7 }
 {}

@@ -11,7 +11,7 @@ use Rattle.inventory_model.specs.Names.{Name}
 use Rattle.inventory_read.specs.Keys.{all_key, children_key}
 use Rattle.inventory_read.specs.Documents as documents
 use Rattle.inventory_read.specs.Documents.{members_in, part, entries, under, with_below, below_body, below_members, groups_in, groups_among, groups_from}
-use Rattle.inventory_read.specs.Listings.{Seen, seen, seen_at, most}
+use Rattle.inventory_read.specs.Listings.{Outline, outline_of, outline_at, most}
 use Rattle.inventory_read.specs.declared.listing.Listed.{Listed}
 
 groups_in-is : (value : Data) → groups_in value ≡ groups_among (members_in value)
@@ -45,27 +45,27 @@ pub groups_among-is : (members : Members) → groups_among members ≡ flat_map 
 groups_among-is no_members = refl
 groups_among-is (member name body more) = ap (λ rest. with_below name body (below_body body) ++ rest) (groups_among-is more)
 
-seen_at-under : (depth : ℕ) (name : Name) (groups : List documents.Listed) → map (seen_at depth) (map (under name) groups) ≡ map (seen_at (min (depth + 1) most)) groups
-seen_at-under depth name [] = refl
-seen_at-under depth name (group ∷ groups) =
-    let first : seen_at depth (under name group) ≡ seen_at (min (depth + 1) most) group =
+outline_at-under : (depth : ℕ) (name : Name) (groups : List documents.Listed) → map (outline_at depth) (map (under name) groups) ≡ map (outline_at (min (depth + 1) most)) groups
+outline_at-under depth name [] = refl
+outline_at-under depth name (group ∷ groups) =
+    let first : outline_at depth (under name group) ≡ outline_at (min (depth + 1) most) group =
     ap (λ d. record { name = group.name; body = group.body; depth = d }) (omega arith) in
-    rw (first, seen_at-under depth name groups) refl
+    rw (first, outline_at-under depth name groups) refl
 
 cons_same : {X : Type 0} {x y : X} {xs ys : List X} → x ≡ y → xs ≡ ys → x ∷ xs ≡ y ∷ ys
 cons_same e f = cc
 
 -- a group and all below it, once those below it have been added
-pub listed_with_below : (before after : List Listed) (group : Listed) (depth : ℕ) (members : Members) (whole : List Seen) → after ≡ before ++ group ∷ [] → group.depth ≤ most → depth ≡ min (group.depth + 1) most → members ≡ members_in (part children_key (view group.body.now)) → whole ≡ map seen after ++ map (seen_at depth) (groups_among members) → whole ≡ map seen before ++ map (seen_at group.depth) (with_below group.name.now (view group.body.now) (below_body (view group.body.now)))
+pub listed_with_below : (before after : List Listed) (group : Listed) (depth : ℕ) (members : Members) (whole : List Outline) → after ≡ before ++ group ∷ [] → group.depth ≤ most → depth ≡ min (group.depth + 1) most → members ≡ members_in (part children_key (view group.body.now)) → whole ≡ map outline_of after ++ map (outline_at depth) (groups_among members) → whole ≡ map outline_of before ++ map (outline_at group.depth) (with_below group.name.now (view group.body.now) (below_body (view group.body.now)))
 listed_with_below before after group depth members whole pushed fits deep is e =
-    let own : seen group ≡ seen_at group.depth (record { above = []; name = group.name.now; body = view group.body.now }) =
+    let own : outline_of group ≡ outline_at group.depth (record { above = []; name = group.name.now; body = view group.body.now }) =
     ap (λ d. record { name = group.name.now; body = view group.body.now; depth = d }) (omega arith) in
-    let below : map (seen_at depth) (groups_among members) ≡ map (seen_at group.depth) (map (under group.name.now) (below_body (view group.body.now))) =
-    sym (seen_at-under group.depth group.name.now (below_body (view group.body.now)) ∙ rw (below_body-is, ← deep, ← is) refl) in
-    let added : map seen after ≡ map seen before ++ seen group ∷ [] = ap (map seen) pushed ∙ map-append seen before (group ∷ []) in
-    e ∙ ap (λ first. first ++ map (seen_at depth) (groups_among members)) added ∙ append_assoc (map seen before) (seen group ∷ []) _ ∙ ap (λ rest. map seen before ++ rest) (cons_same own below)
+    let below : map (outline_at depth) (groups_among members) ≡ map (outline_at group.depth) (map (under group.name.now) (below_body (view group.body.now))) =
+    sym (outline_at-under group.depth group.name.now (below_body (view group.body.now)) ∙ rw (below_body-is, ← deep, ← is) refl) in
+    let added : map outline_of after ≡ map outline_of before ++ outline_of group ∷ [] = ap (map outline_of) pushed ∙ map-append outline_of before (group ∷ []) in
+    e ∙ ap (λ first. first ++ map (outline_at depth) (groups_among members)) added ∙ append_assoc (map outline_of before) (outline_of group ∷ []) _ ∙ ap (λ rest. map outline_of before ++ rest) (cons_same own below)
 
 -- `all` and all below it, once those below it have been listed
-pub listed_all : (groups : List Seen) (body : Data) (below : List documents.Listed) → groups ≡ record { name = all_key; body = body; depth = 1 } ∷ map (seen_at 2) below → groups ≡ map (seen_at 1) (with_below all_key body below)
+pub listed_all : (groups : List Outline) (body : Data) (below : List documents.Listed) → groups ≡ record { name = all_key; body = body; depth = 1 } ∷ map (outline_at 2) below → groups ≡ map (outline_at 1) (with_below all_key body below)
 listed_all groups body below e =
-    e ∙ ap (λ rest. record { name = all_key; body = body; depth = 1 } ∷ rest) (sym (seen_at-under 1 all_key below))
+    e ∙ ap (λ rest. record { name = all_key; body = body; depth = 1 } ∷ rest) (sym (outline_at-under 1 all_key below))

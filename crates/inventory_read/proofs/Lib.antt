@@ -1,3 +1,4 @@
+pub mod Percentages
 pub mod Depths
 pub mod Groups
 pub mod Merges

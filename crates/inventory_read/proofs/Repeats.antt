@@ -1,5 +1,5 @@
 -- A set of names that were met, one after another.
-use Rattle.std.proofs.Common.{◌≡◌, ℕ, ◌+◌, ◌<◌, Bool, true, false, not, ◌||◌, ◌&&◌, List, [], ◌∷◌, ◌++◌, take, drop, length, get_or, Bor, Ordering, Less, Equal, Greater, nat_cmp, sym, ap, subst, ◌∙◌, refl}
+use Rattle.std.proofs.Common.{◌≡◌, ℕ, zero, suc, arith, append_assoc, append-nil, ◌+◌, ◌<◌, Bool, true, false, not, ◌||◌, ◌&&◌, List, [], ◌∷◌, ◌++◌, take, drop, length, get_or, Bor, Ordering, Less, Equal, Greater, nat_cmp, sym, ap, subst, ◌∙◌, refl}
 use Rattle.std.specs.List.{list_any}
 use Rattle.std.specs.Ordering.{match_ordering, is_eq}
 use Rattle.std.specs.Cmp.Lexicographic.{slice_cmp}
@@ -10,7 +10,8 @@ use Rattle.std.proofs.lemmas.List.Folds.{list_any-append}
 use lib.Pointwise.{bytes_decides}
 use Rattle.std.proofs.lemmas.Bool.{or_left, or_right}
 use Rattle.inventory_model.specs.Names.{Name, same_name, is_among, are_distinct}
-use Rattle.inventory_model.specs.Limits.{IsFirstRepeat}
+use Rattle.inventory_model.specs.Bounds.{IsFirstRepeat}
+use Rattle.inventory_read.specs.Rules.{count_before_repeat, first_repeat}
 use Rattle.group_tree.proofs.Preorder.{same_name-self}
 
 abbrev Text : Type 0
@@ -107,3 +108,23 @@ not_distinct names number at =
     let parts : names ≡ take at.index names ++ get_or names at.index [] ∷ drop (at.index + 1) names =
     sym (take-append-drop at.index names) ∙ ap (λ rest. take at.index names ++ rest) (drop_more names at.index [] at.within) in
     ap are_distinct parts ∙ twice (take at.index names) (get_or names at.index []) (drop (at.index + 1) names) at.repeated
+
+new_if : (here : Bool) (met : List Name) (name : Name) (more : List Name) → is_among name met ≡ here → are_distinct (met ++ name ∷ more) ≡ true → here ≡ false
+new_if false met name more e distinct = refl
+new_if true met name more e distinct = sym distinct ∙ twice met name more e
+
+-- a count of names to the first that was met
+counted : (met names : List Name) (i : ℕ) → i < length names → are_distinct (met ++ take i names) ≡ true → is_among (get_or names i []) (met ++ take i names) ≡ true → count_before_repeat met names ≡ i
+counted met [] i within distinct again = absurd (omega arith)
+counted met (name ∷ names) zero within distinct again =
+    let here : is_among name met ≡ true = ap (is_among name) (sym (append-nil met)) ∙ again in rw here refl
+counted met (name ∷ names) (suc i) within distinct again =
+    let new : is_among name met ≡ false = new_if _ met name (take i names) refl distinct in
+    let whole : (met ++ name ∷ []) ++ take i names ≡ met ++ name ∷ take i names = append_assoc met (name ∷ []) (take i names) in
+    let rest : count_before_repeat (met ++ name ∷ []) names ≡ i = counted (met ++ name ∷ []) names i (omega arith) (ap are_distinct whole ∙ distinct) (ap (is_among (get_or names i [])) whole ∙ again) in
+    rw (new, rest) (omega arith)
+
+pub first_repeat-is : (names : List Name) (number : ℕ) → IsFirstRepeat names number → number ≡ first_repeat names
+first_repeat-is names number at =
+    let before : count_before_repeat [] names ≡ at.index = counted [] names at.index at.within at.first at.repeated in
+    omega (arith, at.counted, before)

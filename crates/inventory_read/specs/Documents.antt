@@ -8,17 +8,17 @@ use Rattle.serde_json.specs.Find.{get}
 use Rattle.inventory_model.specs.Names.{Name, same_name}
 use Rattle.inventory_read.specs.Keys.{all_key, children_key}
 
--- a member of an object
+-- an entry of an object
 pub record Entry : Type 0 where
   pub name : Name
   pub value : Data
 
--- the members in the order of their names, which a document's objects keep; each name stands once
+-- the entries in the order of their names, which a document's objects keep; each name stands once
 abbrev pub entries : Members → List Entry
 entries no_members = []
 entries (member name value more) = record { name = name; value = value } ∷ entries more
 
--- the members of an object; any other value has none
+-- the entries of an object, as they are kept; any other value has none
 abbrev pub members_in : Data → Members
 members_in (object members) = members
 members_in null = no_members

@@ -1,25 +1,41 @@
 -- Which rule a fault names.
 use Rattle.std.specs.Prelude.{◌≡◌, ℕ, Option, Some, None, Result, [], List, MatchResult, MatchOption, ⊤}
-use Rattle.inventory_read.specs.Rules.{IsListed}
+use Rattle.std.specs.String.{string_bytes}
+use Rattle.inventory_read.specs.Rules as rules
+use Rattle.inventory_read.specs.Rules.{Breach, first_of}
 use Rattle.inventory_read.specs.declared.flaw.Flaw.{Flaw}
 use Rattle.inventory_read.specs.declared.flaw.Flaw.TheVariants as flaw
 use Rattle.inventory_read.specs.declared.fault.ReadFault.{ReadFault}
 use Rattle.inventory_read.specs.declared.fault.ReadFault.TheVariants as fault
 
-abbrev pub rule_of : Flaw → ℕ
-rule_of (flaw.BadName name) = 101
-rule_of flaw.BadBody = 202
-rule_of (flaw.BadPart key) = 202
-rule_of (flaw.BadHost host) = 202
-rule_of (flaw.UnknownKey key) = 203
-rule_of flaw.BadLimit = 204
-rule_of (flaw.BadDown host) = 205
+abbrev pub breach_of_flaw : Flaw → Breach
+breach_of_flaw (flaw.BadName name) = rules.BadName name.now
+breach_of_flaw flaw.BadBody = rules.BadShape
+breach_of_flaw (flaw.BadPart key) = rules.BadShape
+breach_of_flaw (flaw.BadHost host) = rules.BadShape
+breach_of_flaw (flaw.UnknownKey key) = rules.UnknownKey
+breach_of_flaw flaw.BadLimit = rules.BadLimit
+breach_of_flaw (flaw.BadDown host) = rules.BadDown
 
--- none of these rules is broken, or the flaw names one that is
-abbrev pub IsVerdict : {T : Type 0} → Result T Flaw → List ℕ → Type 0
-IsVerdict result rules = MatchResult result (λ _. rules ≡ []) (λ found. IsListed (rule_of found) rules)
+-- no rule is broken, or the flaw names the first that is
+abbrev pub IsVerdict : {T : Type 0} → Result T Flaw → List Breach → Type 0
+IsVerdict result broken =
+    MatchResult result (λ _. broken ≡ []) (λ found. first_of broken ≡ Some (breach_of_flaw found))
 
--- want of memory names no rule
+-- want of memory breaks no rule
+abbrev pub breach_of : ReadFault → Option Breach
+breach_of fault.NotJson = Some rules.NotJson
+breach_of (fault.BadShape at) = Some rules.BadShape
+breach_of (fault.UnknownKey at) = Some rules.UnknownKey
+breach_of (fault.BadLimit at) = Some rules.BadLimit
+breach_of (fault.BadDown at) = Some rules.BadDown
+breach_of (fault.BadName name) = Some (rules.BadName (string_bytes name))
+breach_of (fault.TwicePlaced group) = Some (rules.TwicePlaced group)
+breach_of fault.TooDeep = Some rules.TooDeep
+breach_of fault.TooMany = Some rules.TooMany
+breach_of fault.Memory = None
+
+-- the number that is printed
 abbrev pub number_of : ReadFault → Option ℕ
 number_of fault.NotJson = Some 201
 number_of (fault.BadShape at) = Some 202
@@ -32,9 +48,9 @@ number_of fault.TooDeep = Some 103
 number_of fault.TooMany = Some 104
 number_of fault.Memory = None
 
--- the fault names one of these rules, or want of memory
-abbrev pub Names : ReadFault → List ℕ → Type 0
-Names found rules = MatchOption (number_of found) ⊤ (λ rule. IsListed rule rules)
+-- the fault names the first of these, or want of memory
+abbrev pub IsFirst : ReadFault → List Breach → Type 0
+IsFirst found broken = MatchOption (breach_of found) ⊤ (λ breach. first_of broken ≡ Some breach)
 
-abbrev pub IsRefusal : {T : Type 0} → Result T ReadFault → List ℕ → Type 0
-IsRefusal result rules = MatchResult result (λ _. rules ≡ []) (λ found. Names found rules)
+abbrev pub IsRefusal : {T : Type 0} → Result T ReadFault → List Breach → Type 0
+IsRefusal result broken = MatchResult result (λ _. broken ≡ []) (λ found. IsFirst found broken)

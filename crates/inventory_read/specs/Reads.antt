@@ -3,8 +3,8 @@ use Rattle.std.specs.Prelude.{◌≡◌, ℕ, ◌⊎◌, Some, None, List, [], I
 use Rattle.serde_json.specs.Data.{Data}
 use Rattle.serde_json.specs.Read.{read}
 use Rattle.inventory_model.specs.Places.{Inventory}
-use Rattle.inventory_read.specs.Faults.{number_of}
-use Rattle.inventory_read.specs.Rules.{IsListed, broken}
+use Rattle.inventory_read.specs.Faults.{breach_of}
+use Rattle.inventory_read.specs.Rules.{Breach, NotJson, first_of, broken}
 use Rattle.inventory_read.specs.Values.{inventory_of}
 use Rattle.inventory_read.specs.declared.fault.ReadFault.{ReadFault}
 
@@ -20,11 +20,11 @@ pub record IsReadAs (text : List ℕ) (inventory : Inventory) : Type 0 where
 abbrev pub IsNoJson : List ℕ → Type 0
 IsNoJson text = IsUtf8 text → read text ≡ None
 
--- the text breaks the rule of this number
-abbrev pub Breaks : List ℕ → ℕ → Type 0
-Breaks text rule =
-    ((rule ≡ 201) × IsNoJson text) ⊎ ((document : Data) × IsUtf8 text × (read text ≡ Some document) × IsListed rule (broken document))
+-- the first rule that the text breaks
+abbrev pub BreaksFirst : List ℕ → Breach → Type 0
+BreaksFirst text breach =
+    ((breach ≡ NotJson) × IsNoJson text) ⊎ ((document : Data) × IsUtf8 text × (read text ≡ Some document) × (first_of (broken document) ≡ Some breach))
 
--- the fault names a rule that the text breaks, or want of memory
+-- the fault names the first rule that the text breaks, or want of memory
 abbrev pub IsTrueOf : List ℕ → ReadFault → Type 0
-IsTrueOf text fault = MatchOption (number_of fault) ⊤ (Breaks text)
+IsTrueOf text fault = MatchOption (breach_of fault) ⊤ (BreaksFirst text)

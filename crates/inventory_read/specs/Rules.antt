@@ -1,21 +1,34 @@
--- The rules of the format, each with the number of the fault that names it.
-use Rattle.std.specs.Prelude.{ℕ, Bool, true, false, ◌&&◌, Option, Some, None, List, [], ◌∷◌, length, nat_eq, nat_le, is_some, IsTrue, if◌then◌else◌}
-use Rattle.std.specs.List.{list_all, list_any, flat_map, concat}
+-- The rules of the format, and which of them a document breaks.
+use Rattle.std.specs.Prelude.{ℕ, ◌+◌, Bool, true, false, ◌&&◌, Option, Some, None, List, [], ◌∷◌, ◌++◌, length, nat_le, is_some, if◌then◌else◌}
+use Rattle.std.specs.List.{list_all, flat_map}
 use Rattle.serde_json.specs.Data.{Data, null, boolean, number, string, array, object}
 use Rattle.serde_json.specs.Find.{get}
 use Rattle.inventory_model.specs.Names.{Name, is_name, is_among, are_distinct}
 use Rattle.inventory_model.specs.Places.{Inventory}
-use Rattle.inventory_model.specs.Limits.{max_depth, max_groups, max_rows, group_names, are_within_depth}
+use Rattle.inventory_model.specs.Bounds.{depth_bound, groups_bound, rows_bound, group_names, are_within_depth}
 use Rattle.inventory_read.specs.Keys.{hosts_key, children_key, vars_key, max_down_key, down_key, body_keys}
 use Rattle.inventory_read.specs.Documents.{Entry, entries_in, part, groups_of}
 use Rattle.inventory_read.specs.Values.{limit_of, inventory_of}
 
--- the number of a rule, where the rule is broken
-abbrev pub unless : Bool → ℕ → List ℕ
-unless kept rule = if kept then [] else rule ∷ []
+-- a rule that is broken; of a bad name which, and of a group that stands twice its preorder number, counted from 1
+pub data Breach : Type 0 where
+  NotJson : Breach
+  BadShape : Breach
+  UnknownKey : Breach
+  BadLimit : Breach
+  BadDown : Breach
+  BadName : Name → Breach
+  TwicePlaced : ℕ → Breach
+  TooDeep : Breach
+  TooMany : Breach
 
-abbrev pub IsListed : ℕ → List ℕ → Type 0
-IsListed rule rules = IsTrue (list_any (nat_eq rule) rules)
+-- the breach, where the rule isn't kept
+abbrev pub unless : Bool → Breach → List Breach
+unless kept breach = if kept then [] else breach ∷ []
+
+abbrev pub first_of : List Breach → Option Breach
+first_of [] = None
+first_of (breach ∷ later) = Some breach
 
 abbrev pub is_object : Data → Bool
 is_object (object _) = true
@@ -41,70 +54,86 @@ is_truth (number _) = false
 is_truth (string _) = false
 is_truth (array _) = false
 
+-- the breaches of several rules, one rule after another
+abbrev pub joined : List (List Breach) → List Breach
+joined parts = flat_map (λ part. part) parts
+
 -- where something is given, it passes the test
 abbrev pub is_none_or : (Data → Bool) → Option Data → Bool
 is_none_or test None = true
 is_none_or test (Some value) = test value
 
 -- 101: the name of a group or of a host breaks the alphabet
-abbrev pub bad_name : Name → List ℕ
-bad_name name = unless (is_name name) 101
+abbrev pub bad_name : Name → List Breach
+bad_name name = unless (is_name name) (BadName name)
 
 -- 202: the top value is no object
-abbrev pub bad_top : Data → List ℕ
-bad_top document = unless (is_object document) 202
+abbrev pub bad_top : Data → List Breach
+bad_top document = unless (is_object document) BadShape
 
 -- 202: what is to be null or an object is neither: a group's body, its `vars`, `hosts` and `children`, a host's variables
-abbrev pub bad_shape : Data → List ℕ
-bad_shape value = if is_null value then [] else unless (is_object value) 202
+abbrev pub bad_shape : Data → List Breach
+bad_shape value = if is_null value then [] else unless (is_object value) BadShape
 
 -- 203: a group's body has another key than those three
 abbrev pub has_known_name : Entry → Bool
 has_known_name entry = is_among entry.name body_keys
 
-abbrev pub unknown_key : Data → List ℕ
-unknown_key body = unless (list_all has_known_name (entries_in body)) 203
+abbrev pub unknown_key : Data → List Breach
+unknown_key body = unless (list_all has_known_name (entries_in body)) UnknownKey
 
 -- 204: a group's `max_down` is no limit
 abbrev pub is_limit : Data → Bool
 is_limit value = is_some (limit_of value)
 
-abbrev pub bad_limit : Data → List ℕ
-bad_limit vars = unless (is_none_or is_limit (get max_down_key vars)) 204
+abbrev pub bad_limit : Data → List Breach
+bad_limit vars = unless (is_none_or is_limit (get max_down_key vars)) BadLimit
 
 -- 205: a host's `down` is no truth value
-abbrev pub bad_down : Data → List ℕ
-bad_down variables = unless (is_none_or is_truth (get down_key variables)) 205
+abbrev pub bad_down : Data → List Breach
+bad_down variables = unless (is_none_or is_truth (get down_key variables)) BadDown
 
-abbrev pub broken_by_host : Entry → List ℕ
-broken_by_host host = concat (bad_name host.name ∷ bad_shape host.value ∷ bad_down host.value ∷ [])
+abbrev pub broken_by_host : Entry → List Breach
+broken_by_host host = joined (bad_name host.name ∷ bad_shape host.value ∷ bad_down host.value ∷ [])
 
-abbrev pub broken_by_hosts : List Entry → List ℕ
+abbrev pub broken_by_hosts : List Entry → List Breach
 broken_by_hosts hosts = flat_map broken_by_host hosts
 
 -- the rules that a group breaks by itself
-abbrev pub broken_by_group : Name → Data → List ℕ
+abbrev pub broken_by_group : Name → Data → List Breach
 broken_by_group name body =
-    concat (bad_name name ∷ bad_shape body ∷ unknown_key body ∷ bad_shape (part vars_key body) ∷ bad_shape (part hosts_key body) ∷ bad_shape (part children_key body) ∷ bad_limit (part vars_key body) ∷ broken_by_hosts (entries_in (part hosts_key body)) ∷ [])
+    joined (bad_name name ∷ bad_shape body ∷ unknown_key body ∷ bad_shape (part vars_key body) ∷ bad_shape (part hosts_key body) ∷ bad_shape (part children_key body) ∷ bad_limit (part vars_key body) ∷ broken_by_hosts (entries_in (part hosts_key body)) ∷ [])
+
+-- how many names stand before the first that was met before it
+abbrev pub count_before_repeat : List Name → List Name → ℕ
+count_before_repeat met [] = 0
+count_before_repeat met (name ∷ names) =
+    if is_among name met then 0 else count_before_repeat (met ++ name ∷ []) names + 1
+
+-- the number, counted from 1, of the first name that stood before
+abbrev pub first_repeat : List Name → ℕ
+first_repeat names = count_before_repeat [] names + 1
 
 -- 102: two groups have one name
-abbrev pub twice_placed : Inventory → List ℕ
-twice_placed inventory = unless (are_distinct (group_names inventory.places)) 102
+abbrev pub twice_placed : Inventory → List Breach
+twice_placed inventory =
+    unless (are_distinct (group_names inventory.places)) (TwicePlaced (first_repeat (group_names inventory.places)))
 
 -- 103: a group is too deep
-abbrev pub too_deep : Inventory → List ℕ
-too_deep inventory = unless (are_within_depth max_depth inventory.places) 103
+abbrev pub too_deep : Inventory → List Breach
+too_deep inventory = unless (are_within_depth depth_bound inventory.places) TooDeep
 
 -- 104: there are too many groups or too many rows
-abbrev pub too_many : Inventory → List ℕ
+abbrev pub too_many : Inventory → List Breach
 too_many inventory =
-    unless (nat_le (length inventory.places) max_groups && nat_le (length inventory.rows) max_rows) 104
+    unless (nat_le (length inventory.places) groups_bound && nat_le (length inventory.rows) rows_bound) TooMany
 
-abbrev pub broken_by_tree : Inventory → List ℕ
+abbrev pub broken_by_tree : Inventory → List Breach
 broken_by_tree inventory =
-    concat (twice_placed inventory ∷ too_deep inventory ∷ too_many inventory ∷ [])
+    joined (twice_placed inventory ∷ too_deep inventory ∷ too_many inventory ∷ [])
 
--- the numbers of all rules that the document breaks
-abbrev pub broken : Data → List ℕ
+-- all rules that the document breaks, in the order in which they are told: of the top value, of each group in preorder,
+-- of the groups together
+abbrev pub broken : Data → List Breach
 broken document =
-    concat (bad_top document ∷ flat_map (λ group. broken_by_group group.name group.body) (groups_of document) ∷ broken_by_tree (inventory_of document) ∷ [])
+    joined (bad_top document ∷ flat_map (λ group. broken_by_group group.name group.body) (groups_of document) ∷ broken_by_tree (inventory_of document) ∷ [])

@@ -1,12 +1,14 @@
 -- What a document says of its groups: limits, variables, hosts, and so the inventory.
 use Rattle.std.specs.Prelude.{ℕ, Option, Some, None, List, map, option_map, option_and_then, nat_le, if◌then◌else◌}
 use Rattle.std.specs.List.{filter_map, flat_map}
-use Rattle.serde_json.specs.Data.{Data, null, boolean, number, string, array, object}
-use Rattle.serde_json.specs.Find.{get, as_number, as_u64, as_i64}
+use Rattle.serde_json.specs.Data.{Data, Num, null, boolean, number, string, array, object}
+use Rattle.serde_json.specs.Find.{get, as_u64, as_i64}
+use Rattle.inventory_model.specs.Limits.{Limit, Count, Percent}
 use Rattle.inventory_model.specs.Variables.{Scalar, Text, Int, Truth, Variable}
 use Rattle.inventory_model.specs.Places.{Place, Row, Inventory}
 use Rattle.inventory_model.specs.Subtrees.{Host}
 use Rattle.inventory_read.specs.Keys.{hosts_key, vars_key, max_down_key}
+use Rattle.inventory_read.specs.Percentages.{share_of}
 use Rattle.inventory_read.specs.Documents.{Entry, Listed, entries_in, part, groups_of}
 
 -- a text, a whole number or a truth value; any other value defines nothing
@@ -24,16 +26,24 @@ variable_of entry = option_map (λ value. record { name = entry.name; value = va
 abbrev pub variables_of : List Entry → List Variable
 variables_of list = filter_map variable_of list
 
--- a limit is a whole number from 0 to 65,535
-abbrev pub limit_of : Data → Option ℕ
-limit_of value =
-    option_and_then (λ n. if nat_le n 65535 then Some n else None) (option_and_then as_u64 (as_number value))
+-- the whole number from 0 to 65,535 that a number is
+abbrev pub count_of : Num → Option ℕ
+count_of n = option_and_then (λ hosts. if nat_le hosts 65535 then Some hosts else None) (as_u64 n)
+
+-- a limit is such a number, or a percentage as a text
+abbrev pub limit_of : Data → Option Limit
+limit_of (number n) = option_map Count (count_of n)
+limit_of (string text) = option_map Percent (share_of text)
+limit_of null = None
+limit_of (boolean _) = None
+limit_of (array _) = None
+limit_of (object _) = None
 
 abbrev pub host_of : Entry → Host
 host_of entry = record { name = entry.name; variables = variables_of (entries_in entry.value) }
 
 -- what a group's body says: its limit, its variables and its own hosts
-abbrev pub limit_in : Data → Option ℕ
+abbrev pub limit_in : Data → Option Limit
 limit_in body = option_and_then limit_of (get max_down_key (part vars_key body))
 
 abbrev pub variables_in : Data → List Variable

@@ -7,7 +7,7 @@ use Rattle.inventory_read.specs.Keys.{all_key, hosts_key, children_key, vars_key
 abbrev one : Name → Data → Data
 one key value = object (member key value no_members)
 
--- members without a value, in the order of their names
+-- entries without a value, in the order of their names
 abbrev listed : List Name → Members
 listed [] = no_members
 listed (name ∷ names) = member name null (listed names)

@@ -1,54 +1,59 @@
 //! Groups as the tree keeps them.
-ghost use Rattle.std.specs.Prelude.{◌≡◌, IfOk, map, [], option_and_then};
+ghost use Rattle.std.specs.Prelude.{◌≡◌, IfOk, map, [], option_map, option_and_then};
 ghost use Rattle.std.specs.List.{flat_map};
 ghost use Rattle.serde_json.specs.View.{view};
 ghost use Rattle.inventory_model.specs.Subtrees as subtrees;
-ghost use Rattle.group_tree.specs.Scalars.{given};
+ghost use Rattle.group_tree.specs.Limits as tree;
+ghost use Rattle.group_tree.specs.Scalars.{lent_variable};
 ghost use Rattle.inventory_read.specs.Documents as documents;
 ghost use Rattle.inventory_read.specs.Keys.{all_key};
 ghost use Rattle.inventory_read.specs.Listings.{entry_of};
 ghost use Rattle.inventory_read.specs.Values as values;
 
+use crate::entries::{entries_at, entries_of};
+use crate::limits::limit_of;
 use crate::listing::Entry;
-use crate::members::{members_at, members_of};
-use crate::variables::{limit_of, variables_of};
-use group_tree::{Group, Scalar};
+use crate::variables::variables_of;
+use group_tree::{Group, Limit, Scalar};
 use serde_json::{Map, Value};
 use std::alloc::{AllocError, Allocator, Global};
 
-fn limit_in(body: &Value) -> Option<u16>
-    ensures { result ≡ values.limit_in (view body.now) }
+fn limit_in(body: &Value) -> Option<Limit>
+    ensures { option_map tree.limit_of result ≡ values.limit_in (view body.now) }
 {
     limit_of(body.get("vars")?.get("max_down")?)
 }
 
 /// The variables that a group's body gives it.
-fn variables_in<'a>(json: Global, body: &'a Value) -> Result<Vec<(&'a str, Scalar<'a>)>, AllocError>
-    ensures { IfOk result (λ found. map given found.items ≡ values.variables_in (view body.now)) }
+fn variables_in<'a>(
+    scratch: Global,
+    body: &'a Value,
+) -> Result<Vec<(&'a str, Scalar<'a>)>, AllocError>
+    ensures { IfOk result (λ found. map lent_variable found.items ≡ values.variables_in (view body.now)) }
 {
-    match members_at(body, "vars") {
-        Some(members) => variables_of(json, members),
-        None => Ok(Vec::new(json)),
+    match entries_at(body, "vars") {
+        Some(object) => variables_of(scratch, object),
+        None => Ok(Vec::new(scratch)),
     }
 }
 
 /// The variables of a host.
 fn host_variables<'a>(
-    json: Global,
+    scratch: Global,
     value: &'a Value,
 ) -> Result<Vec<(&'a str, Scalar<'a>)>, AllocError>
-    ensures { IfOk result (λ found. map given found.items ≡ values.variables_of (documents.entries_in (view value.now))) }
+    ensures { IfOk result (λ found. map lent_variable found.items ≡ values.variables_of (documents.entries_in (view value.now))) }
 {
-    match members_of(value) {
-        Some(members) => variables_of(json, members),
-        None => Ok(Vec::new(json)),
+    match entries_of(value) {
+        Some(object) => variables_of(scratch, object),
+        None => Ok(Vec::new(scratch)),
     }
 }
 
 /// A group with its own hosts, and no children. Its names have been checked, so that memory alone is refused.
 fn own_group<A: Allocator + Clone>(
     alloc: A,
-    json: Global,
+    scratch: Global,
     name: &str,
     body: &Value,
 ) -> Result<Group<A>, AllocError>
@@ -60,15 +65,15 @@ fn own_group<A: Allocator + Clone>(
       below = subtrees.side_by_side [];
     }) }
 {
-    let variables = variables_in(json, body)?;
+    let variables = variables_in(scratch, body)?;
     let Ok(mut group) = Group::new(alloc, name, limit_in(body), variables.as_slice()) else {
         return Err(AllocError);
     };
-    let Some(hosts) = members_at(body, "hosts") else {
+    let Some(hosts) = entries_at(body, "hosts") else {
         return Ok(group);
     };
     for (host, value) in hosts {
-        let variables = host_variables(json, value)?;
+        let variables = host_variables(scratch, value)?;
         let Ok(()) = group.add_host(host.as_str(), variables.as_slice()) else {
             return Err(AllocError);
         };
@@ -79,19 +84,19 @@ fn own_group<A: Allocator + Clone>(
 /// A group with all below it.
 fn build<A: Allocator + Clone>(
     alloc: A,
-    json: Global,
+    scratch: Global,
     name: &str,
     body: &Value,
 ) -> Result<Group<A>, AllocError>
     ensures { IfOk result (λ group. subtrees.inventory_of group
         ≡ values.inventory_from (documents.with_below name.now (view body.now) (documents.below_body (view body.now)))) }
 {
-    let mut group = own_group(alloc.clone()?, json, name, body)?;
-    let Some(children) = members_at(body, "children") else {
+    let mut group = own_group(alloc.clone()?, scratch, name, body)?;
+    let Some(children) = entries_at(body, "children") else {
         return Ok(group);
     };
     for (name, body) in children {
-        group.add_child(build(alloc.clone()?, json, name.as_str(), body)?)?;
+        group.add_child(build(alloc.clone()?, scratch, name.as_str(), body)?)?;
     }
     Ok(group)
 }
@@ -99,16 +104,16 @@ fn build<A: Allocator + Clone>(
 /// `all` with this body, and all below it, where these are the children of `all`.
 pub(crate) fn build_all<A: Allocator + Clone>(
     alloc: A,
-    json: Global,
+    scratch: Global,
     all: &Value,
     children: &[Entry<'_>],
 ) -> Result<Group<A>, AllocError>
     ensures { IfOk result (λ group. subtrees.inventory_of group
         ≡ values.inventory_from (documents.with_below all_key (view all.now) (flat_map documents.groups_from (map entry_of children.now)))) }
 {
-    let mut group = own_group(alloc.clone()?, json, "all", all)?;
+    let mut group = own_group(alloc.clone()?, scratch, "all", all)?;
     for child in children {
-        group.add_child(build(alloc.clone()?, json, child.name, child.body)?)?;
+        group.add_child(build(alloc.clone()?, scratch, child.name, child.body)?)?;
     }
     Ok(group)
 }

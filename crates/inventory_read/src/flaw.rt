@@ -1,4 +1,4 @@
-//! What is wrong with a group, seen from the group itself.
+//! What is wrong with a group, as the group itself shows it.
 
 /// The first rule that a group's own text breaks; a name, a key or a host says where below the group.
 #[derive(Clone, Copy, Debug)]

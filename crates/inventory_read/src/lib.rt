@@ -1,12 +1,13 @@
 //! Reads an inventory from the bytes of a JSON text.
 #![tactic(auto)]
 
+mod bounds;
 mod build;
+mod entries;
 mod fault;
 mod flaw;
 mod limits;
 mod listing;
-mod members;
 mod path;
 mod read;
 mod rules;

@@ -1,82 +1,51 @@
-//! The rules that a document's groups keep together.
-ghost use Rattle.std.specs.Prelude.{◌≡◌, List, map, min, nat_le, ◌&&◌, length, IfOk, IsTrue, MatchOption};
-ghost use Rattle.std.specs.List.{list_all, flat_map};
+//! Limits as the text gives them.
+ghost use Rattle.std.specs.Prelude.{◌≡◌, option_map};
+ghost use Rattle.std.specs.List.{list_all};
+ghost use Rattle.std.specs.Char.{is_ascii_digit};
 ghost use Rattle.serde_json.specs.View.{view};
-ghost use Rattle.inventory_model.specs.Names.{are_distinct};
-ghost use Rattle.inventory_model.specs.Limits.{IsFirstRepeat, max_depth, max_groups, max_rows};
-ghost use Rattle.inventory_read.specs.Documents as documents;
-ghost use Rattle.inventory_read.specs.Faults.{IsRefusal};
-ghost use Rattle.inventory_read.specs.Listings.{seen, listing_of, name_of, rows_at, most};
-ghost use Rattle.inventory_read.specs.Rules.{broken_by_tree};
+ghost use Rattle.group_tree.specs.Limits as tree;
+ghost use Rattle.inventory_read.specs.Percentages as percentages;
 ghost use Rattle.inventory_read.specs.Values as values;
 
-use crate::fault::ReadFault;
-use crate::listing::Listed;
-use crate::members::members_at;
-use group_tree::{MAX_DEPTH, MAX_GROUPS, MAX_ROWS};
+use group_tree::{Limit, Percentage};
 use serde_json::Value;
-use std::alloc::{AllocError, Global};
-use std::collections::BTreeSet;
 
-/// The number, counted from 1, of the first group whose name stood before. `Tree::new` finds it without memory, and
-/// so in a time that grows with the square of the number of groups.
-fn first_repeat(json: Global, groups: &[Listed<'_>]) -> Result<Option<usize>, AllocError>
-    ensures { IfOk result (λ found. MatchOption found (IsTrue (are_distinct (map name_of groups.now)))
-        (IsFirstRepeat (map name_of groups.now))) }
+fn are_ascii_digits(bytes: &[u8]) -> bool
+    ensures { result ≡ list_all is_ascii_digit bytes.now }
 {
-    let mut names = BTreeSet::new(json);
-    for index in 0..groups.len() {
-        if !names.insert(groups[index].name)? {
-            return Ok(Some(index + 1));
-        }
+    bytes.iter().all(|byte| byte.is_ascii_digit())
+}
+
+/// The number that one to three digits write, where it is at most 100.
+fn share_of_digits(text: &str) -> Option<Percentage>
+    ensures { result ≡ percentages.share_of_digits text.now }
+{
+    if text.len() > 3 || !are_ascii_digits(text.as_bytes()) {
+        return None;
     }
-    Ok(None)
+    let Ok(share) = text.parse::<u8>() else {
+        return None;
+    };
+    Percentage::new(share)
 }
 
-fn are_within_depth(groups: &[Listed<'_>]) -> bool
-    ensures { result ≡ list_all (λ group. nat_le group.depth max_depth) groups.now }
+/// What `p%` says.
+fn share_of(text: &str) -> Option<Percentage>
+    ensures { result ≡ percentages.share_of text.now }
 {
-    groups.iter().all(|group| group.depth <= MAX_DEPTH)
-}
-
-fn count_hosts(body: &Value) -> usize
-    ensures { result ≡ length (values.hosts_in (view body.now)) }
-{
-    match members_at(body, "hosts") {
-        Some(hosts) => hosts.len(),
-        None => 0,
+    match text.strip_suffix('%') {
+        Some(digits) => share_of_digits(digits),
+        None => None,
     }
 }
 
-fn count_rows(groups: &[Listed<'_>]) -> usize
-    ensures { result ≡ min (length (flat_map rows_at groups.now)) most }
+/// What `max_down` says: a whole number from 0 to 65,535, or a percentage.
+pub(crate) fn limit_of(value: &Value) -> Option<Limit>
+    ensures { option_map tree.limit_of result ≡ values.limit_of (view value.now) }
 {
-    let mut rows = 0usize;
-    for group in groups {
-        rows = rows.saturating_add(count_hosts(group.body));
+    match value {
+        Value::Number(number) => Some(Limit::Count(u16::try_from(number.as_u64()?).ok()?)),
+        Value::String(text) => Some(Limit::Percent(share_of(text.as_str())?)),
+        _ => None,
     }
-    rows
-}
-
-fn are_few(groups: &[Listed<'_>]) -> bool
-    ensures { result ≡ (nat_le (length groups.now) max_groups && nat_le (length (flat_map rows_at groups.now)) max_rows) }
-{
-    groups.len() <= MAX_GROUPS && count_rows(groups) <= MAX_ROWS
-}
-
-/// The first rule that the groups break together: a name twice, the depth, the number of groups or of rows.
-pub(crate) fn check_tree(json: Global, groups: &[Listed<'_>]) -> Result<(), ReadFault>
-    ensures { (listed : List documents.Listed) → map seen groups.now ≡ listing_of listed
-        → IsRefusal result (broken_by_tree (values.inventory_from listed)) }
-{
-    if let Some(group) = first_repeat(json, groups)? {
-        return Err(ReadFault::TwicePlaced { group });
-    }
-    if !are_within_depth(groups) {
-        return Err(ReadFault::TooDeep);
-    }
-    if !are_few(groups) {
-        return Err(ReadFault::TooMany);
-    }
-    Ok(())
 }

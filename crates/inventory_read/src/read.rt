@@ -5,16 +5,16 @@ ghost use Rattle.serde_json.specs.Data.{null};
 ghost use Rattle.serde_json.specs.Read.{read};
 ghost use Rattle.serde_json.specs.View.{view};
 ghost use Rattle.inventory_read.specs.Documents as documents;
-ghost use Rattle.inventory_read.specs.Faults.{IsRefusal, Names, number_of};
+ghost use Rattle.inventory_read.specs.Faults.{IsRefusal, IsFirst, breach_of};
 ghost use Rattle.inventory_read.specs.Keys.{all_key};
-ghost use Rattle.inventory_read.specs.Listings.{broken_at, seen, listing_of};
+ghost use Rattle.inventory_read.specs.Listings.{broken_at, outline_of, listing_of};
 ghost use Rattle.inventory_read.specs.Reads.{IsReadAs, IsTrueOf, IsNoJson};
 ghost use Rattle.inventory_read.specs.Rules as rules;
 ghost use Rattle.inventory_read.specs.Values as values;
 
+use crate::bounds::check_tree;
 use crate::build::build_all;
 use crate::fault::ReadFault;
-use crate::limits::check_tree;
 use crate::listing::{Listed, children_of_all, list_groups};
 use crate::path::fault_at;
 use crate::rules::check_group;
@@ -22,35 +22,36 @@ use group_tree::Tree;
 use serde_json::Value;
 use std::alloc::{Allocator, Global};
 
-fn parse(json: Global, text: &[u8]) -> Result<Value, ReadFault>
+fn parse(scratch: Global, text: &[u8]) -> Result<Value, ReadFault>
     ensures ok { IfOk result (λ document. IsUtf8 text.now × (read text.now ≡ Some (view document))) }
-    ensures err { IfErr result (λ fault. (number_of fault ≡ None) ⊎ ((number_of fault ≡ Some 201) × IsNoJson text.now)) }
+    ensures err { IfErr result (λ fault. (breach_of fault ≡ None) ⊎ ((breach_of fault ≡ Some rules.NotJson) × IsNoJson text.now)) }
 {
-    match Value::from_slice(json, text) {
+    match Value::from_slice(scratch, text) {
         Ok(document) => Ok(document),
         Err(error) if error.is_memory() => Err(ReadFault::Memory),
         Err(_) => Err(ReadFault::NotJson),
     }
 }
 
-fn check_top(json: Global, document: &Value) -> Result<(), ReadFault>
+fn check_top(scratch: Global, document: &Value) -> Result<(), ReadFault>
     ensures { IsRefusal result (rules.bad_top (view document.now)) }
 {
     if document.is_object() {
         Ok(())
     } else {
         Err(ReadFault::BadShape {
-            at: String::new(json),
+            at: String::new(scratch),
         })
     }
 }
 
-fn check_groups(json: Global, groups: &[Listed<'_>]) -> Result<(), ReadFault>
+fn check_groups(scratch: Global, groups: &[Listed<'_>]) -> Result<(), ReadFault>
     ensures { IsRefusal result (flat_map broken_at groups.now) }
 {
     for index in 0..groups.len() {
-        if let Err(flaw) = check_group(groups[index].name, groups[index].body) {
-            return Err(fault_at(json, groups, index, flaw)?);
+        let group = groups[index];
+        if let Err(flaw) = check_group(group.name, group.body) {
+            return Err(fault_at(scratch, groups, index, flaw)?);
         }
     }
     Ok(())
@@ -65,44 +66,44 @@ fn body_of_all<'a>(document: &'a Value, nothing: &'a Value) -> &'a Value
 }
 
 /// The first rule that the document breaks, where these are its groups.
-fn check(json: Global, document: &Value, groups: &[Listed<'_>]) -> Result<(), ReadFault>
-    requires { map seen groups.now ≡ listing_of (documents.groups_of (view document.now)) }
+fn check(scratch: Global, document: &Value, groups: &[Listed<'_>]) -> Result<(), ReadFault>
+    requires { map outline_of groups.now ≡ listing_of (documents.groups_of (view document.now)) }
     ensures { IsRefusal result (rules.broken (view document.now)) }
 {
-    check_top(json, document)?;
-    check_groups(json, groups)?;
-    check_tree(json, groups)
+    check_top(scratch, document)?;
+    check_groups(scratch, groups)?;
+    check_tree(scratch, groups)
 }
 
 /// The tree that a document says.
 fn tree_of<A: Allocator + Clone>(
     alloc: A,
-    json: Global,
+    scratch: Global,
     document: &Value,
 ) -> Result<Tree<A>, ReadFault>
     ensures ok { IfOk result (λ tree. (rules.broken (view document.now) ≡ []) × (tree ≡ values.inventory_of (view document.now))) }
-    ensures err { IfErr result (λ fault. Names fault (rules.broken (view document.now))) }
+    ensures err { IfErr result (λ fault. IsFirst fault (rules.broken (view document.now))) }
 {
     let nothing = Value::Null;
     let all = body_of_all(document, &nothing);
-    let children = children_of_all(json, document, all)?;
-    let groups = list_groups(json, all, children.as_slice())?;
-    check(json, document, groups.as_slice())?;
-    let root = build_all(alloc, json, all, children.as_slice())?;
-    Ok(Tree::within_limits(root))
+    let children = children_of_all(scratch, document, all)?;
+    let groups = list_groups(scratch, all, children.as_slice())?;
+    check(scratch, document, groups.as_slice())?;
+    let root = build_all(alloc, scratch, all, children.as_slice())?;
+    Ok(Tree::within_bounds(root))
 }
 
-/// Reads an inventory into a tree under `alloc`; what is needed on the way is taken from `json` and given back.
+/// Reads an inventory into a tree under `alloc`; what is needed on the way is taken from `scratch` and given back.
 /// A text that breaks no rule is refused for want of memory alone. Of several faults the first is named: those of the
 /// groups in preorder, then a name that stands twice, the depth, and the numbers of groups and rows.
 pub fn read_inventory<A: Allocator + Clone>(
     alloc: A,
-    json: Global,
+    scratch: Global,
     text: &[u8],
 ) -> Result<Tree<A>, ReadFault>
     ensures ok { IfOk result (IsReadAs text.now) }
     ensures err { IfErr result (IsTrueOf text.now) }
 {
-    let document = parse(json, text)?;
-    tree_of(alloc, json, &document)
+    let document = parse(scratch, text)?;
+    tree_of(alloc, scratch, &document)
 }

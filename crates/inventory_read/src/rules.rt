@@ -1,6 +1,6 @@
 //! The rules that each group of a document keeps by itself.
 ghost use Rattle.std.specs.Prelude.{◌≡◌, ◌∷◌, [], true, IsTrue, IfSome, unwrap_or, option_map};
-ghost use Rattle.std.specs.List.{concat, list_all};
+ghost use Rattle.std.specs.List.{list_all};
 ghost use Rattle.serde_json.specs.Data.{null};
 ghost use Rattle.serde_json.specs.Find.{get};
 ghost use Rattle.serde_json.specs.View.{view, members_view};
@@ -10,9 +10,9 @@ ghost use Rattle.inventory_read.specs.Faults.{IsVerdict};
 ghost use Rattle.inventory_read.specs.Keys.{body_keys, vars_key, hosts_key};
 ghost use Rattle.inventory_read.specs.Rules as rules;
 
+use crate::entries::{entries_at, entries_of};
 use crate::flaw::Flaw;
-use crate::members::{members_at, members_of};
-use crate::variables::limit_of;
+use crate::limits::limit_of;
 use group_tree::is_name;
 use serde_json::{Map, Value};
 
@@ -27,7 +27,7 @@ fn check_name<'a>(name: &'a str) -> Result<(), Flaw<'a>>
 }
 
 fn has_shape(value: &Value) -> bool
-    ensures { rules.bad_shape (view value.now) ≡ rules.unless result 202 }
+    ensures { rules.bad_shape (view value.now) ≡ rules.unless result rules.BadShape }
 {
     value.is_null() || value.is_object()
 }
@@ -51,10 +51,10 @@ fn is_body_key(key: &str) -> bool
 fn check_keys<'a>(body: &'a Value) -> Result<(), Flaw<'a>>
     ensures { IsVerdict result (rules.unknown_key (view body.now)) }
 {
-    let Some(members) = members_of(body) else {
+    let Some(object) = entries_of(body) else {
         return Ok(());
     };
-    for (key, _value) in members {
+    for (key, _value) in object {
         if !is_body_key(key.as_str()) {
             return Err(Flaw::UnknownKey(key.as_str()));
         }
@@ -113,7 +113,7 @@ fn check_host<'a>(name: &'a str, variables: &'a Value) -> Result<(), Flaw<'a>>
 fn check_hosts<'a>(body: &'a Value) -> Result<(), Flaw<'a>>
     ensures { IsVerdict result (rules.broken_by_hosts (entries_in (part hosts_key (view body.now)))) }
 {
-    let Some(hosts) = members_at(body, "hosts") else {
+    let Some(hosts) = entries_at(body, "hosts") else {
         return Ok(());
     };
     for (name, variables) in hosts {

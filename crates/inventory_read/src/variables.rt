@@ -1,7 +1,7 @@
-//! Variables and limits as the text gives them.
+//! Variables as the text gives them.
 ghost use Rattle.std.specs.Prelude.{◌≡◌, IfOk, map, option_map};
 ghost use Rattle.serde_json.specs.View.{view, members_view};
-ghost use Rattle.group_tree.specs.Scalars.{said, given};
+ghost use Rattle.group_tree.specs.Scalars.{lent_scalar, lent_variable};
 ghost use Rattle.inventory_read.specs.Documents.{entries};
 ghost use Rattle.inventory_read.specs.Values as values;
 
@@ -9,16 +9,9 @@ use group_tree::Scalar;
 use serde_json::{Map, Value};
 use std::alloc::{AllocError, Global};
 
-/// What `max_down` says: a whole number from 0 to 65,535.
-pub(crate) fn limit_of(value: &Value) -> Option<u16>
-    ensures { result ≡ values.limit_of (view value.now) }
-{
-    u16::try_from(value.as_u64()?).ok()
-}
-
 /// A text, a whole number or a truth value; nothing for any other value.
 fn scalar_of(value: &Value) -> Option<Scalar<'_>>
-    ensures { option_map said result ≡ values.scalar_of (view value.now) }
+    ensures { option_map lent_scalar result ≡ values.scalar_of (view value.now) }
 {
     match value {
         Value::String(text) => Some(Scalar::Text(text.as_str())),
@@ -30,13 +23,13 @@ fn scalar_of(value: &Value) -> Option<Scalar<'_>>
 
 /// The variables that an object defines, in the order of their names.
 pub(crate) fn variables_of<'a>(
-    json: Global,
-    members: &'a Map<String, Value>,
+    scratch: Global,
+    object: &'a Map<String, Value>,
 ) -> Result<Vec<(&'a str, Scalar<'a>)>, AllocError>
-    ensures { IfOk result (λ found. map given found.items ≡ values.variables_of (entries (members_view members.now.entries))) }
+    ensures { IfOk result (λ found. map lent_variable found.items ≡ values.variables_of (entries (members_view object.now.entries))) }
 {
-    let mut found = Vec::new(json);
-    for (name, value) in members {
+    let mut found = Vec::new(scratch);
+    for (name, value) in object {
         if let Some(scalar) = scalar_of(value) {
             found.push((name.as_str(), scalar))?;
         }

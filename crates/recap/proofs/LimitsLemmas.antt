@@ -1,34 +1,42 @@
 -- A fleet's table is that of its inventory.
-use Rattle.std.proofs.Common.{◌≡◌, ℕ, zero, suc, ◌+◌, ◌-◌, ◌<◌, ◌≤◌, Bool, false, ◌&&◌, filter, Option, Some, None, cond, is_some, List, [], ◌∷◌, ◌++◌, length, map, flat_map, append-nil, length-append, sym, ap, ◌∙◌, refl, arith, slice_index_or, count_by}
-use Rattle.std.specs.Prelude.{option_map}
+use Rattle.std.proofs.Common.{◌≡◌, ℕ, zero, suc, ◌+◌, ◌<◌, ◌≤◌, Bool, false, ◌&&◌, filter, Option, Some, None, cond, is_some}
+use Rattle.std.proofs.Common.{List, [], ◌∷◌, ◌++◌, length, flat_map, append-nil, length-append, slice_index_or}
+use Rattle.std.proofs.Common.{sym, ap, ◌∙◌, refl, arith}
 use Rattle.std.specs.Option.{option_to_list}
 use Rattle.std.specs.List.{filter_map, range_with_len}
 use Rattle.std.proofs.lemmas.List.Elements.{filter_map-append}
 use Rattle.std.proofs.lemmas.Grind.{flat_map-append}
 use Rattle.std.proofs.lemmas.List.{get_or-map, length-map}
+use Rattle.std.proofs.lemmas.List.Sums.{length-filter}
 use Rattle.inventory_model.specs.Names.{Name}
 use Rattle.inventory_model.specs.Places.{Place, Inventory}
 use Rattle.inventory_model.specs.Members.{holds}
 use Rattle.fleet_numbers.specs.NumberLists.{list_at, numbers_where}
-use Rattle.domains.specs.FleetViews.{FleetView, IsFleetOf}
+use Rattle.domains.specs.FleetViews.{FleetView, down_at_start, off_count}
+use Rattle.domains.specs.Fleets.{IsFleetOf}
 use Rattle.domains.specs.Hosts.{hosts_of, is_off}
 use Rattle.domains.specs.Numbered.{host_at}
+use Rattle.domains.specs.Starts.{place_at, nowhere, allowed_of, down_count, member_count}
 use Rattle.domains.proofs.WhereLemmas.{filtered_names, filter-filter}
-use Rattle.std.proofs.lemmas.List.Sums.{length-filter}
-use Rattle.domains.specs.Starts.{place_at, nowhere, down_count}
-use Rattle.domains.specs.Search.{off_count}
 use Rattle.recap.specs.LimitsText.{LimitLine, line_text, table_text}
-use Rattle.recap.specs.LimitsTable.{member_count, line_of, limits_table, fleet_line, fleet_lines, fleet_table, lines_text}
+use Rattle.recap.specs.LimitsTable.{line_of, limits_table, fleet_line, fleet_lines, fleet_table, lines_text}
+
+from_zero : (n : ℕ) → 0 + n ≡ n
+from_zero n = omega arith
 
 range-more : (from count : ℕ) → range_with_len from (count + 1) ≡ range_with_len from count ++ (from + count) ∷ []
 range-more from zero = let e : from ≡ from + 0 = omega arith in ap (λ n. n ∷ []) e
 range-more from (suc count) =
-    rw (let e : suc count + 1 ≡ suc (count + 1) = omega arith in e) (ap (λ rest. from ∷ rest) (range-more (from + 1) count ∙ (let e : (from + 1) + count ≡ from + suc count = omega arith in ap (λ n. range_with_len (from + 1) count ++ n ∷ []) e)))
+    let later : (from + 1) + count ≡ from + suc count = omega arith in
+    let rest = range-more (from + 1) count ∙ ap (λ n. range_with_len (from + 1) count ++ n ∷ []) later in
+    rw (let e : suc count + 1 ≡ suc (count + 1) = omega arith in e) (ap (λ rest. from ∷ rest) rest)
 
 -- a group more adds its line, where it has one
 lines-more : (fleet : FleetView) (count : ℕ) → fleet_lines fleet (count + 1) ≡ fleet_lines fleet count ++ option_to_list (fleet_line fleet count)
 lines-more fleet count =
-    ap (filter_map (fleet_line fleet)) (range-more 0 count ∙ (let e : 0 + count ≡ count = omega arith in ap (λ n. range_with_len 0 count ++ n ∷ []) e)) ∙ filter_map-append (fleet_line fleet) (range_with_len 0 count) (count ∷ []) ∙ ap (λ last. fleet_lines fleet count ++ last) (last_line (fleet_line fleet count))
+    let one_more = range-more 0 count ∙ ap (λ n. range_with_len 0 count ++ n ∷ []) (from_zero count) in
+    let parts = filter_map-append (fleet_line fleet) (range_with_len 0 count) (count ∷ []) in
+    ap (filter_map (fleet_line fleet)) one_more ∙ parts ∙ ap (λ last. fleet_lines fleet count ++ last) (last_line (fleet_line fleet count))
   where
     last_line : (line : Option LimitLine) → filter_map (λ (o : Option LimitLine). o) (line ∷ []) ≡ option_to_list line
     last_line None = refl
@@ -36,7 +44,9 @@ lines-more fleet count =
 
 pub lines_text-more : (fleet : FleetView) (count : ℕ) → flat_map line_text (fleet_lines fleet count) ++ lines_text (fleet_line fleet count) ≡ flat_map line_text (fleet_lines fleet (count + 1))
 lines_text-more fleet count =
-    sym (ap (flat_map line_text) (lines-more fleet count) ∙ flat_map-append line_text (fleet_lines fleet count) (option_to_list (fleet_line fleet count)) ∙ ap (λ last. flat_map line_text (fleet_lines fleet count) ++ last) (last_text (fleet_line fleet count)))
+    let before = fleet_lines fleet count in
+    let parts = flat_map-append line_text before (option_to_list (fleet_line fleet count)) in
+    sym (ap (flat_map line_text) (lines-more fleet count) ∙ parts ∙ ap (λ last. flat_map line_text before ++ last) (last_text (fleet_line fleet count)))
   where
     last_text : (line : Option LimitLine) → flat_map line_text (option_to_list line) ≡ lines_text line
     last_text None = refl
@@ -44,7 +54,9 @@ lines_text-more fleet count =
 
 pub lines_count-more : (fleet : FleetView) (count : ℕ) → length (fleet_lines fleet (count + 1)) ≡ length (fleet_lines fleet count) + cond (is_some (fleet_line fleet count)) 1 0
 lines_count-more fleet count =
-    ap length (lines-more fleet count) ∙ length-append (fleet_lines fleet count) (option_to_list (fleet_line fleet count)) ∙ ap (λ n. length (fleet_lines fleet count) + n) (last_count (fleet_line fleet count))
+    let before = fleet_lines fleet count in
+    let parts = length-append before (option_to_list (fleet_line fleet count)) in
+    ap length (lines-more fleet count) ∙ parts ∙ ap (λ n. length before + n) (last_count (fleet_line fleet count))
   where
     last_count : (line : Option LimitLine) → length (option_to_list line) ≡ cond (is_some line) 1 0
     last_count None = refl
@@ -55,47 +67,68 @@ one_line_at_most None = omega arith
 one_line_at_most (Some line) = omega arith
 
 -- what a list gives by its places and by its items
-filter_map-places : {X Y : Type 0} (by_place : ℕ → Option Y) (by_item : X → Option Y) (items : List X) (from : ℕ) (d : X) → ((i : ℕ) → i < length items → by_place (from + i) ≡ by_item (slice_index_or items i d)) → filter_map by_place (range_with_len from (length items)) ≡ filter_map by_item items
+filter_map-places : {X Y : Type 0} (by_place : ℕ → Option Y) (by_item : X → Option Y) (items : List X) (from : ℕ) (d : X)
+    → ((i : ℕ) → i < length items → by_place (from + i) ≡ by_item (slice_index_or items i d)) → filter_map by_place (range_with_len from (length items)) ≡ filter_map by_item items
 filter_map-places by_place by_item [] from d same = refl
 filter_map-places by_place by_item (item ∷ items) from d same =
     let first : by_place from ≡ by_item item = ap by_place (let e : from ≡ from + 0 = omega arith in e) ∙ same 0 (omega arith) in
-    let rest = filter_map-places by_place by_item items (from + 1) d (λ i within. ap by_place (let e : (from + 1) + i ≡ from + suc i = omega arith in e) ∙ same (suc i) (omega arith)) in
+    let later = λ (i : ℕ). ap by_place (let e : (from + 1) + i ≡ from + suc i = omega arith in e) in
+    let rest = filter_map-places by_place by_item items (from + 1) d (λ i within. later i ∙ same (suc i) (omega arith)) in
     rw (first, rest) refl
 
 module _ (inventory : Inventory) (fleet : FleetView) (of : IsFleetOf inventory fleet) where
   holds_at : ℕ → ℕ → Bool
   holds_at group host = holds inventory (place_at inventory.places group).name (host_at fleet.hosts host)
 
+  numbers_held : Place → List ℕ
+  numbers_held place = numbers_where (λ host. holds inventory place.name (host_at fleet.hosts host)) (length fleet.hosts)
+
   members-are : (group : ℕ) → group < length inventory.places → list_at fleet.members group ≡ numbers_where (holds_at group) (length fleet.hosts)
-  unfolding holds_at
+  unfolding holds_at numbers_held
   members-are group within =
-      ap (λ members. list_at members group) of.members ∙ get_or-map (λ (place : Place). numbers_where (λ host. holds inventory place.name (host_at fleet.hosts host)) (length fleet.hosts)) inventory.places group nowhere [] within
+      ap (λ members. list_at members group) of.members ∙ get_or-map numbers_held inventory.places group nowhere [] within
+
+  -- how many hosts pass a test, counted by their numbers
+  count-hosts : (by_number : ℕ → Bool) (by_name : Name → Bool) → ((host : ℕ) → host < length fleet.hosts → by_number host ≡ by_name (host_at fleet.hosts host))
+      → length (numbers_where by_number (length fleet.hosts)) ≡ length (filter by_name (hosts_of inventory))
+  count-hosts by_number by_name same =
+      filtered_names by_number by_name fleet.hosts 0 (λ host below. ap by_number (from_zero host) ∙ same host below)
+      ∙ ap (λ (hosts : List Name). length (filter by_name hosts)) of.hosts
 
   members-at : (group : ℕ) → group < length inventory.places → length (list_at fleet.members group) ≡ member_count inventory (place_at inventory.places group).name
   unfolding holds_at
   members-at group within =
-      let name = (place_at inventory.places group).name in
-      ap length (members-are group within) ∙ filtered_names (holds_at group) (holds inventory name) fleet.hosts 0 (λ host below. ap (holds_at group) (let e : 0 + host ≡ host = omega arith in e)) ∙ ap (λ (hosts : List Name). length (filter (holds inventory name) hosts)) of.hosts
+      ap length (members-are group within) ∙ count-hosts (holds_at group) (holds inventory (place_at inventory.places group).name) (λ host below. refl)
 
-  off-at : (host : ℕ) → host < length fleet.hosts → slice_index_or fleet.off host false ≡ is_off inventory (host_at fleet.hosts host)
+  is_off_at : ℕ → Bool
+  is_off_at host = slice_index_or fleet.off host false
+
+  off-at : (host : ℕ) → host < length fleet.hosts → is_off_at host ≡ is_off inventory (host_at fleet.hosts host)
+  unfolding is_off_at
   off-at host within =
       ap (λ off. slice_index_or off host false) of.off ∙ get_or-map (is_off inventory) fleet.hosts host [] false within
 
-  down-at : (group : ℕ) → group < length inventory.places → off_count fleet.off (list_at fleet.members group) ≡ down_count inventory (place_at inventory.places group).name
-  unfolding holds_at
+  down-at : (group : ℕ) → group < length inventory.places → down_at_start fleet group ≡ down_count inventory (place_at inventory.places group).name
+  unfolding holds_at is_off_at
   down-at group within =
       let name = (place_at inventory.places group).name in
-      let off = λ (host : ℕ). slice_index_or fleet.off host false in
-      ap (off_count fleet.off) (members-are group within) ∙ sym (length-filter off (numbers_where (holds_at group) (length fleet.hosts))) ∙ ap length (filter-filter off (holds_at group) (range_with_len 0 (length fleet.hosts))) ∙ filtered_names (λ host. holds_at group host && off host) (λ host. holds inventory name host && is_off inventory host) fleet.hosts 0 (λ host below. ap (λ n. holds_at group n && off n) (let e : 0 + host ≡ host = omega arith in e) ∙ ap (λ b. holds_at group host && b) (off-at host below)) ∙ ap (λ (hosts : List Name). length (filter (λ host. holds inventory name host && is_off inventory host) hosts)) of.hosts
+      let counted = sym (length-filter is_off_at (numbers_where (holds_at group) (length fleet.hosts))) in
+      let both = ap length (filter-filter is_off_at (holds_at group) (range_with_len 0 (length fleet.hosts))) in
+      let down = λ (host : Name). holds inventory name host && is_off inventory host in
+      ap (off_count fleet.off) (members-are group within) ∙ counted ∙ both
+      ∙ count-hosts (λ host. holds_at group host && is_off_at host) down (λ host below. ap (λ off. holds_at group host && off) (off-at host below))
 
   line-at : (group : ℕ) → group < length inventory.places → fleet_line fleet group ≡ line_of inventory (place_at inventory.places group)
   line-at group within =
-      let name = ap (λ names. slice_index_or names group []) of.groups ∙ get_or-map (λ (place : Place). place.name) inventory.places group nowhere [] within in
-      let limit = ap (λ limits. slice_index_or limits group None) of.limits ∙ get_or-map (λ (place : Place). place.limit) inventory.places group nowhere None within in
+      let names = λ (place : Place). place.name in
+      let name = ap (λ names. slice_index_or names group []) of.groups ∙ get_or-map names inventory.places group nowhere [] within in
+      let limit = ap (λ limits. slice_index_or limits group None) of.limits ∙ get_or-map (allowed_of inventory) inventory.places group nowhere None within in
       rw (name, limit, members-at group within, down-at group within) refl
 
   pub fleet_table-limits_table : fleet_table fleet ≡ limits_table inventory
   fleet_table-limits_table =
       let count = ap length of.groups ∙ length-map inventory.places (λ (place : Place). place.name) in
-      let lines = ap (λ n. filter_map (fleet_line fleet) (range_with_len 0 n)) count ∙ filter_map-places (fleet_line fleet) (line_of inventory) inventory.places 0 nowhere (λ group within. ap (fleet_line fleet) (let e : 0 + group ≡ group = omega arith in e) ∙ line-at group within) in
-      ap (λ (all : List LimitLine). table_text all (length fleet.hosts)) lines ∙ ap (λ (hosts : List Name). table_text (filter_map (line_of inventory) inventory.places) (length hosts)) of.hosts
+      let same = λ (group : ℕ) (within : group < length inventory.places). ap (fleet_line fleet) (from_zero group) ∙ line-at group within in
+      let lines = ap (λ n. filter_map (fleet_line fleet) (range_with_len 0 n)) count ∙ filter_map-places (fleet_line fleet) (line_of inventory) inventory.places 0 nowhere same in
+      let hosts = λ (hosts : List Name). table_text (filter_map (line_of inventory) inventory.places) (length hosts) in
+      ap (λ (all : List LimitLine). table_text all (length fleet.hosts)) lines ∙ ap hosts of.hosts

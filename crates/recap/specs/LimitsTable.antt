@@ -1,28 +1,27 @@
 -- The table of limits of an inventory.
-use Rattle.std.specs.Prelude.{ℕ, ◌-◌, Option, Some, None, List, [], length, filter, option_map, slice_index_or}
+use Rattle.std.specs.Prelude.{ℕ, ◌-◌, Option, Some, None, List, [], length, option_map, slice_index_or}
 use Rattle.std.specs.List.{filter_map, range_with_len}
+use Rattle.inventory_model.specs.Names.{Name}
 use Rattle.inventory_model.specs.Places.{Place, Inventory}
-use Rattle.inventory_model.specs.Members.{holds}
 use Rattle.domains.specs.Hosts.{hosts_of}
-use Rattle.domains.specs.Starts.{down_count}
-use Rattle.domains.specs.FleetViews.{FleetView}
-use Rattle.domains.specs.Search.{off_count}
+use Rattle.domains.specs.Starts.{allowed_of, down_count, member_count}
+use Rattle.domains.specs.FleetViews.{FleetView, down_at_start}
 use Rattle.fleet_numbers.specs.NumberLists.{list_at}
 use Rattle.recap.specs.LimitsText.{LimitLine, line_text, table_text}
 
--- how many hosts a group of this name holds
-abbrev pub member_count : Inventory → List ℕ → ℕ
-member_count inventory group = length (filter (holds inventory group) (hosts_of inventory))
+-- what is said of a limited group; the room is what is left of the limit, and none where more are down
+abbrev pub limit_line : Name → ℕ → ℕ → ℕ → LimitLine
+limit_line group members down limit = record { group = group; members = members; down = down; limit = limit; room = limit - down }
 
--- what is said of a group, where it has a limit; the room is what is left of the limit, and none where more are down
+-- the line of a group of the inventory, where it has a limit: the limit is how many hosts may be down
 abbrev pub line_of : Inventory → Place → Option LimitLine
 line_of inventory place =
-    option_map (λ limit. record { group = place.name; members = member_count inventory place.name; down = down_count inventory place.name; limit = limit; room = limit - down_count inventory place.name }) place.limit
+    option_map (limit_line place.name (member_count inventory place.name) (down_count inventory place.name)) (allowed_of inventory place)
 
 -- the same of a fleet, by the group's number
 abbrev pub fleet_line : FleetView → ℕ → Option LimitLine
 fleet_line fleet group =
-    option_map (λ limit. record { group = slice_index_or fleet.groups group []; members = length (list_at fleet.members group); down = off_count fleet.off (list_at fleet.members group); limit = limit; room = limit - off_count fleet.off (list_at fleet.members group) }) (slice_index_or fleet.limits group None)
+    option_map (limit_line (slice_index_or fleet.groups group []) (length (list_at fleet.members group)) (down_at_start fleet group)) (slice_index_or fleet.limits group None)
 
 -- the text of a line, where there is one
 abbrev pub lines_text : Option LimitLine → List ℕ

@@ -1,5 +1,5 @@
 -- The text of `rollout limits`.
-use Rattle.std.specs.Prelude.{ℕ, List, [], ◌++◌, length, codes, decimal, flat_map}
+use Rattle.std.specs.Prelude.{ℕ, List, ◌++◌, length, codes, decimal, flat_map}
 use Rattle.inventory_model.specs.Names.{Name}
 
 -- what is said of a group that limits how many of its hosts may be down
@@ -17,7 +17,8 @@ field_text word number = word ++ decimal number
 -- `NAME members=M down=D limit=L room=R`
 abbrev pub line_text : LimitLine → List ℕ
 line_text line =
-    line.group ++ (field_text (codes " members=") line.members ++ (field_text (codes " down=") line.down ++ (field_text (codes " limit=") line.limit ++ (field_text (codes " room=") line.room ++ codes "\n"))))
+    line.group ++ (field_text (codes " members=") line.members ++ (field_text (codes " down=") line.down
+    ++ (field_text (codes " limit=") line.limit ++ (field_text (codes " room=") line.room ++ codes "\n"))))
 
 -- `hosts=H limited=K`
 abbrev pub totals_text : ℕ → ℕ → List ℕ

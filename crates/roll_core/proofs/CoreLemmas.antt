@@ -6,43 +6,50 @@ use Rattle.std.proofs.lemmas.List.Sums.{sum_by-cons, sum_by-set}
 use Rattle.std.proofs.lemmas.Bool.{cases_lt, eq-eqb, or_left, or_right}
 use Rattle.fleet_numbers.specs.NumberLists.{has_number}
 use Rattle.group_tree.specs.declared.ids.HostId.{HostId}
-use Rattle.roll_core.specs.declared.status.Status.{Status}
+use Rattle.fleet_states.specs.declared.status.Status.{Status}
 use Rattle.roll_core.specs.declared.stage.Stage.{Stage}
 use Rattle.roll_core.specs.declared.stage.Stage.TheVariants.{Boundary, Working, Ended}
 use Rattle.roll_core.specs.declared.stage.Progress.{Progress}
 use Rattle.roll_core.specs.declared.stage.Progress.TheVariants.{Due, Claimed, Reported}
 use Rattle.roll_core.specs.declared.event.Event.{Event}
 use Rattle.roll_core.specs.declared.event.Event.TheVariants.{Open, Claim, Report, Barrier, Close}
-use Rattle.roll_core.specs.Groups.{LimitedGroup, IsSafe}
-use Rattle.roll_core.specs.Statuses.{after_batch, changed}
-use Rattle.roll_core.specs.States.{State, Allowed, MayClaim, MayReport, next, progress_at, start_state}
+use Rattle.fleet_states.specs.Groups.{FleetGroup, IsSafe}
+use Rattle.roll_core.specs.States.{after_batch, State, Allowed, MayClaim, MayReport, next, progress_at, start_state}
+use Rattle.fleet_states.specs.Statuses.{changed}
 use Rattle.roll_core.specs.Logs.{IsLegal, state_after}
-use Rattle.roll_core.specs.Views.{IsKept, MachineView, is_due, is_out, next_due, owed_at, owed_by}
-use Rattle.roll_core.proofs.CountLemmas.{bit}
+use Rattle.roll_core.specs.Inside.Machines.{IsAfterLog, MachineView, is_out, owed_at, owed_by}
+use Rattle.roll_core.specs.Views.{is_due, next_due}
+use Rattle.fleet_states.proofs.CountLemmas.{bit}
 use Rattle.roll_core.proofs.FrontLemmas.{legal_end, start_at_work}
 
 pub state_after-push : (state : State) (log : List Event) (event : Event) → state_after state (log ++ event ∷ []) ≡ next (state_after state log) event
 state_after-push state [] event = refl
 state_after-push state (first ∷ log) event = state_after-push (next state first) log event
 
-pub legal_push : (groups : List LimitedGroup) (state : State) (log : List Event) (event : Event) → IsLegal groups state log → Allowed groups (state_after state log) event → IsLegal groups state (log ++ event ∷ [])
+pub legal_push : (groups : List FleetGroup) (state : State) (log : List Event) (event : Event) → IsLegal groups state log → Allowed groups (state_after state log) event → IsLegal groups state (log ++ event ∷ [])
 legal_push groups state [] event legal allowed = (allowed, tt)
 legal_push groups state (first ∷ log) event legal allowed =
     (legal.0, legal_push groups (next state first) log event legal.1 allowed)
 
 -- one more event keeps all of it
-pub kept_more : (old new : MachineView) (start : List Status) (log log' : List Event) (owed owed' capacity capacity' : ℕ) (event : Event) → IsKept old start log owed capacity → Allowed old.groups old.state event → new.groups ≡ old.groups → new.state ≡ next old.state event → log' ≡ log ++ event ∷ [] → owed' ≡ owed_by (next old.state event) → length log + 1 + owed' ≤ capacity' → IsKept new start log' owed' capacity'
+pub kept_more : (old new : MachineView) (start : List Status) (log log' : List Event) (owed owed' capacity capacity' : ℕ) (event : Event) → IsAfterLog old start log owed capacity → Allowed old.groups old.state event → new.groups ≡ old.groups → new.state ≡ next old.state event → log' ≡ log ++ event ∷ [] → owed' ≡ owed_by (next old.state event) → length log + 1 + owed' ≤ capacity' → IsAfterLog new start log' owed' capacity'
 kept_more old new start log log' owed owed' capacity capacity' event kept allowed groups state grown owes room =
     record {
       state = state ∙ ap (λ s. next s event) kept.state ∙ sym (state_after-push (start_state start) log event) ∙ ap (state_after (start_state start)) (sym grown);
-      legal = subst (λ (g : List LimitedGroup). IsLegal g (start_state start) log') (sym groups) (subst (λ (l : List Event). IsLegal old.groups (start_state start) l) (sym grown) (legal_push old.groups (start_state start) log event kept.legal (subst (λ (s : State). Allowed old.groups s event) kept.state allowed)));
-      safe = subst (λ (g : List LimitedGroup). IsSafe g start) (sym groups) kept.safe;
+      legal = subst (λ (g : List FleetGroup). IsLegal g (start_state start) log') (sym groups) (subst (λ (l : List Event). IsLegal old.groups (start_state start) l) (sym grown) longer);
+      safe = subst (λ (g : List FleetGroup). IsSafe g start) (sym groups) kept.safe;
       rests = kept.rests;
       owes = owes ∙ ap owed_by (sym state);
       places = omega (arith, room, ap length grown, length-append log (event ∷ []));
     }
+  where
+    may : Allowed old.groups (state_after (start_state start) log) event
+    may = subst (λ (s : State). Allowed old.groups s event) kept.state allowed
 
-pub kept_safe : (machine : MachineView) (start : List Status) (log : List Event) (owed capacity : ℕ) → IsKept machine start log owed capacity → IsSafe machine.groups machine.state.statuses
+    longer : IsLegal old.groups (start_state start) (log ++ event ∷ [])
+    longer = legal_push old.groups (start_state start) log event kept.legal may
+
+pub kept_safe : (machine : MachineView) (start : List Status) (log : List Event) (owed capacity : ℕ) → IsAfterLog machine start log owed capacity → IsSafe machine.groups machine.state.statuses
 kept_safe machine start log owed capacity kept =
     subst (λ (s : State). IsSafe machine.groups s.statuses) (sym kept.state) (legal_end machine.groups (start_state start) log (start_at_work start) kept.safe kept.legal)
 
@@ -79,7 +86,8 @@ owed_report state host failed owed owes may =
     let was : owed ≡ count_by is_out state.progress + 2 = owes ∙ ap (λ s. owed_at s (count_by is_out state.progress)) may.working in
     let less = count-set state.progress host.index Reported (claimed_within state.progress host.index may.claimed) in
     let before : bit (is_out (progress_at state.progress host.index)) ≡ 1 = ap (λ p. bit (is_out p)) may.claimed in
-    let later : owed_by (next state (Report host failed)) ≡ count_by is_out (set state.progress host.index Reported) + 2 = ap (λ s. owed_at s (count_by is_out (set state.progress host.index Reported))) may.working in
+    let out : ℕ = count_by is_out (set state.progress host.index Reported) in
+    let later : owed_by (next state (Report host failed)) ≡ out + 2 = ap (λ s. owed_at s out) may.working in
     (omega (arith, was, less, before, later), omega (arith, later))
 
 pub owed_barrier : (state : State) (owed : ℕ) → owed ≡ owed_by state → state.stage ≡ Working → owed ≡ owed_by (next state Barrier) + 1

@@ -1,6 +1,3 @@
-pub mod NumberLemmas
-pub mod CountLemmas
-pub mod StatusLemmas
 pub mod FrontLemmas
 pub mod RunningCounts
 pub mod HeldLemmas

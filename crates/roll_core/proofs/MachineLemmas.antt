@@ -6,16 +6,17 @@ use Rattle.std.proofs.lemmas.List.Folds.{list_any_at}
 use Rattle.std.proofs.lemmas.Bool.{and_parts, both_ways, cases_lt, cases_eq, eq-eqb}
 use Rattle.group_tree.specs.declared.ids.HostId.{HostId}
 use Rattle.fleet_numbers.specs.NumberLists.{has_number, are_below}
-use Rattle.roll_core.specs.declared.status.Status.{Status}
+use Rattle.fleet_states.specs.declared.status.Status.{Status}
 use Rattle.roll_core.specs.declared.stage.Stage.{Stage}
 use Rattle.roll_core.specs.declared.stage.Stage.TheVariants.{Boundary, Working, Ended}
 use Rattle.roll_core.specs.declared.stage.Progress.TheVariants.{Due, Claimed}
-use Rattle.roll_core.specs.Groups.{are_distinct, numbers_of}
-use Rattle.roll_core.specs.Statuses.{is_waiting, status_at}
-use Rattle.roll_core.specs.States.{State, MayEnd, are_ready, has_reported, progress_at}
-use Rattle.roll_core.specs.Views.{IsInOrder, first_busy, first_due, is_due, next_due}
-use Rattle.roll_core.proofs.NumberLemmas.{distinct_fresh, number_at, number_below}
-use Rattle.roll_core.proofs.TrialLemmas.{ready_below}
+use Rattle.domains.specs.Ids.{host_numbers}
+use Rattle.fleet_states.specs.Statuses.{are_distinct, is_waiting, status_at, are_ready}
+use Rattle.roll_core.specs.States.{State, MayEnd, has_reported, progress_at}
+use Rattle.roll_core.specs.Inside.Machines.{IsInOrder}
+use Rattle.roll_core.specs.Views.{first_busy, first_due, is_due, next_due}
+use Rattle.fleet_states.proofs.NumberLemmas.{distinct_fresh, number_at, number_below}
+use Rattle.fleet_states.proofs.ReadyLemmas.{ready_below}
 
 pub find_here : (p : ℕ → Bool) (xs : List ℕ) (i : ℕ) → i < length xs → ((k : ℕ) → k < i → p (get_or xs k 0) ≡ false) → p (get_or xs i 0) ≡ true → find p xs ≡ Some (get_or xs i 0)
 find_here p [] i within before here = absurd (omega arith)
@@ -38,17 +39,19 @@ all_from_none p (x ∷ xs) e = by_case (all_from_none p xs) (p x) refl
     by_case later false here =
         absurd (let some : Some x ≡ None = sym (ap (λ b. cond (not b) (Some x) (find (λ n. not (p n)) xs)) here) ∙ e in cc)
 
-pub find-numbers_of : (p : ℕ → Bool) (hosts : List HostId) → find p (numbers_of hosts) ≡ option_map (λ (h : HostId). h.index) (find (λ (h : HostId). p h.index) hosts)
-find-numbers_of p [] = refl
-find-numbers_of p (h ∷ hosts) = by_case (p h.index) (find-numbers_of p hosts)
+pub find-host_numbers : (p : ℕ → Bool) (hosts : List HostId) → find p (host_numbers hosts) ≡ option_map (λ (h : HostId). h.index) (find (λ (h : HostId). p h.index) hosts)
+find-host_numbers p [] = refl
+find-host_numbers p (h ∷ hosts) = by_case (p h.index) (find-host_numbers p hosts)
   where
-    by_case : (b : Bool) → find p (numbers_of hosts) ≡ option_map (λ (k : HostId). k.index) (find (λ (k : HostId). p k.index) hosts) → cond b (Some h.index) (find p (numbers_of hosts)) ≡ option_map (λ (k : HostId). k.index) (cond b (Some h) (find (λ (k : HostId). p k.index) hosts))
+    by_case : (b : Bool) → find p (host_numbers hosts) ≡ option_map (λ (k : HostId). k.index) (find (λ (k : HostId). p k.index) hosts) → cond b (Some h.index) (find p (host_numbers hosts)) ≡ option_map (λ (k : HostId). k.index) (cond b (Some h) (find (λ (k : HostId). p k.index) hosts))
     by_case true e = refl
     by_case false e = e
 
 distinct_places : (xs : List ℕ) (i j : ℕ) → are_distinct xs ≡ true → i < j → j < length xs → get_or xs j 0 ≡ get_or xs i 0 → ⊥
 distinct_places xs i j distinct less within e =
-    both_ways (has_number (get_or xs j 0) (take j xs)) (distinct_fresh xs j distinct within) (list_any_at (nat_eq (get_or xs j 0)) (take j xs) i 0 (omega (arith, length-take-le j xs (omega (arith, within)))) (eq-eqb (get_or xs j 0) (get_or (take j xs) i 0) (e ∙ sym (get_or-take j xs i 0 less))))
+    let inside : i < length (take j xs) = omega (arith, length-take-le j xs (omega (arith, within))) in
+    let alike = eq-eqb (get_or xs j 0) (get_or (take j xs) i 0) (e ∙ sym (get_or-take j xs i 0 less)) in
+    both_ways (has_number (get_or xs j 0) (take j xs)) (distinct_fresh xs j distinct within) (list_any_at (nat_eq (get_or xs j 0)) (take j xs) i 0 inside alike)
 
 module _ (hosts : ℕ) (stage : Stage) (state : State) (claimed : ℕ) (order : IsInOrder hosts stage state.batch state.progress claimed) where
   here_due : claimed < length state.batch → first_due state.progress state.batch ≡ Some (get_or state.batch claimed 0)
@@ -93,11 +96,11 @@ module _ (hosts : ℕ) (stage : Stage) (state : State) (claimed : ℕ) (order : 
         len = length-set state.progress host Claimed ∙ order.len;
         within = order.within;
         distinct = order.distinct;
-        others = λ other out. get_or-set_other state.progress host other Claimed Due (λ e. both_ways (has_number other state.batch) out (ap (λ (n : ℕ). has_number n state.batch) e ∙ inside)) ∙ order.others other out;
+        others = λ other out. get_or-set_other state.progress host other Claimed Due (λ e. inside_not other e out) ∙ order.others other out;
         boundary = order.boundary;
         reach = omega (arith, place.0);
         taken = λ k l. taken_at k l (cases_eq (get_or state.batch k 0) host);
-        left = λ k l m. get_or-set_other state.progress host (get_or state.batch k 0) Claimed Due (λ e. distinct_places state.batch claimed k order.distinct (omega (arith, l)) m (e ∙ sym place.1)) ∙ order.left k (omega (arith, l)) m;
+        left = λ k l m. get_or-set_other state.progress host (get_or state.batch k 0) Claimed Due (λ e. later_not k (omega (arith, l)) m e) ∙ order.left k (omega (arith, l)) m;
       }
     where
       place : (claimed < length state.batch) × (get_or state.batch claimed 0 ≡ host)
@@ -105,6 +108,13 @@ module _ (hosts : ℕ) (stage : Stage) (state : State) (claimed : ℕ) (order : 
 
       inside : has_number host state.batch ≡ true
       inside = subst (λ (n : ℕ). has_number n state.batch ≡ true) place.1 (number_at state.batch claimed place.0)
+
+      inside_not : (other : ℕ) → other ≡ host → has_number other state.batch ≡ false → ⊥
+      inside_not other e out =
+          both_ways (has_number other state.batch) out (ap (λ (n : ℕ). has_number n state.batch) e ∙ inside)
+
+      later_not : (k : ℕ) → claimed < k → k < length state.batch → get_or state.batch k 0 ≡ host → ⊥
+      later_not k l m e = distinct_places state.batch claimed k order.distinct l m (e ∙ sym place.1)
 
       taken_at : (k : ℕ) → k < claimed + 1 → (get_or state.batch k 0 ≡ host) ⊎ (get_or state.batch k 0 ≡ host → ⊥) → is_due (progress_at (set state.progress host Claimed) (get_or state.batch k 0)) ≡ false
       taken_at k l (inl e) =
@@ -123,11 +133,11 @@ module _ (hosts : ℕ) (stage : Stage) (state : State) (claimed : ℕ) (order : 
 
   pub opened : (statuses : List Status) (batch : List ℕ) → length statuses ≡ hosts → stage ≡ Boundary → are_ready statuses batch ≡ true → IsInOrder hosts Working batch state.progress 0
   opened statuses batch len rest ready =
-      let parts = and_parts (list_all (λ h. is_waiting (status_at statuses h)) batch) (are_distinct batch) ready in
+      let both = and_parts (list_all (λ h. is_waiting (status_at statuses h)) batch) (are_distinct batch) ready in
       record {
         len = order.len;
         within = ap (λ (n : ℕ). are_below n batch) (sym len) ∙ ready_below statuses batch ready;
-        distinct = parts.1;
+        distinct = both.1;
         others = λ host out. all_due host;
         boundary = λ e. absurd (cc);
         reach = omega arith;

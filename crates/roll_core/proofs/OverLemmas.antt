@@ -1,27 +1,15 @@
 -- The first group over its limit among those of some hosts.
-use Rattle.std.proofs.Common.{◌≡◌, ℕ, zero, suc, ◌≤◌, ◌<◌, Bool, true, false, ◌||◌, nat_eq, min, List, [], ◌∷◌, ◌++◌, length, get_or, take, Option, Some, None, MatchOption, sym, ap, ◌∙◌, refl, subst, arith, inl, inr, ◌⊎◌}
+use Rattle.std.proofs.Common.{◌≡◌, ℕ, zero, suc, ◌≤◌, ◌<◌, true, false, ◌||◌, nat_eq, min, List, [], ◌∷◌, ◌++◌, length, get_or, take, Option, Some, None, MatchOption, sym, ap, ◌∙◌, subst, arith, inl, inr, ◌⊎◌}
 use Rattle.std.specs.List.{list_any}
 use Rattle.std.proofs.lemmas.List.Folds.{list_any-append}
-use Rattle.std.proofs.lemmas.Bool.{or_parts, or_cases, or_left, or_right, eqb-true, cases_lt}
+use Rattle.std.proofs.lemmas.Bool.{or_cases, or_left, or_right, eqb-true, cases_lt}
 use Rattle.fleet_numbers.specs.NumberLists.{has_number, list_at, IsRising}
 use Rattle.fleet_numbers.proofs.RisingLemmas.{Ascends, Ascends-rising, has_number-within}
-use Rattle.roll_core.specs.declared.status.Status.{Status}
-use Rattle.roll_core.specs.Groups.{LimitedGroup}
-use Rattle.roll_core.specs.Refusals.{group_at}
-use Rattle.roll_core.specs.Counting.{IsCounted, IsFirstOver, NoneOver, earlier_of, is_over, touches}
-use Rattle.roll_core.proofs.NumberLemmas.{number_at}
+use Rattle.fleet_states.specs.declared.status.Status.{Status}
+use Rattle.fleet_states.specs.Groups.{FleetGroup, group_at}
+use Rattle.roll_core.specs.Inside.Counting.{IsCounted, IsFirstOver, NoneOver, earlier_of, is_over_at, touches}
+use Rattle.fleet_states.proofs.NumberLemmas.{none_passes, number_at, or_false}
 use Rattle.roll_core.proofs.SetLemmas.{held_below, held_has, held_rises}
-
--- where no element passes, none that stands in the list does
-pub none_passes : (p : ℕ → Bool) (xs : List ℕ) (n : ℕ) → list_any p xs ≡ false → has_number n xs ≡ true → p n ≡ false
-none_passes p [] n none here = absurd (cc)
-none_passes p (x ∷ xs) n none here =
-    let parts = or_parts (p x) (list_any p xs) none in
-    by_case (none_passes p xs n parts.1) parts.0 (or_cases (nat_eq n x) (has_number n xs) here)
-  where
-    by_case : (has_number n xs ≡ true → p n ≡ false) → p x ≡ false → (nat_eq n x ≡ true) ⊎ (has_number n xs ≡ true) → p n ≡ false
-    by_case later first (inl e) = ap p (eqb-true n x e) ∙ first
-    by_case later first (inr e) = later e
 
 -- in rising numbers, what is below the one at a place stands before it
 pub stands_before : (low high : ℕ) (xs : List ℕ) (i n : ℕ) → Ascends low high xs → i < length xs → has_number n xs ≡ true → n < get_or xs i 0 → has_number n (take i xs) ≡ true
@@ -39,11 +27,7 @@ stands_before low high (x ∷ xs) (suc i) n up within here less =
     by_case later (inl e) = or_left (nat_eq n x) (has_number n (take i xs)) e
     by_case later (inr e) = or_right (nat_eq n x) (has_number n (take i xs)) (later e less)
 
-or_false : (b : Bool) → (b || false) ≡ b
-or_false true = refl
-or_false false = refl
-
-module _ (groups : List LimitedGroup) (statuses : List Status) (held : List (List ℕ)) (down : List ℕ) (counted : IsCounted groups statuses held down) (host : ℕ) (within : host < length statuses) (list : List ℕ) (is : list ≡ list_at held host) where
+module _ (groups : List FleetGroup) (statuses : List Status) (held : List (List ℕ)) (down : List ℕ) (counted : IsCounted groups statuses held down) (host : ℕ) (within : host < length statuses) (list : List ℕ) (is : list ≡ list_at held host) where
   in_list : (group : ℕ) → group < length groups → touches (host ∷ []) (group_at groups group) ≡ true → has_number group list ≡ true
   in_list group inside touched =
       ap (has_number group) is ∙ held_has groups statuses held down counted host group within inside ∙ sym (or_false (has_number host (group_at groups group).members)) ∙ touched
@@ -52,25 +36,35 @@ module _ (groups : List LimitedGroup) (statuses : List Status) (held : List (Lis
   item_below i l =
       held_below groups statuses held down counted host (get_or list i 0) within (sym (ap (has_number (get_or list i 0)) is) ∙ number_at list i l)
 
-  pub none_over_here : list_any (is_over groups statuses) list ≡ false → NoneOver groups statuses (host ∷ [])
+  pub none_over_here : list_any (is_over_at groups statuses) list ≡ false → NoneOver groups statuses (host ∷ [])
   none_over_here none group inside touched =
-      none_passes (is_over groups statuses) list group none (in_list group inside touched)
+      none_passes (is_over_at groups statuses) list group none (in_list group inside touched)
 
-  pub first_over_here : (i : ℕ) → i < length list → list_any (is_over groups statuses) (take i list) ≡ false → is_over groups statuses (get_or list i 0) ≡ true → IsFirstOver groups statuses (host ∷ []) (get_or list i 0)
+  pub first_over_here : (i : ℕ) → i < length list → list_any (is_over_at groups statuses) (take i list) ≡ false → is_over_at groups statuses (get_or list i 0) ≡ true → IsFirstOver groups statuses (host ∷ []) (get_or list i 0)
   first_over_here i l none over =
       record {
         within = item_below i l;
-        touched = or_false (has_number host (group_at groups (get_or list i 0)).members) ∙ sym (held_has groups statuses held down counted host (get_or list i 0) within (item_below i l)) ∙ sym (ap (has_number (get_or list i 0)) is) ∙ number_at list i l;
+        touched = or_false (has_number host (group_at groups (get_or list i 0)).members) ∙ sym has ∙ sym (ap (has_number (get_or list i 0)) is) ∙ number_at list i l;
         over = over;
-        first = λ earlier less touched. none_passes (is_over groups statuses) (take i list) earlier none (stands_before 0 (length down) list i earlier (Ascends-rising (length down) list (subst (IsRising (length down)) (sym is) (held_rises groups statuses held down counted host within))) l (in_list earlier (omega (arith, less, item_below i l)) touched) less);
+        first = λ earlier less touched. none_passes (is_over_at groups statuses) (take i list) earlier none (before earlier less (in_list earlier (omega (arith, less, item_below i l)) touched));
       }
+    where
+      has : has_number (get_or list i 0) (list_at held host) ≡ has_number host (group_at groups (get_or list i 0)).members
+      has = held_has groups statuses held down counted host (get_or list i 0) within (item_below i l)
+
+      rises : Ascends 0 (length down) list
+      rises =
+          Ascends-rising (length down) list (subst (IsRising (length down)) (sym is) (held_rises groups statuses held down counted host within))
+
+      before : (earlier : ℕ) → earlier < get_or list i 0 → has_number earlier list ≡ true → has_number earlier (take i list) ≡ true
+      before earlier less here = stands_before 0 (length down) list i earlier rises l here less
 
 -- of two first groups, the first is the first of both lists' groups
-module _ (groups : List LimitedGroup) (statuses : List Status) (xs ys : List ℕ) where
-  touches-append : (group : LimitedGroup) → touches (xs ++ ys) group ≡ (touches xs group || touches ys group)
+module _ (groups : List FleetGroup) (statuses : List Status) (xs ys : List ℕ) where
+  touches-append : (group : FleetGroup) → touches (xs ++ ys) group ≡ (touches xs group || touches ys group)
   touches-append group = list_any-append (λ host. has_number host group.members) xs ys
 
-  one_or_other : (group : LimitedGroup) → touches (xs ++ ys) group ≡ true → (touches xs group ≡ true) ⊎ (touches ys group ≡ true)
+  one_or_other : (group : FleetGroup) → touches (xs ++ ys) group ≡ true → (touches xs group ≡ true) ⊎ (touches ys group ≡ true)
   one_or_other group touched = or_cases (touches xs group) (touches ys group) (sym (touches-append group) ∙ touched)
 
   apart : {P : Type 0} {Q : Type 0} {R : Type 0} → (P → R) → (Q → R) → P ⊎ Q → R
@@ -95,7 +89,7 @@ module _ (groups : List LimitedGroup) (statuses : List Status) (xs ys : List ℕ
       }
   earlier_over (Some n) (Some m) a b = by_case (cases_lt n m)
     where
-      first : (k : ℕ) → k ≤ n → k ≤ m → (earlier : ℕ) → earlier < k → touches (xs ++ ys) (group_at groups earlier) ≡ true → is_over groups statuses earlier ≡ false
+      first : (k : ℕ) → k ≤ n → k ≤ m → (earlier : ℕ) → earlier < k → touches (xs ++ ys) (group_at groups earlier) ≡ true → is_over_at groups statuses earlier ≡ false
       first k l r earlier less touched =
           apart (a.first earlier (omega (arith, less, l))) (b.first earlier (omega (arith, less, r))) (one_or_other (group_at groups earlier) touched)
 

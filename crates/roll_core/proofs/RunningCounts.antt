@@ -1,16 +1,11 @@
 -- One step of the loops that move running counts.
-use Rattle.std.proofs.Common.{◌≡◌, ℕ, ◌+◌, ◌-◌, ◌<◌, Bool, true, false, ◌||◌, nat_eq, List, length, get_or, set, take, sym, ap, ◌∙◌, refl, subst, arith, inl, inr, ◌⊎◌}
+use Rattle.std.proofs.Common.{◌≡◌, ℕ, ◌+◌, ◌-◌, ◌<◌, true, false, List, length, get_or, set, take, sym, ap, ◌∙◌, subst, arith, inl, inr, ◌⊎◌}
 use Rattle.std.proofs.lemmas.List.{get_or-set_same, get_or-set_other}
-use Rattle.std.proofs.lemmas.List.Folds.{list_any_more}
-use Rattle.std.proofs.lemmas.Bool.{cases_eq, eq-eqb, ne_eqb}
+use Rattle.std.proofs.lemmas.Bool.{cases_eq}
 use Rattle.fleet_numbers.specs.NumberLists.{has_number, IsRising}
 use Rattle.fleet_numbers.proofs.RisingLemmas.{Ascends-rising, are_below-rising, below_at, fresh}
-use Rattle.roll_core.proofs.NumberLemmas.{number_at}
-use Rattle.roll_core.proofs.CountLemmas.{bit}
-
-or_false : (b : Bool) → (b || false) ≡ b
-or_false true = refl
-or_false false = refl
+use Rattle.fleet_states.proofs.NumberLemmas.{has_other, has_own, number_at}
+use Rattle.fleet_states.proofs.CountLemmas.{bit}
 
 module _ (bound : ℕ) (groups : List ℕ) (i : ℕ) (up : IsRising bound groups) (within : i < length groups) where
   pub group_within : get_or groups i 0 < bound
@@ -19,38 +14,51 @@ module _ (bound : ℕ) (groups : List ℕ) (i : ℕ) (up : IsRising bound groups
   pub first_time : has_number (get_or groups i 0) (take i groups) ≡ false
   first_time = fresh 0 bound groups i (Ascends-rising bound groups up) within
 
-  more : (group : ℕ) → has_number group (take (i + 1) groups) ≡ (has_number group (take i groups) || nat_eq group (get_or groups i 0))
-  more group = list_any_more (nat_eq group) groups i 0 within
-
   own : (group : ℕ) → group ≡ get_or groups i 0 → (bit (has_number group (take i groups)) ≡ 0) × (bit (has_number group (take (i + 1) groups)) ≡ 1)
   own group e =
-      let none : has_number group (take i groups) ≡ false = ap (λ (g : ℕ). has_number g (take i groups)) e ∙ first_time in
-      (ap bit none, ap bit (more group ∙ ap (λ b. b || nat_eq group (get_or groups i 0)) none ∙ eq-eqb group (get_or groups i 0) e))
+      (ap bit (ap (λ (g : ℕ). has_number g (take i groups)) e ∙ first_time), ap bit (has_own groups i within group e))
 
   other : (group : ℕ) → (group ≡ get_or groups i 0 → ⊥) → has_number group (take (i + 1) groups) ≡ has_number group (take i groups)
-  other group d =
-      more group ∙ ap (λ b. has_number group (take i groups) || b) (ne_eqb group (get_or groups i 0) d) ∙ or_false (has_number group (take i groups))
+  other group d = has_other groups i within group d
 
   pub raised_more : (old now new : List ℕ) → length now ≡ bound → new ≡ set now (get_or groups i 0) (get_or now (get_or groups i 0) 0 + 1) → (group : ℕ) → get_or now group 0 ≡ get_or old group 0 + bit (has_number group (take i groups)) → get_or new group 0 ≡ get_or old group 0 + bit (has_number group (take (i + 1) groups))
-  raised_more old now new len is group before = by_case (cases_eq group (get_or groups i 0))
+  raised_more old now new len is group before = by_case (cases_eq group at)
     where
-      by_case : (group ≡ get_or groups i 0) ⊎ (group ≡ get_or groups i 0 → ⊥) → get_or new group 0 ≡ get_or old group 0 + bit (has_number group (take (i + 1) groups))
+      at : ℕ
+      at = get_or groups i 0
+
+      count : ℕ
+      count = get_or now at 0 + 1
+
+      by_case : (group ≡ at) ⊎ (group ≡ at → ⊥) → get_or new group 0 ≡ get_or old group 0 + bit (has_number group (take (i + 1) groups))
       by_case (inl e) =
-          let wrote : get_or new group 0 ≡ get_or now group 0 + 1 = ap (λ (l : List ℕ). get_or l group 0) is ∙ ap (λ (g : ℕ). get_or (set now (get_or groups i 0) (get_or now (get_or groups i 0) 0 + 1)) g 0) e ∙ get_or-set_same now (get_or groups i 0) (get_or now (get_or groups i 0) 0 + 1) 0 (omega (arith, group_within, len)) ∙ ap (λ (g : ℕ). get_or now g 0 + 1) (sym e) in
+          let here : get_or (set now at count) at 0 ≡ count = get_or-set_same now at count 0 (omega (arith, group_within, len)) in
+          let read : get_or new group 0 ≡ get_or (set now at count) at 0 = ap (λ (l : List ℕ). get_or l group 0) is ∙ ap (λ (g : ℕ). get_or (set now at count) g 0) e in
+          let wrote : get_or new group 0 ≡ get_or now group 0 + 1 = read ∙ here ∙ ap (λ (g : ℕ). get_or now g 0 + 1) (sym e) in
           omega (arith, own group e)
       by_case (inr d) =
-          ap (λ (l : List ℕ). get_or l group 0) is ∙ get_or-set_other now (get_or groups i 0) group (get_or now (get_or groups i 0) 0 + 1) 0 d ∙ before ∙ ap (λ b. get_or old group 0 + bit b) (sym (other group d))
+          let kept : get_or new group 0 ≡ get_or now group 0 = ap (λ (l : List ℕ). get_or l group 0) is ∙ get_or-set_other now at group count 0 d in
+          kept ∙ before ∙ ap (λ b. get_or old group 0 + bit b) (sym (other group d))
 
   pub lowered_more : (old now new : List ℕ) → length now ≡ bound → new ≡ set now (get_or groups i 0) (get_or now (get_or groups i 0) 0 - 1) → 0 < get_or now (get_or groups i 0) 0 → (group : ℕ) → get_or now group 0 + bit (has_number group (take i groups)) ≡ get_or old group 0 → get_or new group 0 + bit (has_number group (take (i + 1) groups)) ≡ get_or old group 0
-  lowered_more old now new len is some group before = by_case (cases_eq group (get_or groups i 0))
+  lowered_more old now new len is some group before = by_case (cases_eq group at)
     where
-      by_case : (group ≡ get_or groups i 0) ⊎ (group ≡ get_or groups i 0 → ⊥) → get_or new group 0 + bit (has_number group (take (i + 1) groups)) ≡ get_or old group 0
+      at : ℕ
+      at = get_or groups i 0
+
+      count : ℕ
+      count = get_or now at 0 - 1
+
+      by_case : (group ≡ at) ⊎ (group ≡ at → ⊥) → get_or new group 0 + bit (has_number group (take (i + 1) groups)) ≡ get_or old group 0
       by_case (inl e) =
-          let wrote : get_or new group 0 ≡ get_or now group 0 - 1 = ap (λ (l : List ℕ). get_or l group 0) is ∙ ap (λ (g : ℕ). get_or (set now (get_or groups i 0) (get_or now (get_or groups i 0) 0 - 1)) g 0) e ∙ get_or-set_same now (get_or groups i 0) (get_or now (get_or groups i 0) 0 - 1) 0 (omega (arith, group_within, len)) ∙ ap (λ (g : ℕ). get_or now g 0 - 1) (sym e) in
+          let here : get_or (set now at count) at 0 ≡ count = get_or-set_same now at count 0 (omega (arith, group_within, len)) in
+          let read : get_or new group 0 ≡ get_or (set now at count) at 0 = ap (λ (l : List ℕ). get_or l group 0) is ∙ ap (λ (g : ℕ). get_or (set now at count) g 0) e in
+          let wrote : get_or new group 0 ≡ get_or now group 0 - 1 = read ∙ here ∙ ap (λ (g : ℕ). get_or now g 0 - 1) (sym e) in
           let some' : 0 < get_or now group 0 = subst (λ (g : ℕ). 0 < get_or now g 0) (sym e) some in
           omega (arith, own group e)
       by_case (inr d) =
-          ap (λ (l : List ℕ). get_or l group 0 + bit (has_number group (take (i + 1) groups))) is ∙ ap (λ (n : ℕ). n + bit (has_number group (take (i + 1) groups))) (get_or-set_other now (get_or groups i 0) group (get_or now (get_or groups i 0) 0 - 1) 0 d) ∙ ap (λ b. get_or now group 0 + bit b) (other group d) ∙ before
+          let kept : get_or new group 0 ≡ get_or now group 0 = ap (λ (l : List ℕ). get_or l group 0) is ∙ get_or-set_other now at group count 0 d in
+          ap (λ (n : ℕ). n + bit (has_number group (take (i + 1) groups))) kept ∙ ap (λ b. get_or now group 0 + bit b) (other group d) ∙ before
 
   -- a count that has not been lowered yet is still positive
   pub some_left : (old now : List ℕ) → length now ≡ bound → ((group : ℕ) → has_number group groups ≡ true → 0 < get_or old group 0) → ((group : ℕ) → group < bound → get_or now group 0 + bit (has_number group (take i groups)) ≡ get_or old group 0) → 0 < get_or now (get_or groups i 0) 0

@@ -41,7 +41,8 @@ claimed old new state host is grown due within =
 pub claim_keeps : (old new : CoreView) (which : Option HostId) (other : ℕ) → IsClaim old new which → MayReport (state_of old) other → MayReport (state_of new) other
 claim_keeps old new None other is out = subst (λ (v : CoreView). MayReport (state_of v) other) (sym is.0) out
 claim_keeps old new (Some host) other is out =
-    subst (λ (v : CoreView). MayReport (state_of v) other) (sym is.0) (subst (λ (s : State). MayReport s other) (sym (state_of-event old (Claim host))) (claim_keeps_out (state_of old) host other out (next_may (state_of old) host.index is.1)))
+    let out_still = claim_keeps_out (state_of old) host other out (next_may (state_of old) host.index is.1) in
+    subst (λ (v : CoreView). MayReport (state_of v) other) (sym is.0) (subst (λ (s : State). MayReport s other) (sym (state_of-event old (Claim host))) out_still)
 
 pub claim_apart : (old new : CoreView) (host : HostId) (other : ℕ) → IsClaim old new (Some host) → MayReport (state_of old) other → other ≡ host.index → ⊥
 claim_apart old new host other is out =
@@ -49,7 +50,8 @@ claim_apart old new host other is out =
 
 pub report_keeps : (old new : CoreView) (host : HostId) (failed : Bool) (other : ℕ) → new ≡ with_event old (Report host failed) → MayReport (state_of old) other → (other ≡ host.index → ⊥) → MayReport (state_of new) other
 report_keeps old new host failed other grown out d =
-    subst (λ (v : CoreView). MayReport (state_of v) other) (sym grown) (subst (λ (s : State). MayReport s other) (sym (state_of-event old (Report host failed))) (report_keeps_out (state_of old) host failed other out d))
+    let out_still = report_keeps_out (state_of old) host failed other out d in
+    subst (λ (v : CoreView). MayReport (state_of v) other) (sym grown) (subst (λ (s : State). MayReport s other) (sym (state_of-event old (Report host failed))) out_still)
 
 pub stage_after : (old new : CoreView) (event : Event) → new ≡ with_event old event → (state_of new).stage ≡ (next (state_of old) event).stage
 stage_after old new event grown = ap (λ (v : CoreView). (state_of v).stage) grown ∙ ap (λ (s : State). s.stage) (state_of-event old event)

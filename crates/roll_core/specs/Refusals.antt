@@ -1,11 +1,12 @@
 -- Why a batch is not opened or not ended.
-use Rattle.std.specs.Prelude.{◌≡◌, ℕ, ◌+◌, ◌≤◌, ◌<◌, ◌≢◌, true, false, Option, Some, None, List, [], length, take, slice_index_or}
-use Rattle.roll_core.specs.declared.status.Status.{Status}
+use Rattle.std.specs.Prelude.{◌≡◌, ℕ, ◌+◌, ◌<◌, ◌≢◌, true, false, Option, Some, None, List, length, take, slice_index_or}
+use Rattle.fleet_states.specs.declared.status.Status.{Status}
 use Rattle.roll_core.specs.declared.stage.Stage.TheVariants.{Boundary}
 use Rattle.roll_core.specs.declared.fault.OpenFault.{OpenFault}
 use Rattle.roll_core.specs.declared.fault.OpenFault.TheVariants.{NotBoundary, NotWaiting, Full, Memory}
-use Rattle.roll_core.specs.Groups.{LimitedGroup, room, members_among}
-use Rattle.roll_core.specs.States.{State, MayOpen, are_ready}
+use Rattle.fleet_states.specs.Groups.{FleetGroup, group_at, is_full_for}
+use Rattle.roll_core.specs.States.{State, MayOpen}
+use Rattle.fleet_states.specs.Statuses.{are_ready}
 
 abbrev pub number_of : OpenFault → Option ℕ
 number_of NotBoundary = Some 811
@@ -21,20 +22,14 @@ pub record IsFirstUnready (statuses : List Status) (hosts : List ℕ) (host : �
   pub before : are_ready statuses (take place hosts) ≡ true
   pub unready : are_ready statuses (take (place + 1) hosts) ≡ false
 
-abbrev pub no_group : LimitedGroup
-no_group = record { limit = 0; members = [] }
-
-abbrev pub group_at : List LimitedGroup → ℕ → LimitedGroup
-group_at groups group = slice_index_or groups group no_group
-
 -- the group has less room than these hosts need, and no group before it has
-pub record IsFirstFull (groups : List LimitedGroup) (statuses : List Status) (hosts : List ℕ) (group : ℕ) : Type 0 where
+pub record IsFirstFull (groups : List FleetGroup) (statuses : List Status) (hosts : List ℕ) (group : ℕ) : Type 0 where
   pub within : group < length groups
-  pub full : room statuses (group_at groups group) < members_among hosts (group_at groups group)
-  pub first : (earlier : ℕ) → earlier < group → members_among hosts (group_at groups earlier) ≤ room statuses (group_at groups earlier)
+  pub full : is_full_for statuses hosts (group_at groups group) ≡ true
+  pub first : (earlier : ℕ) → earlier < group → is_full_for statuses hosts (group_at groups earlier) ≡ false
 
 -- what is wrong with hosts that do not make a batch, at whatever boundary
-abbrev pub IsUnfit : List LimitedGroup → List Status → List ℕ → OpenFault → Type 0
+abbrev pub IsUnfit : List FleetGroup → List Status → List ℕ → OpenFault → Type 0
 IsUnfit groups statuses hosts NotBoundary = ⊥
 IsUnfit groups statuses hosts (NotWaiting host) = IsFirstUnready statuses hosts host.index
 IsUnfit groups statuses hosts (Full group) =
@@ -42,7 +37,7 @@ IsUnfit groups statuses hosts (Full group) =
 IsUnfit groups statuses hosts Memory = ⊥
 
 -- what a refusal of a batch says; memory alone refuses one that may be opened
-abbrev pub IsRefusalOf : List LimitedGroup → State → List ℕ → OpenFault → Type 0
+abbrev pub IsRefusalOf : List FleetGroup → State → List ℕ → OpenFault → Type 0
 IsRefusalOf groups state hosts NotBoundary = state.stage ≢ Boundary
 IsRefusalOf groups state hosts (NotWaiting host) =
     (state.stage ≡ Boundary) × IsUnfit groups state.statuses hosts (NotWaiting host)

@@ -1,17 +1,17 @@
 -- The state of a roll: the statuses, and the open batch.
-use Rattle.std.specs.Prelude.{◌≡◌, ℕ, ◌<◌, Bool, true, false, ◌&&◌, cond, List, [], length, replicate, slice_set, slice_index_or}
+use Rattle.std.specs.Prelude.{◌≡◌, ℕ, ◌<◌, Bool, true, false, cond, List, [], length, replicate, slice_set, slice_index_or}
 use Rattle.std.specs.List.{list_all}
 use Rattle.fleet_numbers.specs.NumberLists.{has_number}
-use Rattle.roll_core.specs.declared.status.Status.{Status}
-use Rattle.roll_core.specs.declared.status.Status.TheVariants.{Running, Failed}
+use Rattle.fleet_states.specs.declared.status.Status.{Status}
+use Rattle.fleet_states.specs.declared.status.Status.TheVariants.{Idle, Waiting, Running, Updated, Failed, Halted, Off, Held}
 use Rattle.roll_core.specs.declared.stage.Stage.{Stage}
 use Rattle.roll_core.specs.declared.stage.Stage.TheVariants.{Boundary, Working, Ended}
 use Rattle.roll_core.specs.declared.stage.Progress.{Progress}
 use Rattle.roll_core.specs.declared.stage.Progress.TheVariants.{Due, Claimed, Reported}
 use Rattle.roll_core.specs.declared.event.Event.{Event}
 use Rattle.roll_core.specs.declared.event.Event.TheVariants.{Open, Claim, Report, Barrier, Close}
-use Rattle.roll_core.specs.Statuses.{is_waiting, status_at, changed, after_batch}
-use Rattle.roll_core.specs.Groups.{LimitedGroup, Fits, are_distinct}
+use Rattle.fleet_states.specs.Statuses.{are_ready, changed}
+use Rattle.fleet_states.specs.Groups.{FleetGroup, Fits}
 
 -- the batch is empty at a boundary; progress is by the hosts' numbers, and each host is due until it is claimed
 pub record State : Type 0 where
@@ -33,12 +33,19 @@ abbrev pub start_state : List Status → State
 start_state statuses =
     record { statuses = statuses; stage = Boundary; batch = []; progress = replicate (length statuses) Due }
 
--- the hosts wait, and none stands twice
-abbrev pub are_ready : List Status → List ℕ → Bool
-are_ready statuses hosts = list_all (λ host. is_waiting (status_at statuses host)) hosts && are_distinct hosts
+-- what a host is after its batch
+abbrev pub after_batch : Status → Status
+after_batch Idle = Idle
+after_batch Waiting = Waiting
+after_batch Running = Updated
+after_batch Updated = Updated
+after_batch Failed = Failed
+after_batch Halted = Halted
+after_batch Off = Off
+after_batch Held = Held
 
 -- a batch of waiting hosts, within the room of each group, may be opened at a boundary
-pub record MayOpen (groups : List LimitedGroup) (state : State) (batch : List ℕ) : Type 0 where
+pub record MayOpen (groups : List FleetGroup) (state : State) (batch : List ℕ) : Type 0 where
   pub boundary : state.stage ≡ Boundary
   pub some : 0 < length batch
   pub ready : are_ready state.statuses batch ≡ true
@@ -62,7 +69,7 @@ pub record MayEnd (state : State) : Type 0 where
   pub reported : list_all (λ host. has_reported (progress_at state.progress host)) state.batch ≡ true
 
 -- which events may come next
-abbrev pub Allowed : List LimitedGroup → State → Event → Type 0
+abbrev pub Allowed : List FleetGroup → State → Event → Type 0
 Allowed groups state (Open batch) = MayOpen groups state batch
 Allowed groups state (Claim host) = MayClaim state host.index
 Allowed groups state (Report host failed) = MayReport state host.index

@@ -1,6 +1,6 @@
 //! The hosts of a batch.
 ghost use Rattle.std.specs.Prelude.{◌≡◌, IfOk};
-ghost use Rattle.roll_core.specs.Groups.{numbers_of};
+ghost use Rattle.domains.specs.Ids.{host_numbers};
 
 use group_tree::HostId;
 use std::alloc::{AllocError, Global};
@@ -14,16 +14,16 @@ pub struct Batch {
 
 impl Model for Batch {
     ghost use Rattle.std.specs.Prelude.{ℕ, List};
-    ghost use Rattle.roll_core.specs.Groups.{numbers_of};
+    ghost use Rattle.domains.specs.Ids.{host_numbers};
 
     ghost Value = { List ℕ };
 
-    ghost view = { λ b. numbers_of b.hosts.items };
+    ghost view = { λ b. host_numbers b.hosts.items };
 }
 
 impl Batch {
     pub(crate) fn from_slice(alloc: Global, hosts: &[HostId]) -> Result<Batch, AllocError>
-        ensures { IfOk result (λ batch. batch ≡ numbers_of hosts.now) }
+        ensures { IfOk result (λ batch. batch ≡ host_numbers hosts.now) }
     {
         Ok(Batch {
             hosts: Vec::from_slice(alloc, hosts)?,
@@ -31,7 +31,7 @@ impl Batch {
     }
 
     pub fn hosts(&self) -> &[HostId]
-        ensures { numbers_of result.now ≡ self.now }
+        ensures { host_numbers result.now ≡ self.now }
     {
         self.hosts.as_slice()
     }

@@ -10,16 +10,15 @@ mod laws;
 mod machine;
 mod rolling;
 mod stage;
-mod status;
 mod statuses;
 mod trial;
 
 pub use batch::Batch;
 pub use event::Event;
 pub use fault::{Busy, Next, OpenFault};
+pub use fleet_states::Status;
 pub use laws::{legal_logs_are_safe, legal_logs_rest_between_batches};
 pub use rolling::Core;
-pub use status::Status;
 
 #[cfg(test)]
 mod tests;

@@ -4,17 +4,19 @@ ghost use Rattle.fleet_numbers.specs.NumberLists.{are_below, has_number};
 ghost use Rattle.roll_core.specs.declared.stage.Stage.TheVariants.{Working, Ended};
 ghost use Rattle.roll_core.specs.declared.stage.Progress.TheVariants.{Due};
 ghost use Rattle.roll_core.specs.declared.event.Event.TheVariants.{Open, Claim, Report, Barrier, Close};
-ghost use Rattle.roll_core.specs.Statuses.{after_batch, status_at, changed};
-ghost use Rattle.roll_core.specs.Groups.{AreGroups, IsSafe, groups_of, numbers_of};
-ghost use Rattle.roll_core.specs.States.{MayOpen, MayReport, MayEnd, has_reported, next, progress_at, start_state};
+ghost use Rattle.roll_core.specs.States.{after_batch, MayOpen, MayReport, MayEnd, has_reported, next, progress_at, start_state};
+ghost use Rattle.domains.specs.Ids.{host_numbers};
+ghost use Rattle.fleet_states.specs.Statuses.{status_at, changed};
+ghost use Rattle.fleet_states.specs.Groups.{AreGroups, IsSafe};
+ghost use Rattle.roll_core.specs.Groups.{plain_groups};
 ghost use Rattle.roll_core.specs.Refusals.{IsRefusalOf};
 ghost use Rattle.roll_core.specs.Views.{next_due, first_busy};
 
 use crate::fault::{Busy, OpenFault};
 use crate::stage::{Progress, Stage};
-use crate::status::Status;
 use crate::statuses::Statuses;
 use crate::trial::try_batch;
+use fleet_states::Status;
 use group_tree::HostId;
 use std::alloc::{AllocError, Global};
 use std::marker::Model;
@@ -31,17 +33,17 @@ pub(crate) struct Machine {
 
 impl Model for Machine {
     ghost use Rattle.std.specs.Prelude.{length};
-    ghost use Rattle.roll_core.specs.Groups.{numbers_of};
-    ghost use Rattle.roll_core.specs.Views.{MachineView, IsInOrder};
+    ghost use Rattle.domains.specs.Ids.{host_numbers};
+    ghost use Rattle.roll_core.specs.Inside.Machines.{MachineView, IsInOrder};
 
     ghost Value = { MachineView };
 
     ghost view = { λ m. record {
       groups = m.statuses.groups;
-      state = record { statuses = m.statuses.statuses; stage = m.stage; batch = numbers_of m.batch.items; progress = m.progress.items };
+      state = record { statuses = m.statuses.statuses; stage = m.stage; batch = host_numbers m.batch.items; progress = m.progress.items };
     } };
 
-    ghost invariant = { λ m. IsInOrder (length m.statuses.statuses) m.stage (numbers_of m.batch.items) m.progress.items m.claimed };
+    ghost invariant = { λ m. IsInOrder (length m.statuses.statuses) m.stage (host_numbers m.batch.items) m.progress.items m.claimed };
 }
 
 impl Machine {
@@ -50,8 +52,8 @@ impl Machine {
         statuses: Vec<Status>,
         groups: Vec<(u16, Vec<HostId>)>,
     ) -> Result<Machine, AllocError>
-        requires { AreGroups (length statuses.items) (groups_of groups.items) }
-        ensures { IfOk result (λ machine. machine ≡ record { groups = groups_of groups.items; state = start_state statuses.items }) }
+        requires { AreGroups (length statuses.items) (plain_groups groups.items) }
+        ensures { IfOk result (λ machine. machine ≡ record { groups = plain_groups groups.items; state = start_state statuses.items }) }
     {
         let progress = vec![in alloc; Progress::Due; statuses.len()]?;
         Ok(Machine {
@@ -75,8 +77,8 @@ impl Machine {
         requires safe { IsSafe self.old.groups self.old.state.statuses }
         ensures same { self.new ≡ self.old }
         ensures tells { MatchResult result
-            (λ _. MayOpen self.old.groups self.old.state (numbers_of hosts.now))
-            (IsRefusalOf self.old.groups self.old.state (numbers_of hosts.now)) }
+            (λ _. MayOpen self.old.groups self.old.state (host_numbers hosts.now))
+            (IsRefusalOf self.old.groups self.old.state (host_numbers hosts.now)) }
     {
         match self.stage {
             Stage::Boundary => try_batch(&mut self.statuses, hosts),
@@ -85,9 +87,9 @@ impl Machine {
     }
 
     pub(crate) fn open(&mut self, hosts: &[HostId]) -> Result<(), AllocError>
-        requires { MayOpen self.old.groups self.old.state (numbers_of hosts.now) }
+        requires { MayOpen self.old.groups self.old.state (host_numbers hosts.now) }
         ensures groups { self.new.groups ≡ self.old.groups }
-        ensures ok { OnOk result (self.new.state ≡ next self.old.state (Open (numbers_of hosts.now))) }
+        ensures ok { OnOk result (self.new.state ≡ next self.old.state (Open (host_numbers hosts.now))) }
         ensures err { OnErr result (self.new.state ≡ self.old.state) }
     {
         self.batch.extend_from_slice(hosts)?;
@@ -161,7 +163,7 @@ impl Machine {
 /// The host at a place of a list.
 fn host_at(hosts: &[HostId], place: usize) -> Option<HostId>
     ensures { MatchOption result (length hosts.now ≤ place)
-        (λ host. (place < length hosts.now) × (host.index ≡ slice_index (numbers_of hosts.now) place)) }
+        (λ host. (place < length hosts.now) × (host.index ≡ slice_index (host_numbers hosts.now) place)) }
 {
     if place < hosts.len() {
         Some(hosts[place])
@@ -190,21 +192,31 @@ fn find_busy(hosts: &[HostId], progress: &[Progress]) -> Option<HostId>
         .find(|host| !progress_of(progress, *host).has_reported())
 }
 
+/// What a host is after its batch.
+fn after_batch(status: Status) -> Status
+    ensures { result ≡ after_batch status }
+{
+    match status {
+        Status::Running => Status::Updated,
+        other => other,
+    }
+}
+
 /// The hosts that are still running are updated.
 fn finish(statuses: &mut Statuses, hosts: &[HostId])
-    requires { IsTrue (are_below (length statuses.old.statuses) (numbers_of hosts.now)) }
-    ensures { statuses.new ≡ record statuses.old { statuses = changed after_batch (numbers_of hosts.now) statuses.old.statuses } }
+    requires { IsTrue (are_below (length statuses.old.statuses) (host_numbers hosts.now)) }
+    ensures { statuses.new ≡ record statuses.old { statuses = changed after_batch (host_numbers hosts.now) statuses.old.statuses } }
 {
     for host in hosts {
-        let status = statuses.at(*host).after_batch();
+        let status = after_batch(statuses.at(*host));
         statuses.set(*host, status);
     }
 }
 
 /// The hosts are due again.
 fn clear(progress: &mut [Progress], hosts: &[HostId])
-    requires within { IsTrue (are_below (length progress.old) (numbers_of hosts.now)) }
-    requires others { (host : ℕ) → has_number host (numbers_of hosts.now) ≡ false → progress_at progress.old host ≡ Due }
+    requires within { IsTrue (are_below (length progress.old) (host_numbers hosts.now)) }
+    requires others { (host : ℕ) → has_number host (host_numbers hosts.now) ≡ false → progress_at progress.old host ≡ Due }
     ensures { progress.new ≡ replicate (length progress.old) Due }
 {
     for host in hosts {

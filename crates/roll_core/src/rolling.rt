@@ -2,8 +2,10 @@
 ghost use Rattle.std.specs.Prelude.{◌≡◌, ◌<◌, ◌≤◌, ◌++◌, ◌∷◌, [], IfOk, IfErr, OnErr, OnOk, Some, length, vec_capacity, vec_len};
 ghost use Rattle.roll_core.specs.declared.stage.Stage.TheVariants.{Working, Ended};
 ghost use Rattle.roll_core.specs.declared.event.Event.TheVariants.{Open, Claim, Report, Barrier, Close};
-ghost use Rattle.roll_core.specs.Statuses.{NobodyRuns, status_at};
-ghost use Rattle.roll_core.specs.Groups.{AreGroups, IsSafe, groups_of, numbers_of};
+ghost use Rattle.domains.specs.Ids.{host_numbers};
+ghost use Rattle.fleet_states.specs.Statuses.{NobodyRuns, status_at};
+ghost use Rattle.fleet_states.specs.Groups.{AreGroups, IsSafe};
+ghost use Rattle.roll_core.specs.Groups.{plain_groups};
 ghost use Rattle.roll_core.specs.States.{MayEnd, MayOpen, MayReport, start_state};
 ghost use Rattle.roll_core.specs.Logs.{IsLegal, FrontsAreSafe, RestsAtBoundaries};
 ghost use Rattle.roll_core.specs.Refusals.{IsRefusalOf};
@@ -13,7 +15,7 @@ use crate::batch::Batch;
 use crate::event::Event;
 use crate::fault::{Busy, Next, OpenFault};
 use crate::machine::Machine;
-use crate::status::Status;
+use fleet_states::Status;
 use group_tree::HostId;
 use std::alloc::{AllocError, Global};
 use std::marker::Model;
@@ -30,13 +32,14 @@ pub struct Core {
 
 impl Model for Core {
     ghost use Rattle.std.specs.Prelude.{vec_capacity};
-    ghost use Rattle.roll_core.specs.Views.{CoreView, IsKept};
+    ghost use Rattle.roll_core.specs.Views.{CoreView};
+    ghost use Rattle.roll_core.specs.Inside.Machines.{IsAfterLog};
 
     ghost Value = { CoreView };
 
     ghost view = { λ c. record { groups = c.machine.groups; start = c.start.items; log = c.log.items } };
 
-    ghost invariant = { λ c. IsKept c.machine c.start.items c.log.items c.owed (vec_capacity c.log) };
+    ghost invariant = { λ c. IsAfterLog c.machine c.start.items c.log.items c.owed (vec_capacity c.log) };
 }
 
 impl Core {
@@ -47,9 +50,9 @@ impl Core {
         groups: Vec<(u16, Vec<HostId>)>,
     ) -> Result<Core, AllocError>
         requires at_rest { NobodyRuns statuses.items }
-        requires groups { AreGroups (length statuses.items) (groups_of groups.items) }
-        requires safe { IsSafe (groups_of groups.items) statuses.items }
-        ensures { IfOk result (λ core. core ≡ record { groups = groups_of groups.items; start = statuses.items; log = [] }) }
+        requires groups { AreGroups (length statuses.items) (plain_groups groups.items) }
+        requires safe { IsSafe (plain_groups groups.items) statuses.items }
+        ensures { IfOk result (λ core. core ≡ record { groups = plain_groups groups.items; start = statuses.items; log = [] }) }
     {
         let start = Vec::from_slice(alloc, statuses.as_slice())?;
         Ok(Core {
@@ -63,9 +66,9 @@ impl Core {
     /// Begins a batch: its hosts are down until they are closed. A refusal leaves everything as it was.
     pub fn open(&mut self, alloc: Global, hosts: &[HostId]) -> Result<(), OpenFault>
         requires { 0 < length hosts.now }
-        ensures ok { OnOk result (self.new ≡ with_event self.old (Open (numbers_of hosts.now))) }
-        ensures allowed { OnOk result (MayOpen self.old.groups (state_of self.old) (numbers_of hosts.now)) }
-        ensures err { IfErr result (IsRefusalOf self.old.groups (state_of self.old) (numbers_of hosts.now)) }
+        ensures ok { OnOk result (self.new ≡ with_event self.old (Open (host_numbers hosts.now))) }
+        ensures allowed { OnOk result (MayOpen self.old.groups (state_of self.old) (host_numbers hosts.now)) }
+        ensures err { IfErr result (IsRefusalOf self.old.groups (state_of self.old) (host_numbers hosts.now)) }
         ensures unchanged { OnErr result (self.new ≡ self.old) }
     {
         self.machine.test_batch(hosts)?;

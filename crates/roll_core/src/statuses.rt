@@ -1,14 +1,16 @@
 //! The statuses of all hosts, with a running count of the hosts of each group that are down.
 ghost use Rattle.std.specs.Prelude.{◌≡◌, ◌<◌, ◌∷◌, [], IfOk, IsTrue, MatchOption, length, slice_set};
 ghost use Rattle.fleet_numbers.specs.NumberLists.{are_below};
-ghost use Rattle.roll_core.specs.Statuses.{status_at, changed};
-ghost use Rattle.roll_core.specs.Groups.{AreGroups, groups_of, numbers_of};
-ghost use Rattle.roll_core.specs.Counting.{IsFirstOver, NoneOver, earlier_of, is_over};
+ghost use Rattle.domains.specs.Ids.{host_numbers};
+ghost use Rattle.fleet_states.specs.Statuses.{status_at, changed};
+ghost use Rattle.fleet_states.specs.Groups.{AreGroups};
+ghost use Rattle.roll_core.specs.Groups.{plain_groups};
+ghost use Rattle.roll_core.specs.Inside.Counting.{IsFirstOver, NoneOver, earlier_of, is_over_at};
 
 use crate::counts::recount;
 use crate::held::{list_down, list_held};
-use crate::status::{Status, status_of};
 use fleet_numbers::NumberLists;
+use fleet_states::{Status, status_of};
 use group_tree::HostId;
 use std::alloc::{AllocError, Global};
 use std::marker::Model;
@@ -23,14 +25,14 @@ pub(crate) struct Statuses {
 }
 
 impl Model for Statuses {
-    ghost use Rattle.roll_core.specs.Groups.{groups_of};
-    ghost use Rattle.roll_core.specs.Counting.{Counted, IsCounted};
+    ghost use Rattle.roll_core.specs.Groups.{plain_groups};
+    ghost use Rattle.roll_core.specs.Inside.Counting.{Counted, IsCounted};
 
     ghost Value = { Counted };
 
-    ghost view = { λ s. record { statuses = s.statuses.items; groups = groups_of s.groups.items } };
+    ghost view = { λ s. record { statuses = s.statuses.items; groups = plain_groups s.groups.items } };
 
-    ghost invariant = { λ s. IsCounted (groups_of s.groups.items) s.statuses.items s.held s.down.items };
+    ghost invariant = { λ s. IsCounted (plain_groups s.groups.items) s.statuses.items s.held s.down.items };
 }
 
 impl Statuses {
@@ -39,8 +41,8 @@ impl Statuses {
         statuses: Vec<Status>,
         groups: Vec<(u16, Vec<HostId>)>,
     ) -> Result<Statuses, AllocError>
-        requires { AreGroups (length statuses.items) (groups_of groups.items) }
-        ensures { IfOk result (λ new. new ≡ record { statuses = statuses.items; groups = groups_of groups.items }) }
+        requires { AreGroups (length statuses.items) (plain_groups groups.items) }
+        ensures { IfOk result (λ new. new ≡ record { statuses = statuses.items; groups = plain_groups groups.items }) }
     {
         let held = list_held(alloc, statuses.len(), groups.as_slice())?;
         let down = list_down(alloc, statuses.as_slice(), groups.as_slice())?;
@@ -81,8 +83,8 @@ impl Statuses {
     }
 
     pub(crate) fn set_all(&mut self, hosts: &[HostId], status: Status)
-        requires { IsTrue (are_below (length self.old.statuses) (numbers_of hosts.now)) }
-        ensures { self.new ≡ record self.old { statuses = changed (λ _. status) (numbers_of hosts.now) self.old.statuses } }
+        requires { IsTrue (are_below (length self.old.statuses) (host_numbers hosts.now)) }
+        ensures { self.new ≡ record self.old { statuses = changed (λ _. status) (host_numbers hosts.now) self.old.statuses } }
     {
         for host in hosts {
             self.set(*host, status);
@@ -92,7 +94,7 @@ impl Statuses {
     /// Whether more of the group's members are down than its limit.
     fn is_over(&self, group: usize) -> bool
         requires { group < length self.now.groups }
-        ensures { result ≡ is_over self.now.groups self.now.statuses group }
+        ensures { result ≡ is_over_at self.now.groups self.now.statuses group }
     {
         usize::from(self.groups[group].0) < self.down[group]
     }
@@ -113,9 +115,9 @@ impl Statuses {
 
     /// The first group over its limit among those of these hosts.
     pub(crate) fn first_over(&self, hosts: &[HostId]) -> Option<usize>
-        requires { IsTrue (are_below (length self.now.statuses) (numbers_of hosts.now)) }
-        ensures { MatchOption result (NoneOver self.now.groups self.now.statuses (numbers_of hosts.now))
-            (IsFirstOver self.now.groups self.now.statuses (numbers_of hosts.now)) }
+        requires { IsTrue (are_below (length self.now.statuses) (host_numbers hosts.now)) }
+        ensures { MatchOption result (NoneOver self.now.groups self.now.statuses (host_numbers hosts.now))
+            (IsFirstOver self.now.groups self.now.statuses (host_numbers hosts.now)) }
     {
         let mut first = None;
         for host in hosts {

@@ -1,15 +1,15 @@
 //! Whether a batch may be opened.
 ghost use Rattle.std.specs.Prelude.{◌≡◌, IsTrue, MatchResult};
 ghost use Rattle.fleet_numbers.specs.NumberLists.{are_below};
-ghost use Rattle.roll_core.specs.declared.status.Status.TheVariants.{Running};
-ghost use Rattle.roll_core.specs.Statuses.{changed};
-ghost use Rattle.roll_core.specs.Groups.{IsSafe, Fits, numbers_of};
-ghost use Rattle.roll_core.specs.States.{are_ready};
+ghost use Rattle.fleet_states.specs.declared.status.Status.TheVariants.{Running};
+ghost use Rattle.domains.specs.Ids.{host_numbers};
+ghost use Rattle.fleet_states.specs.Statuses.{changed, are_ready};
+ghost use Rattle.fleet_states.specs.Groups.{IsSafe, Fits};
 ghost use Rattle.roll_core.specs.Refusals.{IsFirstUnready, IsUnfit};
 
 use crate::fault::OpenFault;
-use crate::status::Status;
 use crate::statuses::Statuses;
+use fleet_states::Status;
 use group_tree::{GroupId, HostId};
 
 /// Makes the hosts running. At a host that is not waiting, or stood before, it gives back those before it and tells
@@ -17,9 +17,9 @@ use group_tree::{GroupId, HostId};
 fn start(statuses: &mut Statuses, hosts: &[HostId]) -> Result<(), HostId>
     ensures groups { statuses.new.groups ≡ statuses.old.groups }
     ensures statuses { MatchResult result
-        (λ _. IsTrue (are_ready statuses.old.statuses (numbers_of hosts.now))
-        × (statuses.new.statuses ≡ changed (λ _. Running) (numbers_of hosts.now) statuses.old.statuses))
-        (λ host. IsFirstUnready statuses.old.statuses (numbers_of hosts.now) host.index
+        (λ _. IsTrue (are_ready statuses.old.statuses (host_numbers hosts.now))
+        × (statuses.new.statuses ≡ changed (λ _. Running) (host_numbers hosts.now) statuses.old.statuses))
+        (λ host. IsFirstUnready statuses.old.statuses (host_numbers hosts.now) host.index
         × (statuses.new.statuses ≡ statuses.old.statuses)) }
 {
     for place in 0..hosts.len() {
@@ -38,8 +38,8 @@ pub(crate) fn try_batch(statuses: &mut Statuses, hosts: &[HostId]) -> Result<(),
     requires { IsSafe statuses.old.groups statuses.old.statuses }
     ensures same { statuses.new ≡ statuses.old }
     ensures tells { MatchResult result
-        (λ _. IsTrue (are_ready statuses.old.statuses (numbers_of hosts.now)) × Fits statuses.old.groups statuses.old.statuses (numbers_of hosts.now))
-        (IsUnfit statuses.old.groups statuses.old.statuses (numbers_of hosts.now)) }
+        (λ _. IsTrue (are_ready statuses.old.statuses (host_numbers hosts.now)) × Fits statuses.old.groups statuses.old.statuses (host_numbers hosts.now))
+        (IsUnfit statuses.old.groups statuses.old.statuses (host_numbers hosts.now)) }
 {
     match start(statuses, hosts) {
         Ok(()) => {}

@@ -1,5 +1,5 @@
 -- The table of a fleet is that of the inventory which the text says.
-use Rattle.std.proofs.Common.{◌≡◌, ℕ, Option, List, subst}
+use Rattle.std.proofs.Common.{ℕ, Option, List, subst}
 use Rattle.std.specs.Io.KnownBytes.{Appends}
 use Rattle.bounded_io.specs.Sending.{SendsFirst}
 use Rattle.domains.specs.FleetViews.{FleetView}
@@ -21,7 +21,8 @@ WritesTable-of_fleet text fleet old new read went = record {
   written = subst (λ table. Appends old new table) (fleet_table-limits_table read.inventory fleet read.built) went;
 }
 
-pub BreaksTable-of_fleet : (text : List ℕ) (fleet : FleetView) (old new : Option (List ℕ)) (count : ℕ) → IsFleetIn text fleet → SendsFirst old new (fleet_table fleet) count → BreaksTable text old new count
+pub BreaksTable-of_fleet : (text : List ℕ) (fleet : FleetView) (old new : Option (List ℕ)) (count : ℕ)
+    → IsFleetIn text fleet → SendsFirst old new (fleet_table fleet) count → BreaksTable text old new count
 BreaksTable-of_fleet text fleet old new count read went = record {
   inventory = read.inventory;
   accepted = accepted text fleet read;

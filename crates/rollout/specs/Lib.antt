@@ -1,2 +1,9 @@
 pub mod Status
+pub mod FaultLines
+pub mod Details
+pub mod FaultRows
+pub mod Endings
+pub mod Inputs
 pub mod LimitsText
+pub mod Commands
+pub mod Runs

@@ -1,18 +1,18 @@
 -- What `limits` writes of an inventory's text.
-use Rattle.std.specs.Prelude.{◌≡◌, ℕ, ◌≤◌, Option, List, length}
+use Rattle.std.specs.Prelude.{ℕ, Option, List}
 use Rattle.std.specs.Io.KnownBytes.{Appends, Keeps}
 use Rattle.bounded_io.specs.Sending.{SendsFirst}
 use Rattle.inventory_model.specs.Places.{Inventory}
 use Rattle.inventory_read.specs.Reads.{IsReadAs, IsTrueOf}
-use Rattle.domains.specs.Hosts.{hosts_of}
 use Rattle.domains.specs.Nested.{IsNested}
 use Rattle.domains.specs.Starts.{StartsWithin}
 use Rattle.domains.specs.Faults.{IsFaultOf}
 use Rattle.domains.specs.declared.fault.FleetFault.{FleetFault}
-use Rattle.domains.specs.FleetViews.{FleetView, IsFleetOf}
+use Rattle.domains.specs.FleetViews.{FleetView}
+use Rattle.domains.specs.Fleets.{IsFleetOf}
 use Rattle.recap.specs.LimitsTable.{limits_table}
 use Rattle.rollout.specs.declared.fault.Fault.{Fault}
-use Rattle.rollout.specs.declared.fault.Fault.TheVariants.{BadLine, File, InputTooLarge, Read, Fleet, Write, Memory}
+use Rattle.rollout.specs.declared.fault.Fault.TheVariants.{Line, Input, Read, Fleet, Write, Memory}
 
 -- the text says this inventory, its limited groups lie inside each other wherever they share a host, and none has more
 -- hosts down than its limit when a run starts
@@ -45,9 +45,8 @@ IsTrueFault text old new (Read fault) = IsTrueOf text fault × Keeps old new
 IsTrueFault text old new (Fleet fault) = IsNoFleet text fault × Keeps old new
 IsTrueFault text old new (Write fault) = BreaksTable text old new fault.written
 IsTrueFault text old new Memory = Keeps old new
-IsTrueFault text old new (BadLine words) = ⊥
-IsTrueFault text old new (File source) = ⊥
-IsTrueFault text old new InputTooLarge = ⊥
+IsTrueFault text old new (Line fault) = ⊥
+IsTrueFault text old new (Input source fault) = ⊥
 
 -- the fleet is that of the inventory which the text says
 pub record IsFleetIn (text : List ℕ) (fleet : FleetView) : Type 0 where
@@ -61,6 +60,5 @@ IsUnread text (Read fault) = IsTrueOf text fault
 IsUnread text (Fleet fault) = IsNoFleet text fault
 IsUnread text Memory = Unit {0}
 IsUnread text (Write fault) = ⊥
-IsUnread text (BadLine words) = ⊥
-IsUnread text (File source) = ⊥
-IsUnread text InputTooLarge = ⊥
+IsUnread text (Line fault) = ⊥
+IsUnread text (Input source fault) = ⊥

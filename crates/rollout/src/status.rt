@@ -7,7 +7,7 @@ ghost use Rattle.rollout.specs.Status.{code_of};
 pub enum Status {
     /// What was asked for was done.
     Done,
-    /// An input, the line, a file, a read or a write was refused.
+    /// The line, an input or a write was refused.
     Refused,
     /// Memory was wanting.
     Memory,

@@ -1,12 +1,12 @@
-//! Inputs at the limit, and readers that fail.
+//! Inputs at the bound, and readers that fail.
 
 use super::*;
 use std::io;
 use std::io::ErrorKind;
 use std::test::Fail;
 
-// Gives `left` zeros, at most `most` in a read; then it ends, or fails. It keeps the place of the last byte that it
-// was asked for.
+/// Gives `left` zeros, at most `most` in a read; then it ends, or fails. It keeps the place of the last byte that it
+/// was asked for.
 #[derive(Drop)]
 struct Zeros {
     left: usize,
@@ -32,20 +32,20 @@ impl Read for Zeros {
 
 #[test]
 fn inputs_are_read_to_their_end_or_refused(rt: HostRuntime) -> Result<(), Fail> {
-    let limit = 16_777_216;
+    let bound = 16_777_216;
     for (left, most, then, wanted) in [
         (0, 1, None, Ok(0)),
         (10, 1, None, Ok(10)),
         (65_536, 65_536, None, Ok(65_536)),
-        (limit, 100_000, None, Ok(limit)),
-        (limit, 7_000, None, Ok(limit)),
-        (limit + 1, 100_000, None, Err(InputFault::TooLarge)),
-        (limit * 2, 7_000, None, Err(InputFault::TooLarge)),
+        (bound, 100_000, None, Ok(bound)),
+        (bound, 7_000, None, Ok(bound)),
+        (bound + 1, 100_000, None, Err(InputFault::TooLarge)),
+        (bound * 2, 7_000, None, Err(InputFault::TooLarge)),
         (0, 1, Some(ErrorKind::Other), Err(InputFault::File)),
         (10, 4, Some(ErrorKind::Other), Err(InputFault::File)),
         (10, 4, Some(ErrorKind::Interrupted), Err(InputFault::File)),
         (
-            limit,
+            bound,
             100_000,
             Some(ErrorKind::Other),
             Err(InputFault::File),
@@ -60,12 +60,12 @@ fn inputs_are_read_to_their_end_or_refused(rt: HostRuntime) -> Result<(), Fail> 
         };
         let outcome = read_input(rt.alloc(), &mut reader);
         assert_eq!(rt; outcome.map(|input| input.len()), wanted, "of {left} bytes");
-        assert!(rt; reader.asked <= limit + 1, "of {left} bytes");
+        assert!(rt; reader.asked <= bound + 1, "of {left} bytes");
     }
     Ok(())
 }
 
-// Run with the allocations refused one after another, it sees no answer but these two.
+/// Run with the allocations refused one after another, it sees no answer but these two.
 #[test]
 fn a_refused_growth_is_want_of_memory(rt: HostRuntime) -> Result<(), Fail> {
     let mut reader = Zeros {

@@ -1,7 +1,7 @@
 //! Texts that go out whole, in part or not at all.
 ghost use Rattle.std.specs.Prelude.{◌≡◌, ◌++◌, codes, decimal, flat_map};
 ghost use Rattle.bounded_io.specs.Sending.{SendsText};
-ghost use Rattle.bounded_io.specs.Putting.{Puts};
+ghost use Rattle.bounded_io.specs.Writing.{Writes};
 
 use super::*;
 use std::io;
@@ -9,14 +9,14 @@ use std::io::ErrorKind;
 use std::process::Abort;
 use std::test::Fail;
 
-// What a text of the product looks like: a line a function, and a loop over lines.
+/// What a text of the product looks like: a line a function, and a loop over lines.
 #[tactic(auto, using(crate::proofs::Pieces::pieces_of_text))]
-fn put_line<W: Write>(text: &mut TextWriter<'_, W>, number: u64)
-    ensures { Puts W.contents text.old text.new (codes "NAME=" ++ (decimal number ++ codes "\n")) }
+fn write_line<W: Write>(text: &mut TextWriter<'_, W>, number: u64)
+    ensures { Writes W.contents text.old text.new (codes "NAME=" ++ (decimal number ++ codes "\n")) }
 {
-    text.put("NAME=");
-    text.put_number(number);
-    text.put("\n");
+    text.write_str("NAME=");
+    text.write_number(number);
+    text.write_str("\n");
 }
 
 fn write_lines<W: Write>(out: &mut W, numbers: &[u64]) -> Result<(), WriteFault>
@@ -25,12 +25,12 @@ fn write_lines<W: Write>(out: &mut W, numbers: &[u64]) -> Result<(), WriteFault>
 {
     let mut text = TextWriter::new(out);
     for number in numbers {
-        put_line(&mut text, *number);
+        write_line(&mut text, *number);
     }
     text.finish()
 }
 
-// Takes bytes, a few at a write, until its room is used up; then each write ends as `then` says.
+/// Takes bytes, a few at a write, until its room is used up; then each write ends as `then` says.
 #[derive(Drop)]
 struct Narrow {
     taken: Vec<u8>,
@@ -70,7 +70,7 @@ const ENDINGS: [Then; 3] = [
     Then::Fails(ErrorKind::Other),
 ];
 
-// The text goes out as far as there is room, whatever the size of the writes, and the fault says how far.
+/// The text goes out as far as there is room, whatever the size of the writes, and the fault says how far.
 fn breaks_off_everywhere(
     rt: &(impl Abort + AllocGlobal),
     numbers: &[u64],
@@ -105,8 +105,8 @@ fn a_fault_says_how_much_went_out(rt: HostRuntime) -> Result<(), Fail> {
     breaks_off_everywhere(&rt, &[], b"")
 }
 
-// Lengths of the pieces of a text, and of the text: pieces that fit beside what is held, that don't, and that are
-// larger than all that can be held.
+/// Lengths of the pieces of a text, and of the text: pieces that fit beside what is held, that don't, and that are
+/// larger than all that can be held.
 const LONG_TEXTS: [(&[usize], usize); 6] = [
     (&[4095, 1, 1], 4097),
     (&[4096, 1], 4097),
@@ -116,12 +116,12 @@ const LONG_TEXTS: [(&[usize], usize); 6] = [
     (&[1, 9000, 0, 1], 9002),
 ];
 
-fn put_pieces(out: &mut Narrow, text: &[u8], lengths: &[usize]) -> Result<(), WriteFault> {
+fn write_pieces(out: &mut Narrow, text: &[u8], lengths: &[usize]) -> Result<(), WriteFault> {
     let mut writer = TextWriter::new(out);
     let mut rest = text;
     for length in lengths {
         let (piece, later) = rest.split_at(rest.len().min(*length));
-        writer.put_bytes(piece);
+        writer.write_bytes(piece);
         rest = later;
     }
     writer.finish()
@@ -144,7 +144,7 @@ fn long_texts_go_out_in_their_order(rt: HostRuntime) -> Result<(), Fail> {
                 most: 1000,
                 then: Then::TakesNone,
             };
-            let outcome = put_pieces(&mut out, text, lengths);
+            let outcome = write_pieces(&mut out, text, lengths);
             assert_eq!(rt; out.taken.as_slice(), &text[..room]);
             let fault = Err(WriteFault {
                 written: room as u64,
@@ -165,10 +165,10 @@ fn what_is_held_goes_out_when_asked(rt: HostRuntime) -> Result<(), Fail> {
         then: Then::TakesNone,
     };
     let mut text = TextWriter::new(&mut out);
-    text.put("advanced: a\n");
+    text.write_str("advanced: a\n");
     text.flush();
     assert_eq!(rt; text.fault(), None);
-    text.put("undone\n");
+    text.write_str("undone\n");
     assert_eq!(rt; text.fault(), None);
     text.flush();
     assert_eq!(rt; text.fault(), Some(WriteFault { written: 13 }));

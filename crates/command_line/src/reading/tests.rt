@@ -54,8 +54,7 @@ fn agrees(outcome: &Result<Line, LineFault>, wanted: &Wanted) -> bool {
                 inventory: Source::File(name),
             },
         ) => { matches!(wanted, Inventory(file) if name.as_str() == *file) }
-        Err(LineFault::Asked(text)) =>
-            matches!(wanted, Text(part) if text.as_str().contains(*part)),
+        Ok(Line::Print(text)) => matches!(wanted, Text(part) if text.as_str().contains(*part)),
         Err(LineFault::BadLine(text)) => matches!(wanted, Refusal)
             && text.as_str().contains("Usage: "),
         Err(LineFault::Memory) => false,
@@ -80,7 +79,7 @@ fn lines_are_read_or_refused(rt: HostRuntime) -> Result<(), Fail> {
     Ok(())
 }
 
-// Run with the allocations refused one after another, it sees no answer but these two.
+/// Run with the allocations refused one after another, it sees no answer but these two.
 #[test]
 fn a_refused_allocation_is_want_of_memory(rt: HostRuntime) -> Result<(), Fail> {
     for (texts, wanted) in &LINES {
@@ -93,4 +92,28 @@ fn a_refused_allocation_is_want_of_memory(rt: HostRuntime) -> Result<(), Fail> {
         );
     }
     Ok(())
+}
+
+const LONG: usize = 1_200_000;
+
+#[test]
+fn long_words_are_read_whole_or_refused(rt: HostRuntime) -> Result<(), Fail> {
+    let mut long = String::new(rt.alloc());
+    for _ in 0..LONG {
+        long.push('x')?;
+    }
+    let words = owned(rt.alloc(), &["limits", long.as_str()])?;
+    let outcome = line(rt.alloc(), words.as_slice());
+    assert!(rt; agrees_with_file(&outcome, long.as_str()));
+    let words = owned(rt.alloc(), &[long.as_str()])?;
+    let outcome = line(rt.alloc(), words.as_slice());
+    assert!(rt; matches!(&outcome, Err(LineFault::BadLine(text)) if text.len() > LONG));
+    Ok(())
+}
+
+fn agrees_with_file(outcome: &Result<Line, LineFault>, file: &str) -> bool {
+    matches!(
+        outcome,
+        Ok(Line::Limits { inventory: Source::File(name) }) if name.as_str() == file
+    )
 }

@@ -1,4 +1,4 @@
-//! Want of memory is told as such and passes: this test holds whatever one request `rt try --test --fail-alloc N` refuses.
+//! Want of memory is named as such and passes: this test holds whatever one request `rt try --test --fail-alloc N` refuses.
 use super::text::region;
 use crate::{Fleet, FleetFault, PatternFault};
 use group_tree::{Group, GroupFault, HostId, Tree};
@@ -41,7 +41,7 @@ fn a_call_that_was_refused_memory_answers_again(rt: HostRuntime) -> Result<(), F
         return Err(Fail::new("no tree"));
     };
     let fleet = build_again(rt.alloc(), &tree)?;
-    assert!(rt; fleet.deal_order() == [0usize, 1, 2, 3, 4].as_slice());
+    assert!(rt; are(fleet.deal_order(), &[0, 1, 2, 3, 4]));
     let hosts = target_again(&fleet, rt.alloc(), "r1:d")?;
     assert!(rt; are(hosts.as_slice(), &[0, 1, 2, 3]));
     match target_again(&fleet, rt.alloc(), "r1:x*") {

@@ -1,6 +1,6 @@
 //! The definitions read off paths and rows, one pair after the other, beside `build`.
-use super::text::{group, told, with};
-use group_tree::{Group, GroupFault, Scalar};
+use super::text::{fleet_text, group, with};
+use group_tree::{Group, GroupFault, Limit, Scalar};
 use std::alloc::{AllocError, Allocator, Global};
 use std::test::Fail;
 
@@ -222,7 +222,7 @@ fn push_members(text: &mut String, place: &Place, rows: &[Row]) -> Result<(), Al
     Ok(())
 }
 
-/// What `told` has to say of the case.
+/// What `fleet_text` has to be in the case.
 fn expected(alloc: Global, places: &[Place], rows: &[Row]) -> Result<String, AllocError> {
     if let Some(fault) = crossing(alloc, places, rows)? {
         return Ok(fault);
@@ -247,7 +247,7 @@ fn listed<A: Allocator + Clone>(
     number: u32,
     name: &str,
 ) -> Result<Group<A>, GroupFault> {
-    let mut group = Group::new(alloc, name, case.limit(number), &[])?;
+    let mut group = Group::new(alloc, name, case.limit(number).map(Limit::Count), &[])?;
     for (place, host) in (0..3u32).zip(HOSTS) {
         if case.lists(number, place) {
             match case.down(number, place) {
@@ -287,7 +287,7 @@ fn build_agrees_with_the_definitions(rt: HostRuntime) -> Result<(), Fail> {
                 let places = places(rt.alloc(), case, paths)?;
                 let rows = rows(rt.alloc(), case, paths)?;
                 let wanted = expected(rt.alloc(), places.as_slice(), rows.as_slice())?;
-                let got = told(rt.alloc(), arranged(rt.alloc(), case)?)?;
+                let got = fleet_text(rt.alloc(), arranged(rt.alloc(), case)?)?;
                 assert_eq!(rt; got.as_str(), wanted.as_str(), "{shape} {limited} {step}");
             }
         }

@@ -26,7 +26,7 @@ fn hidden<A: Allocator + Clone>(alloc: A) -> Result<Group<A>, GroupFault> {
 }
 
 /// The hosts that the pattern names, or why it names none.
-fn told(alloc: Global, fleet: &Fleet, pattern: &str) -> Result<String, AllocError> {
+fn target_text(alloc: Global, fleet: &Fleet, pattern: &str) -> Result<String, AllocError> {
     match fleet.target(alloc, pattern) {
         Ok(hosts) => {
             let mut text = String::new(alloc);
@@ -46,7 +46,7 @@ fn told(alloc: Global, fleet: &Fleet, pattern: &str) -> Result<String, AllocErro
 fn a_pattern_names_the_hosts_of_its_parts(rt: HostRuntime) -> Result<(), Fail> {
     let fleet = fleet_of(rt.alloc(), region(rt.alloc())?)?;
     for (pattern, wanted) in TARGETS {
-        let got = told(rt.alloc(), &fleet, pattern)?;
+        let got = target_text(rt.alloc(), &fleet, pattern)?;
         assert_eq!(rt; got.as_str(), wanted, "{pattern}");
     }
     Ok(())
@@ -55,8 +55,8 @@ fn a_pattern_names_the_hosts_of_its_parts(rt: HostRuntime) -> Result<(), Fail> {
 #[test]
 fn a_group_hides_the_host_of_its_name(rt: HostRuntime) -> Result<(), Fail> {
     let fleet = fleet_of(rt.alloc(), hidden(rt.alloc())?)?;
-    assert_eq!(rt; told(rt.alloc(), &fleet, "x")?.as_str(), "y ");
-    assert_eq!(rt; told(rt.alloc(), &fleet, "w")?.as_str(), "");
-    assert_eq!(rt; told(rt.alloc(), &fleet, "all")?.as_str(), "w x y ");
+    assert_eq!(rt; target_text(rt.alloc(), &fleet, "x")?.as_str(), "y ");
+    assert_eq!(rt; target_text(rt.alloc(), &fleet, "w")?.as_str(), "");
+    assert_eq!(rt; target_text(rt.alloc(), &fleet, "all")?.as_str(), "w x y ");
     Ok(())
 }

@@ -1,17 +1,17 @@
 //! Groups, and a fleet as a line of text.
 use crate::Fleet;
-use group_tree::{Group, GroupFault, GroupId, HostId, Tree};
+use group_tree::{Group, GroupFault, GroupId, Limit, Tree};
 use std::alloc::{AllocError, Allocator, Global};
 use std::test::Fail;
 
-/// A group with these hosts, which have no variables.
+/// A group with these hosts, which have no variables, and a limit of so many hosts.
 pub fn group<A: Allocator + Clone>(
     alloc: A,
     name: &str,
     limit: Option<u16>,
     hosts: &[&str],
 ) -> Result<Group<A>, GroupFault> {
-    let mut group = Group::new(alloc, name, limit, &[])?;
+    let mut group = Group::new(alloc, name, limit.map(Limit::Count), &[])?;
     for host in hosts {
         group.add_host(host, &[])?;
     }
@@ -44,7 +44,7 @@ pub fn fleet_of<A: Allocator + Drop>(alloc: Global, root: Group<A>) -> Result<Fl
 }
 
 /// The hosts in deal order, each with its chain, then the groups, each with its members; or why there is no fleet.
-pub fn told<A: Allocator + Drop>(alloc: Global, root: Group<A>) -> Result<String, AllocError> {
+pub fn fleet_text<A: Allocator + Drop>(alloc: Global, root: Group<A>) -> Result<String, AllocError> {
     let Ok(tree) = Tree::new(root) else {
         return String::from_str(alloc, "no tree");
     };
@@ -61,17 +61,12 @@ pub fn told<A: Allocator + Drop>(alloc: Global, root: Group<A>) -> Result<String
 
 fn push_hosts(text: &mut String, fleet: &Fleet) -> Result<(), AllocError> {
     for host in fleet.deal_order() {
-        if *host < fleet.hosts() {
-            let host = HostId { index: *host };
-            text.push_str(fleet.name(host))?;
-            for group in fleet.chain(host) {
-                if *group < fleet.groups() {
-                    text.push_str(" ")?;
-                    text.push_str(fleet.group_name(GroupId { index: *group }))?;
-                }
-            }
-            text.push_str(if fleet.is_off(host) { " off;" } else { ";" })?;
+        text.push_str(fleet.name(*host))?;
+        for group in fleet.chain(*host) {
+            text.push_str(" ")?;
+            text.push_str(fleet.group_name(*group))?;
         }
+        text.push_str(if fleet.is_off(*host) { " off;" } else { ";" })?;
     }
     Ok(())
 }
@@ -83,9 +78,7 @@ fn push_groups(text: &mut String, fleet: &Fleet) -> Result<(), AllocError> {
         text.push_str(fleet.group_name(group))?;
         text.push_str("=")?;
         for host in fleet.members(group) {
-            if *host < fleet.hosts() {
-                text.push_str(fleet.name(HostId { index: *host }))?;
-            }
+            text.push_str(fleet.name(*host))?;
         }
     }
     Ok(())

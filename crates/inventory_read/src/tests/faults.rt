@@ -47,7 +47,20 @@ const FAULTS: &str = r#"201 |  |
 204 | all/vars/max_down | {"all":{"vars":{"max_down":-0}}}
 204 | all/vars/max_down | {"all":{"vars":{"max_down":null}}}
 204 | all/vars/max_down | {"all":{"vars":{"max_down":"3"}}}
-204 | all/vars/max_down | {"all":{"vars":{"max_down":"50%"}}}
+204 | all/vars/max_down | {"all":{"vars":{"max_down":"101%"}}}
+204 | all/vars/max_down | {"all":{"vars":{"max_down":"256%"}}}
+204 | all/vars/max_down | {"all":{"vars":{"max_down":"0007%"}}}
+204 | all/vars/max_down | {"all":{"vars":{"max_down":"%"}}}
+204 | all/vars/max_down | {"all":{"vars":{"max_down":""}}}
+204 | all/vars/max_down | {"all":{"vars":{"max_down":"5"}}}
+204 | all/vars/max_down | {"all":{"vars":{"max_down":" 5%"}}}
+204 | all/vars/max_down | {"all":{"vars":{"max_down":"5 %"}}}
+204 | all/vars/max_down | {"all":{"vars":{"max_down":"5% "}}}
+204 | all/vars/max_down | {"all":{"vars":{"max_down":"+5%"}}}
+204 | all/vars/max_down | {"all":{"vars":{"max_down":"-5%"}}}
+204 | all/vars/max_down | {"all":{"vars":{"max_down":"5.0%"}}}
+204 | all/vars/max_down | {"all":{"vars":{"max_down":"٣%"}}}
+204 | all/vars/max_down | {"all":{"vars":{"max_down":"5%%"}}}
 204 | all/vars/max_down | {"all":{"vars":{"max_down":true}}}
 204 | all/vars/max_down | {"all":{"vars":{"max_down":[]}}}
 204 | all/vars/max_down | {"all":{"vars":{"max_down":9223372036854775808}}}
@@ -90,30 +103,30 @@ const FAULTS: &str = r#"201 |  |
 204 | a/vars/max_down | {"a":{"vars":{"max_down":1,"max_down":"1"}}}"#;
 
 /// The path, the name or the group of a fault.
-fn place(json: Global, fault: ReadFault) -> Result<String, Fail> {
+fn place(scratch: Global, fault: ReadFault) -> Result<String, Fail> {
     match fault {
         ReadFault::BadShape { at }
         | ReadFault::UnknownKey { at }
         | ReadFault::BadLimit { at }
         | ReadFault::BadDown { at } => Ok(at),
         ReadFault::BadName { name } => Ok(name),
-        ReadFault::TwicePlaced { group } => Ok(format!(in json; "{group}")?),
+        ReadFault::TwicePlaced { group } => Ok(format!(in scratch; "{group}")?),
         ReadFault::NotJson | ReadFault::TooDeep | ReadFault::TooMany | ReadFault::Memory => {
-            Ok(String::new(json))
+            Ok(String::new(scratch))
         }
     }
 }
 
 /// The line that the text of this line should have in the table.
-fn line_of(json: Global, line: &str) -> Result<String, Fail> {
+fn line_of(scratch: Global, line: &str) -> Result<String, Fail> {
     let (_, rest) = line.split_once(" | ").ok_or("a number")?;
     let (_, text) = rest.split_once(" | ").ok_or("a place")?;
-    let fault = read_inventory(json, json, text.as_bytes())
+    let fault = read_inventory(scratch, scratch, text.as_bytes())
         .err()
         .ok_or("a fault")?;
     let number = fault.number().unwrap_or(0);
-    let place = place(json, fault)?;
-    Ok(format!(in json; "{number} | {place} | {text}")?)
+    let place = place(scratch, fault)?;
+    Ok(format!(in scratch; "{number} | {place} | {text}")?)
 }
 
 #[test]

@@ -1,12 +1,20 @@
--- Memory is refused after a read, so what was read last counts too.
+-- The read that goes past the bound counts too, and so does one for which no memory is left.
 use Rattle.std.proofs.Common.{ℕ, ◌++◌, take, vec_items, arith, length-append, length-take}
 use Rattle.std.proofs.KnownBytes.{Consumes-trans}
 use Rattle.bounded_io.proofs.input.read_input.Goals as goal
 
+pub returns-then-count-left-clause-err : goal.returns-then-count-left-clause-err
+returns-then-count-left-clause-err g c =
+    let read = take c.in_ok-count.count c.read_some.new.room in record {
+      bytes = vec_items c.loop-input.input ++ read;
+      consumed = Consumes-trans _ _ _ _ _ c.loop-input.invariant.0 c.in_ok-count.ensures.read;
+      comes = omega (arith, length-append {A = ℕ}, length-take {A = ℕ}, c.in_ok-count.ensures.bound);
+    }
+
 pub returns-in_default-clause-err : goal.returns-in_default-clause-err
 returns-in_default-clause-err g c =
     let read = take c.in_ok-count.count c.read_some.new.room in record {
-      bytes = vec_items c.loop-chunk.input ++ read;
-      consumed = Consumes-trans _ _ _ _ _ c.loop-chunk.invariant.0 c.in_ok-count.ensures.read;
+      bytes = vec_items c.loop-input.input ++ read;
+      consumed = Consumes-trans _ _ _ _ _ c.loop-input.invariant.0 c.in_ok-count.ensures.read;
       comes = omega (arith, length-append {A = ℕ}, length-take {A = ℕ}, c.in_ok-count.ensures.bound);
     }

@@ -1,5 +1,5 @@
 use Rattle.std.proofs.Common.{◌≡◌, map, take}
 use Rattle.domains.proofs.numbers.depths_of.Given as goal
 
-abbrev pub invariant-loop-spot : goal.invariant-loop-spot
-invariant-loop-spot g l = l.depths.items ≡ map (λ spot. spot.depth) (take l.spot-index l.spots)
+abbrev pub invariant-loop-walked : goal.invariant-loop-walked
+invariant-loop-walked g l = l.depths.items ≡ map (λ walked. walked.depth) (take l.walked-index l.groups)

@@ -1,5 +1,6 @@
-use Rattle.std.proofs.Common.{◌≡◌, map, take}
+use Rattle.std.proofs.Common.{◌≡◌, map, option_map, take}
+use Rattle.group_tree.specs.Limits.{limit_of}
 use Rattle.domains.proofs.numbers.limits_of.Given as goal
 
-abbrev pub invariant-loop-spot : goal.invariant-loop-spot
-invariant-loop-spot g l = l.limits.items ≡ map (λ spot. spot.group.now.limit) (take l.spot-index l.spots)
+abbrev pub invariant-loop-walked : goal.invariant-loop-walked
+invariant-loop-walked g l = map (option_map limit_of) l.limits.items ≡ map (λ walked. walked.group.now.limit) (take l.walked-index l.groups)

@@ -1,7 +1,7 @@
 use Rattle.std.proofs.Common.{◌≡◌, ℕ, ◌<◌, None, false, get_or}
 use Rattle.fleet_numbers.specs.NumberLists.{list_at}
 use Rattle.domains.specs.Starts.{exceeds}
-use Rattle.domains.specs.Search.{off_count}
+use Rattle.domains.specs.FleetViews.{off_count}
 use Rattle.domains.proofs.search.find_over.Given as goal
 
 abbrev pub invariant-loop-group : goal.invariant-loop-group

@@ -4,4 +4,4 @@ use Rattle.fleet_numbers.proofs.chains.mark_path.Given as goal
 
 abbrev pub invariant-loop-group : goal.invariant-loop-group
 invariant-loop-group l =
-    (group : ℕ) → group < length l.initial.lasts → get_or l.lasts group 0 ≡ cond (has_number group (take l.group-index l.path)) l.number (get_or l.initial.lasts group 0)
+    (group : ℕ) → group < length l.initial.subtree_ends → get_or l.subtree_ends group 0 ≡ cond (has_number group (take l.group-index l.path)) l.number (get_or l.initial.subtree_ends group 0)

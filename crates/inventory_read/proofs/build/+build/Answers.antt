@@ -11,7 +11,7 @@ use Rattle.inventory_read.proofs.build.+build.Goals as goal
 pub returns-in_default : goal.returns-in_default
 returns-in_default g t c =
     let body = view c.args.body.now in
-    let below : below_body body ≡ [] = below_body-is body ∙ ap groups_among c.in_default.ensures.members in
+    let below : below_body body ≡ [] = below_body-is body ∙ ap groups_among c.in_default.ensures.entries in
     sym (reach-none c.in_ok-group.group) ∙ reach-own c.in_ok-group.group c.args.name.now body [] c.in_ok-group.ensures ∙ ap (λ list. inventory_from (with_below c.args.name.now body list)) (sym below)
 
 pub loop-name-preserved : goal.loop-name-preserved
@@ -20,7 +20,7 @@ loop-name-preserved g t c =
     let body = view c.in-Some-2.body.now in
     let name = string_bytes c.in-Some-2.name.now in
     let listed = with_below name body (below_body body) in
-    let built = c.in_ok-build.ensures ∙ ap (λ said. inventory_from (with_below said body (below_body body))) c.as_str.ensures.value in
+    let built = c.in_ok-build.ensures ∙ ap (λ name. inventory_from (with_below name body (below_body body))) c.as_str.ensures.value in
     let steps = c.in-Some-2.ensures.steps in
     let nested = rw steps at l.invariant.nested in
     record {
@@ -37,5 +37,5 @@ returns g t c =
     let left : l.name-iterator ≡ [] = c.in-None.ensures.steps.0 in
     let first : c.into_iter-name-iterator.result ≡ c.in-Some.children.now.entries = search rules in
     let below : groups_among (members_view c.into_iter-name-iterator.result) ≡ below_body body =
-    ap (λ entries. groups_among (members_view entries)) first ∙ ap groups_among c.in-Some.ensures.members ∙ sym (below_body-is body) in
+    ap (λ entries. groups_among (members_view entries)) first ∙ ap groups_among c.in-Some.ensures.entries ∙ sym (below_body-is body) in
     sym (reach-none l.group) ∙ (rw left at l.invariant.built) ∙ ap (reach c.in_ok-group.group) below ∙ reach-own c.in_ok-group.group c.args.name.now body (below_body body) c.in_ok-group.ensures

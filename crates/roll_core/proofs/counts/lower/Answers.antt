@@ -17,11 +17,23 @@ offset_bounds-counts-group c =
 
 pub overflow_sub-counts : goal.overflow_sub-counts
 overflow_sub-counts c =
-    some_left (length c.args.counts.now) c.args.groups.now c.loop-group.group-index c.requires.rising c.loop-group-test.true c.args.counts.now c.loop-group.counts c.loop-group.invariant.len c.requires.some c.loop-group.invariant.lowered
+    let counts = c.args.counts.now in
+    let invariant = c.loop-group.invariant in
+    let requires = c.requires in
+    some_left (length counts) c.args.groups.now c.loop-group.group-index requires.rising c.loop-group-test.true counts c.loop-group.counts invariant.len requires.some invariant.lowered
 
 pub loop-group-preserved : goal.loop-group-preserved
 loop-group-preserved c =
+    let counts = c.args.counts.now in
+    let groups = c.args.groups.now in
+    let i = c.loop-group.group-index in
+    let invariant = c.loop-group.invariant in
+    let within = c.loop-group-test.true in
+    let requires = c.requires in
+    let now = c.loop-group.counts in
+    let some = some_left (length counts) groups i requires.rising within counts now invariant.len requires.some invariant.lowered in
+    let lowered = lowered_more (length counts) groups i requires.rising within counts now _ invariant.len refl some in
     record {
-      len = length-set c.loop-group.counts _ _ ∙ c.loop-group.invariant.len;
-      lowered = λ group inside. lowered_more (length c.args.counts.now) c.args.groups.now c.loop-group.group-index c.requires.rising c.loop-group-test.true c.args.counts.now c.loop-group.counts _ c.loop-group.invariant.len refl (some_left (length c.args.counts.now) c.args.groups.now c.loop-group.group-index c.requires.rising c.loop-group-test.true c.args.counts.now c.loop-group.counts c.loop-group.invariant.len c.requires.some c.loop-group.invariant.lowered) group (c.loop-group.invariant.lowered group inside);
+      len = length-set now _ _ ∙ invariant.len;
+      lowered = λ group inside. lowered group (invariant.lowered group inside);
     }

@@ -17,7 +17,11 @@ offset_bounds-counts-group c =
 
 pub loop-group-preserved : goal.loop-group-preserved
 loop-group-preserved c =
+    let counts = c.args.counts.now in
+    let now = c.loop-group.counts in
+    let invariant = c.loop-group.invariant in
+    let raised = raised_more (length counts) c.args.groups.now c.loop-group.group-index c.requires.rising c.loop-group-test.true counts now _ invariant.len refl in
     record {
-      len = length-set c.loop-group.counts _ _ ∙ c.loop-group.invariant.len;
-      raised = λ group inside. raised_more (length c.args.counts.now) c.args.groups.now c.loop-group.group-index c.requires.rising c.loop-group-test.true c.args.counts.now c.loop-group.counts _ c.loop-group.invariant.len refl group (c.loop-group.invariant.raised group inside);
+      len = length-set now _ _ ∙ invariant.len;
+      raised = λ group inside. raised group (invariant.raised group inside);
     }

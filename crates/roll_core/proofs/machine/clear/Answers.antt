@@ -1,10 +1,11 @@
 use Rattle.std.proofs.Common.{ℕ, List, length, cond, ap, ◌∙◌, arith}
+use Rattle.group_tree.specs.declared.ids.HostId.{HostId}
 use Rattle.std.proofs.lemmas.List.{length-set, take_all}
 use Rattle.fleet_numbers.specs.NumberLists.{has_number}
 use Rattle.roll_core.specs.declared.stage.Progress.TheVariants.{Due}
-use Rattle.roll_core.specs.Groups.{numbers_of}
+use Rattle.domains.specs.Ids.{host_numbers}
 use Rattle.roll_core.specs.States.{progress_at}
-use Rattle.roll_core.proofs.HeldLemmas.{host_below, length-numbers_of}
+use Rattle.fleet_states.proofs.HostLemmas.{host_below, length-host_numbers}
 use Rattle.roll_core.proofs.ChangeLemmas.{cleared_all, cleared_more_host}
 use Rattle.roll_core.proofs.machine.clear.Goals as goal
 
@@ -14,11 +15,23 @@ bounds-progress-host c =
 
 pub loop-host-preserved : goal.loop-host-preserved
 loop-host-preserved c =
+    let hosts = c.args.hosts.now in
+    let progress = c.args.progress.now in
+    let i = c.loop-host.host-index in
+    let invariant = c.loop-host.invariant in
+    let within = c.loop-host-test.true in
+    let none : HostId = record { index = 0 } in
+    let below = host_below (length progress) hosts i none c.requires.within within in
     record {
-      len = length-set c.loop-host.progress _ _ ∙ c.loop-host.invariant.len;
-      cleared = λ host. cleared_more_host c.args.hosts.now c.loop-host.host-index (record { index = 0 }) c.loop-host-test.true c.args.progress.now c.loop-host.progress c.loop-host.invariant.len (host_below (length c.args.progress.now) c.args.hosts.now c.loop-host.host-index (record { index = 0 }) c.requires.within c.loop-host-test.true) host (c.loop-host.invariant.cleared host);
+      len = length-set c.loop-host.progress _ _ ∙ invariant.len;
+      cleared = λ host. cleared_more_host hosts i none within progress c.loop-host.progress invariant.len below host (invariant.cleared host);
     }
 
 pub returns : goal.returns
 returns c =
-    cleared_all c.args.progress.now c.loop-host.progress (numbers_of c.args.hosts.now) c.loop-host.invariant.len c.requires.others (λ host. c.loop-host.invariant.cleared host ∙ ap (λ (l : List ℕ). cond (has_number host l) Due (progress_at c.args.progress.now host)) (take_all c.loop-host.host-index (numbers_of c.args.hosts.now) (omega (arith, length-numbers_of c.args.hosts.now))))
+    let hosts = c.args.hosts.now in
+    let progress = c.args.progress.now in
+    let invariant = c.loop-host.invariant in
+    let all = take_all c.loop-host.host-index (host_numbers hosts) (omega (arith, length-host_numbers hosts)) in
+    let cleared = λ (host : ℕ). invariant.cleared host ∙ ap (λ (l : List ℕ). cond (has_number host l) Due (progress_at progress host)) all in
+    cleared_all progress c.loop-host.progress (host_numbers hosts) invariant.len c.requires.others cleared

@@ -1,16 +1,15 @@
 use Rattle.std.proofs.Common.{◌≡◌, ℕ, ◌<◌, true, false, ◌&&◌, List, length, get_or, set, take, sym, ap, ◌∙◌, refl, arith}
 use Rattle.std.proofs.lemmas.List.{take-map}
-use Rattle.std.proofs.lemmas.Bool.{both_ways}
 use Rattle.group_tree.specs.declared.ids.HostId.{HostId}
 use Rattle.fleet_numbers.specs.NumberLists.{are_below}
-use Rattle.roll_core.specs.declared.status.Status.{Status}
-use Rattle.roll_core.specs.declared.status.Status.TheVariants.{Running, Waiting}
-use Rattle.roll_core.specs.Statuses.{changed, is_waiting, status_at}
-use Rattle.roll_core.specs.Groups.{numbers_of}
-use Rattle.roll_core.proofs.HeldLemmas.{length-numbers_of, number_of_host}
-use Rattle.roll_core.proofs.StatusLemmas.{length-changed, within_from}
-use Rattle.roll_core.proofs.ChangeLemmas.{changed_none, changed_more_host}
-use Rattle.roll_core.proofs.TrialLemmas.{are_ready_more, first_unready, given_back, ready_below}
+use Rattle.fleet_states.specs.declared.status.Status.{Status}
+use Rattle.fleet_states.specs.declared.status.Status.TheVariants.{Running, Waiting}
+use Rattle.domains.specs.Ids.{host_numbers}
+use Rattle.fleet_states.specs.Statuses.{changed, is_waiting, status_at}
+use Rattle.fleet_states.proofs.HostLemmas.{length-host_numbers, number_of_host}
+use Rattle.fleet_states.proofs.ReadyLemmas.{are_ready_more, given_back, ready_below}
+use Rattle.fleet_states.proofs.StatusLemmas.{changed_more_host, changed_none, length-changed, waiting_within}
+use Rattle.roll_core.proofs.TrialLemmas.{first_unready}
 use Rattle.roll_core.proofs.trial.start.Goals as goal
 
 pub loop-place-init : goal.loop-place-init
@@ -19,25 +18,51 @@ loop-place-init c =
 
 pub set_all-requires : goal.set_all-requires
 set_all-requires c =
-    let same : length c.loop-place.statuses.statuses ≡ length c.args.statuses.now.statuses = ap length c.loop-place.invariant.statuses ∙ length-changed (λ _. Running) (take c.loop-place.place (numbers_of c.args.hosts.now)) c.args.statuses.now.statuses in
-    ap (λ (n : ℕ). are_below n (numbers_of (take c.loop-place.place c.args.hosts.now))) same ∙ ap (are_below (length c.args.statuses.now.statuses)) (sym (take-map (λ (host : HostId). host.index) c.loop-place.place c.args.hosts.now)) ∙ ready_below c.args.statuses.now.statuses (take c.loop-place.place (numbers_of c.args.hosts.now)) c.loop-place.invariant.ready
+    let statuses = c.args.statuses.now.statuses in
+    let hosts = c.args.hosts.now in
+    let i = c.loop-place.place in
+    let invariant = c.loop-place.invariant in
+    let front : List ℕ = take i (host_numbers hosts) in
+    let fronts : front ≡ host_numbers (take i hosts) = take-map (λ (host : HostId). host.index) i hosts in
+    let same : length c.loop-place.statuses.statuses ≡ length statuses = ap length invariant.statuses ∙ length-changed (λ _. Running) front statuses in
+    ap (λ (n : ℕ). are_below n (host_numbers (take i hosts))) same ∙ ap (are_below (length statuses)) (sym fronts) ∙ ready_below statuses front invariant.ready
 
 pub returns-then-not-is_waiting-clause-statuses : goal.returns-then-not-is_waiting-clause-statuses
 returns-then-not-is_waiting-clause-statuses c =
-    let front : List ℕ = take c.loop-place.place (numbers_of c.args.hosts.now) in
-    let host : ℕ = (get_or c.args.hosts.now c.loop-place.place (record { index = 0 })).index in
-    let same : length c.loop-place.statuses.statuses ≡ length c.args.statuses.now.statuses = ap length c.loop-place.invariant.statuses ∙ length-changed (λ _. Running) (take c.loop-place.place (numbers_of c.args.hosts.now)) c.args.statuses.now.statuses in
-    let busy : is_waiting (status_at (changed (λ _. Running) (take c.loop-place.place (numbers_of c.args.hosts.now)) c.args.statuses.now.statuses) (get_or c.args.hosts.now c.loop-place.place (record { index = 0 })).index) ≡ false = sym (ap (λ (l : List Status). is_waiting (status_at l host)) c.loop-place.invariant.statuses) ∙ sym (ap is_waiting c.at.ensures) ∙ sym c.is_waiting.ensures ∙ c.if-not-is_waiting.true in
-    (first_unready c.args.statuses.now.statuses (numbers_of c.args.hosts.now) c.loop-place.place host (omega (arith, length-numbers_of c.args.hosts.now)) (number_of_host c.args.hosts.now c.loop-place.place (record { index = 0 }) c.loop-place-test.true) c.loop-place.invariant.ready busy, ap (λ v. v.statuses) c.set_all.ensures ∙ ap (λ (l : List Status). changed (λ _. Waiting) (numbers_of (take c.loop-place.place c.args.hosts.now)) l) c.loop-place.invariant.statuses ∙ ap (λ (l : List ℕ). changed (λ _. Waiting) l (changed (λ _. Running) front c.args.statuses.now.statuses)) (sym (take-map (λ (host : HostId). host.index) c.loop-place.place c.args.hosts.now)) ∙ given_back c.args.statuses.now.statuses front c.loop-place.invariant.ready)
+    let statuses = c.args.statuses.now.statuses in
+    let hosts = c.args.hosts.now in
+    let i = c.loop-place.place in
+    let invariant = c.loop-place.invariant in
+    let none : HostId = record { index = 0 } in
+    let host : ℕ = (get_or hosts i none).index in
+    let front : List ℕ = take i (host_numbers hosts) in
+    let running : List Status = changed (λ _. Running) front statuses in
+    let was : is_waiting (status_at c.loop-place.statuses.statuses host) ≡ false = sym (ap is_waiting c.at.ensures) ∙ sym c.is_waiting.ensures ∙ c.if-not-is_waiting.true in
+    let busy : is_waiting (status_at running host) ≡ false = sym (ap (λ (l : List Status). is_waiting (status_at l host)) invariant.statuses) ∙ was in
+    let named : get_or (host_numbers hosts) i 0 ≡ host = number_of_host hosts i none c.loop-place-test.true in
+    let fronts : front ≡ host_numbers (take i hosts) = take-map (λ (host : HostId). host.index) i hosts in
+    let first = first_unready statuses (host_numbers hosts) i host (omega (arith, length-host_numbers hosts)) named invariant.ready busy in
+    let back = ap (λ v. v.statuses) c.set_all.ensures ∙ ap (λ (l : List Status). changed (λ _. Waiting) (host_numbers (take i hosts)) l) invariant.statuses in
+    (first, back ∙ ap (λ (l : List ℕ). changed (λ _. Waiting) l running) (sym fronts) ∙ given_back statuses front invariant.ready)
 
 pub loop-place-preserved : goal.loop-place-preserved
 loop-place-preserved c =
-    let front : List ℕ = take c.loop-place.place (numbers_of c.args.hosts.now) in
-    let host : ℕ = (get_or c.args.hosts.now c.loop-place.place (record { index = 0 })).index in
-    let waits : is_waiting (status_at (changed (λ _. Running) (take c.loop-place.place (numbers_of c.args.hosts.now)) c.args.statuses.now.statuses) (get_or c.args.hosts.now c.loop-place.place (record { index = 0 })).index) ≡ true = sym (ap (λ (l : List Status). is_waiting (status_at l host)) c.loop-place.invariant.statuses) ∙ sym (ap is_waiting c.at.ensures) ∙ sym c.is_waiting.ensures ∙ c.if-not-is_waiting.false in
-    let within : (get_or c.args.hosts.now c.loop-place.place (record { index = 0 })).index < length c.args.statuses.now.statuses = omega (arith, within_from (changed (λ _. Running) front c.args.statuses.now.statuses) host (λ e. both_ways (is_waiting (status_at (changed (λ _. Running) front c.args.statuses.now.statuses) host)) (ap is_waiting e) waits), length-changed (λ _. Running) front c.args.statuses.now.statuses) in
+    let statuses = c.args.statuses.now.statuses in
+    let hosts = c.args.hosts.now in
+    let i = c.loop-place.place in
+    let invariant = c.loop-place.invariant in
+    let none : HostId = record { index = 0 } in
+    let host : ℕ = (get_or hosts i none).index in
+    let front : List ℕ = take i (host_numbers hosts) in
+    let running : List Status = changed (λ _. Running) front statuses in
+    let was : is_waiting (status_at c.loop-place.statuses.statuses host) ≡ true = sym (ap is_waiting c.at.ensures) ∙ sym c.is_waiting.ensures ∙ c.if-not-is_waiting.false in
+    let waits : is_waiting (status_at running host) ≡ true = sym (ap (λ (l : List Status). is_waiting (status_at l host)) invariant.statuses) ∙ was in
+    let within : host < length statuses = omega (arith, waiting_within running host waits, length-changed (λ _. Running) front statuses) in
+    let named : get_or (host_numbers hosts) i 0 ≡ host = number_of_host hosts i none c.loop-place-test.true in
+    let more = are_ready_more statuses (host_numbers hosts) i (omega (arith, length-host_numbers hosts)) in
+    let grown = changed_more_host hosts i none c.loop-place-test.true (λ _. Running) statuses Running within refl in
     record {
-      groups = ap (λ v. v.groups) c.set.ensures ∙ c.loop-place.invariant.groups;
-      statuses = ap (λ v. v.statuses) c.set.ensures ∙ ap (λ (l : List Status). set l host Running) c.loop-place.invariant.statuses ∙ changed_more_host c.args.hosts.now c.loop-place.place (record { index = 0 }) c.loop-place-test.true (λ _. Running) c.args.statuses.now.statuses Running within refl;
-      ready = are_ready_more c.args.statuses.now.statuses (numbers_of c.args.hosts.now) c.loop-place.place (omega (arith, length-numbers_of c.args.hosts.now)) ∙ ap (λ b. b && is_waiting (status_at (changed (λ _. Running) front c.args.statuses.now.statuses) (get_or (numbers_of c.args.hosts.now) c.loop-place.place 0))) c.loop-place.invariant.ready ∙ ap (λ (h : ℕ). is_waiting (status_at (changed (λ _. Running) front c.args.statuses.now.statuses) h)) (number_of_host c.args.hosts.now c.loop-place.place (record { index = 0 }) c.loop-place-test.true) ∙ waits;
+      groups = ap (λ v. v.groups) c.set.ensures ∙ invariant.groups;
+      statuses = ap (λ v. v.statuses) c.set.ensures ∙ ap (λ (l : List Status). set l host Running) invariant.statuses ∙ grown;
+      ready = more ∙ ap (λ b. b && is_waiting (status_at running (get_or (host_numbers hosts) i 0))) invariant.ready ∙ ap (λ (h : ℕ). is_waiting (status_at running h)) named ∙ waits;
     }

@@ -1,15 +1,16 @@
-use Rattle.std.proofs.Common.{◌∙◌, ◌<◌, ℕ, List, [], map, Global, length, sym, ap, subst, arith}
-use Rattle.fleet_numbers.specs.NumberLists.{has_number, list_at, IsRising}
-use Rattle.std.specs.String.{string_bytes}
+use Rattle.std.proofs.Common.{rules, ◌∙◌, ℕ, length, ap}
+use Rattle.std.proofs.lemmas.Fn.{always_returns_same}
+use Rattle.group_tree.specs.declared.ids.HostId.{HostId}
+use Rattle.fleet_numbers.specs.NumberLists.{has_number}
 use Rattle.domains.specs.FleetViews.{FleetView}
-use Rattle.domains.proofs.ReaderLemmas.{is_found}
+use Rattle.domains.proofs.ReaderLemmas.{found_number, members_lent}
 use Rattle.domains.proofs.fleet.Fleet.is_member.Goals as goal
 
 pub returns : goal.returns
 returns c =
-    let sound = c.self.invariant.sound in
-    let members = c.self.inside.members in
-    let inside : c.args.group.index < length members = omega (arith, sound.all_members, c.requires, ap (λ (f : FleetView). length f.groups) c.self.view_is) in
-    let bound : ℕ = length (map (string_bytes {Z = Global}) c.self.inside.hosts.items) in
-    let rises = subst (λ (l : List ℕ). IsRising bound l) (sym c.at-members.ensures) (sound.members_rise c.args.group.index [] inside) in
-    c.is_ok.ensures.value ∙ is_found bound c.at-members.result.now c.args.host.index c.binary_search.result rises c.binary_search.ensures.position ∙ ap (has_number c.args.host.index) c.at-members.ensures ∙ ap (λ (f : FleetView). has_number c.args.host.index (list_at f.members c.args.group.index)) c.self.view_is
+    let fleet : FleetView = c.args.self.now in
+    let h : ℕ = c.args.host.index in
+    let hosts = c.as_slice-members.result.now in
+    let lent = members_lent c.self.inside fleet c.args.group.index c.index.result.now c.as_slice-members.result.now c.self.view_is c.self.invariant.sound c.requires c.index.ensures c.as_slice-members.ensures.value in
+    let found = c.binary_search_by_key.ensures.position (λ (own : HostId). own.index) (always_returns_same _ _ _ (λ a r g h. search rules)) in
+    c.is_ok.ensures.value ∙ found_number (length fleet.hosts) hosts h c.binary_search_by_key.result lent.1 found c.binary_search_by_key.ensures.bound ∙ ap (has_number h) lent.0

@@ -2,7 +2,7 @@ use Rattle.std.proofs.Common.{◌<◌, ◌-◌, length, arith, rules}
 use Rattle.inventory_model.specs.Subtrees.{places_of}
 use Rattle.group_tree.specs.Parts.{groups_below}
 use Rattle.group_tree.proofs.Walks.{groups_below-child}
-use Rattle.group_tree.proofs.Nth.{IsGroupAt-child, nth-after, places-after}
+use Rattle.group_tree.proofs.Nth.{IsGroupAt-itself, IsGroupAt-child, nth-after, places-after}
 use Rattle.group_tree.proofs.group.Group.+nth.Goals as goal
 
 pub nth-requires : goal.nth-requires
@@ -24,3 +24,6 @@ loop-child-preserved g t c =
       counted = omega (arith, c.loop-child.invariant.counted);
       lower = omega (arith, c.loop-child.invariant.lower);
     }
+
+pub returns-then-index-eq0-clause-at : goal.returns-then-index-eq0-clause-at
+returns-then-index-eq0-clause-at g t c = IsGroupAt-itself c.args.self.now c.args.index c.if-index-eq0.true

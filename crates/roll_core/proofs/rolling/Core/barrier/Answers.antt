@@ -7,6 +7,16 @@ use Rattle.roll_core.proofs.rolling.Core.barrier.Goals as goal
 
 pub invariant_of-self-2 : goal.invariant_of-self-2
 invariant_of-self-2 c =
-    let working = subst (λ s. s.stage ≡ Working) (sym c.self.invariant.state) (subst (λ (v : CoreView). (state_of v).stage ≡ Working) (sym c.self.view_is) c.requires) in
-    let owes = owed_barrier c.self.inside.machine.state c.self.inside.owed c.self.invariant.owes working in
-    kept_more c.self.inside.machine c.barrier.new.self c.self.inside.start.items c.self.inside.log.items c.keep.new.log.items c.self.inside.owed _ c.self.inside.log.cap _ Barrier c.self.invariant c.in_ok-barrier.ensures.ok c.in_ok-barrier.ensures.groups c.in_ok-barrier.ensures.ended c.keep.ensures.items (omega (arith, owes)) (omega (arith, owes, c.keep.ensures.capacity, c.self.invariant.places))
+    let machine = c.self.inside.machine in
+    let places = c.self.inside.log in
+    let owed = c.self.inside.owed in
+    let kept = c.self.invariant in
+    let keeps = c.keep.ensures in
+    let working = subst (λ s. s.stage ≡ Working) (sym kept.state) (subst (λ (v : CoreView). (state_of v).stage ≡ Working) (sym c.self.view_is) c.requires) in
+    let owes = owed_barrier machine.state owed kept.owes working in
+    let start = c.self.inside.start.items in
+    let new_log = c.keep.new.log.items in
+    let old_log = places.items in
+    let new = c.barrier.new.self in
+    let ends = c.in_ok-barrier.ensures in
+    kept_more machine new start old_log new_log owed _ places.cap _ Barrier kept ends.ok ends.groups ends.ended keeps.items (omega (arith, owes)) (omega (arith, owes, keeps.capacity, kept.places))

@@ -7,5 +7,17 @@ use Rattle.roll_core.proofs.rolling.Core.close.Goals as goal
 
 pub invariant_of-self : goal.invariant_of-self
 invariant_of-self c =
-    let ended = subst (λ s. s.stage ≡ Ended) (sym c.self.invariant.state) (subst (λ (v : CoreView). (state_of v).stage ≡ Ended) (sym c.self.view_is) c.requires) in
-    kept_more c.self.inside.machine c.close.new.self c.self.inside.start.items c.self.inside.log.items c.keep.new.log.items c.self.inside.owed 0 c.self.inside.log.cap _ Close c.self.invariant ended c.close.ensures.groups c.close.ensures.state c.keep.ensures.items (owed_close c.self.inside.machine.state) (omega (arith, owed_ended c.self.inside.machine.state c.self.inside.owed c.self.invariant.owes ended, c.keep.ensures.capacity, c.self.invariant.places))
+    let machine = c.self.inside.machine in
+    let places = c.self.inside.log in
+    let owed = c.self.inside.owed in
+    let kept = c.self.invariant in
+    let keeps = c.keep.ensures in
+    let ended = subst (λ s. s.stage ≡ Ended) (sym kept.state) (subst (λ (v : CoreView). (state_of v).stage ≡ Ended) (sym c.self.view_is) c.requires) in
+    let start = c.self.inside.start.items in
+    let new_log = c.keep.new.log.items in
+    let old_log = places.items in
+    let new = c.close.new.self in
+    let closes = c.close.ensures in
+    let none = owed_close machine.state in
+    let some = owed_ended machine.state owed kept.owes ended in
+    kept_more machine new start old_log new_log owed 0 places.cap _ Close kept ended closes.groups closes.state keeps.items none (omega (arith, some, keeps.capacity, kept.places))

@@ -8,8 +8,12 @@ use Rattle.roll_core.proofs.rolling.Core.log.Goals as goal
 
 pub returns-clause-safe : goal.returns-clause-safe
 returns-clause-safe c =
-    subst (λ (v : CoreView). FrontsAreSafe v.groups (start_state v.start) v.log) c.self.view_is (legal_fronts c.self.inside.machine.groups c.self.inside.start.items c.self.inside.log.items c.self.invariant.safe c.self.invariant.legal)
+    let kept = c.self.invariant in
+    let safe = legal_fronts c.self.inside.machine.groups c.self.inside.start.items c.self.inside.log.items kept.safe kept.legal in
+    subst (λ (v : CoreView). FrontsAreSafe v.groups (start_state v.start) v.log) c.self.view_is safe
 
 pub returns-clause-rests : goal.returns-clause-rests
 returns-clause-rests c =
-    subst (λ (v : CoreView). RestsAtBoundaries (start_state v.start) v.log) c.self.view_is (legal_rests c.self.inside.machine.groups c.self.inside.start.items c.self.inside.log.items c.self.invariant.rests c.self.invariant.legal)
+    let kept = c.self.invariant in
+    let rests = legal_rests c.self.inside.machine.groups c.self.inside.start.items c.self.inside.log.items kept.rests kept.legal in
+    subst (λ (v : CoreView). RestsAtBoundaries (start_state v.start) v.log) c.self.view_is rests

@@ -1,9 +1,9 @@
 use Rattle.std.proofs.Common.{◌≡◌, ℕ, List, ◌++◌, ◌∷◌, [], ap, ◌∙◌, arith}
 use Rattle.roll_core.specs.declared.event.Event.{Event}
 use Rattle.roll_core.specs.declared.event.Event.TheVariants.{Open}
-use Rattle.roll_core.specs.Groups.{numbers_of}
+use Rattle.domains.specs.Ids.{host_numbers}
 use Rattle.roll_core.specs.States.{MayOpen, next}
-use Rattle.roll_core.specs.Views.{MachineView}
+use Rattle.roll_core.specs.Inside.Machines.{MachineView}
 use Rattle.roll_core.proofs.CoreLemmas.{kept_more, kept_safe, owed_open}
 use Rattle.roll_core.proofs.rolling.Core.open.Goals as goal
 
@@ -13,9 +13,22 @@ test_batch-requires-clause-safe c =
 
 pub invariant_of-self-2 : goal.invariant_of-self-2
 invariant_of-self-2 c =
-    let batch : List ℕ = numbers_of c.args.hosts.now in
-    let state : c.open.new.self.state ≡ next c.self.inside.machine.state (Open (numbers_of c.args.hosts.now)) = c.in_ok-open.ensures.ok ∙ ap (λ (v : MachineView). next v.state (Open batch)) c.in_ok-test_batch.ensures.same in
-    let groups : c.open.new.self.groups ≡ c.self.inside.machine.groups = c.in_ok-open.ensures.groups ∙ ap (λ (v : MachineView). v.groups) c.in_ok-test_batch.ensures.same in
-    let log : c.keep.new.log.items ≡ c.self.inside.log.items ++ Open (numbers_of c.args.hosts.now) ∷ [] = c.keep.ensures.items ∙ ap (λ (l : List Event). l ++ Open c.in_ok-batch.batch ∷ []) c.in_ok-reserve.ensures.items ∙ ap (λ (b : List ℕ). c.self.inside.log.items ++ Open b ∷ []) c.in_ok-batch.ensures in
-    let may : MayOpen c.self.inside.machine.groups c.self.inside.machine.state (numbers_of c.args.hosts.now) = c.in_ok-test_batch.ensures.tells in
-    kept_more c.self.inside.machine c.open.new.self c.self.inside.start.items c.self.inside.log.items c.keep.new.log.items c.self.inside.owed _ c.self.inside.log.cap _ (Open batch) c.self.invariant may groups state log (owed_open c.self.inside.machine.state batch c.self.inside.owed c.self.invariant.owes may.boundary) (omega (arith, c.in_ok-reserve.ensures.ok, c.in_ok-reserve.ensures.len, c.self.inside.log.ok, c.keep.ensures.capacity))
+    let machine = c.self.inside.machine in
+    let places = c.self.inside.log in
+    let owed = c.self.inside.owed in
+    let kept = c.self.invariant in
+    let hosts = c.args.hosts.now in
+    let grown_log = c.keep.new.log.items in
+    let keeps = c.keep.ensures in
+    let batch : List ℕ = host_numbers hosts in
+    let event : Event = Open batch in
+    let reserves = c.in_ok-reserve.ensures in
+    let trial = c.in_ok-test_batch.ensures in
+    let state : c.open.new.self.state ≡ next machine.state event = c.in_ok-open.ensures.ok ∙ ap (λ (v : MachineView). next v.state event) trial.same in
+    let groups : c.open.new.self.groups ≡ machine.groups = c.in_ok-open.ensures.groups ∙ ap (λ (v : MachineView). v.groups) trial.same in
+    let reserved = keeps.items ∙ ap (λ (l : List Event). l ++ Open c.in_ok-batch.batch ∷ []) reserves.items in
+    let log : grown_log ≡ places.items ++ event ∷ [] = reserved ∙ ap (λ (b : List ℕ). places.items ++ Open b ∷ []) c.in_ok-batch.ensures in
+    let may : MayOpen machine.groups machine.state batch = trial.tells in
+    let owes = owed_open machine.state batch owed kept.owes may.boundary in
+    let start = c.self.inside.start.items in
+    kept_more machine c.open.new.self start places.items grown_log owed _ places.cap _ event kept may groups state log owes (omega (arith, reserves.ok, reserves.len, places.ok, keeps.capacity))

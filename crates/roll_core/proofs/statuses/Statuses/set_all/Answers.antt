@@ -1,9 +1,9 @@
-use Rattle.std.proofs.Common.{List, length, get_or, set, take, sym, ap, ◌∙◌, refl, arith}
-use Rattle.roll_core.specs.declared.status.Status.{Status}
-use Rattle.roll_core.specs.Groups.{numbers_of}
-use Rattle.roll_core.proofs.HeldLemmas.{host_below}
-use Rattle.roll_core.proofs.StatusLemmas.{length-changed}
-use Rattle.roll_core.proofs.ChangeLemmas.{changed_none, changed_more_host}
+use Rattle.std.proofs.Common.{ℕ, List, length, get_or, set, take, sym, ap, ◌∙◌, refl, arith}
+use Rattle.group_tree.specs.declared.ids.HostId.{HostId}
+use Rattle.fleet_states.specs.declared.status.Status.{Status}
+use Rattle.domains.specs.Ids.{host_numbers}
+use Rattle.fleet_states.proofs.HostLemmas.{host_below}
+use Rattle.fleet_states.proofs.StatusLemmas.{length-changed, changed_none, changed_more_host}
 use Rattle.roll_core.proofs.statuses.Statuses.set_all.Goals as goal
 
 pub loop-host-init : goal.loop-host-init
@@ -12,11 +12,24 @@ loop-host-init c =
 
 pub set-requires : goal.set-requires
 set-requires c =
-    omega (arith, host_below (length c.args.self.now.statuses) c.args.hosts.now c.loop-host.host-index (record { index = 0 }) c.requires c.loop-host-test.true, ap length c.loop-host.invariant.statuses, length-changed (λ _. c.args.status) (take c.loop-host.host-index (numbers_of c.args.hosts.now)) c.args.self.now.statuses)
+    let statuses = c.args.self.now.statuses in
+    let hosts = c.args.hosts.now in
+    let i = c.loop-host.host-index in
+    let below = host_below (length statuses) hosts i (record { index = 0 }) c.requires c.loop-host-test.true in
+    omega (arith, below, ap length c.loop-host.invariant.statuses, length-changed (λ _. c.args.status) (take i (host_numbers hosts)) statuses)
 
 pub loop-host-preserved : goal.loop-host-preserved
 loop-host-preserved c =
+    let now = c.args.self.now in
+    let hosts = c.args.hosts.now in
+    let i = c.loop-host.host-index in
+    let invariant = c.loop-host.invariant in
+    let within = c.loop-host-test.true in
+    let none : HostId = record { index = 0 } in
+    let host : ℕ = (get_or hosts i none).index in
+    let below = host_below (length now.statuses) hosts i none c.requires within in
+    let grown = changed_more_host hosts i none within (λ _. c.args.status) now.statuses c.args.status below refl in
     record {
-      groups = ap (λ v. v.groups) c.set.ensures ∙ c.loop-host.invariant.groups;
-      statuses = ap (λ v. v.statuses) c.set.ensures ∙ ap (λ (l : List Status). set l (get_or c.args.hosts.now c.loop-host.host-index (record { index = 0 })).index c.args.status) c.loop-host.invariant.statuses ∙ changed_more_host c.args.hosts.now c.loop-host.host-index (record { index = 0 }) c.loop-host-test.true (λ _. c.args.status) c.args.self.now.statuses c.args.status (host_below (length c.args.self.now.statuses) c.args.hosts.now c.loop-host.host-index (record { index = 0 }) c.requires c.loop-host-test.true) refl;
+      groups = ap (λ v. v.groups) c.set.ensures ∙ invariant.groups;
+      statuses = ap (λ v. v.statuses) c.set.ensures ∙ ap (λ (l : List Status). set l host c.args.status) invariant.statuses ∙ grown;
     }

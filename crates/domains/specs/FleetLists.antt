@@ -1,0 +1,28 @@
+-- The lists of a fleet as they follow from the numbers on paths and rows.
+use Rattle.std.specs.Prelude.{◌≡◌, ℕ, Option, None, Some, List, [], ◌∷◌, map, filter, length, option_map, slice_index_or}
+use Rattle.std.specs.List.{range_with_len}
+use Rattle.inventory_model.specs.Limits.{Limit, allowed}
+use Rattle.fleet_numbers.specs.NumberLists.{has_number, list_at, numbers_where, last_where}
+use Rattle.fleet_numbers.specs.GroupPaths.{paths_from, is_member}
+use Rattle.fleet_numbers.specs.Chains.{is_limited}
+
+-- the group before the last on a path, and none where the path has one group alone
+abbrev pub parent_on : List ℕ → Option ℕ
+parent_on [] = None
+parent_on (group ∷ []) = None
+parent_on (group ∷ (next ∷ path)) = Some (slice_index_or (group ∷ (next ∷ path)) (length path) 0)
+
+-- for each group how many of its hosts may be down at once, where it has a limit
+abbrev pub allowed_counts : List (Option Limit) → List (List ℕ) → List (Option ℕ)
+allowed_counts limits members =
+    map (λ group. option_map (λ (limit : Limit). allowed limit (length (list_at members group))) (slice_index_or limits group None)) (range_with_len 0 (length limits))
+
+-- what is allowed down, the groups of each host, its limited ones, the hosts of each group, its parent, and the last group at or below each
+pub record AreFleetLists (hosts : ℕ) (limits : List (Option Limit)) (depths : List ℕ) (rows : List (ℕ × ℕ)) (counts : List (Option ℕ)) (chains members : List (List ℕ)) (parents : List (Option ℕ)) (subtree_ends : List ℕ) : Type 0 where
+  pub held : List (List ℕ)
+  pub held_are : held ≡ map (λ host. numbers_where (λ group. is_member (paths_from [] 0 depths) rows group host) (length depths)) (range_with_len 0 hosts)
+  pub counts_are : counts ≡ allowed_counts limits members
+  pub chains_are : chains ≡ map (filter (is_limited counts)) held
+  pub members_are : members ≡ map (λ group. numbers_where (λ host. has_number group (list_at held host)) (length held)) (range_with_len 0 (length depths))
+  pub parents_are : parents ≡ map parent_on (paths_from [] 0 depths)
+  pub subtree_ends_are : subtree_ends ≡ map (λ group. last_where (λ number. has_number group (list_at (paths_from [] 0 depths) number)) (length depths)) (range_with_len 0 (length depths))

@@ -1,0 +1,46 @@
+-- What is made of an inventory's numbers and lists: the fault of a breach, or a fleet.
+use Rattle.std.specs.Prelude.{◌≡◌, ℕ, List, length, map, option_map}
+use Rattle.std.specs.String.{string_bytes}
+use Rattle.domains.specs.FleetViews.{FleetView}
+use Rattle.inventory_model.specs.Places.{Inventory}
+use Rattle.group_tree.specs.Limits.{limit_of}
+use Rattle.domains.specs.Numbered.{IsNumbering, host_at}
+use Rattle.domains.specs.FleetLists.{AreFleetLists}
+use Rattle.domains.specs.declared.numbers.Numbers.{Numbers}
+use Rattle.domains.specs.declared.lists.FleetLists.{FleetLists}
+use Rattle.domains.specs.declared.search.Breach.{Breach}
+use Rattle.domains.specs.declared.search.Breach.TheVariants.{Nesting, Start}
+use Rattle.domains.specs.declared.fault.FleetFault.{FleetFault}
+use Rattle.domains.specs.declared.fault.FleetFault.TheVariants.{NotNested, StartOver}
+
+-- the numbers are those of the inventory
+abbrev pub IsNumberingOf : Inventory → Numbers → Type 0
+IsNumberingOf inventory numbers =
+    IsNumbering inventory (map string_bytes numbers.hosts.items) (map string_bytes numbers.groups.keys) (map (option_map limit_of) numbers.limits.items) numbers.depths.items numbers.rows.items numbers.off.items
+
+-- the lists follow from the numbers
+abbrev pub AreListsFrom : Numbers → FleetLists → Type 0
+AreListsFrom numbers lists =
+    AreFleetLists (length (map string_bytes numbers.hosts.items)) (map (option_map limit_of) numbers.limits.items) numbers.depths.items numbers.rows.items lists.limits.items lists.chains lists.members lists.parents.items lists.subtree_ends.items
+
+-- the fault tells the breach by the names of its host and groups
+abbrev pub IsNamed : Numbers → Breach → FleetFault → Type 0
+IsNamed numbers (Nesting crossing) (NotNested host first second) =
+    (string_bytes host ≡ host_at (map string_bytes numbers.hosts.items) crossing.host) × (string_bytes first ≡ host_at (map string_bytes numbers.groups.keys) crossing.first) × (string_bytes second ≡ host_at (map string_bytes numbers.groups.keys) crossing.second)
+IsNamed numbers (Start over) (StartOver group down limit) =
+    (string_bytes group ≡ host_at (map string_bytes numbers.groups.keys) over.group) × (down ≡ over.down) × (limit ≡ over.limit)
+IsNamed numbers breach fault = ⊥
+
+-- the fleet of the numbers and lists, its hosts dealt in this order
+abbrev pub dealt_fleet : Numbers → FleetLists → List ℕ → FleetView
+dealt_fleet numbers lists order =
+    record {
+      hosts = map string_bytes numbers.hosts.items;
+      groups = map string_bytes numbers.groups.keys;
+      limits = lists.limits.items;
+      parents = lists.parents.items;
+      members = lists.members;
+      chains = lists.chains;
+      off = numbers.off.items;
+      order = order;
+    }

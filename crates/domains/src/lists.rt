@@ -1,0 +1,94 @@
+//! The lists of a fleet, from the numbers on its groups' paths and its rows.
+ghost use Rattle.std.specs.Prelude.{◌≡◌, ◌<◌, ◌≤◌, ◌^◌, IfOk, All, length, map, option_map};
+ghost use Rattle.std.specs.String.{string_bytes};
+ghost use Rattle.inventory_model.specs.Limits.{allowed};
+ghost use Rattle.group_tree.specs.Limits.{limit_of};
+ghost use Rattle.domains.specs.FleetLists.{allowed_counts, parent_on};
+ghost use Rattle.domains.specs.Outcomes.{AreListsFrom};
+
+use crate::numbers::Numbers;
+use fleet_numbers::{
+    NumberLists, list_chains, list_held, list_members, list_paths, list_subtree_ends,
+};
+use group_tree::Limit;
+use std::alloc::{AllocError, Global};
+
+/// For each group how many of its hosts may be down at once, its hosts, the group directly above it and the last one at
+/// or below it, and for each host its limited groups.
+#[derive(Drop)]
+pub(crate) struct FleetLists {
+    pub(crate) limits: Vec<Option<u16>>,
+    pub(crate) chains: NumberLists,
+    pub(crate) members: NumberLists,
+    pub(crate) parents: Vec<Option<usize>>,
+    pub(crate) subtree_ends: Vec<usize>,
+}
+
+/// The group before the last on a path.
+fn parent_on_path(path: &[usize]) -> Option<usize>
+    ensures { result ≡ parent_on path.now }
+{
+    match path {
+        [.., parent, _] => Some(*parent),
+        _ => None,
+    }
+}
+
+fn list_parents(alloc: Global, paths: &NumberLists) -> Result<Vec<Option<usize>>, AllocError>
+    ensures { IfOk result (λ parents. parents.items ≡ map parent_on paths.now) }
+{
+    let mut parents = Vec::with_capacity(alloc, paths.len())?;
+    for group in 0..paths.len() {
+        parents.push(parent_on_path(paths.at(group)))?;
+    }
+    Ok(parents)
+}
+
+fn allowed_count(limit: Option<Limit>, members: u16) -> Option<u16>
+    ensures { result ≡ option_map (λ limit. allowed limit members) (option_map limit_of limit) }
+{
+    match limit {
+        Some(limit) => Some(limit.allowed(members)),
+        None => None,
+    }
+}
+
+fn list_allowed(
+    alloc: Global,
+    limits: &[Option<Limit>],
+    members: &NumberLists,
+) -> Result<Vec<Option<u16>>, AllocError>
+    requires len { length limits.now ≡ length members.now }
+    requires few { All (λ list. length list < 2 ^ 16) members.now }
+    ensures { IfOk result (λ counts. counts.items ≡ allowed_counts (map (option_map limit_of) limits.now) members.now) }
+{
+    let mut counts = Vec::with_capacity(alloc, limits.len())?;
+    for group in 0..limits.len() {
+        let held = members.at(group).len();
+        counts.push(allowed_count(limits[group], held as u16))?;
+    }
+    Ok(counts)
+}
+
+pub(crate) fn make_lists(alloc: Global, numbers: &Numbers) -> Result<FleetLists, AllocError>
+    requires hosts_in { All (λ row. row.0 < length (map string_bytes numbers.now.hosts.items)) numbers.now.rows.items }
+    requires groups_in { All (λ row. row.1 < length numbers.now.depths.items) numbers.now.rows.items }
+    requires len { length numbers.now.limits.items ≡ length numbers.now.depths.items }
+    requires few { length numbers.now.hosts.items ≤ 4096 }
+    ensures { IfOk result (AreListsFrom numbers.now) }
+{
+    let hosts = numbers.hosts.len();
+    let depths = numbers.depths.as_slice();
+    let rows = numbers.rows.as_slice();
+    let paths = list_paths(alloc, depths)?;
+    let held = list_held(alloc, hosts, rows, &paths)?;
+    let members = list_members(alloc, &held, depths.len())?;
+    let limits = list_allowed(alloc, numbers.limits.as_slice(), &members)?;
+    Ok(FleetLists {
+        chains: list_chains(alloc, &held, limits.as_slice())?,
+        limits,
+        members,
+        parents: list_parents(alloc, &paths)?,
+        subtree_ends: list_subtree_ends(alloc, &paths)?,
+    })
+}

@@ -1,0 +1,9 @@
+pub mod NumberLemmas
+pub mod CountLemmas
+pub mod HostLemmas
+pub mod StatusLemmas
+pub mod ReadyLemmas
+pub mod DownLemmas
+pub mod SafetyLemmas
+pub mod GroupLemmas
+pub mod StartLemmas

@@ -1,0 +1,145 @@
+-- Statuses by the hosts' numbers, and after a change.
+use Rattle.std.proofs.Common.{◌≡◌, ℕ, ◌+◌, ◌≤◌, ◌<◌, Bool, true, false, cond, List, [], length, get_or, set, take, sym, ap, ◌∙◌, refl, subst, arith, inl, inr, ◌⊎◌}
+use Rattle.std.proofs.lemmas.List.{ext_get_or, get_or_past, get_or-set_same, get_or-set_other, length-set}
+use Rattle.std.proofs.lemmas.List.FromFn.{length-map-range_with_len, get_or-map-range_with_len}
+use Rattle.std.proofs.lemmas.Bool.{cases_eq, cases_lt, both_ways}
+use Rattle.group_tree.specs.declared.ids.HostId.{HostId}
+use Rattle.fleet_numbers.specs.NumberLists.{has_number}
+use Rattle.fleet_states.specs.declared.status.Status.{Status}
+use Rattle.fleet_states.specs.declared.status.Status.TheVariants.{Idle, Waiting, Running, Updated, Failed, Halted, Off, Held}
+use Rattle.domains.specs.Ids.{host_numbers}
+use Rattle.fleet_states.specs.Statuses.{NobodyRuns, changed, is_down, is_running, is_waiting, status_at}
+use Rattle.fleet_states.proofs.NumberLemmas.{has_other, has_own}
+use Rattle.fleet_states.proofs.HostLemmas.{length-host_numbers, number_of_host}
+
+pub waiting_not_down : (s : Status) → is_waiting s ≡ true → is_down s ≡ false
+waiting_not_down Idle e = absurd (cc)
+waiting_not_down Waiting e = refl
+waiting_not_down Running e = absurd (cc)
+waiting_not_down Updated e = absurd (cc)
+waiting_not_down Failed e = absurd (cc)
+waiting_not_down Halted e = absurd (cc)
+waiting_not_down Off e = absurd (cc)
+waiting_not_down Held e = absurd (cc)
+
+pub is_waiting-true : (s : Status) → is_waiting s ≡ true → s ≡ Waiting
+is_waiting-true Idle e = absurd (cc)
+is_waiting-true Waiting e = refl
+is_waiting-true Running e = absurd (cc)
+is_waiting-true Updated e = absurd (cc)
+is_waiting-true Failed e = absurd (cc)
+is_waiting-true Halted e = absurd (cc)
+is_waiting-true Off e = absurd (cc)
+is_waiting-true Held e = absurd (cc)
+
+pub status_at-past : (statuses : List Status) (host : ℕ) → length statuses ≤ host → status_at statuses host ≡ Idle
+status_at-past statuses host past = get_or_past statuses host Idle past
+
+-- a status other than idle is that of a host
+pub within_from : (statuses : List Status) (host : ℕ) → (status_at statuses host ≡ Idle → ⊥) → host < length statuses
+within_from statuses host other = by_case (cases_lt host (length statuses))
+  where
+    by_case : (host < length statuses) ⊎ (length statuses ≤ host) → host < length statuses
+    by_case (inl within) = within
+    by_case (inr past) = absurd (other (status_at-past statuses host past))
+
+pub waiting_within : (statuses : List Status) (host : ℕ) → is_waiting (status_at statuses host) ≡ true → host < length statuses
+waiting_within statuses host waits =
+    within_from statuses host (λ e. both_ways (is_waiting (status_at statuses host)) (ap is_waiting e) waits)
+
+pub nobody_at : (statuses : List Status) (host : ℕ) → NobodyRuns statuses → is_running (status_at statuses host) ≡ false
+nobody_at statuses host rest = by_case (cases_lt host (length statuses))
+  where
+    by_case : (host < length statuses) ⊎ (length statuses ≤ host) → is_running (status_at statuses host) ≡ false
+    by_case (inl within) = rest host Idle within
+    by_case (inr past) = ap is_running (status_at-past statuses host past)
+
+-- one host after a change of it
+module _ (statuses : List Status) (host : ℕ) (status : Status) where
+  pub status_at-set : host < length statuses → status_at (set statuses host status) host ≡ status
+  status_at-set within = get_or-set_same statuses host status Idle within
+
+  pub status_at-set_other : (other : ℕ) → (other ≡ host → ⊥) → status_at (set statuses host status) other ≡ status_at statuses other
+  status_at-set_other other apart = get_or-set_other statuses host other status Idle apart
+
+-- hosts after a change of some of them
+module _ (change : Status → Status) (hosts : List ℕ) (statuses : List Status) where
+  abbrev after : ℕ → Status
+  after host = cond (has_number host hosts) (change (status_at statuses host)) (status_at statuses host)
+
+  pub length-changed : length (changed change hosts statuses) ≡ length statuses
+  length-changed = length-map-range_with_len after 0 (length statuses)
+
+  pub status_at-changed : (host : ℕ) → host < length statuses → status_at (changed change hosts statuses) host ≡ cond (has_number host hosts) (change (status_at statuses host)) (status_at statuses host)
+  status_at-changed host within =
+      get_or-map-range_with_len after 0 (length statuses) host host Idle within (omega arith)
+
+  pub status_at-changed_past : (host : ℕ) → length statuses ≤ host → status_at (changed change hosts statuses) host ≡ Idle
+  status_at-changed_past host past =
+      status_at-past (changed change hosts statuses) host (omega (arith, length-changed))
+
+  -- a change that leaves idle hosts idle may be read at any number
+  pub status_at-changed_idle : (host : ℕ) → change Idle ≡ Idle → status_at (changed change hosts statuses) host ≡ cond (has_number host hosts) (change (status_at statuses host)) (status_at statuses host)
+  status_at-changed_idle host idle = by_case (cases_lt host (length statuses))
+    where
+      both : (b : Bool) → Idle ≡ cond b (change Idle) Idle
+      both true = sym idle
+      both false = refl
+
+      by_case : (host < length statuses) ⊎ (length statuses ≤ host) → status_at (changed change hosts statuses) host ≡ cond (has_number host hosts) (change (status_at statuses host)) (status_at statuses host)
+      by_case (inl within) = status_at-changed host within
+      by_case (inr past) =
+          let was : Idle ≡ status_at statuses host = sym (status_at-past statuses host past) in
+          status_at-changed_past host past ∙ both (has_number host hosts) ∙ ap (λ s. cond (has_number host hosts) (change s) s) was
+
+pub changed_none : (change : Status → Status) (statuses : List Status) → changed change [] statuses ≡ statuses
+changed_none change statuses =
+    let long : length (changed change [] statuses) ≡ length statuses = length-changed change [] statuses in
+    ext_get_or Idle (changed change [] statuses) statuses long (λ k l. status_at-changed change [] statuses k (omega (arith, l, long)))
+
+-- one more host has changed
+pub changed_more : (hosts : List ℕ) (i : ℕ) → i < length hosts → (change : Status → Status) (statuses : List Status) (status : Status) → get_or hosts i 0 < length statuses → status ≡ change (status_at statuses (get_or hosts i 0)) → set (changed change (take i hosts) statuses) (get_or hosts i 0) status ≡ changed change (take (i + 1) hosts) statuses
+changed_more hosts i within change statuses status inside is =
+    ext_get_or Idle (set before at status) later (wrote ∙ long ∙ sym longer) (λ k l. by_case k (omega (arith, l, wrote, long)) (cases_eq k at))
+  where
+    at : ℕ
+    at = get_or hosts i 0
+
+    before : List Status
+    before = changed change (take i hosts) statuses
+
+    later : List Status
+    later = changed change (take (i + 1) hosts) statuses
+
+    wrote : length (set before at status) ≡ length before
+    wrote = length-set before at status
+
+    long : length before ≡ length statuses
+    long = length-changed change (take i hosts) statuses
+
+    longer : length later ≡ length statuses
+    longer = length-changed change (take (i + 1) hosts) statuses
+
+    choice : ℕ → Bool → Status
+    choice k b = cond b (change (status_at statuses k)) (status_at statuses k)
+
+    by_case : (k : ℕ) → k < length statuses → (k ≡ at) ⊎ (k ≡ at → ⊥) → status_at (set before at status) k ≡ status_at later k
+    by_case k l (inl e) =
+        let written : status_at (set before at status) k ≡ status = ap (status_at (set before at status)) e ∙ status_at-set before at status (omega (arith, inside, long)) in
+        let new : status ≡ choice k true = is ∙ ap (λ (h : ℕ). change (status_at statuses h)) (sym e) in
+        written ∙ new ∙ ap (choice k) (sym (has_own hosts i within k e)) ∙ sym (status_at-changed change (take (i + 1) hosts) statuses k l)
+    by_case k l (inr d) =
+        let kept : status_at (set before at status) k ≡ status_at before k = status_at-set_other before at status k d in
+        let was : status_at before k ≡ choice k (has_number k (take i hosts)) = status_at-changed change (take i hosts) statuses k l in
+        kept ∙ was ∙ ap (choice k) (sym (has_other hosts i within k d)) ∙ sym (status_at-changed change (take (i + 1) hosts) statuses k l)
+
+-- the same of the hosts as the code reads them
+pub changed_more_host : (hosts : List HostId) (i : ℕ) (d : HostId) → i < length hosts → (change : Status → Status) (statuses : List Status) (status : Status) → (get_or hosts i d).index < length statuses → status ≡ change (status_at statuses (get_or hosts i d).index) → set (changed change (take i (host_numbers hosts)) statuses) (get_or hosts i d).index status ≡ changed change (take (i + 1) (host_numbers hosts)) statuses
+changed_more_host hosts i d within change statuses status =
+    subst Step (number_of_host hosts i d within) (changed_more (host_numbers hosts) i (omega (arith, length-host_numbers hosts)) change statuses status)
+  where
+    after : ℕ → List Status
+    after k = changed change (take k (host_numbers hosts)) statuses
+
+    Step : ℕ → Type 0
+    Step n = n < length statuses → status ≡ change (status_at statuses n) → set (after i) n status ≡ after (i + 1)

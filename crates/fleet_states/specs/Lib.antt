@@ -1,0 +1,4 @@
+pub mod Statuses
+pub mod Groups
+pub mod Starts
+pub mod Worked

@@ -1,0 +1,53 @@
+//! The definitions, read against a small fleet: each clause computes.
+ghost use Rattle.std.specs.Prelude.{◌≡◌, IsTrue, IsFalse, None, Some, [], ◌∷◌, map, true, false};
+ghost use Rattle.fleet_states.specs.declared.status.Status.TheVariants.{Idle, Waiting, Running, Updated, Failed, Halted, Off, Held};
+ghost use Rattle.fleet_states.specs.Statuses.{are_ready, changed, down_count, is_down, is_running, is_waiting, waiting_count};
+ghost use Rattle.fleet_states.specs.Groups.{FleetGroup, group_at, groups_of, is_full_for, is_over, members_among, room};
+ghost use Rattle.fleet_states.specs.Starts.{start_statuses};
+ghost use Rattle.fleet_states.specs.Worked.{two_racks};
+
+/// Whoever is up counts against no limit, and a host that is held is up and does not wait.
+fn a_held_host_is_up()
+    ensures down { map is_down (Idle ∷ Waiting ∷ Running ∷ Updated ∷ Failed ∷ Halted ∷ Off ∷ Held ∷ [])
+        ≡ false ∷ false ∷ true ∷ false ∷ true ∷ true ∷ true ∷ false ∷ [] }
+    ensures waiting { IsFalse (is_waiting Held) }
+    ensures running { IsFalse (is_running Held) }
+{}
+
+/// Off goes before waiting, and a host that the run is not for is idle.
+fn an_off_host_does_not_wait()
+    ensures { start_statuses two_racks (1 ∷ 2 ∷ 9 ∷ []) ≡ Idle ∷ Off ∷ Waiting ∷ Idle ∷ [] }
+{}
+
+/// A group without a limit has a place in the list too, and room for all of its members.
+fn room_is_what_a_limit_leaves()
+    ensures limits { map (λ (group : FleetGroup). group.limit) (groups_of two_racks) ≡ None ∷ Some 2 ∷ Some 0 ∷ [] }
+    ensures members { (group_at (groups_of two_racks) 1).members ≡ 0 ∷ 1 ∷ 2 ∷ [] }
+    ensures rooms { map (room (start_statuses two_racks (0 ∷ 2 ∷ 3 ∷ []))) (groups_of two_racks) ≡ None ∷ Some 1 ∷ Some 0 ∷ [] }
+    ensures past { room (Failed ∷ Off ∷ Halted ∷ []) (group_at (groups_of two_racks) 1) ≡ Some 0 }
+    ensures over { IsTrue (is_over (Failed ∷ Off ∷ Halted ∷ []) (group_at (groups_of two_racks) 1)) }
+    ensures reached { IsFalse (is_over (Failed ∷ Off ∷ Idle ∷ []) (group_at (groups_of two_racks) 1)) }
+{}
+
+/// One member of the first rack may go down beside the host that is off, and two may not.
+fn a_batch_fits_within_the_room()
+    ensures one { IsFalse (is_full_for (Waiting ∷ Off ∷ Waiting ∷ []) (2 ∷ []) (group_at (groups_of two_racks) 1)) }
+    ensures two { IsTrue (is_full_for (Waiting ∷ Off ∷ Waiting ∷ []) (2 ∷ 0 ∷ []) (group_at (groups_of two_racks) 1)) }
+    ensures among { members_among (3 ∷ 2 ∷ 0 ∷ []) (group_at (groups_of two_racks) 1) ≡ 2 }
+    ensures unlimited { IsFalse (is_full_for (Off ∷ Off ∷ Waiting ∷ []) (2 ∷ []) (group_at (groups_of two_racks) 0)) }
+{}
+
+/// A host that stands twice, or does not wait, or does not exist makes no batch.
+fn a_batch_is_of_waiting_hosts()
+    ensures ready { IsTrue (are_ready (Waiting ∷ Off ∷ Waiting ∷ []) (2 ∷ 0 ∷ [])) }
+    ensures twice { IsFalse (are_ready (Waiting ∷ Off ∷ Waiting ∷ []) (2 ∷ 0 ∷ 2 ∷ [])) }
+    ensures off { IsFalse (are_ready (Waiting ∷ Off ∷ Waiting ∷ []) (1 ∷ [])) }
+    ensures past { IsFalse (are_ready (Waiting ∷ Off ∷ Waiting ∷ []) (3 ∷ [])) }
+{}
+
+/// A change is of the hosts in the list alone.
+fn a_change_is_of_the_hosts_named()
+    ensures changed { changed (λ _. Running) (2 ∷ 9 ∷ []) (Waiting ∷ Off ∷ Waiting ∷ []) ≡ Waiting ∷ Off ∷ Running ∷ [] }
+    ensures down { down_count (Waiting ∷ Off ∷ Running ∷ []) (0 ∷ 1 ∷ 2 ∷ 9 ∷ []) ≡ 2 }
+    ensures waiting { waiting_count (Waiting ∷ Off ∷ Running ∷ []) (0 ∷ 1 ∷ 2 ∷ 9 ∷ []) ≡ 1 }
+{}

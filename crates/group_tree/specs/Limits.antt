@@ -1,0 +1,9 @@
+-- What a limit says.
+use Rattle.std.specs.Prelude.{ℕ}
+use Rattle.inventory_model.specs.Limits as model
+use Rattle.group_tree.specs.declared.limit.Limit.{Limit}
+use Rattle.group_tree.specs.declared.limit.Limit.TheVariants as limit
+
+abbrev pub limit_of : Limit → model.Limit
+limit_of (limit.Count hosts) = model.Count hosts
+limit_of (limit.Percent share) = model.Percent share

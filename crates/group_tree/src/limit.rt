@@ -1,0 +1,73 @@
+//! How many hosts of a group may be down at once.
+ghost use Rattle.std.specs.Prelude.{◌≡◌, ℕ, ◌<◌, ◌≤◌, ◌*◌, ◌/◌, MatchOption};
+ghost use Rattle.inventory_model.specs.Limits as model;
+ghost use Rattle.group_tree.specs.Limits.{limit_of};
+
+use std::marker::Model;
+
+/// A whole number from 0 to 100.
+#[derive(Clone, Copy, Debug, PartialEq, Eq)]
+pub struct Percentage {
+    value: u8,
+}
+
+impl Model for Percentage {
+    ghost use Rattle.std.specs.Prelude.{ℕ, ◌≤◌};
+
+    ghost Value = { ℕ };
+
+    ghost view = { λ p. p.value };
+
+    ghost invariant = { λ p. p.value ≤ 100 };
+
+    ghost inverse = { λ n. record { value = n } };
+}
+
+impl Percentage {
+    /// Nothing for a number over 100.
+    pub fn new(value: u8) -> Option<Percentage>
+        ensures { MatchOption result (100 < value) (λ percentage. (percentage ≡ value) × (value ≤ 100)) }
+    {
+        if value <= 100 {
+            Some(Percentage { value })
+        } else {
+            None
+        }
+    }
+
+    pub fn value(self) -> u8
+        ensures same { result ≡ self }
+        ensures within { result ≤ 100 }
+    {
+        self.value
+    }
+}
+
+/// How many of the hosts at or below a group may be down at once.
+#[derive(Clone, Copy, Debug, PartialEq, Eq)]
+pub enum Limit {
+    Count(u16),
+    /// So many of each hundred hosts, rounded down.
+    Percent(Percentage),
+}
+
+impl Limit {
+    /// How many hosts the limit allows to be down in a group with so many members.
+    pub fn allowed(self, members: u16) -> u16
+        ensures number { result ≡ model.allowed (limit_of self) members }
+        ensures within { (share : ℕ) → limit_of self ≡ model.Percent share → result ≤ members }
+    {
+        match self {
+            Limit::Count(hosts) => hosts,
+            Limit::Percent(share) => share_of(share.value(), members),
+        }
+    }
+}
+
+fn share_of(share: u8, members: u16) -> u16
+    requires { share ≤ 100 }
+    ensures number { result ≡ share * members / 100 }
+    ensures within { result ≤ members }
+{
+    (u32::from(share) * u32::from(members) / 100) as u16
+}

@@ -1,0 +1,3 @@
+-- What only the proofs need: what the core keeps between its calls.
+pub mod Counting
+pub mod Machines

@@ -1,0 +1,53 @@
+-- What the machine is seen as, and what it and the log keep.
+use Rattle.std.specs.Prelude.{◌≡◌, ℕ, ◌+◌, ◌<◌, ◌≤◌, Bool, true, false, List, [], length, count_by, slice_index_or}
+use Rattle.fleet_numbers.specs.NumberLists.{has_number, are_below}
+use Rattle.fleet_states.specs.declared.status.Status.{Status}
+use Rattle.fleet_states.specs.Statuses.{NobodyRuns, are_distinct}
+use Rattle.fleet_states.specs.Groups.{FleetGroup, IsSafe}
+use Rattle.roll_core.specs.declared.event.Event.{Event}
+use Rattle.roll_core.specs.declared.stage.Stage.{Stage}
+use Rattle.roll_core.specs.declared.stage.Stage.TheVariants.{Boundary, Working, Ended}
+use Rattle.roll_core.specs.declared.stage.Progress.{Progress}
+use Rattle.roll_core.specs.declared.stage.Progress.TheVariants.{Due, Claimed, Reported}
+use Rattle.roll_core.specs.States.{State, start_state, progress_at}
+use Rattle.roll_core.specs.Logs.{state_after, IsLegal}
+use Rattle.roll_core.specs.Views.{is_due}
+
+pub record MachineView : Type 0 where
+  pub groups : List FleetGroup
+  pub state : State
+
+-- the batch is of distinct hosts, those before `claimed` are claimed, and no others are
+pub record IsInOrder (hosts : ℕ) (stage : Stage) (batch : List ℕ) (progress : List Progress) (claimed : ℕ) : Type 0 where
+  pub len : length progress ≡ hosts
+  pub within : are_below hosts batch ≡ true
+  pub distinct : are_distinct batch ≡ true
+  pub others : (host : ℕ) → has_number host batch ≡ false → progress_at progress host ≡ Due
+  pub boundary : stage ≡ Boundary → batch ≡ []
+  pub reach : claimed ≤ length batch
+  pub taken : (place : ℕ) → place < claimed → is_due (progress_at progress (slice_index_or batch place 0)) ≡ false
+  pub left : (place : ℕ) → claimed ≤ place → place < length batch → progress_at progress (slice_index_or batch place 0) ≡ Due
+
+-- the host is claimed, and has not reported
+abbrev pub is_out : Progress → Bool
+is_out Due = false
+is_out Claimed = true
+is_out Reported = false
+
+-- how many events are still to come: a report for each claim, and the barrier and the closing of an open batch
+abbrev pub owed_at : Stage → ℕ → ℕ
+owed_at Boundary claims = claims
+owed_at Working claims = claims + 2
+owed_at Ended claims = claims + 1
+
+abbrev pub owed_by : State → ℕ
+owed_by state = owed_at state.stage (count_by is_out state.progress)
+
+-- the machine is where a legal log from a safe start at rest has led, and the log has places for the events to come
+pub record IsAfterLog (machine : MachineView) (start : List Status) (log : List Event) (owed capacity : ℕ) : Type 0 where
+  pub state : machine.state ≡ state_after (start_state start) log
+  pub legal : IsLegal machine.groups (start_state start) log
+  pub safe : IsSafe machine.groups start
+  pub rests : NobodyRuns start
+  pub owes : owed ≡ owed_by machine.state
+  pub places : length log + owed ≤ capacity

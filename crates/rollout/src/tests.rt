@@ -1,0 +1,234 @@
+//! Whole runs of the program: what is read, what goes out on each output, and the status.
+use super::*;
+use crate::fault_line::write_fault;
+use bounded_io::{InputFault, TextWriter, WriteFault};
+use command_line::{LineFault, Source};
+use domains::FleetFault;
+use inventory_read::ReadFault;
+use std::alloc::{AllocError, Global};
+use std::test::Fail;
+
+mod faults;
+mod large;
+
+/// A line's end on standard error after want of memory, which any allocation may bring.
+const MEMORY: &str = "rollout: memory\n";
+
+const TWO_RACKS: &str =
+    r#"{"all":{"children":{"eu":{"vars":{"max_down":3},"children":{"r1":{"vars":{"max_down":1},"hosts":{"a":null,"b":null,"c":null}},"r2":{"vars":{"max_down":2},"hosts":{"d":null,"e":null}}}}}}}"#;
+
+const TABLE: &str =
+    "eu members=5 down=0 limit=3 room=3\nr1 members=3 down=0 limit=1 room=1\nr2 members=2 down=0 limit=2 room=2\nhosts=5 limited=3\n";
+
+/// An inventory on standard input, what is printed of it, and what is reported of it.
+const INVENTORIES: [(&str, &str, &str); 18] = [
+    (TWO_RACKS, TABLE, ""),
+    (
+        r#"{"all":{"children":{"r1":{"vars":{"max_down":"33%"},"hosts":{"a":null,"b":null,"c":null}}}}}"#,
+        "r1 members=3 down=0 limit=0 room=0\nhosts=3 limited=1\n",
+        "",
+    ),
+    (
+        r#"{"all":{"children":{"r1":{"vars":{"max_down":"50%"},"hosts":{"a":null,"b":null,"c":null}}}}}"#,
+        "r1 members=3 down=0 limit=1 room=1\nhosts=3 limited=1\n",
+        "",
+    ),
+    (r#"{"all":{}}"#, "hosts=0 limited=0\n", ""),
+    ("{}", "hosts=0 limited=0\n", ""),
+    (
+        r#"{"all":{"children":{"g":{"vars":{"max_down":65535}}}}}"#,
+        "g members=0 down=0 limit=65535 room=65535\nhosts=0 limited=1\n",
+        "",
+    ),
+    (
+        r#"{"all":{"children":{"g":{"vars":{"max_down":65536}}}}}"#,
+        "",
+        "rollout: 204 BadLimit at=all/children/g/vars/max_down\n",
+    ),
+    (
+        r#"{"all":{"children":{"g":{"vars":{"max_down":1},"hosts":{"a":{"down":true},"b":null}}}}}"#,
+        "g members=2 down=1 limit=1 room=0\nhosts=2 limited=1\n",
+        "",
+    ),
+    (
+        r#"{"all":{"children":{"g":{"vars":{"max_down":1,"down":true},"hosts":{"a":null,"b":null}}}}}"#,
+        "g members=2 down=0 limit=1 room=1\nhosts=2 limited=1\n",
+        "",
+    ),
+    (
+        r#"{"all":{"children":{"g":{"vars":{"max_down":1},"hosts":{"a":{"down":true},"b":{"down":true}}}}}}"#,
+        "",
+        "rollout: 302 StartOver group=g down=2 limit=1\n",
+    ),
+    (
+        r#"{"all":{"children":{"row1":{"vars":{"max_down":2},"hosts":{"x":null}},"rb":{"vars":{"max_down":1}},"rack9":{"vars":{"max_down":1},"hosts":{"x":null}}}}}"#,
+        "",
+        "rollout: 301 NotNested host=x first=rack9 second=row1\n",
+    ),
+    (
+        r#"{"all":{"children":{"web":{"hosts":{"x":null}},"rb":{"vars":{"max_down":1}},"rack9":{"vars":{"max_down":1},"hosts":{"x":null}}}}}"#,
+        "rack9 members=1 down=0 limit=1 room=1\nrb members=0 down=0 limit=1 room=1\nhosts=1 limited=2\n",
+        "",
+    ),
+    (
+        r#"{"all":{"children":{"g":{"vars":{"max_down":1},"children":{"p":{"hosts":{"a":null}},"q":{"hosts":{"a":null}}}}}}}"#,
+        "g members=1 down=0 limit=1 room=1\nhosts=1 limited=1\n",
+        "",
+    ),
+    (
+        r#"{"all":{"hosts":{"www[01:50]":null}}}"#,
+        "",
+        "rollout: 101 BadName name=www[01:50]\n",
+    ),
+    (
+        r#"{"all":{"hosts":{"é":null}}}"#,
+        "",
+        "rollout: 101 BadName name=??\n",
+    ),
+    (
+        r#"{"all":{"x":1}}"#,
+        "",
+        "rollout: 203 UnknownKey at=all/x\n",
+    ),
+    (
+        r#"{"all":{"children":{"eu":{"vars":{"max"#,
+        "",
+        "rollout: 201 NotJson\n",
+    ),
+    ("", "", "rollout: 201 NotJson\n"),
+];
+
+fn owned(alloc: Global, texts: &[&str]) -> Result<Vec<String>, AllocError> {
+    let mut words = Vec::new(alloc);
+    for text in texts {
+        words.push(String::from_str(alloc, text)?)?;
+    }
+    Ok(words)
+}
+
+/// What a run printed, what it reported, and its exit status.
+type Ended = (Vec<u8>, Vec<u8>, u8);
+
+fn ended(
+    rt: &(impl Files + AllocGlobal),
+    texts: &[&str],
+    input: &str,
+) -> Result<Ended, AllocError> {
+    let words = owned(rt.alloc(), texts)?;
+    let mut out = Vec::new(rt.alloc());
+    let mut errors = Vec::new(rt.alloc());
+    let mut input = input.as_bytes();
+    let status = run(rt, words.as_slice(), &mut input, &mut out, &mut errors);
+    Ok((out, errors, status.code()))
+}
+
+#[test]
+fn an_inventory_is_printed_or_its_fault_is_reported(rt: HostRuntime) -> Result<(), Fail> {
+    for (inventory, printed, reported) in INVENTORIES {
+        let (out, errors, code) = ended(&rt, &[], inventory)?;
+        assert_eq!(rt; out.as_slice(), printed.as_bytes(), "{inventory}");
+        assert_eq!(rt; errors.as_slice(), reported.as_bytes(), "{inventory}");
+        assert_eq!(rt;
+            code,
+            if reported.is_empty() { 0 } else { 1 },
+            "{inventory}"
+        );
+    }
+    Ok(())
+}
+
+#[test]
+fn a_text_that_is_asked_for_is_printed(rt: HostRuntime) -> Result<(), Fail> {
+    for (word, beginning) in [
+        ("--version", "rollout 0.1.0\n"),
+        ("--help", "Updates a fleet batch by batch"),
+    ] {
+        let (out, errors, code) = ended(&rt, &[word], "")?;
+        assert!(rt; out.as_slice().starts_with(beginning.as_bytes()), "{word}");
+        assert_eq!(rt; errors.len(), 0, "{word}");
+        assert_eq!(rt; code, 0, "{word}");
+    }
+    Ok(())
+}
+
+#[test]
+fn a_bad_line_and_a_missing_file_are_reported(rt: HostRuntime) -> Result<(), Fail> {
+    for (texts, reported) in [
+        (
+            ["limits", "a", "b"].as_slice(),
+            "rollout: 901 BadLine\nerror: ",
+        ),
+        (["jump"].as_slice(), "rollout: 901 BadLine\nerror: "),
+        (
+            ["limits", "no such\nfile"].as_slice(),
+            "rollout: 902 File name=no such?file\n",
+        ),
+    ] {
+        let (out, errors, code) = ended(&rt, texts, "")?;
+        assert!(rt;
+            errors.as_slice().starts_with(reported.as_bytes()),
+            "{texts:?}"
+        );
+        assert_eq!(rt; out.len(), 0, "{texts:?}");
+        assert_eq!(rt; code, 1, "{texts:?}");
+    }
+    Ok(())
+}
+
+/// Takes bytes until its room is used up, and none then.
+#[derive(Drop)]
+struct Narrow {
+    taken: Vec<u8>,
+    room: usize,
+}
+
+impl Write for Narrow {
+    fn write(&mut self, buf: &[u8]) -> io::Result<usize> {
+        let count = buf.len().min(self.room);
+        self.taken.extend_from_slice(&buf[..count])?;
+        self.room -= count;
+        Ok(count)
+    }
+
+    fn flush(&mut self) -> io::Result<()> {
+        Ok(())
+    }
+}
+
+#[test]
+fn a_narrow_output_breaks_off(rt: HostRuntime) -> Result<(), Fail> {
+    for (texts, whole) in [
+        ([].as_slice(), TABLE),
+        (["-V"].as_slice(), "rollout 0.1.0\n"),
+    ] {
+        let words = owned(rt.alloc(), texts)?;
+        for room in 0..whole.len() {
+            let taken = Vec::new(rt.alloc());
+            let mut out = Narrow { taken, room };
+            let mut errors = Vec::new(rt.alloc());
+            let mut input = TWO_RACKS.as_bytes();
+            let status = run(&rt, words.as_slice(), &mut input, &mut out, &mut errors);
+            let reported = format!(in rt.alloc(); "rollout: 904 Write written={room}\n")?;
+            assert_eq!(rt; out.taken.as_slice(), &whole.as_bytes()[..room]);
+            assert_eq!(rt; errors.as_slice(), reported.as_bytes());
+            assert_eq!(rt; status.code(), 1);
+        }
+    }
+    Ok(())
+}
+
+#[test]
+fn a_fault_that_can_not_be_reported_changes_no_status(rt: HostRuntime) -> Result<(), Fail> {
+    let reported = "rollout: 201 NotJson\n";
+    for room in 0..reported.len() {
+        let taken = Vec::new(rt.alloc());
+        let mut errors = Narrow { taken, room };
+        let mut out = Vec::new(rt.alloc());
+        let mut input = "[".as_bytes();
+        let status = run(&rt, &[], &mut input, &mut out, &mut errors);
+        assert_eq!(rt; errors.taken.as_slice(), &reported.as_bytes()[..room]);
+        assert_eq!(rt; out.len(), 0);
+        assert_eq!(rt; status.code(), 1);
+    }
+    Ok(())
+}
