@@ -1,114 +1,256 @@
 #!/bin/sh
-# Runs the built program as an operator does: exit statuses, standard output, standard error. It needs crates/rollout/out/rollout,
-# which `cd crates/rollout && rt run -- limits ../../examples/two-regions.json` builds.
-set -u
-top=$(cd "$(dirname "$0")/.." && pwd)
-rollout=$top/crates/rollout/out/rollout
-work=$(mktemp -d)
-trap 'rm -rf "$work"' EXIT
-passed=0
-failed=0
+# Runs the built program as an operator does, and compares both outputs, whole, and the exit status: each fault that it can tell, each text that
+# is asked for, and each output on a full disk. It needs crates/rollout/out/rollout.
+. "$(dirname "$0")/common.sh"
 
-# check WHAT STATUS OUTPUT ERRORS: compares the last run with what is expected; `%` in a text ends a line
-check() {
-    printf '%s' "$3" | tr '%' '\n' >"$work/out.expected"
-    printf '%s' "$4" | tr '%' '\n' >"$work/err.expected"
-    if [ "$status" -eq "$2" ] && cmp -s "$work/out" "$work/out.expected" && cmp -s "$work/err" "$work/err.expected"; then
-        passed=$((passed + 1))
-    else
-        failed=$((failed + 1))
-        echo "FAILED: $1: status $status, expected $2"
-        diff "$work/out.expected" "$work/out"
-        diff "$work/err.expected" "$work/err"
-    fi
-}
-
-run() {
-    "$rollout" "$@" >"$work/out" 2>"$work/err" </dev/null
-    status=$?
-}
-
+# Runs `limits` on a file of this text.
 text() {
     printf '%s' "$1" >"$work/inventory.json"
     run limits "$work/inventory.json"
 }
 
-racks='{"all":{"children":{"eu":{"vars":{"max_down":3},"children":{"r1":{"vars":{"max_down":1},"hosts":{"a":null,"b":null,"c":null}},"r2":{"vars":{"max_down":2},"hosts":{"d":null,"e":null}}}}}}}'
-table='eu members=5 down=0 limit=3 room=3%r1 members=3 down=0 limit=1 room=1%r2 members=2 down=0 limit=2 room=2%hosts=5 limited=3%'
-
-text "$racks"
-check 'a file' 0 "$table" ''
-printf '%s' "$racks" | "$rollout" >"$work/out" 2>"$work/err"
-status=$?
-check 'standard input' 0 "$table" ''
-text '{"all":{}}'
-check 'the empty inventory' 0 'hosts=0 limited=0%' ''
-text '{"all":{"children":{"g":{"vars":{"max_down":65535}}}}}'
-check 'the greatest limit' 0 'g members=0 down=0 limit=65535 room=65535%hosts=0 limited=1%' ''
-text '{"all":{"children":{"g":{"vars":{"max_down":1},"hosts":{"a":{"down":true},"b":null}}}}}'
-check 'one of two down' 0 'g members=2 down=1 limit=1 room=0%hosts=2 limited=1%' ''
-
-text '{"all":{"children":{"g":{"vars":{"max_down":65536}}}}}'
-check 'a limit too large' 1 '' 'rollout: 204 BadLimit at=all/children/g/vars/max_down%'
-text '{"all":{"hosts":{"www[01:50]":null}}}'
-check 'a range of hosts' 1 '' 'rollout: 101 BadName name=www[01:50]%'
-text '{"all":{"x":1}}'
-check 'an unknown key' 1 '' 'rollout: 203 UnknownKey at=all/x%'
-text "$(printf '%s' "$racks" | head -c 40)"
-check 'a cut-off file' 1 '' 'rollout: 201 NotJson%'
-text ''
-check 'no bytes' 1 '' 'rollout: 201 NotJson%'
-text '[]'
-check 'no object' 1 '' 'rollout: 202 BadShape at=%'
-text '{"all":{"hosts":{"caf\u00e9":null}}}'
-check 'a name of other letters' 1 '' 'rollout: 101 BadName name=caf??%'
-
-text '{"all":{"children":{"g":{"vars":{"max_down":1},"hosts":{"a":{"down":true},"b":{"down":true}}}}}}'
-check 'both down' 1 '' 'rollout: 302 StartOver group=g down=2 limit=1%'
-text '{"all":{"children":{"row1":{"vars":{"max_down":2},"hosts":{"x":null}},"rb":{"vars":{"max_down":1}},"rack9":{"vars":{"max_down":1},"hosts":{"x":null}}}}}'
-check 'limits that cross' 1 '' 'rollout: 301 NotNested host=x first=rack9 second=row1%'
-text '{"all":{"children":{"web":{"hosts":{"x":null}},"rb":{"vars":{"max_down":1}},"rack9":{"vars":{"max_down":1},"hosts":{"x":null}}}}}'
-check 'an unlimited group beside a rack' 0 'rack9 members=1 down=0 limit=1 room=1%rb members=0 down=0 limit=1 room=1%hosts=1 limited=2%' ''
-text '{"all":{"children":{"g":{"vars":{"max_down":1},"children":{"p":{"hosts":{"a":null}},"q":{"hosts":{"a":null}}}}}}}'
-check 'a host at two places' 0 'g members=1 down=0 limit=1 room=1%hosts=1 limited=1%' ''
-hosts() {
-    printf '{"all":{"hosts":{"h0":null%s}}}' "$(awk -v most="$1" 'BEGIN { for (i = 1; i < most; i++) printf ",\"h%d\":null", i }')"
+# refused WHAT TEXT LINE: the text is refused by this line.
+refused() {
+    text "$2"
+    check "$1" 1 '' "$3$newline"
 }
-text "$(hosts 4096)"
-check 'as many hosts as a fleet has' 0 'hosts=4096 limited=0%' ''
-text "$(hosts 4097)"
-check 'one host too many' 1 '' 'rollout: 303 TooManyHosts%'
+
+# printed WHAT TEXT TABLE: the text has this table.
+printed() {
+    text "$2"
+    check "$1" 0 "$3$newline" ''
+}
+
+racks='{"all":{"children":{"eu":{"vars":{"max_down":3},"children":{"r1":{"vars":{"max_down":1},"hosts":{"a":null,"b":null,"c":null}},"r2":{"vars":{"max_down":2},"hosts":{"d":null,"e":null}}}}}}}'
+table='eu members=5 down=0 limit=3 room=3
+r1 members=3 down=0 limit=1 room=1
+r2 members=2 down=0 limit=2 room=2
+hosts=5 limited=3
+'
+printf '%s' "$racks" >"$work/racks.json"
+
+# ---- tables
+
+run limits "$work/racks.json"
+check 'a file' 0 "$table" ''
+run limits -- "$work/racks.json"
+check 'a file behind dashes' 0 "$table" ''
+input=$work/racks.json
+run
+check 'a file as standard input' 0 "$table" ''
+input=/dev/null
+printf '%s' "$racks" | "$rollout" >"$work/out" 2>"$work/errors"
+status=$?
+check 'a pipe as standard input' 0 "$table" ''
+printed 'the empty inventory' '{"all":{}}' 'hosts=0 limited=0'
+printed 'the greatest limit' '{"all":{"children":{"g":{"vars":{"max_down":65535}}}}}' "g members=0 down=0 limit=65535 room=65535${newline}hosts=0 limited=1"
+printed 'one of two down' '{"all":{"children":{"g":{"vars":{"max_down":1},"hosts":{"a":{"down":true},"b":null}}}}}' "g members=2 down=1 limit=1 room=0${newline}hosts=2 limited=1"
+# shares of the three hosts of r1, rounded down
+shared() {
+    printed "a limit of $1" "$(printf '%s' "$racks" | sed "s/\"max_down\":1/\"max_down\":\"$1\"/")" "eu members=5 down=0 limit=3 room=3${newline}r1 members=3 down=0 limit=$2 room=$2${newline}r2 members=2 down=0 limit=2 room=2${newline}hosts=5 limited=3"
+}
+shared 0% 0
+shared 33% 0
+shared 34% 1
+shared 50% 1
+shared 66% 1
+shared 67% 2
+shared 100% 3
+printed 'an unlimited group beside a rack' '{"all":{"children":{"web":{"hosts":{"x":null}},"rb":{"vars":{"max_down":1}},"rack9":{"vars":{"max_down":1},"hosts":{"x":null}}}}}' "rack9 members=1 down=0 limit=1 room=1${newline}rb members=0 down=0 limit=1 room=1${newline}hosts=1 limited=2"
+printed 'a host at two places' '{"all":{"children":{"g":{"vars":{"max_down":1},"children":{"p":{"hosts":{"a":null}},"q":{"hosts":{"a":null}}}}}}}' "g members=1 down=0 limit=1 room=1${newline}hosts=1 limited=1"
+
+# ---- faults of a text
+
+refused 'a range of hosts' '{"all":{"hosts":{"www[01:50]":null}}}' 'rollout: 101 BadName name=www[01:50]'
+refused 'a name of other letters' '{"all":{"hosts":{"caf\u00e9":null}}}' 'rollout: 101 BadName name=caf??'
+refused 'a name of two lines' '{"all":{"hosts":{"a\nrollout: 103 TooDeep":null}}}' 'rollout: 101 BadName name=a?rollout: 103 TooDeep'
+refused 'a name with the ends of what is printable' '{"all":{"hosts":{" \u001f~\u007f":null}}}' 'rollout: 101 BadName name= ?~?'
+refused 'a group at two places' '{"all":{"children":{"a":null,"b":{"children":{"a":null}}}}}' 'rollout: 102 TwicePlaced group=4'
+nested() {
+    awk -v depth="$1" 'BEGIN { printf "{\"all\":{"; for (i = 2; i <= depth; i++) printf "\"children\":{\"g%d\":{", i; for (i = 2; i <= depth; i++) printf "}}"; printf "}}" }'
+}
+printed 'groups as deep as may be' "$(nested 32)" 'hosts=0 limited=0'
+refused 'groups one deeper' "$(nested 33)" 'rollout: 103 TooDeep'
+groups() {
+    awk -v most="$1" 'BEGIN { printf "{\"all\":{\"children\":{"; for (i = 2; i <= most; i++) printf "%s\"g%d\":null", (i > 2 ? "," : ""), i; printf "}}}" }'
+}
+printed 'as many groups as may be' "$(groups 1024)" 'hosts=0 limited=0'
+refused 'one group too many' "$(groups 1025)" 'rollout: 104 TooMany'
+refused 'a cut-off file' "$(printf '%s' "$racks" | head -c 40)" 'rollout: 201 NotJson'
+refused 'no bytes' '' 'rollout: 201 NotJson'
+refused 'no object' '[]' 'rollout: 202 BadShape at='
+refused 'hosts in a list' '{"all":{"hosts":["a"]}}' 'rollout: 202 BadShape at=all/hosts'
+refused 'an unknown key' '{"all":{"x":1}}' 'rollout: 203 UnknownKey at=all/x'
+refused 'a limit too large' '{"all":{"children":{"g":{"vars":{"max_down":65536}}}}}' 'rollout: 204 BadLimit at=all/children/g/vars/max_down'
+refused 'a share of more than all' '{"all":{"vars":{"max_down":"101%"}}}' 'rollout: 204 BadLimit at=all/vars/max_down'
+refused 'a number in place of a truth value' '{"all":{"hosts":{"h":{"down":1}}}}' 'rollout: 205 BadDown at=all/hosts/h/down'
+
+# ---- faults of a fleet
+
+refused 'limits that cross' '{"all":{"children":{"row1":{"vars":{"max_down":2},"hosts":{"x":null}},"rb":{"vars":{"max_down":1}},"rack9":{"vars":{"max_down":1},"hosts":{"x":null}}}}}' 'rollout: 301 NotNested host=x first=rack9 second=row1'
+refused 'both down' '{"all":{"children":{"g":{"vars":{"max_down":1},"hosts":{"a":{"down":true},"b":{"down":true}}}}}}' 'rollout: 302 StartOver group=g down=2 limit=1'
+refused 'more down than the share' '{"all":{"children":{"g":{"vars":{"max_down":"50%"},"hosts":{"a":{"down":true},"b":{"down":true},"c":null}}}}}' 'rollout: 302 StartOver group=g down=2 limit=1'
+hosts() {
+    awk -v most="$1" 'BEGIN { printf "{\"all\":{\"hosts\":{\"h0\":null"; for (i = 1; i < most; i++) printf ",\"h%d\":null", i; printf "}}}" }'
+}
+printed 'as many hosts as a fleet has' "$(hosts 4096)" 'hosts=4096 limited=0'
+refused 'one host too many' "$(hosts 4097)" 'rollout: 303 TooManyHosts'
+
+# ---- files and standard input
 
 run limits "$work/missing.json"
-check 'a missing file' 1 '' "rollout: 902 File name=$work/missing.json%"
+check 'a missing file' 1 '' "rollout: 902 File name=$work/missing.json$newline"
 run limits "$work"
-check 'a folder' 1 '' "rollout: 902 File name=$work%"
-head -c 16777217 /dev/zero >"$work/large"
-run limits "$work/large"
-check 'a file of one byte too many' 1 '' 'rollout: 903 InputTooLarge%'
+check 'a folder' 1 '' "rollout: 902 File name=$work$newline"
+run limits "$(printf 'caf\303\251\tx')"
+check 'a file with an unprintable name' 1 '' "rollout: 902 File name=caf???x$newline"
+"$rollout" <&- >"$work/out" 2>"$work/errors"
+status=$?
+check 'no standard input' 1 '' "rollout: 902 File name=-$newline"
+# sized COUNT: the empty inventory, with blanks behind it to so many bytes
+sized() {
+    {
+        printf '{"all":{}}'
+        head -c $(($1 - 10)) /dev/zero | tr '\0' ' '
+    } >"$work/sized.json"
+}
+sized 16777216
+run limits "$work/sized.json"
+check 'a file of as many bytes as may be' 0 "hosts=0 limited=0$newline" ''
+input=$work/sized.json
+run
+check 'standard input of as many bytes as may be' 0 "hosts=0 limited=0$newline" ''
+input=/dev/null
+sized 16777217
+run limits "$work/sized.json"
+check 'a file of one byte too many' 1 '' "rollout: 903 InputTooLarge$newline"
+cat "$work/sized.json" | "$rollout" >"$work/out" 2>"$work/errors"
+status=$?
+check 'a pipe of one byte too many' 1 '' "rollout: 903 InputTooLarge$newline"
 
-printf '%s' "$racks" >"$work/racks.json"
-"$rollout" limits "$work/racks.json" >/dev/full 2>"$work/err"
+# ---- outputs that take nothing, or not all
+
+# full WHAT WORDS: nothing can be written to standard output
+full() {
+    what=$1
+    shift
+    "$rollout" "$@" >/dev/full 2>"$work/errors" </dev/null
+    status=$?
+    : >"$work/out"
+    check "$what to a full disk" 1 '' "rollout: 904 Write written=0$newline"
+}
+full 'the table' limits "$work/racks.json"
+full 'the help' --help
+full 'the help of a command' limits --help
+full 'the version' --version
+"$rollout" limits "$work/missing.json" >"$work/out" 2>/dev/full </dev/null
+status=$?
+: >"$work/errors"
+check 'a fault to a full disk' 1 '' ''
+"$rollout" limits "$work/racks.json" >/dev/full 2>/dev/full </dev/null
 status=$?
 : >"$work/out"
-check 'a full disk' 1 '' 'rollout: 904 Write written=0%'
+check 'both outputs to a full disk' 1 '' ''
+"$rollout" limits "$work/racks.json" >&- 2>"$work/errors" </dev/null
+status=$?
+: >"$work/out"
+check 'no standard output' 1 '' "rollout: 904 Write written=0$newline"
 {
-    sleep 1
-    "$rollout" limits "$work/racks.json" 2>"$work/err"
+    sleep 0.3
+    "$rollout" limits "$work/racks.json" 2>"$work/errors" </dev/null
     echo $? >"$work/status"
 } | true
-sleep 2
+while [ ! -s "$work/status" ]; do sleep 0.1; done
 status=$(cat "$work/status")
-check 'a closed pipe' 1 '' 'rollout: 904 Write written=0%'
+: >"$work/out"
+check 'a closed pipe' 1 '' "rollout: 904 Write written=0$newline"
+# 600 groups have a table of more than 16 KiB; a file may have 8 KiB
+awk 'BEGIN { printf "{\"all\":{\"children\":{"; for (i = 100; i < 700; i++) printf "%s\"g%d\":{\"vars\":{\"max_down\":1}}", (i > 100 ? "," : ""), i; printf "}}}" }' >"$work/groups.json"
+awk 'BEGIN { for (i = 100; i < 700; i++) printf "g%d members=0 down=0 limit=1 room=1\n", i; printf "hosts=0 limited=600\n" }' >"$work/table"
+run limits "$work/groups.json"
+check 'a long table' 0 "$(cat "$work/table")$newline" ''
+(
+    trap '' XFSZ
+    ulimit -f 16
+    "$rollout" limits "$work/groups.json" >"$work/out" 2>"$work/errors" </dev/null
+)
+status=$?
+check 'a disk that fills up' 1 "$(head -c 8192 "$work/table")" "rollout: 904 Write written=8192$newline"
 
-run --version
-check 'the version' 0 'rollout 0.1.0%' ''
-run --help
-[ "$status" -eq 0 ] && [ -s "$work/out" ] && [ ! -s "$work/err" ] && passed=$((passed + 1)) || { failed=$((failed + 1)); echo 'FAILED: the help'; }
-for words in 'limits' 'limits a b' 'jump' 'plan a b' '--forks 3'; do
-    run $words
-    [ "$status" -eq 1 ] && [ ! -s "$work/out" ] && head -n 1 "$work/err" | grep -qx 'rollout: 901 BadLine' && passed=$((passed + 1)) || { failed=$((failed + 1)); echo "FAILED: the bad line $words"; }
+# ---- want of memory
+
+sized 16777216
+for kilobytes in 12000 24000; do
+    (
+        ulimit -v "$kilobytes"
+        "$rollout" limits "$work/sized.json" >"$work/out" 2>"$work/errors" </dev/null
+    )
+    status=$?
+    check "16 MiB to read in $kilobytes KiB" 5 '' "rollout: memory$newline"
 done
 
-echo "$passed passed, $failed failed"
-[ "$failed" -eq 0 ]
+# ---- texts that are asked for, and bad lines
+
+run --version
+check 'the version' 0 "rollout 0.1.0$newline" ''
+run -V
+check 'the version by its letter' 0 "rollout 0.1.0$newline" ''
+
+help='Updates a fleet batch by batch, with no group losing more hosts at once than it may
+
+Usage: rollout <COMMAND>
+
+Commands:
+  limits  Prints each limited group: its members, how many are down, its limit and its room
+  help    Print this message or the help of the given subcommand(s)
+
+Options:
+  -h, --help     Print help
+  -V, --version  Print version
+
+INV is the inventory: a file of JSON that lists groups with their hosts, children and variables.
+Without any word, rollout reads an inventory from standard input and prints its limits.
+
+Exit status:
+  0  what was asked for was done
+  1  the line, an input or a write was refused
+  5  want of memory
+'
+for word in --help -h help; do
+    run $word
+    check "the help by $word" 0 "$help" ''
+done
+limits_help='Prints each limited group: its members, how many are down, its limit and its room
+
+Usage: rollout limits <INV>
+
+Arguments:
+  <INV>  The inventory: a file of JSON that lists groups with their hosts, children and variables
+
+Options:
+  -h, --help  Print help
+'
+for words in 'limits --help' 'limits -h' 'help limits'; do
+    run $words
+    check "the help by $words" 0 "$limits_help" ''
+done
+
+# bad WORDS USAGE EXPLANATION: the words are no line
+bad() {
+    run $1
+    check "the line '$1'" 1 '' "rollout: 901 BadLine
+error: $3
+
+Usage: $2
+
+For more information, try '--help'.
+"
+}
+bad limits 'rollout limits <INV>' "the following required arguments were not provided:$newline  <INV>"
+bad 'limits a b' 'rollout limits <INV>' "unexpected argument 'b' found"
+bad jump 'rollout <COMMAND>' "unrecognized subcommand 'jump'"
+bad 'plan a b' 'rollout <COMMAND>' "unrecognized subcommand 'plan'"
+bad '--forks 3' 'rollout <COMMAND>' "unexpected argument '--forks' found"
+run "$(printf '\377')"
+check 'a word that is no text' 1 '' "rollout: 901 BadLine$newline"
+finish

@@ -1,12 +1,9 @@
 #!/bin/sh
-# Refuses each allocation in turn, of the built program and of the tests that hold whatever one allocation is refused. The program's answer is
-# the table, or want of memory and nothing else. It needs `cc`, crates/rollout/out/rollout, and what `rt test` leaves in the out/ of each crate
-# named below.
-set -u
-top=$(cd "$(dirname "$0")/.." && pwd)
-rollout=$top/crates/rollout/out/rollout
-work=$(mktemp -d)
-trap 'rm -rf "$work"' EXIT
+# Refuses each allocation in turn, of the built program: what it answers is what it answers with all memory, or want of memory and nothing else.
+# `tests/memory.sh whole` refuses those of the tests too that hold whatever one allocation is refused. It needs a C compiler,
+# crates/rollout/out/rollout, and for the tests what rt ci (or rt test) leaves in the out/ of each crate named below.
+. "$(dirname "$0")/common.sh"
+whole=${1:-}
 
 cat >"$work/refuse.c" <<'C'
 #define _GNU_SOURCE
@@ -16,7 +13,7 @@ cat >"$work/refuse.c" <<'C'
 #include <stdlib.h>
 #include <unistd.h>
 
-/* Whether this allocation is the one that REFUSE numbers, from 1. That it was refused is told by the file TOLD. */
+/* Whether this allocation is the one that REFUSE numbers, from 1. Where it is, the file REFUSED is made. */
 static int refused(void) {
     static long left = -1;
     if (left < 0) {
@@ -24,8 +21,8 @@ static int refused(void) {
         left = number ? atol(number) : 0;
     }
     if (left == 0 || --left > 0) return 0;
-    const char *told = getenv("TOLD");
-    if (told) close(open(told, O_CREAT | O_WRONLY, 0600));
+    const char *made = getenv("REFUSED");
+    if (made) close(open(made, O_CREAT | O_WRONLY, 0600));
     return 1;
 }
 
@@ -53,61 +50,67 @@ int posix_memalign(void **out, size_t alignment, size_t size) {
     return refused() ? ENOMEM : real(out, alignment, size);
 }
 C
-cc -shared -fPIC -O1 -o "$work/refuse.so" "$work/refuse.c" -ldl || exit 1
+${CC:-cc} -shared -fPIC -O1 -o "$work/refuse.so" "$work/refuse.c" -ldl || {
+    fail "no C compiler made refuse.so"
+    finish
+    exit 1
+}
 
-passed=0
-failed=0
 
 # Runs the words with one allocation refused; false where there were fewer allocations.
 refusing() {
     number=$1
     shift
-    rm -f "$work/told"
-    REFUSE=$number TOLD=$work/told LD_PRELOAD="$work/refuse.so" "$@" >"$work/out" 2>"$work/err"
+    rm -f "$work/refused"
+    REFUSE=$number REFUSED=$work/refused LD_PRELOAD="$work/refuse.so" "$@" >"$work/out" 2>"$work/errors" <"$input"
     status=$?
-    [ -e "$work/told" ]
+    [ -e "$work/refused" ]
 }
 
-judge() {
-    if [ "$1" = yes ]; then
-        passed=$((passed + 1))
-    else
-        failed=$((failed + 1))
-        echo "FAILED: $2: status $status, $(cat "$work/err")"
-    fi
-}
-
-for inventory in "$top/examples/two-regions.json" "$top/examples/crossing-racks.json"; do
-    "$rollout" limits "$inventory" >"$work/out.expected" 2>"$work/err.expected"
-    whole=$?
+# each_refused WORDS: the program's answer is the same, or want of memory
+each_refused() {
+    run "$@"
+    answered=$status
+    mv "$work/out" "$work/out.answered"
+    mv "$work/errors" "$work/errors.answered"
     number=1
-    while refusing "$number" "$rollout" limits "$inventory"; do
-        right=no
-        if [ "$status" -eq 5 ] && [ ! -s "$work/out" ] && [ "$(cat "$work/err")" = 'rollout: memory' ]; then
-            right=yes
+    while refusing "$number" "$rollout" "$@"; do
+        if [ "$status" -eq 5 ] && [ ! -s "$work/out" ] && [ "$(cat "$work/errors")" = 'rollout: memory' ]; then
+            pass
         # what is refused may be asked for again in another way
-        elif [ "$status" -eq "$whole" ] && cmp -s "$work/out" "$work/out.expected" && cmp -s "$work/err" "$work/err.expected"; then
-            right=yes
+        elif [ "$status" -eq "$answered" ] && cmp -s "$work/out" "$work/out.answered" && cmp -s "$work/errors" "$work/errors.answered"; then
+            pass
+        else
+            fail "allocation $number of '$*' refused: status $status, $(cat "$work/errors")"
         fi
-        judge "$right" "allocation $number of limits $inventory refused"
         number=$((number + 1))
     done
-    echo "limits $inventory: $((number - 1)) allocations refused in turn"
-done
+    echo "$*: $((number - 1)) allocations refused in turn"
+}
+
+each_refused limits "$top/examples/two-regions.json"
+each_refused limits "$top/examples/crossing-racks.json"
+input=$top/examples/two-regions.json
+each_refused
+input=/dev/null
+each_refused --help
+each_refused --version
+each_refused limits one two
+if [ "$whole" != whole ]; then
+    finish
+    exit
+fi
 
 # crate and test, which holds whatever one allocation is refused
 while read -r crate name; do
     tests=$top/crates/$crate/out/${crate}_tests
     if [ ! -x "$tests" ]; then
-        echo "FAILED: $tests isn't built"
-        failed=$((failed + 1))
+        fail "$tests isn't built"
         continue
     fi
     number=1
     while refusing "$number" "$tests" "$name"; do
-        right=no
-        [ "$status" -eq 0 ] && right=yes
-        judge "$right" "allocation $number of $crate $name refused"
+        if [ "$status" -eq 0 ]; then pass; else fail "allocation $number of $crate $name refused: status $status"; fi
         number=$((number + 1))
     done
     echo "$crate $name: $((number - 1)) allocations refused in turn"
@@ -115,5 +118,4 @@ done <<'TESTS'
 domains tests::memory::a_call_that_was_refused_memory_answers_again
 roll_core tests::a_failed_host_keeps_its_place_in_the_limit
 TESTS
-echo "$passed passed, $failed failed"
-[ "$failed" -eq 0 ] && [ "$passed" -gt 0 ]
+finish

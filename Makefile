@@ -1,0 +1,13 @@
+# The gate is `make check`: every proof, edit and test, then the scripts on the program that this built.
+.PHONY: check scripts memory
+
+check:
+	@sh tests/gate.sh
+
+# The scripts alone, on a program that is built.
+scripts:
+	@sh tests/all.sh
+
+# Every allocation of the program and of the tests that hold whatever one allocation is refused.
+memory:
+	@sh tests/memory.sh whole

@@ -1,0 +1,36 @@
+#!/bin/sh
+# The gate: every proof, edit and test, and then the scripts on the program that this built. The last line counts all of them.
+top=$(cd "$(dirname "$0")/.." && pwd)
+work=$(mktemp -d)
+trap 'rm -rf "$work"' EXIT
+cd "$top" || exit 1
+passed=0
+failed=0
+
+# Runs a command whose last line is its count, and adds that.
+counted() {
+    {
+        "$@"
+        echo $? >"$work/status"
+    } | tee "$work/output"
+    counts=$(tail -n 1 "$work/output" | sed -n 's/^\([0-9]*\) passed, \([0-9]*\) failed$/\1 \2/p')
+    status=$(cat "$work/status")
+    # Ending otherwise than by its count, or failing beside it, is a failure.
+    set -- ${counts:-0 1}
+    more=$2
+    [ "$more" -eq 0 ] && [ "$status" -ne 0 ] && more=1
+    passed=$((passed + $1))
+    failed=$((failed + more))
+}
+
+if [ $# -eq 0 ]; then
+    counted rt ci
+    set -- cli memory readme
+fi
+for script in "$@"; do
+    [ -e "tests/$script.sh" ] || continue
+    echo "tests/$script.sh"
+    counted sh "tests/$script.sh"
+done
+echo "$passed passed, $failed failed"
+[ "$failed" -eq 0 ]
