@@ -72,11 +72,7 @@ impl Fleet {
 }
 
 /// The fault that tells the breach by the names of its host and groups.
-fn name_breach(
-    alloc: Global,
-    numbers: &Numbers,
-    breach: Breach,
-) -> Result<FleetFault, AllocError>
+fn name_breach(alloc: Global, numbers: &Numbers, breach: Breach) -> Result<FleetFault, AllocError>
     ensures { IfOk result (IsNamed numbers.now breach) }
 {
     let hosts = numbers.hosts.as_slice();

@@ -27,10 +27,7 @@ fn group_ids(alloc: Global, numbers: &[usize]) -> Result<Vec<GroupId>, AllocErro
 }
 
 /// Lists of hosts, from those of their numbers.
-pub(crate) fn host_lists(
-    alloc: Global,
-    lists: &NumberLists,
-) -> Result<Vec<Vec<HostId>>, AllocError>
+pub(crate) fn host_lists(alloc: Global, lists: &NumberLists) -> Result<Vec<Vec<HostId>>, AllocError>
     ensures { IfOk result (λ hosts. map (λ list. host_numbers list.items) hosts.items ≡ lists.now) }
 {
     let mut hosts = Vec::with_capacity(alloc, lists.len())?;

@@ -52,7 +52,10 @@ fn limits_of<A: Allocator>(
     Ok(limits)
 }
 
-fn depths_of<A: Allocator>(alloc: Global, groups: &[WalkedGroup<'_, A>]) -> Result<Vec<usize>, AllocError>
+fn depths_of<A: Allocator>(
+    alloc: Global,
+    groups: &[WalkedGroup<'_, A>],
+) -> Result<Vec<usize>, AllocError>
     ensures { IfOk result (λ depths. depths.items ≡ map (λ walked. walked.depth) groups.now) }
 {
     let mut depths = Vec::with_capacity(alloc, groups.len())?;

@@ -33,7 +33,7 @@ impl Fleet {
     pub fn host(&self, name: &str) -> Option<HostId>
         ensures { MatchOption result (IsFalse (is_among name.now self.now.hosts))
             (λ host. (host.index < length self.now.hosts) × (host_at self.now.hosts host.index ≡ name.now)
-                × ((other : ℕ) → other < length self.now.hosts → same_name name.now (host_at self.now.hosts other) ≡ nat_eq host.index other)) }
+            × ((other : ℕ) → other < length self.now.hosts → same_name name.now (host_at self.now.hosts other) ≡ nat_eq host.index other)) }
     {
         match find_name(self.hosts.as_slice(), name) {
             Some(index) => Some(HostId { index }),

@@ -45,7 +45,10 @@ fn largest<A: Allocator + Clone + Drop>(alloc: A) -> Result<Group<A>, Fail> {
     for number in 1..REGIONS {
         let name = format!(in alloc.clone()?; "region{number}")?;
         let limit = Percentage::new(50).map(Limit::Percent);
-        inner = with(Group::new(alloc.clone()?, name.as_str(), limit, &[])?, inner)?;
+        inner = with(
+            Group::new(alloc.clone()?, name.as_str(), limit, &[])?,
+            inner,
+        )?;
     }
     let mut all = Group::new(alloc.clone()?, "all", None, &[])?;
     add_hosts(&mut all, alloc, 3792, 304)?;

@@ -44,7 +44,10 @@ pub fn fleet_of<A: Allocator + Drop>(alloc: Global, root: Group<A>) -> Result<Fl
 }
 
 /// The hosts in deal order, each with its chain, then the groups, each with its members; or why there is no fleet.
-pub fn fleet_text<A: Allocator + Drop>(alloc: Global, root: Group<A>) -> Result<String, AllocError> {
+pub fn fleet_text<A: Allocator + Drop>(
+    alloc: Global,
+    root: Group<A>,
+) -> Result<String, AllocError> {
     let Ok(tree) = Tree::new(root) else {
         return String::from_str(alloc, "no tree");
     };

@@ -133,7 +133,10 @@ fn a_percentage_is_of_the_hosts_of_its_group_rounded_down(rt: HostRuntime) -> Re
         assert!(rt; counts(&fleet) == (Some(limit), 1), "{percentage}");
     }
     let refused = fleet_text(rt.alloc(), share(rt.alloc(), 33)?)?;
-    assert_eq!(rt; refused.as_str(), "1 hosts of g are down, and its limit is 0");
+    assert_eq!(rt;
+        refused.as_str(),
+        "1 hosts of g are down, and its limit is 0"
+    );
     Ok(())
 }
 
