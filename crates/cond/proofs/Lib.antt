@@ -1,0 +1,16 @@
+pub mod Runs
+pub mod Numerals
+pub mod Fronts
+pub mod Words
+pub mod Operands
+pub mod TestLaws
+pub mod Unambiguous
+pub mod Shorter
+pub mod Tokenizing
+pub mod HeadLaws
+pub mod LeavesLaws
+pub mod OrChains
+pub mod AndChains
+pub mod NestLaws
+pub mod ParseLaws
+pub mod Firsts

@@ -1,0 +1,120 @@
+-- A chain of parts that Or joins, gathered from left to right.
+use Rattle.std.proofs.Common.{◌≡◌, ℕ, ◌+◌, ◌<◌, ◌≤◌, max, Bool, true, false, List, [], ◌∷◌, ◌++◌, map, sym, refl, ap, ◌∙◌, arith, subst, Option, Some, None, Ok, Err}
+use Rattle.cond.specs.Tokens.{Token, Or, And, Closing}
+use Rattle.cond.specs.Grammar.{Any, all, or, All, neg, and, Neg, any_then, all_then, neg_then, any_depth, all_depth, neg_depth}
+use Rattle.cond.specs.Meaning.{Environment, Verdict, either, both, any_meaning, all_meaning, neg_meaning}
+use Rattle.cond.specs.Trees.{verdict_of, any_of, all_of}
+use Rattle.cond.specs.Heads.{first, behind}
+use Rattle.cond.specs.Readings.{Leaves}
+use Rattle.cond.specs.Readings.{ends_any, ends_all, ends_neg, Reads, Refuses}
+use Rattle.cond.specs.declared.stop.Stop.{Stop}
+use Rattle.cond.specs.declared.condition.Cond.{Cond}
+use Rattle.cond.proofs.Unambiguous.{all_same, any_ends_all, no_or}
+use Rattle.cond.proofs.LeavesLaws.{more_leaves}
+
+-- the parts, each with the Or behind it, before the rest
+abbrev pub chain : List All → List Token → List Token
+chain [] rest = rest
+chain (a ∷ parts) rest = all_then a (Or ∷ chain parts rest)
+
+abbrev linked : List All → All → Any
+linked [] last = all last
+linked (a ∷ parts) last = or a (linked parts last)
+
+abbrev pub FitsIn : ℕ → List All → Type 0
+FitsIn room [] = Unit {0}
+FitsIn room (a ∷ parts) = (all_depth a ≤ room) × FitsIn room parts
+
+linked_then : (parts : List All) (last : All) (m : List Token) → any_then (linked parts last) m ≡ chain parts (all_then last m)
+linked_then [] last m = refl
+linked_then (a ∷ parts) last m = ap (λ k. all_then a (Or ∷ k)) (linked_then parts last m)
+
+chain_pushed : (parts : List All) (last : All) (m : List Token) → chain (parts ++ last ∷ []) m ≡ chain parts (all_then last (Or ∷ m))
+chain_pushed [] last m = refl
+chain_pushed (a ∷ parts) last m = ap (λ k. all_then a (Or ∷ k)) (chain_pushed parts last m)
+
+fits_pushed : (room : ℕ) (parts : List All) (last : All) → FitsIn room parts → all_depth last ≤ room → FitsIn room (parts ++ last ∷ [])
+fits_pushed room [] last all_fit fits = (fits, tt)
+fits_pushed room (a ∷ parts) last all_fit fits = (all_fit.0, fits_pushed room parts last all_fit.1 fits)
+
+linked_deep : (room : ℕ) (parts : List All) (last : All) → FitsIn room parts → all_depth last ≤ room → any_depth (linked parts last) ≤ room
+linked_deep room [] last all_fit fits = fits
+linked_deep room (a ∷ parts) last all_fit fits =
+    let later : any_depth (linked parts last) ≤ room = linked_deep room parts last all_fit.1 fits in
+    omega (arith, all_fit.0, later)
+
+alone : (v : Verdict) → v ≡ either v (Ok false)
+alone (Ok true) = refl
+alone (Ok false) = refl
+alone (Err name) = refl
+
+linked_means : (e : Environment) (parts : List All) (last : All) → any_meaning e (linked parts last) ≡ any_of (map (all_meaning e) (parts ++ last ∷ []))
+linked_means e [] last = alone (all_meaning e last)
+linked_means e (a ∷ parts) last = ap (either (all_meaning e a)) (linked_means e parts last)
+
+map_pushed : {A B : Type 0} (f : A → B) (xs : List A) (x : A) → map f (xs ++ x ∷ []) ≡ map f xs ++ f x ∷ []
+map_pushed f [] x = refl
+map_pushed f (y ∷ xs) x = ap (λ l. f y ∷ l) (map_pushed f xs x)
+
+-- the trees so far are those of the parts before the rest
+pub record Gathered (tokens rest : List Token) (room : ℕ) (trees : List Cond) : Type 0 where
+  pub parts : List All
+  pub whole : tokens ≡ chain parts rest
+  pub fits : FitsIn room parts
+  pub same : (e : Environment) → map (verdict_of e) trees ≡ map (all_meaning e) parts
+
+pub nothing_yet : (tokens : List Token) (room : ℕ) → Gathered tokens tokens room []
+nothing_yet tokens room = record { parts = []; whole = refl; fits = tt; same = λ e. refl }
+
+begun : (t : Token) (tokens : List Token) → first tokens ≡ Some t → tokens ≡ t ∷ behind tokens
+begun t [] e = absurd (cc)
+begun t (x ∷ rest) e = let same : x ≡ t = cc in ap (λ y. y ∷ rest) same
+
+module _ (tokens rest : List Token) (room : ℕ) (trees new : List Cond) (tree : Cond) (left : List Token) (so_far : Gathered tokens rest room trees) (read : Reads all_then all_depth ends_all all_meaning verdict_of room rest tree left) (pushed : new ≡ trees ++ tree ∷ []) where
+  same_pushed : (e : Environment) → map (verdict_of e) new ≡ map (all_meaning e) (so_far.parts ++ read.reading ∷ [])
+  same_pushed e =
+      ap (map (verdict_of e)) pushed ∙ map_pushed (verdict_of e) trees tree ∙ ap (λ l. l ++ verdict_of e tree ∷ []) (so_far.same e) ∙ ap (λ v. map (all_meaning e) so_far.parts ++ v ∷ []) (read.same e) ∙ sym (map_pushed (all_meaning e) so_far.parts read.reading)
+
+  whole_read : tokens ≡ chain so_far.parts (all_then read.reading left)
+  whole_read = so_far.whole ∙ ap (chain so_far.parts) read.whole
+
+  pub one_more : first left ≡ Some Or → Gathered tokens (behind left) room new
+  one_more next = record {
+    parts = so_far.parts ++ read.reading ∷ [];
+    whole = whole_read ∙ ap (λ m. chain so_far.parts (all_then read.reading m)) (begun Or left next) ∙ sym (chain_pushed so_far.parts read.reading (behind left));
+    fits = fits_pushed room so_far.parts read.reading so_far.fits read.deep;
+    same = same_pushed;
+  }
+
+  ends_here : (m : List Token) → ends_all m ≡ true → (first m ≡ Some Or → ⊥) → ends_any m ≡ true
+  ends_here [] h last = refl
+  ends_here (Closing ∷ k) h last = refl
+  ends_here (Or ∷ k) h last = absurd (last refl)
+  ends_here (t ∷ k) h last = absurd (cc)
+
+  pub all_read : (first left ≡ Some Or → ⊥) → (tree : Cond) → ((e : Environment) → verdict_of e tree ≡ any_of (map (verdict_of e) new)) → Reads any_then any_depth ends_any any_meaning verdict_of room tokens tree left
+  all_read last tree joined = record {
+    reading = linked so_far.parts read.reading;
+    whole = whole_read ∙ sym (linked_then so_far.parts read.reading left);
+    ended = ends_here left read.ended last;
+    deep = linked_deep room so_far.parts read.reading so_far.fits read.deep;
+    same = λ e. joined e ∙ ap any_of (same_pushed e) ∙ sym (linked_means e so_far.parts read.reading);
+  }
+
+first_refused : (room : ℕ) (rest : List Token) (fault : Stop) → Refuses all_then all_depth ends_all room rest fault → Refuses any_then any_depth ends_any room rest fault
+first_refused room rest fault refused (all a) m h e = refused a m (any_ends_all m h) e
+first_refused room rest fault refused (or a more) m h e =
+    more_leaves fault room (all_depth a) (max (all_depth a) (any_depth more)) (omega arith) (refused a (Or ∷ any_then more m) refl e)
+
+chain_refused : (room : ℕ) (parts : List All) (rest : List Token) (fault : Stop) → Refuses all_then all_depth ends_all room rest fault → Refuses any_then any_depth ends_any room (chain parts rest) fault
+chain_refused room [] rest fault refused n m h e = first_refused room rest fault refused n m h e
+chain_refused room (a ∷ parts) rest fault refused (all b) m h e =
+    absurd (no_or m (chain parts rest) h (sym (all_same a b (Or ∷ chain parts rest) m refl (any_ends_all m h) e).1))
+chain_refused room (a ∷ parts) rest fault refused (or b more) m h e =
+    let split = all_same a b (Or ∷ chain parts rest) (Or ∷ any_then more m) refl refl e in
+    let tail = split.1 in
+    more_leaves fault room (any_depth more) (max (all_depth b) (any_depth more)) (omega arith) (chain_refused room parts rest fault refused more m h (cc))
+
+pub part_refused : (tokens rest : List Token) (room : ℕ) (trees : List Cond) (fault : Stop) → Gathered tokens rest room trees → Refuses all_then all_depth ends_all room rest fault → Refuses any_then any_depth ends_any room tokens fault
+part_refused tokens rest room trees fault so_far refused n m h e =
+    chain_refused room so_far.parts rest fault refused n m h (sym so_far.whole ∙ e)

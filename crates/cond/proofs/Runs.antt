@@ -1,0 +1,76 @@
+-- A text may be cut where a run of bytes of ASCII ends.
+use Rattle.std.proofs.Common.{◌≡◌, ℕ, zero, suc, ◌+◌, ◌<◌, ◌≤◌, Bool, true, false, not, List, [], ◌∷◌, length, get_or, take, drop, sym, refl, ap, ◌∙◌, arith, rules, subst, nat_eq, cond, Some, None, slice_get, ⊎_elim}
+use Rattle.std.specs.List.{prefix_len}
+use Rattle.std.specs.Str.{IsUtf8, IsCharBoundary}
+use Rattle.std.proofs.lemmas.Str.{IsCharBoundary-start, IsCharBoundary-end, IsCharBoundary-after_ascii, IsCharBoundary-before_ascii, IsCharBoundary-from_rest}
+use Rattle.std.proofs.lemmas.List.Sums.{prefix_len_passes, prefix_len_stops, prefix_len-le-length}
+use Rattle.std.proofs.lemmas.Bool.Decides.{nat_tests}
+use Rattle.std.proofs.lemmas.Bool.{cases_lt, eqb-true}
+use Rattle.cond.specs.Tokens.{Token, is_blank, is_digit, is_name_byte, is_inside, ended_by}
+
+pub run_ends : (p : ℕ → Bool) → ((b : ℕ) → p b ≡ true → b < 128) → (bs : List ℕ) → IsUtf8 bs → IsCharBoundary bs (prefix_len p bs)
+run_ends p ascii bs u = by_length (prefix_len p bs) refl
+  where
+    by_length : (n : ℕ) → prefix_len p bs ≡ n → IsCharBoundary bs (prefix_len p bs)
+    by_length zero e = subst (λ (n : ℕ). IsCharBoundary bs n) (sym e) (IsCharBoundary-start bs u)
+    by_length (suc n) e =
+        let within : n < length bs = omega (arith, e, prefix_len-le-length p bs) in
+        let small : get_or bs n 0 < 128 = ascii (get_or bs n 0) (prefix_len_passes p bs n 0 (omega (arith, e))) in
+        let same : n + 1 ≡ prefix_len p bs = omega (arith, e) in
+        subst (λ (k : ℕ). IsCharBoundary bs k) same (IsCharBoundary-after_ascii bs n u within small)
+
+blank_ascii : (b : ℕ) → is_blank b ≡ true → b < 128
+blank_ascii b e = grind (arith, nat_tests)
+
+digit_ascii : (b : ℕ) → is_digit b ≡ true → b < 128
+digit_ascii b e = grind (arith, nat_tests)
+
+name_ascii : (b : ℕ) → is_name_byte b ≡ true → b < 128
+name_ascii b e = grind (arith, nat_tests)
+
+pub blanks_end : (bs : List ℕ) → IsUtf8 bs → IsCharBoundary bs (prefix_len is_blank bs)
+blanks_end = run_ends is_blank blank_ascii
+
+pub digits_end : (bs : List ℕ) → IsUtf8 bs → IsCharBoundary bs (prefix_len is_digit bs)
+digits_end = run_ends is_digit digit_ascii
+
+pub name_ends : (bs : List ℕ) → IsUtf8 bs → IsCharBoundary bs (prefix_len is_name_byte bs)
+name_ends = run_ends is_name_byte name_ascii
+
+inside_plain : (quote b : ℕ) → quote < 128 → is_inside quote b ≡ false → b < 128
+inside_plain quote b small e = grind (arith, nat_tests)
+
+-- what is left where a quote is sought begins with that quote, with a backslash or not at all
+pub inside_ends : (quote : ℕ) (bs : List ℕ) → quote < 128 → IsUtf8 bs → IsCharBoundary bs (prefix_len (is_inside quote) bs)
+inside_ends quote bs small u =
+    ⊎_elim before whole (cases_lt (prefix_len (is_inside quote) bs) (length bs))
+  where
+    before : prefix_len (is_inside quote) bs < length bs → IsCharBoundary bs (prefix_len (is_inside quote) bs)
+    before l =
+        IsCharBoundary-before_ascii bs (prefix_len (is_inside quote) bs) l (inside_plain quote (get_or bs (prefix_len (is_inside quote) bs) 0) small (prefix_len_stops (is_inside quote) bs 0 l))
+
+    whole : length bs ≤ prefix_len (is_inside quote) bs → IsCharBoundary bs (prefix_len (is_inside quote) bs)
+    whole l =
+        let e : length bs ≡ prefix_len (is_inside quote) bs = omega (arith, l, prefix_len-le-length (is_inside quote) bs) in
+        subst (λ (k : ℕ). IsCharBoundary bs k) e (IsCharBoundary-end bs)
+
+pub not_ended : (wanted : ℕ) (token : Token) (bs : List ℕ) → ((rest : List ℕ) → bs ≡ wanted ∷ rest → ⊥) → ended_by wanted token bs ≡ None
+not_ended wanted token [] other = refl
+not_ended wanted token (b ∷ rest) other = by_test (nat_eq b wanted) refl
+  where
+    by_test : (t : Bool) → nat_eq b wanted ≡ t → ended_by wanted token (b ∷ rest) ≡ None
+    by_test true e = absurd (other rest (ap (λ x. x ∷ rest) (eqb-true b wanted e)))
+    by_test false e = ap (λ t. cond t (Some (token, rest)) None) e
+
+-- where an ASCII byte stands first, the text may be cut behind it
+pub behind_first : (bs : List ℕ) (b : ℕ) → IsUtf8 bs → slice_get bs 0 ≡ Some b → b < 128 → IsCharBoundary bs 1
+behind_first [] b u e small = absurd (cc)
+behind_first (x ∷ xs) b u e small =
+    let same : x ≡ b = cc in
+    IsCharBoundary-after_ascii (x ∷ xs) 0 u (omega arith) (omega (arith, same, small))
+
+-- where a minus stands first, it may be cut behind the digits
+pub negative_ends : (bs text : List ℕ) (n : ℕ) → IsUtf8 bs → text ≡ 45 ∷ bs → n ≡ prefix_len is_digit bs → IsCharBoundary text (1 + n)
+negative_ends bs text n u minus counted =
+    let here : IsCharBoundary bs n = subst (λ (k : ℕ). IsCharBoundary bs k) (sym counted) (digits_end bs u) in
+    subst (λ (l : List ℕ). IsCharBoundary l (1 + n)) (sym minus) (IsCharBoundary-from_rest (45 ∷ bs) 1 n (omega arith) here)

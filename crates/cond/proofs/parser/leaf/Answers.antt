@@ -1,0 +1,23 @@
+use Rattle.std.proofs.Common.{length, sym, refl, ap, ◌∙◌, arith}
+use Rattle.cond.specs.Seen.{ahead}
+use Rattle.cond.specs.Trees.{written}
+use Rattle.cond.proofs.TestLaws.{test_longer}
+use Rattle.cond.proofs.HeadLaws.{test_read_whole}
+use Rattle.cond.proofs.NestLaws.{leaf_read, leaf_refused, leaf_unended}
+use Rattle.cond.proofs.parser.leaf.Goals as goal
+
+pub returns-then-ends-clause-read : goal.returns-then-ends-clause-read
+returns-then-ends-clause-read c =
+    leaf_read c.args.room (ahead c.args.tokens) (written c.in-Ok.found) c.leaf_of.result (ahead c.in-Ok.rest) c.in-Ok.ensures (sym c.ends.ensures ∙ c.if-ends.true) c.leaf_of.ensures
+
+pub returns-then-ends-clause-shorter : goal.returns-then-ends-clause-shorter
+returns-then-ends-clause-shorter c =
+    omega (arith, ap length (test_read_whole (ahead c.args.tokens) (written c.in-Ok.found) (ahead c.in-Ok.rest) c.in-Ok.ensures), test_longer (written c.in-Ok.found) (ahead c.in-Ok.rest))
+
+pub returns-else-ends-clause-refused : goal.returns-else-ends-clause-refused
+returns-else-ends-clause-refused c =
+    leaf_unended c.args.room (ahead c.args.tokens) c.place.result (written c.in-Ok.found) (ahead c.in-Ok.rest) c.requires c.in-Ok.ensures (sym c.ends.ensures ∙ c.if-ends.false)
+
+pub returns-in-Err-clause-refused : goal.returns-in-Err-clause-refused
+returns-in-Err-clause-refused c =
+    leaf_refused c.args.room (ahead c.args.tokens) c.in-Err.stop c.requires c.in-Err.ensures

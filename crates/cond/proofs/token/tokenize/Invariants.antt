@@ -1,0 +1,12 @@
+use Rattle.std.proofs.Common.{◌≤◌, length}
+use denote.Shadow.{shadow}
+use denote.Text.{Utf8}
+use Rattle.cond.proofs.Tokenizing.{GoesOn}
+use Rattle.cond.proofs.token.tokenize.Given as goal
+
+abbrev pub decreases-loop-kind : goal.decreases-loop-kind
+decreases-loop-kind l = length l.left
+
+abbrev pub invariant-loop-kind : goal.invariant-loop-kind
+invariant-loop-kind l =
+    (length l.left ≤ length l.fn.text) × GoesOn l.fn.text l.all.items l.left × shadow (Utf8 l.left)

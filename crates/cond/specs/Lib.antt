@@ -1,0 +1,11 @@
+pub mod Tokens
+pub mod Grammar
+pub mod Meaning
+pub mod Trees
+pub mod Seen
+pub mod Faults
+pub mod Heads
+pub mod Answers
+pub mod Readings
+pub mod Conditions
+pub mod Worked

@@ -1,0 +1,22 @@
+//! The tokens of a condition's text.
+
+/// What a token is. The reserved words are kinds of their own.
+#[derive(Clone, Copy, Debug, PartialEq, Eq)]
+pub(crate) enum Kind<'t> {
+    Name(&'t str),
+    Number(i64),
+    Text(&'t str),
+    Truth(bool),
+    Not,
+    And,
+    Or,
+    Is,
+    In,
+    Groups,
+    Host,
+    Equal,
+    Unequal,
+    Dot,
+    Opening,
+    Closing,
+}

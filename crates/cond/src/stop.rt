@@ -1,0 +1,34 @@
+//! Why a list of tokens is no condition.
+use std::alloc::{AllocError, AllocFailed};
+
+/// Why the parser stops, and the byte place where it does.
+#[derive(Clone, Copy, Debug)]
+pub(crate) enum Stop {
+    /// The token there continues no condition, or the tokens end too early.
+    Unexpected { at: usize },
+    /// The bracket or `not` there has no room.
+    TooDeep { at: usize },
+    Memory,
+}
+
+impl From<AllocError> for Stop {
+    ghost use Rattle.std.specs.Prelude.{◌≡◌};
+    ghost use Rattle.cond.specs.declared.stop.Stop.TheVariants.{Memory};
+
+    ghost from_gives = { λ _ stop. stop ≡ Memory };
+
+    fn from(_refused: AllocError) -> Stop {
+        Stop::Memory
+    }
+}
+
+impl<T: Drop> From<AllocFailed<T>> for Stop {
+    ghost use Rattle.std.specs.Prelude.{◌≡◌};
+    ghost use Rattle.cond.specs.declared.stop.Stop.TheVariants.{Memory};
+
+    ghost from_gives = { λ _ stop. stop ≡ Memory };
+
+    fn from(_refused: AllocFailed<T>) -> Stop {
+        Stop::Memory
+    }
+}
