@@ -1,5 +1,5 @@
 # The gate is `make check`: every proof, edit and test, then the scripts on the program that this built.
-.PHONY: check scripts memory
+.PHONY: check scripts
 
 check:
 	@sh tests/gate.sh
@@ -7,7 +7,3 @@ check:
 # The scripts alone, on a program that is built.
 scripts:
 	@sh tests/all.sh
-
-# Every allocation of the program and of the tests that hold whatever one allocation is refused.
-memory:
-	@sh tests/memory.sh whole

@@ -1,9 +1,8 @@
 #!/bin/sh
 # Refuses each allocation in turn, of the built program: what it answers is what it answers with all memory, or want of memory and nothing else.
-# `tests/memory.sh whole` refuses those of the tests too that hold whatever one allocation is refused. It needs a C compiler,
-# crates/rollout/out/rollout, and for the tests what rt ci (or rt test) leaves in the out/ of each crate named below.
+# Those of the tests too that hold whatever one allocation is refused. It needs a C compiler, crates/rollout/out/rollout, and
+# what rt ci (or rt test) leaves in the out/ of each crate named below.
 . "$(dirname "$0")/common.sh"
-whole=${1:-}
 
 cat >"$work/refuse.c" <<'C'
 #define _GNU_SOURCE
@@ -96,11 +95,6 @@ input=/dev/null
 each_refused --help
 each_refused --version
 each_refused limits one two
-if [ "$whole" != whole ]; then
-    finish
-    exit
-fi
-
 # crate and test, which holds whatever one allocation is refused
 while read -r crate name; do
     tests=$top/crates/$crate/out/${crate}_tests
@@ -113,9 +107,11 @@ while read -r crate name; do
         if [ "$status" -eq 0 ]; then pass; else fail "allocation $number of $crate $name refused: status $status"; fi
         number=$((number + 1))
     done
+    [ "$number" -gt 1 ] || fail "$crate $name asks for no memory"
     echo "$crate $name: $((number - 1)) allocations refused in turn"
 done <<'TESTS'
 domains tests::memory::a_call_that_was_refused_memory_answers_again
-roll_core tests::a_failed_host_keeps_its_place_in_the_limit
+roll_core tests::one_batch::a_failed_host_keeps_its_place_in_the_limit
+cond tests::memory::a_condition_is_read_or_memory_is_wanting
 TESTS
 finish

@@ -1,4 +1,4 @@
-//! What holds whichever one allocation is refused; tests/cond_memory.sh refuses each in turn.
+//! What holds whichever one allocation is refused; tests/memory.sh refuses each in turn.
 use super::host::Web1;
 use crate::evaluation::eval;
 use crate::fault::CondFault;
