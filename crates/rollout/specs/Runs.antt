@@ -1,5 +1,5 @@
 -- What a run of the program does, from its words to its status.
-use Rattle.std.specs.Prelude.{◌≡◌, ◌⊎◌, ℕ, List, [], Option, Result, Err, ⊤, string_bytes}
+use Rattle.std.specs.Prelude.{◌≡◌, ◌⊎◌, ℕ, Bool, true, false, List, [], Option, Result, Err, string_bytes}
 use Rattle.std.specs.Io.KnownBytes.{Keeps}
 use Rattle.command_line.specs.Words as words
 use Rattle.command_line.specs.declared.command.Line as declared_line
@@ -44,9 +44,17 @@ pub record Runs (words_given : List words.Word) (input_old input_new out_old out
   pub reports : Reports outcome errors_old errors_new
   pub ends : status ≡ status_of outcome
 
--- words that are no text are a bad line, with nothing more to say of them
-abbrev pub IsNoText : Fault → Type 0
-IsNoText (Line (line_fault.BadLine explanation)) = string_bytes explanation ≡ []
-IsNoText (Line line_fault.Memory) = ⊥
-IsNoText Memory = ⊤
-IsNoText fault = ⊥
+-- a bad line of which nothing more is to be said
+abbrev pub IsBareBadLine : Fault → Type 0
+IsBareBadLine (Line (line_fault.BadLine explanation)) = string_bytes explanation ≡ []
+IsBareBadLine (Line line_fault.Memory) = ⊥
+IsBareBadLine fault = ⊥
+
+-- why the words can't be had: for want of memory, or since they are no text, which makes the line a bad one
+abbrev pub IsFaultOfWords : Bool → Fault → Type 0
+IsFaultOfWords true fault = fault ≡ Memory
+IsFaultOfWords false fault = IsBareBadLine fault
+
+-- the words can't be had for one of the two reasons
+abbrev pub LacksWords : Fault → Type 0
+LacksWords fault = (is_memory : Bool) × IsFaultOfWords is_memory fault

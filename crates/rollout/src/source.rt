@@ -1,5 +1,5 @@
 //! Reading the inputs that a line names.
-ghost use Rattle.std.specs.Prelude.{◌≤◌, length, IfOk, IfErr};
+ghost use Rattle.std.specs.Prelude.{◌≡◌, ◌≤◌, cond, length, IfOk, IfErr};
 ghost use Rattle.bounded_io.specs.Reading.{max_input};
 ghost use Rattle.rollout.specs.Inputs.{IsTextOf, IsUnreadable};
 
@@ -36,7 +36,17 @@ fn read_file<R: Files + AllocGlobal>(rt: &R, name: &str) -> Result<Vec<u8>, Inpu
 {
     match fs::open(rt, name) {
         Ok(mut file) => read_input(rt.alloc(), &mut file),
-        Err(error) if error.kind() == ErrorKind::OutOfMemory => Err(InputFault::Memory),
-        Err(_) => Err(InputFault::File),
+        Err(error) => Err(open_fault(error.kind() == ErrorKind::OutOfMemory)),
+    }
+}
+
+/// Why a file can't be opened: for want of memory, or for another reason.
+fn open_fault(is_memory: bool) -> InputFault
+    ensures { result ≡ cond is_memory InputFault.Memory InputFault.File }
+{
+    if is_memory {
+        InputFault::Memory
+    } else {
+        InputFault::File
     }
 }

@@ -21,7 +21,7 @@ const TABLE: &str =
     "eu members=5 down=0 limit=3 room=3\nr1 members=3 down=0 limit=1 room=1\nr2 members=2 down=0 limit=2 room=2\nhosts=5 limited=3\n";
 
 /// An inventory on standard input, what is printed of it, and what is reported of it.
-const INVENTORIES: [(&str, &str, &str); 18] = [
+const INVENTORIES: [(&str, &str, &str); 21] = [
     (TWO_RACKS, TABLE, ""),
     (
         r#"{"all":{"children":{"r1":{"vars":{"max_down":"33%"},"hosts":{"a":null,"b":null,"c":null}}}}}"#,
@@ -84,6 +84,21 @@ const INVENTORIES: [(&str, &str, &str); 18] = [
         r#"{"all":{"hosts":{"é":null}}}"#,
         "",
         "rollout: 101 BadName name=??\n",
+    ),
+    (
+        r#"{"all":{"hosts":["a"]}}"#,
+        "",
+        "rollout: 202 BadShape at=all/hosts\n",
+    ),
+    (
+        r#"{"all":{"hosts":{"a":{"down":1}}}}"#,
+        "",
+        "rollout: 205 BadDown at=all/hosts/a/down\n",
+    ),
+    (
+        r#"{"all":{"children":{"g":null}},"g":null}"#,
+        "",
+        "rollout: 102 TwicePlaced group=3\n",
     ),
     (
         r#"{"all":{"x":1}}"#,
