@@ -7,3 +7,4 @@ pub mod Counts
 pub mod Builds
 pub mod Verdicts
 pub mod Unbroken
+pub mod MergeLaws

@@ -7,3 +7,4 @@ pub mod Listings
 pub mod Faults
 pub mod Reads
 pub mod Worked
+pub mod Laws

@@ -6,6 +6,7 @@ mod build;
 mod entries;
 mod fault;
 mod flaw;
+mod laws;
 mod limits;
 mod listing;
 mod path;
@@ -17,4 +18,7 @@ mod variables;
 mod worked;
 
 pub use fault::ReadFault;
+pub use laws::{
+    merged_lists_are_in_name_order, merged_lists_keep_every_entry, own_entries_come_first,
+};
 pub use read::read_inventory;
