@@ -1,0 +1,10 @@
+pub mod RiseLemmas
+pub mod TreeLemmas
+pub mod FindLemmas
+pub mod ChangeLemmas
+pub mod ShapeLemmas
+pub mod WhereLemmas
+pub mod PathLemmas
+pub mod CountLemmas
+pub mod FleetLemmas
+pub mod GrowLemmas

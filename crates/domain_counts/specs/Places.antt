@@ -1,0 +1,17 @@
+-- What a host counts as.
+use Rattle.std.specs.Prelude.{ℕ, Bool, true, false, cond}
+use Rattle.domain_counts.specs.declared.place.Place.{Place}
+use Rattle.domain_counts.specs.declared.place.Place.TheVariants.{Up, Waits, Down}
+
+abbrev pub waits : Place → Bool
+waits Waits = true
+waits Up = false
+waits Down = false
+
+abbrev pub is_down : Place → Bool
+is_down Down = true
+is_down Up = false
+is_down Waits = false
+
+abbrev pub bit : Bool → ℕ
+bit test = cond test 1 0

@@ -1,0 +1,49 @@
+//! Want of memory is named as such and passes: this test holds whatever one request `rt try --test --fail-alloc N` refuses.
+use super::text::{counts, group, set, with};
+use crate::{Domains, Place};
+use domains::{Fleet, FleetFault};
+use group_tree::{Group, GroupFault, Tree};
+use std::alloc::{AllocError, Allocator, Global};
+use std::test::Fail;
+
+/// A limited `all` with a limited group in it.
+fn two_deep<A: Allocator + Clone>(alloc: A) -> Result<Group<A>, GroupFault> {
+    let rack = group(alloc.clone()?, "g", true, &["a", "b"])?;
+    with(group(alloc, "all", true, &["c"])?, rack)
+}
+
+/// A call that was refused memory is made again.
+fn group_again(alloc: Global) -> Result<Group<Global>, GroupFault> {
+    match two_deep(alloc) {
+        Err(GroupFault::Memory) => two_deep(alloc),
+        answer => answer,
+    }
+}
+
+fn build_again(alloc: Global, tree: &Tree<Global>) -> Result<Fleet, FleetFault> {
+    match Fleet::build(alloc, tree) {
+        Err(FleetFault::Memory) => Fleet::build(alloc, tree),
+        answer => answer,
+    }
+}
+
+fn new_again(alloc: Global, fleet: &Fleet) -> Result<Domains<'_, Global>, AllocError> {
+    match Domains::new(alloc, fleet) {
+        Err(AllocError) => Domains::new(alloc, fleet),
+        answer => answer,
+    }
+}
+
+#[test]
+fn a_call_that_was_refused_memory_answers_again(rt: HostRuntime) -> Result<(), Fail> {
+    let Ok(tree) = Tree::new(group_again(rt.alloc())?) else {
+        return Err(Fail::new("no tree"));
+    };
+    let fleet = build_again(rt.alloc(), &tree)?;
+    let mut domains = new_again(rt.alloc(), &fleet)?;
+    set(&mut domains, "a", Place::Waits);
+    set(&mut domains, "c", Place::Down);
+    assert_eq!(rt; counts(&domains, "all"), Some((1, 1)));
+    assert_eq!(rt; counts(&domains, "g"), Some((1, 0)));
+    Ok(())
+}
