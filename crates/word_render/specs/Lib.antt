@@ -1,0 +1,3 @@
+pub mod Renders
+pub mod Faults
+pub mod Worked

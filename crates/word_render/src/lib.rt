@@ -1,0 +1,11 @@
+//! Rendering a word: what its holes stand for, put in their places.
+#![tactic(auto)]
+
+mod fault;
+mod print;
+mod rendering;
+mod values;
+
+pub use fault::RenderFault;
+pub use rendering::{MAX_RENDERED, render};
+pub use values::Values;
