@@ -18,6 +18,3 @@ mod walk;
 pub use fault::FleetFault;
 pub use fleet::{Fleet, HOSTS_BOUND};
 pub use pattern_fault::PatternFault;
-
-#[cfg(test)]
-mod tests;

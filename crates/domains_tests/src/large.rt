@@ -1,6 +1,6 @@
 //! The largest inputs, with ample memory: no contract says that memory is enough.
-use super::text::{fleet_of, with};
-use crate::Fleet;
+use crate::text::{fleet_of, with};
+use domains::Fleet;
 use group_tree::{Group, GroupId, HostId, Limit, Percentage};
 use std::alloc::{AllocError, Allocator, Global};
 use std::test::Fail;

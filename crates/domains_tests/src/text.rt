@@ -1,5 +1,5 @@
 //! Groups, and a fleet as a line of text.
-use crate::Fleet;
+use domains::Fleet;
 use group_tree::{Group, GroupFault, GroupId, Limit, Tree};
 use std::alloc::{AllocError, Allocator, Global};
 use std::test::Fail;

@@ -1,6 +1,6 @@
 //! Want of memory is named as such and passes: this test holds whatever one request `rt try --test --fail-alloc N` refuses.
-use super::text::region;
-use crate::{Fleet, FleetFault, PatternFault};
+use crate::text::region;
+use domains::{Fleet, FleetFault, PatternFault};
 use group_tree::{Group, GroupFault, HostId, Tree};
 use std::alloc::Global;
 use std::test::Fail;

@@ -1,6 +1,6 @@
 //! Inventories whose answers are worked by hand.
-use super::text::{fleet_of, fleet_text, group, region, with};
-use crate::Fleet;
+use crate::text::{fleet_of, fleet_text, group, region, with};
+use domains::Fleet;
 use group_tree::{Group, GroupFault, Limit, Percentage, Scalar};
 use std::alloc::Allocator;
 use std::test::Fail;

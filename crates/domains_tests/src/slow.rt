@@ -1,5 +1,5 @@
 //! The definitions read off paths and rows, one pair after the other, beside `build`.
-use super::text::{fleet_text, group, with};
+use crate::text::{fleet_text, group, with};
 use group_tree::{Group, GroupFault, Limit, Scalar};
 use std::alloc::{AllocError, Allocator, Global};
 use std::test::Fail;

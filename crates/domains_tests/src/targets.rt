@@ -1,6 +1,6 @@
 //! Patterns of hosts whose answers are worked by hand.
-use super::text::{fleet_of, group, region, with};
-use crate::Fleet;
+use crate::text::{fleet_of, group, region, with};
+use domains::Fleet;
 use group_tree::{Group, GroupFault};
 use std::alloc::{AllocError, Allocator, Global};
 use std::test::Fail;
