@@ -1,5 +1,5 @@
 //! Names in the order of their bytes.
-ghost use Rattle.std.specs.Prelude.{◌≡◌, ◌<◌, length, map, IsFalse, MatchOption, OnOk, slice_index_or, []};
+ghost use Rattle.std.specs.Prelude.{◌≡◌, ◌<◌, length, map, IsFalse, MatchOption, OnOk, OnErr, slice_index_or, []};
 ghost use Rattle.std.specs.String.{string_bytes};
 ghost use Rattle.std.specs.List.Sorted.{IsStrictlySortedBy};
 ghost use Rattle.inventory_model.specs.Names.{is_among};
@@ -10,7 +10,8 @@ use std::alloc::AllocError;
 /// Puts the names in the order of their bytes, each once. Names that come in a few sorted runs, as groups list them, are
 /// merged.
 pub fn make_distinct(names: &mut Vec<&str>) -> Result<(), AllocError>
-    ensures { OnOk result (map (λ name. name.now) names.new.items ≡ sorted_names (map (λ name. name.now) names.old.items)) }
+    ensures ok { OnOk result (map (λ name. name.now) names.new.items ≡ sorted_names (map (λ name. name.now) names.old.items)) }
+    ensures err { OnErr result (names.new.items ≡ names.old.items) }
 {
     names.sort()?;
     names.dedup();

@@ -4,4 +4,7 @@ use Rattle.fleet_numbers.proofs.names.make_distinct.Goals as goal
 
 pub returns : goal.returns
 returns c =
-    sorted_names-dedup c.args.names.now.items _ _ c.sort.ensures.permutation c.in_ok-sort.ensures.sorted (dedup_is _ _ _ c.dedup.ensures.filtered)
+    record {
+      ok = sorted_names-dedup c.args.names.now.items _ _ c.sort.ensures.permutation c.in_ok-sort.ensures.sorted (dedup_is _ _ _ c.dedup.ensures.filtered);
+      err = tt;
+    }
