@@ -12,6 +12,7 @@ ghost use Rattle.inventory_read.specs.Values as values;
 
 use crate::entries::entries_at;
 use crate::fault::ReadFault;
+use crate::keys::HOSTS;
 use crate::listing::Listed;
 use group_tree::{DEPTH_BOUND, GROUPS_BOUND, ROWS_BOUND};
 use serde_json::Value;
@@ -42,7 +43,7 @@ fn are_within_depth(groups: &[Listed<'_>]) -> bool
 fn count_hosts(body: &Value) -> usize
     ensures { result ≡ length (values.hosts_in (view body.now)) }
 {
-    match entries_at(body, "hosts") {
+    match entries_at(body, HOSTS) {
         Some(hosts) => hosts.len(),
         None => 0,
     }

@@ -11,6 +11,7 @@ ghost use Rattle.inventory_read.specs.Listings.{entry_of};
 ghost use Rattle.inventory_read.specs.Values as values;
 
 use crate::entries::{entries_at, entries_of};
+use crate::keys::{ALL, CHILDREN, HOSTS, MAX_DOWN, VARS};
 use crate::limits::limit_of;
 use crate::listing::Entry;
 use crate::variables::variables_of;
@@ -21,7 +22,7 @@ use std::alloc::{AllocError, Allocator, Global};
 fn limit_in(body: &Value) -> Option<Limit>
     ensures { option_map tree.limit_of result ≡ values.limit_in (view body.now) }
 {
-    limit_of(body.get("vars")?.get("max_down")?)
+    limit_of(body.get(VARS)?.get(MAX_DOWN)?)
 }
 
 /// The variables that a group's body gives it.
@@ -31,7 +32,7 @@ fn variables_in<'a>(
 ) -> Result<Vec<(&'a str, Scalar<'a>)>, AllocError>
     ensures { IfOk result (λ found. map lent_variable found.items ≡ values.variables_in (view body.now)) }
 {
-    match entries_at(body, "vars") {
+    match entries_at(body, VARS) {
         Some(object) => variables_of(scratch, object),
         None => Ok(Vec::new(scratch)),
     }
@@ -69,7 +70,7 @@ fn own_group<A: Allocator + Clone>(
     let Ok(mut group) = Group::new(alloc, name, limit_in(body), variables.as_slice()) else {
         return Err(AllocError);
     };
-    let Some(hosts) = entries_at(body, "hosts") else {
+    let Some(hosts) = entries_at(body, HOSTS) else {
         return Ok(group);
     };
     for (host, value) in hosts {
@@ -92,7 +93,7 @@ fn build<A: Allocator + Clone>(
         ≡ values.inventory_from (documents.with_below name.now (view body.now) (documents.below_body (view body.now)))) }
 {
     let mut group = own_group(alloc.clone()?, scratch, name, body)?;
-    let Some(children) = entries_at(body, "children") else {
+    let Some(children) = entries_at(body, CHILDREN) else {
         return Ok(group);
     };
     for (name, body) in children {
@@ -111,7 +112,7 @@ pub(crate) fn build_all<A: Allocator + Clone>(
     ensures { IfOk result (λ group. subtrees.inventory_of group
         ≡ values.inventory_from (documents.with_below all_key (view all.now) (flat_map documents.groups_from (map entry_of children.now)))) }
 {
-    let mut group = own_group(alloc.clone()?, scratch, "all", all)?;
+    let mut group = own_group(alloc.clone()?, scratch, ALL, all)?;
     for child in children {
         group.add_child(build(alloc.clone()?, scratch, child.name, child.body)?)?;
     }

@@ -6,6 +6,7 @@ mod build;
 mod entries;
 mod fault;
 mod flaw;
+mod keys;
 mod laws;
 mod limits;
 mod listing;

@@ -4,6 +4,7 @@ ghost use Rattle.inventory_read.specs.Faults.{breach_of, breach_of_flaw};
 
 use crate::fault::ReadFault;
 use crate::flaw::Flaw;
+use crate::keys::{DOWN, HOSTS, MAX_DOWN, VARS};
 use crate::listing::Listed;
 use std::alloc::{AllocError, Global};
 
@@ -74,16 +75,16 @@ pub(crate) fn fault_at(
             at: path_to(scratch, groups, index, &[key])?,
         }),
         Flaw::BadHost(host) => Ok(ReadFault::BadShape {
-            at: path_to(scratch, groups, index, &["hosts", host])?,
+            at: path_to(scratch, groups, index, &[HOSTS, host])?,
         }),
         Flaw::UnknownKey(key) => Ok(ReadFault::UnknownKey {
             at: path_to(scratch, groups, index, &[key])?,
         }),
         Flaw::BadLimit => Ok(ReadFault::BadLimit {
-            at: path_to(scratch, groups, index, &["vars", "max_down"])?,
+            at: path_to(scratch, groups, index, &[VARS, MAX_DOWN])?,
         }),
         Flaw::BadDown(host) => Ok(ReadFault::BadDown {
-            at: path_to(scratch, groups, index, &["hosts", host, "down"])?,
+            at: path_to(scratch, groups, index, &[HOSTS, host, DOWN])?,
         }),
     }
 }

@@ -15,6 +15,7 @@ ghost use Rattle.inventory_read.specs.Values as values;
 use crate::bounds::check_tree;
 use crate::build::build_all;
 use crate::fault::ReadFault;
+use crate::keys::ALL;
 use crate::listing::{Listed, children_of_all, list_groups};
 use crate::path::fault_at;
 use crate::rules::check_group;
@@ -62,7 +63,7 @@ fn body_of_all<'a>(document: &'a Value, nothing: &'a Value) -> &'a Value
     requires { view nothing.now ≡ null }
     ensures { view result.now ≡ documents.part all_key (view document.now) }
 {
-    document.get("all").unwrap_or(nothing)
+    document.get(ALL).unwrap_or(nothing)
 }
 
 /// The first rule that the document breaks, where these are its groups.

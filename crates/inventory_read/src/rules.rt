@@ -12,6 +12,7 @@ ghost use Rattle.inventory_read.specs.Rules as rules;
 
 use crate::entries::{entries_at, entries_of};
 use crate::flaw::Flaw;
+use crate::keys::{CHILDREN, DOWN, HOSTS, MAX_DOWN, VARS};
 use crate::limits::limit_of;
 use group_tree::is_name;
 use serde_json::{Map, Value};
@@ -45,7 +46,7 @@ fn check_body<'a>(body: &'a Value) -> Result<(), Flaw<'a>>
 fn is_body_key(key: &str) -> bool
     ensures { result ≡ is_among key.now body_keys }
 {
-    key == "hosts" || key == "children" || key == "vars"
+    key == HOSTS || key == CHILDREN || key == VARS
 }
 
 fn check_keys<'a>(body: &'a Value) -> Result<(), Flaw<'a>>
@@ -74,10 +75,10 @@ fn check_part<'a>(body: &'a Value, key: &'a str) -> Result<(), Flaw<'a>>
 fn check_limit<'a>(body: &'a Value) -> Result<(), Flaw<'a>>
     ensures { IsVerdict result (rules.bad_limit (part vars_key (view body.now))) }
 {
-    let Some(vars) = body.get("vars") else {
+    let Some(vars) = body.get(VARS) else {
         return Ok(());
     };
-    match vars.get("max_down") {
+    match vars.get(MAX_DOWN) {
         Some(value) if limit_of(value).is_none() => Err(Flaw::BadLimit),
         _ => Ok(()),
     }
@@ -96,7 +97,7 @@ fn check_host_shape<'a>(name: &'a str, variables: &'a Value) -> Result<(), Flaw<
 fn check_down<'a>(name: &'a str, variables: &'a Value) -> Result<(), Flaw<'a>>
     ensures { IsVerdict result (rules.bad_down (view variables.now)) }
 {
-    match variables.get("down") {
+    match variables.get(DOWN) {
         Some(value) if !value.is_boolean() => Err(Flaw::BadDown(name)),
         _ => Ok(()),
     }
@@ -113,7 +114,7 @@ fn check_host<'a>(name: &'a str, variables: &'a Value) -> Result<(), Flaw<'a>>
 fn check_hosts<'a>(body: &'a Value) -> Result<(), Flaw<'a>>
     ensures { IsVerdict result (rules.broken_by_hosts (entries_in (part hosts_key (view body.now)))) }
 {
-    let Some(hosts) = entries_at(body, "hosts") else {
+    let Some(hosts) = entries_at(body, HOSTS) else {
         return Ok(());
     };
     for (name, variables) in hosts {
@@ -129,9 +130,9 @@ pub(crate) fn check_group<'a>(name: &'a str, body: &'a Value) -> Result<(), Flaw
     check_name(name)?;
     check_body(body)?;
     check_keys(body)?;
-    check_part(body, "vars")?;
-    check_part(body, "hosts")?;
-    check_part(body, "children")?;
+    check_part(body, VARS)?;
+    check_part(body, HOSTS)?;
+    check_part(body, CHILDREN)?;
     check_limit(body)?;
     check_hosts(body)
 }
