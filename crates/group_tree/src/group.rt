@@ -123,6 +123,20 @@ impl<A: Allocator + Clone> Group<A> {
         if !is_name(name) {
             return Err(GroupFault::BadName);
         }
+        Ok(Group::of_name(alloc, name, limit, variables)?)
+    }
+
+    /// The same of a name that is known to be one, so that memory alone is refused.
+    pub fn of_name(
+        alloc: A,
+        name: &str,
+        limit: Option<Limit>,
+        variables: &[(&str, Scalar<'_>)],
+    ) -> Result<Group<A>, AllocError>
+        requires { IsTrue (names.is_name name.now) }
+        ensures { IfOk result (λ group. group
+            ≡ record { name = name.now; limit = option_map limit_of limit; variables = map lent_variable variables.now; hosts = []; below = subtrees.side_by_side [] }) }
+    {
         Ok(Group {
             name: String::from_str(alloc.clone()?, name)?,
             limit,
@@ -148,7 +162,21 @@ impl<A: Allocator + Clone> Group<A> {
         if !is_name(name) {
             return Err(GroupFault::BadName);
         }
-        let rows = self.rows.checked_add(1).ok_or(GroupFault::Memory)?;
+        Ok(self.add_host_of_name(name, variables)?)
+    }
+
+    /// The same of a name that is known to be one, so that memory alone is refused.
+    pub fn add_host_of_name(
+        &mut self,
+        name: &str,
+        variables: &[(&str, Scalar<'_>)],
+    ) -> Result<(), AllocError>
+        requires { IsTrue (names.is_name name.now) }
+        ensures ok { OnOk result (self.new
+            ≡ subtrees.with_host self.old (record { name = name.now; variables = map lent_variable variables.now })) }
+        ensures err { OnErr result (self.new ≡ self.old) }
+    {
+        let rows = self.rows.checked_add(1).ok_or(AllocError)?;
         let alloc = self.hosts.allocator();
         let host = Host {
             name: String::from_str(alloc.clone()?, name)?,

@@ -1,6 +1,6 @@
 -- The groups below a body, by the members under `children`, and what the reader's list says of them.
 use Rattle.std.proofs.Common.{◌≡◌, ℕ, ◌+◌, ◌≤◌, min, Option, Some, List, [], ◌∷◌, ◌++◌, map, Ordering, Less, Equal, Greater, unwrap_or, nat_cmp, refl, sym, ap, ◌∙◌, append_assoc, arith}
-use Rattle.std.specs.List.{flat_map}
+use Rattle.std.specs.List.{filter, flat_map}
 use Rattle.std.specs.Ordering.{match_ordering}
 use Rattle.std.specs.Cmp.Lexicographic.{slice_cmp}
 use Rattle.std.proofs.lemmas.List.{map-append}
@@ -10,7 +10,7 @@ use Rattle.serde_json.specs.View.{view}
 use Rattle.inventory_model.specs.Names.{Name}
 use Rattle.inventory_read.specs.Keys.{all_key, children_key}
 use Rattle.inventory_read.specs.Documents as documents
-use Rattle.inventory_read.specs.Documents.{members_in, part, entries, under, with_below, below_body, below_members, groups_in, groups_among, groups_from}
+use Rattle.inventory_read.specs.Documents.{members_in, part, entries, under, with_below, below_body, below_members, groups_in, groups_among, groups_from, entries_in, merged, is_beside_all, groups_of}
 use Rattle.inventory_read.specs.Listings.{Outline, outline_of, outline_at, most}
 use Rattle.inventory_read.specs.declared.listing.Listed.{Listed}
 
@@ -69,3 +69,9 @@ listed_with_below before after group depth members whole pushed fits deep is e =
 pub listed_all : (groups : List Outline) (body : Data) (below : List documents.Listed) → groups ≡ record { name = all_key; body = body; depth = 1 } ∷ map (outline_at 2) below → groups ≡ map (outline_at 1) (with_below all_key body below)
 listed_all groups body below e =
     e ∙ ap (λ rest. record { name = all_key; body = body; depth = 1 } ∷ rest) (sym (outline_at-under 1 all_key below))
+
+-- `all` and its children, as the reader has them, are all groups of the document
+pub groups_of-is : (document all : Data) (children : List documents.Entry) → children ≡ merged (entries_in (part children_key all)) (filter is_beside_all (entries_in document)) → all ≡ part all_key document → with_below all_key all (flat_map groups_from children) ≡ groups_of document
+groups_of-is document all children listed body =
+    let children_in : Data → List documents.Entry = λ value. merged (entries_in (part children_key value)) (filter is_beside_all (entries_in document)) in
+    ap (λ list. with_below all_key all (flat_map groups_from list)) listed ∙ ap (λ value. with_below all_key value (flat_map groups_from (children_in value))) body

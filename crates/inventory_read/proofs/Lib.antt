@@ -8,3 +8,4 @@ pub mod Builds
 pub mod Verdicts
 pub mod Unbroken
 pub mod MergeLaws
+pub mod Named

@@ -8,15 +8,15 @@ use Rattle.inventory_model.specs.Bounds.{depth_bound, groups_bound, rows_bound, 
 use Rattle.inventory_read.specs.Rules.{Breach, TwicePlaced, TooDeep, TooMany, first_repeat, unless, twice_placed, too_deep, too_many, broken_by_tree, broken}
 use Rattle.inventory_read.specs.Values.{inventory_of}
 
-first_nil : (xs ys : List Breach) → xs ++ ys ≡ [] → xs ≡ []
+pub first_nil : (xs ys : List Breach) → xs ++ ys ≡ [] → xs ≡ []
 first_nil [] ys e = refl
 first_nil (x ∷ xs) ys e = cc
 
-rest_nil : (xs ys : List Breach) → xs ++ ys ≡ [] → ys ≡ []
+pub rest_nil : (xs ys : List Breach) → xs ++ ys ≡ [] → ys ≡ []
 rest_nil [] ys e = e
 rest_nil (x ∷ xs) ys e = cc
 
-kept : (test : Bool) (breach : Breach) → unless test breach ≡ [] → test ≡ true
+pub kept : (test : Bool) (breach : Breach) → unless test breach ≡ [] → test ≡ true
 kept true breach e = refl
 kept false breach e = cc
 

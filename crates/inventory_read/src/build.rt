@@ -1,13 +1,15 @@
 //! Groups as the tree keeps them.
-ghost use Rattle.std.specs.Prelude.{◌≡◌, IfOk, map, [], option_map, option_and_then};
+ghost use Rattle.std.specs.Prelude.{◌≡◌, IfOk, IsTrue, map, [], option_map, option_and_then};
 ghost use Rattle.std.specs.List.{flat_map};
 ghost use Rattle.serde_json.specs.View.{view};
+ghost use Rattle.inventory_model.specs.Names.{is_name};
 ghost use Rattle.inventory_model.specs.Subtrees as subtrees;
 ghost use Rattle.group_tree.specs.Limits as tree;
 ghost use Rattle.group_tree.specs.Scalars.{lent_variable};
 ghost use Rattle.inventory_read.specs.Documents as documents;
 ghost use Rattle.inventory_read.specs.Keys.{all_key};
 ghost use Rattle.inventory_read.specs.Listings.{entry_of};
+ghost use Rattle.inventory_read.specs.Named.{are_named, hosts_are_named};
 ghost use Rattle.inventory_read.specs.Values as values;
 
 use crate::entries::{entries_at, entries_of};
@@ -51,13 +53,15 @@ fn host_variables<'a>(
     }
 }
 
-/// A group with its own hosts, and no children. Its names have been checked, so that memory alone is refused.
+/// A group with its own hosts, and no children.
 fn own_group<A: Allocator + Clone>(
     alloc: A,
     scratch: Global,
     name: &str,
     body: &Value,
 ) -> Result<Group<A>, AllocError>
+    requires name { IsTrue (is_name name.now) }
+    requires hosts { IsTrue (hosts_are_named (view body.now)) }
     ensures { IfOk result (λ group. group ≡ record {
       name = name.now;
       limit = values.limit_in (view body.now);
@@ -67,17 +71,13 @@ fn own_group<A: Allocator + Clone>(
     }) }
 {
     let variables = variables_in(scratch, body)?;
-    let Ok(mut group) = Group::new(alloc, name, limit_in(body), variables.as_slice()) else {
-        return Err(AllocError);
-    };
+    let mut group = Group::of_name(alloc, name, limit_in(body), variables.as_slice())?;
     let Some(hosts) = entries_at(body, HOSTS) else {
         return Ok(group);
     };
     for (host, value) in hosts {
         let variables = host_variables(scratch, value)?;
-        let Ok(()) = group.add_host(host.as_str(), variables.as_slice()) else {
-            return Err(AllocError);
-        };
+        group.add_host_of_name(host.as_str(), variables.as_slice())?;
     }
     Ok(group)
 }
@@ -89,6 +89,7 @@ fn build<A: Allocator + Clone>(
     name: &str,
     body: &Value,
 ) -> Result<Group<A>, AllocError>
+    requires { IsTrue (are_named (documents.with_below name.now (view body.now) (documents.below_body (view body.now)))) }
     ensures { IfOk result (λ group. subtrees.inventory_of group
         ≡ values.inventory_from (documents.with_below name.now (view body.now) (documents.below_body (view body.now)))) }
 {
@@ -109,6 +110,7 @@ pub(crate) fn build_all<A: Allocator + Clone>(
     all: &Value,
     children: &[Entry<'_>],
 ) -> Result<Group<A>, AllocError>
+    requires { IsTrue (are_named (documents.with_below all_key (view all.now) (flat_map documents.groups_from (map entry_of children.now)))) }
     ensures { IfOk result (λ group. subtrees.inventory_of group
         ≡ values.inventory_from (documents.with_below all_key (view all.now) (flat_map documents.groups_from (map entry_of children.now)))) }
 {

@@ -1,11 +1,22 @@
-use Rattle.std.proofs.Common.{◌≡◌, ◌+◌, ◌∷◌, map, drop, sym, ap, ◌∙◌}
+use Rattle.std.proofs.Common.{◌≡◌, ◌+◌, ◌∷◌, map, drop, refl, sym, ap, ◌∙◌}
 use Rattle.std.specs.List.{flat_map}
 use Rattle.std.proofs.lemmas.List.{drop_more}
+use Rattle.serde_json.specs.View.{view}
 use Rattle.inventory_model.specs.Subtrees.{Subtree}
 use Rattle.inventory_read.specs.Documents.{groups_from}
+use Rattle.inventory_read.specs.Keys.{all_key}
 use Rattle.inventory_read.specs.Listings.{entry_of}
 use Rattle.inventory_read.proofs.Builds.{reach-with_child}
+use Rattle.inventory_read.proofs.Named.{below_named, parts_named}
 use Rattle.inventory_read.proofs.build.build_all.Goals as goal
+
+pub loop-child-init : goal.loop-child-init
+loop-child-init g c =
+    record {
+      named = refl;
+      built = refl;
+      names = below_named all_key (view c.args.all.now) (flat_map groups_from (map entry_of c.args.children.now)) c.requires;
+    }
 
 pub loop-child-preserved : goal.loop-child-preserved
 loop-child-preserved g c =
@@ -14,8 +25,10 @@ loop-child-preserved g c =
     let child = c.child-item.result in
     let next : drop l.child-index children ≡ child ∷ drop (l.child-index + 1) children =
     drop_more children l.child-index child c.loop-child-test.true ∙ ap (λ e. e ∷ drop (l.child-index + 1) children) (sym c.child-item.is) in
+    let more = flat_map groups_from (map entry_of (drop (l.child-index + 1) children)) in
     record {
       named = ap (λ (group : Subtree). group.name) c.in_ok-add_child.ensures.ok ∙ l.invariant.named;
       built =
-          reach-with_child l.group c.in_ok-build.field-0 c.add_child.new.self (groups_from (entry_of child)) (flat_map groups_from (map entry_of (drop (l.child-index + 1) children))) c.in_ok-add_child.ensures.ok c.in_ok-build.ensures ∙ (rw next at l.invariant.built);
+          reach-with_child l.group c.in_ok-build.field-0 c.add_child.new.self (groups_from (entry_of child)) more c.in_ok-add_child.ensures.ok c.in_ok-build.ensures ∙ (rw next at l.invariant.built);
+      names = (parts_named (groups_from (entry_of child)) more (rw next at l.invariant.names)).1;
     }

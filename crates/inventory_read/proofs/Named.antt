@@ -1,0 +1,62 @@
+-- A document that breaks no rule names its groups and hosts by the alphabet.
+use Rattle.std.proofs.Common.{◌≡◌, Bool, true, false, ◌&&◌, List, [], ◌∷◌, ◌++◌, map, refl, sym, ◌∙◌}
+use Rattle.std.specs.Cmp.Derive.{both_true}
+use Rattle.std.specs.List.{flat_map, list_all}
+use Rattle.std.proofs.lemmas.Bool.{and_parts}
+use Rattle.std.proofs.lemmas.List.Folds.{list_all-append, list_all-map}
+use Rattle.serde_json.specs.Data.{Data}
+use Rattle.inventory_model.specs.Names.{Name, is_name}
+use Rattle.inventory_read.specs.Documents.{Entry, Listed, under, with_below, entries_in, groups_of, part}
+use Rattle.inventory_read.specs.Keys.{hosts_key, vars_key, children_key}
+use Rattle.inventory_read.specs.Named.{has_name, hosts_are_named, is_named, are_named}
+use Rattle.inventory_read.specs.Rules.{Breach, BadName, bad_top, bad_name, bad_shape, bad_limit, unknown_key, broken_by_host, broken_by_hosts, broken_by_group, broken}
+use Rattle.inventory_read.proofs.Unbroken.{first_nil, rest_nil, kept}
+use Rattle.inventory_read.proofs.Verdicts.{by_groups}
+
+hosts_named : (hosts : List Entry) → broken_by_hosts hosts ≡ [] → list_all has_name hosts ≡ true
+hosts_named [] e = refl
+hosts_named (host ∷ hosts) e =
+    let own = kept (is_name host.name) (BadName host.name) (first_nil (bad_name host.name) _ (first_nil (broken_by_host host) (broken_by_hosts hosts) e)) in
+    both_true own (hosts_named hosts (rest_nil (broken_by_host host) (broken_by_hosts hosts) e))
+
+group_named : (group : Listed) → broken_by_group group.name group.body ≡ [] → is_named group ≡ true
+group_named group e =
+    let body = group.body in
+    let own = kept (is_name group.name) (BadName group.name) (first_nil (bad_name group.name) _ e) in
+    let shape = rest_nil (bad_name group.name) _ e in
+    let key = rest_nil (bad_shape body) _ shape in
+    let vars = rest_nil (unknown_key body) _ key in
+    let hosts = rest_nil (bad_shape (part vars_key body)) _ vars in
+    let children = rest_nil (bad_shape (part hosts_key body)) _ hosts in
+    let limit = rest_nil (bad_shape (part children_key body)) _ children in
+    let rows = first_nil (broken_by_hosts (entries_in (part hosts_key body))) [] (rest_nil (bad_limit (part vars_key body)) _ limit) in
+    both_true own (hosts_named (entries_in (part hosts_key body)) rows)
+
+groups_named : (groups : List Listed) → by_groups groups ≡ [] → are_named groups ≡ true
+groups_named [] e = refl
+groups_named (group ∷ groups) e =
+    both_true (group_named group (first_nil (broken_by_group group.name group.body) (by_groups groups) e)) (groups_named groups (rest_nil (broken_by_group group.name group.body) (by_groups groups) e))
+
+pub unbroken-named : (document : Data) → broken document ≡ [] → are_named (groups_of document) ≡ true
+unbroken-named document e =
+    groups_named (groups_of document) (first_nil (by_groups (groups_of document)) _ (rest_nil (bad_top document) _ e))
+
+module _ (name : Name) (body : Data) (below : List Listed) (e : are_named (with_below name body below) ≡ true) where
+  parts : (is_named (record { above = []; name = name; body = body }) ≡ true) × (are_named (map (under name) below) ≡ true)
+  parts = and_parts _ _ e
+
+  own_parts : (is_name name ≡ true) × (hosts_are_named body ≡ true)
+  own_parts = and_parts (is_name name) (hosts_are_named body) parts.0
+
+  pub own_named : is_name name ≡ true
+  own_named = own_parts.0
+
+  pub own_hosts_named : hosts_are_named body ≡ true
+  own_hosts_named = own_parts.1
+
+  pub below_named : are_named below ≡ true
+  below_named = sym (list_all-map is_named (under name) below) ∙ parts.1
+
+pub parts_named : (groups more : List Listed) → are_named (groups ++ more) ≡ true → (are_named groups ≡ true) × (are_named more ≡ true)
+parts_named groups more e =
+    and_parts (are_named groups) (are_named more) (sym (list_all-append is_named groups more) ∙ e)
