@@ -16,8 +16,6 @@ mod reading;
 mod rest;
 mod states;
 mod stop;
-#[cfg(test)]
-mod tests;
 mod token;
 
 pub use condition::Cond;

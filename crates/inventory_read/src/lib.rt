@@ -13,8 +13,6 @@ mod listing;
 mod path;
 mod read;
 mod rules;
-#[cfg(test)]
-mod tests;
 mod variables;
 mod worked;
 

@@ -1,5 +1,5 @@
 //! Want of memory, and nothing else where memory is refused.
-use crate::{ReadFault, read_inventory};
+use inventory_read::{ReadFault, read_inventory};
 use linked_list_allocator::LocalHeap;
 use std::test::Fail;
 

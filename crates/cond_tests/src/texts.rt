@@ -1,14 +1,8 @@
 //! Texts with their full answers, on one small host.
-mod host;
-mod memory;
-mod rows;
-
-use crate::condition::Cond;
-use crate::evaluation::eval;
-use crate::fault::CondFault;
-use crate::parsing::parse;
-use host::Web1;
-use rows::Answer;
+use crate::host::Web1;
+use crate::rows;
+use crate::rows::Answer;
+use cond::{Cond, CondFault, eval, parse};
 use std::alloc::Global;
 use std::process::Abort;
 use std::test::Fail;

@@ -1,5 +1,5 @@
 //! The largest inventories that are accepted, and the least that are refused.
-use crate::{ReadFault, read_inventory};
+use inventory_read::{ReadFault, read_inventory};
 use std::alloc::{AllocError, Global};
 use std::fmt::Write;
 use std::test::Fail;

@@ -1,5 +1,5 @@
 //! Which fault comes first, and where it says that it stands.
-use crate::{ReadFault, read_inventory};
+use inventory_read::{ReadFault, read_inventory};
 use std::alloc::Global;
 use std::test::Fail;
 

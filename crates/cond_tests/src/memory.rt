@@ -1,8 +1,6 @@
 //! What holds whichever one allocation is refused; tests/memory.sh refuses each in turn.
-use super::host::Web1;
-use crate::evaluation::eval;
-use crate::fault::CondFault;
-use crate::parsing::parse;
+use crate::host::Web1;
+use cond::{CondFault, eval, parse};
 
 const TEXTS: [&str; 3] = [
     "(v == 7 or not r.rc == 3) and 'rack' in group_names and r is failed and word == 'text'",

@@ -1,6 +1,6 @@
 //! What accepted texts are read as.
-use crate::{ReadFault, read_inventory};
 use group_tree::{Tree, Variable};
+use inventory_read::{ReadFault, read_inventory};
 use std::alloc::{AllocError, Global};
 use std::fmt::Write;
 use std::test::Fail;

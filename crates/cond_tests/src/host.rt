@@ -4,8 +4,7 @@ ghost use Rattle.cond.specs.Trees.{said};
 ghost use Rattle.cond.specs.Worked as worked;
 ghost use Rattle.cond.specs.Worked.{web1};
 
-use crate::environment::{Env, Scalar, Value};
-use crate::fields::Field;
+use cond::{Env, Field, Scalar, Value};
 
 pub(crate) struct Web1;
 
