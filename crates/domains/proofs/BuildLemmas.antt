@@ -1,33 +1,31 @@
 -- What the numbers and the lists of a fleet say of its inventory.
-use Rattle.std.proofs.Common.{◌≡◌, ℕ, ◌≤◌, ◌<◌, Bool, true, false, ◌&&◌, nat_eq, nat_lt, ◌∷◌, Option, Some, None, All, List, [], map, filter, option_map, length, get_or, sym, ap, ◌∙◌, refl, subst, arith, inl, inr, ◌⊎◌, IsPermutation}
-use Rattle.std.specs.List.{list_all, range_with_len}
+use Rattle.std.proofs.Common.{◌≡◌, ℕ, ◌≤◌, ◌<◌, Bool, true, nat_eq, Option, Some, None, All, List, [], map, option_map, length, get_or, sym, ap, ◌∙◌, refl}
+use Rattle.std.proofs.Common.{subst, arith, inl, inr, ◌⊎◌, IsPermutation}
+use Rattle.std.specs.List.{range_with_len}
 use Rattle.std.proofs.lemmas.List.{length-map, get_or-map, get_or_default, get_or_past}
-use Rattle.std.proofs.lemmas.Bool.{and_parts, lt-ltb, ltb-true, cases_lt, eq-eqb}
+use Rattle.std.proofs.lemmas.Bool.{cases_lt, eq-eqb}
 use Rattle.std.proofs.lemmas.List.Folds.{list_any_at}
-use Rattle.std.proofs.lemmas.List.FromFn.{length-range_with_len, length-map-range_with_len, get_or-map-range_with_len}
-use Rattle.std.proofs.lemmas.List.Sums.{length-filter, count_by-le-length}
+use Rattle.std.proofs.lemmas.List.FromFn.{length-map-range_with_len}
 use Rattle.inventory_model.specs.Names.{Name, are_distinct}
 use Rattle.inventory_model.specs.Places.{Place, Inventory, is_preorder}
 use Rattle.inventory_model.specs.Bounds.{group_names}
 use Rattle.inventory_model.specs.Limits.{Limit}
 use Rattle.fleet_numbers.specs.NumberLists.{has_number, list_at, numbers_where, last_where, are_below, IsRising}
 use Rattle.fleet_numbers.specs.GroupPaths.{paths_from, is_member}
-use Rattle.fleet_numbers.specs.Chains.{is_limited, IsNestedChain}
 use Rattle.fleet_numbers.specs.DealOrder.{IsDealt, groups_bound}
 use Rattle.fleet_numbers.proofs.RisingLemmas.{Ascends, Ascends-rising, are_below-rising}
-use Rattle.fleet_numbers.proofs.PathLemmas.{on_path, length-paths_from, paths_below}
+use Rattle.fleet_numbers.proofs.PathLemmas.{on_path, length-paths_from}
 use Rattle.domains.specs.Hosts.{is_off}
-use Rattle.domains.specs.Starts.{place_at, nowhere, allowed_of, exceeds, StartsWithin, IsFirstOver}
+use Rattle.domains.specs.Starts.{nowhere, allowed_of, StartsWithin, IsFirstOver}
 use Rattle.domains.specs.Nested.{IsNested, IsLeastCrossing}
-use Rattle.domains.specs.Numbered.{host_at, IsNumbering}
-use Rattle.domains.specs.FleetLists.{AreFleetLists, allowed_counts, parent_on}
+use Rattle.domains.specs.Numbered.{host_at}
+use Rattle.domains.specs.FleetLists.{parent_on}
 use Rattle.domains.specs.Search.{IsFirstCrossing, IsFirstOverGroup}
 use Rattle.domains.specs.FleetViews.{AreAmong, IsInSubtree, IsSound, off_count}
 use Rattle.domains.specs.Fleets.{IsParentOf, IsOutermostFirst, IsFleetOf}
-use Rattle.domains.proofs.PlaceLemmas.{depths_of, path_at}
+use Rattle.domains.proofs.ByNumber.{group_name, depths_of, path_at, is_above, last_under}
 use Rattle.domains.proofs.ParentLemmas.{ascends_at, is_parent, above_of}
-use Rattle.domains.proofs.WhereLemmas.{rising-numbers_where}
-use Rattle.domains.proofs.FleetLemmas.{AreListsOf}
+use Rattle.domains.proofs.KnownLists.{AreListsOf}
 use Rattle.domains.proofs.FleetLemmas as facts
 use Rattle.domains.proofs.CrossingLemmas as crossings
 use Rattle.domains.proofs.StartLemmas as starts
@@ -97,19 +95,23 @@ module _ (inventory : Inventory) (n : Numbers) (l : FleetLists) (numbered : IsNu
 
   held_are : lists.held ≡ map (λ host. numbers_where (λ group. is_member paths rows group host) (length inventory.places)) (range_with_len 0 (length hosts))
   held_are =
-      subst (λ (n : ℕ). lists.held ≡ map (λ host. numbers_where (λ group. is_member paths rows group host) n) (range_with_len 0 (length hosts))) long (subst (λ (d : List ℕ). lists.held ≡ map (λ host. numbers_where (λ group. is_member (paths_from [] 0 d) rows group host) (length d)) (range_with_len 0 (length hosts))) numbered.all_depths lists.held_are)
+      subst (λ (n : ℕ). lists.held ≡ map (λ host. numbers_where (λ group. is_member paths rows group host) n) (range_with_len 0 (length hosts))) long
+      (subst (λ (d : List ℕ). lists.held ≡ map (λ host. numbers_where (λ group. is_member (paths_from [] 0 d) rows group host) (length d)) (range_with_len 0 (length hosts))) numbered.all_depths lists.held_are)
 
   members_are : members ≡ map (λ group. numbers_where (λ host. has_number group (list_at lists.held host)) (length lists.held)) (range_with_len 0 (length inventory.places))
   members_are =
-      subst (λ (n : ℕ). members ≡ map (λ group. numbers_where (λ host. has_number group (list_at lists.held host)) (length lists.held)) (range_with_len 0 n)) (ap length numbered.all_depths ∙ long) lists.members_are
+      subst
+      (λ (n : ℕ). members ≡ map (λ group. numbers_where (λ host. has_number group (list_at lists.held host)) (length lists.held)) (range_with_len 0 n))
+      (ap length numbered.all_depths ∙ long) lists.members_are
 
-  subtree_ends_are : subtree_ends ≡ map (λ group. last_where (on_path (depths_of inventory.places) group) (length inventory.places)) (range_with_len 0 (length inventory.places))
+  subtree_ends_are : subtree_ends ≡ map (last_under inventory.places) (range_with_len 0 (length inventory.places))
   subtree_ends_are =
-      subst (λ (n : ℕ). subtree_ends ≡ map (λ group. last_where (on_path (depths_of inventory.places) group) n) (range_with_len 0 n)) long (subst (λ (d : List ℕ). subtree_ends ≡ map (λ group. last_where (on_path d group) (length d)) (range_with_len 0 (length d))) numbered.all_depths lists.subtree_ends_are)
+      subst (λ (n : ℕ). subtree_ends ≡ map (λ group. last_where (is_above inventory.places group) n) (range_with_len 0 n)) long
+      (subst (λ (d : List ℕ). subtree_ends ≡ map (λ group. last_where (on_path d group) (length d)) (range_with_len 0 (length d))) numbered.all_depths lists.subtree_ends_are)
 
   subtree_ends_len : length subtree_ends ≡ length inventory.places
   subtree_ends_len =
-      ap length subtree_ends_are ∙ length-map-range_with_len (λ group. last_where (on_path (depths_of inventory.places) group) (length inventory.places)) 0 (length inventory.places)
+      ap length subtree_ends_are ∙ length-map-range_with_len (last_under inventory.places) 0 (length inventory.places)
 
   known : AreListsOf inventory hosts counts off chains members subtree_ends
   known =
@@ -135,29 +137,35 @@ module _ (inventory : Inventory) (n : Numbers) (l : FleetLists) (numbered : IsNu
 
   pub chains_below : All (λ (chain : List ℕ). are_below groups_bound chain ≡ true) chains
   chains_below k d at =
-      are_below-more (length inventory.places) groups_bound (get_or chains k d) (omega (arith, within.groups)) (are_below-rising (length inventory.places) (get_or chains k d) (groups_rise k d at))
+      are_below-more (length inventory.places) groups_bound (get_or chains k d) (omega (arith, within.groups))
+      (are_below-rising (length inventory.places) (get_or chains k d) (groups_rise k d at))
 
-  crossing_fault : (h first second : ℕ) → IsFirstCrossing subtree_ends chains h first second → IsLeastCrossing inventory (host_at hosts h) (host_at groups first) (host_at groups second)
+  crossing_fault : (h first second : ℕ) → IsFirstCrossing subtree_ends chains h first second
+      → IsLeastCrossing inventory (host_at hosts h) (host_at groups first) (host_at groups second)
   crossing_fault h first second found =
-      let name : (g : ℕ) → g < length inventory.places → (place_at inventory.places g).name ≡ host_at groups g = λ (g : ℕ) l. sym (get_or-map (λ (p : Place). p.name) inventory.places g nowhere [] l) ∙ sym (ap (λ (l : List Name). host_at l g) numbered.all_groups) in
-      let least = crossings.least_crossing inventory hosts counts off chains members subtree_ends known h first second found in
+      let name : (g : ℕ) → g < length inventory.places → (group_name inventory.places g) ≡ host_at groups g =
+      λ (g : ℕ) l. sym (get_or-map (λ (p : Place). p.name) inventory.places g nowhere [] l) ∙ sym (ap (λ (l : List Name). host_at l g) numbered.all_groups) in
+      let least = crossings.least_crossing known h first second found in
       let inside : h < length hosts = omega (arith, found.within, known.chains_len) in
       let in_first : first < length inventory.places = known.chain_within first h inside found.least.first_in in
       let in_second : second < length inventory.places = known.chain_within second h inside found.least.second_in in
-      subst (λ (n : Name). IsLeastCrossing inventory (host_at hosts h) (host_at groups first) n) (name second in_second) (subst (λ (n : Name). IsLeastCrossing inventory (host_at hosts h) n (place_at inventory.places second).name) (name first in_first) least)
+      subst (λ (n : Name). IsLeastCrossing inventory (host_at hosts h) (host_at groups first) n) (name second in_second)
+      (subst (λ (n : Name). IsLeastCrossing inventory (host_at hosts h) n (group_name inventory.places second)) (name first in_first) least)
 
   nested : AreChainsNested subtree_ends chains → IsNested inventory
   nested =
-      crossings.nested inventory hosts counts off chains members subtree_ends known
+      crossings.nested known
 
   over_fault : (group down limit : ℕ) → IsFirstOverGroup members counts off group down limit → IsFirstOver inventory (host_at groups group) down limit
   over_fault group down limit found =
       let inside : group < length inventory.places = omega (arith, found.within, members_len) in
-      subst (λ (n : Name). IsFirstOver inventory n down limit) (sym (get_or-map (λ (p : Place). p.name) inventory.places group nowhere [] inside) ∙ sym (ap (λ (l : List Name). host_at l group) numbered.all_groups)) (starts.first_over inventory hosts counts off chains members subtree_ends known group down limit found)
+      subst (λ (n : Name). IsFirstOver inventory n down limit)
+      (sym (get_or-map (λ (p : Place). p.name) inventory.places group nowhere [] inside) ∙ sym (ap (λ (l : List Name). host_at l group) numbered.all_groups))
+      (starts.first_over known group down limit found)
 
   starts_within : AreStartsWithin members counts off → StartsWithin inventory
   starts_within =
-      starts.starts_within inventory hosts counts off chains members subtree_ends known
+      starts.starts_within known
 
   groups_len : length groups ≡ length inventory.places
   groups_len = ap length numbered.all_groups ∙ length-map inventory.places (λ (p : Place). p.name)
@@ -173,7 +181,8 @@ module _ (inventory : Inventory) (n : Numbers) (l : FleetLists) (numbered : IsNu
 
   parent_is : (g : ℕ) → g < length inventory.places → IsParentOf inventory.places g (get_or parents g None)
   parent_is g l =
-      let here : get_or parents g None ≡ parent_on (path_at inventory.places g) = ap (λ (o : List (Option ℕ)). get_or o g None) parents_are ∙ get_or-map parent_on paths g [] None (omega (arith, l, paths_len)) in
+      let here : get_or parents g None ≡ parent_on (path_at inventory.places g) =
+      ap (λ (o : List (Option ℕ)). get_or o g None) parents_are ∙ get_or-map parent_on paths g [] None (omega (arith, l, paths_len)) in
       subst (IsParentOf inventory.places g) (sym here) (is_parent inventory.places distinct preorder g l)
 
   outermost_first : AreChainsNested subtree_ends chains → All (IsOutermostFirst inventory.places) chains
@@ -183,10 +192,13 @@ module _ (inventory : Inventory) (n : Numbers) (l : FleetLists) (numbered : IsNu
       let inside : h < length hosts = omega (arith, l, known.chains_len) in
       let up : Ascends 0 (length inventory.places) chain = Ascends-rising (length inventory.places) chain (groups_rise h d l) in
       let rises : get_or chain i 0 < get_or chain j 0 = ascends_at 0 (length inventory.places) chain i j up before within in
-      let first_in : has_number (get_or chain i 0) (list_at chains h) ≡ true = ap (has_number (get_or chain i 0)) (sym same) ∙ list_any_at (nat_eq (get_or chain i 0)) chain i 0 (omega (arith, before, within)) (eq-eqb _ _ refl) in
-      let second_in : has_number (get_or chain j 0) (list_at chains h) ≡ true = ap (has_number (get_or chain j 0)) (sym same) ∙ list_any_at (nat_eq (get_or chain j 0)) chain j 0 within (eq-eqb _ _ refl) in
+      let first_in : has_number (get_or chain i 0) (list_at chains h) ≡ true =
+      ap (has_number (get_or chain i 0)) (sym same) ∙ list_any_at (nat_eq (get_or chain i 0)) chain i 0 (omega (arith, before, within)) (eq-eqb _ _ refl) in
+      let second_in : has_number (get_or chain j 0) (list_at chains h) ≡ true =
+      ap (has_number (get_or chain j 0)) (sym same) ∙ list_any_at (nat_eq (get_or chain j 0)) chain j 0 within (eq-eqb _ _ refl) in
       let below = known.chain_within (get_or chain j 0) h inside second_in in
-      above_of inventory.places distinct preorder (get_or chain i 0) (get_or chain j 0) rises below (known.ends_before_at (get_or chain i 0) (get_or chain j 0) rises below ∙ nested_chains h l (get_or chain i 0) (get_or chain j 0) first_in second_in)
+      above_of inventory.places distinct preorder (get_or chain i 0) (get_or chain j 0) rises below
+      (known.ends_before_at (get_or chain i 0) (get_or chain j 0) rises below ∙ nested_chains h l (get_or chain i 0) (get_or chain j 0) first_in second_in)
 
   pub fleet_of : (order : List ℕ) → AreChainsNested subtree_ends chains → AreStartsWithin members counts off → IsFleetOf inventory (dealt_fleet n l order)
   fleet_of order nested_chains none =
@@ -206,7 +218,8 @@ module _ (inventory : Inventory) (n : Numbers) (l : FleetLists) (numbered : IsNu
   on_length : (g : ℕ) → g < length inventory.places → g < length (depths_of inventory.places)
   on_length g l = omega (arith, l, long)
 
-  pub sound : (order : List ℕ) → length hosts ≤ 4096 → AreChainsNested subtree_ends chains → AreStartsWithin members counts off → IsPermutation (range_with_len 0 (length chains)) order → IsDealt chains order → IsSound (dealt_fleet n l order)
+  pub sound : (order : List ℕ) → length hosts ≤ 4096 → AreChainsNested subtree_ends chains → AreStartsWithin members counts off
+      → IsPermutation (range_with_len 0 (length chains)) order → IsDealt chains order → IsSound (dealt_fleet n l order)
   sound order few nested_chains none once dealt =
       record {
         few_hosts = few;
@@ -223,13 +236,14 @@ module _ (inventory : Inventory) (n : Numbers) (l : FleetLists) (numbered : IsNu
         members_rise = known.members_rise;
         members_above = members_above;
         chains_rise = subst (λ (n : ℕ). All (IsRising n) chains) (sym groups_len) groups_rise;
-        chain_exact = sounds.chain_exact inventory hosts counts off chains members subtree_ends known;
-        chain_nested = λ h outer inner m e f. subtrees.in_subtree (depths_of inventory.places) parents parents_are outer inner (on_length inner (group_in inner h f)) (above h outer inner m e f);
-        inner_members = λ h outer inner m e f. sounds.members_above inventory hosts counts off chains members subtree_ends known outer inner (above h outer inner m e f) (omega (arith, m, group_in inner h f));
+        chain_exact = sounds.chain_exact known;
+        chain_nested =
+            λ h outer inner m e f. subtrees.in_subtree (depths_of inventory.places) parents parents_are outer inner (on_length inner (group_in inner h f)) (above h outer inner m e f);
+        inner_members = λ h outer inner m e f. sounds.members_above known outer inner (above h outer inner m e f) (omega (arith, m, group_in inner h f));
         within_limits = λ g limit e. sounds.not_over counts g limit (off_count off (list_at members g)) (none g (limited g limit e)) e;
         dealt_once = all_dealt;
         dealt = dealt;
-        together = deals.together inventory hosts counts off chains members subtree_ends known order dealt all_dealt nested_chains;
+        together = deals.together known order dealt all_dealt nested_chains;
       }
     where
       chains_len : length chains ≡ length hosts
@@ -240,16 +254,18 @@ module _ (inventory : Inventory) (n : Numbers) (l : FleetLists) (numbered : IsNu
 
       group_in : (g h : ℕ) → has_number g (list_at chains h) ≡ true → g < length inventory.places
       group_in g h e =
-          (sounds.in_chain inventory hosts counts off chains members subtree_ends known g h e).0
+          (sounds.in_chain known g h e).0
 
-      above : (h outer inner : ℕ) → outer < inner → has_number outer (list_at chains h) ≡ true → has_number inner (list_at chains h) ≡ true → on_path (depths_of inventory.places) outer inner ≡ true
+      above : (h outer inner : ℕ) → outer < inner → has_number outer (list_at chains h) ≡ true → has_number inner (list_at chains h) ≡ true
+          → is_above inventory.places outer inner ≡ true
       above =
-          sounds.chain_above inventory hosts counts off chains members subtree_ends known nested_chains
+          sounds.chain_above known nested_chains
 
       members_above : (top group : ℕ) → IsInSubtree parents top group → AreAmong (list_at members group) (list_at members top)
       members_above top group s host e =
-          let inside = sounds.member_within inventory hosts counts off chains members subtree_ends known group host e in
-          sounds.members_above inventory hosts counts off chains members subtree_ends known top group (subtrees.on_subtree (depths_of inventory.places) parents parents_are top group (on_length group inside.0) s) (omega (arith, s.after, inside.0)) host e
+          let inside = sounds.member_within known group host e in
+          sounds.members_above known top group (subtrees.on_subtree (depths_of inventory.places) parents parents_are top group (on_length group inside.0) s)
+          (omega (arith, s.after, inside.0)) host e
 
       limited : (g limit : ℕ) → get_or counts g None ≡ Some limit → g < length members
       limited g limit e = by_case (cases_lt g (length members))
@@ -260,7 +276,8 @@ module _ (inventory : Inventory) (n : Numbers) (l : FleetLists) (numbered : IsNu
               let past : get_or counts g None ≡ None = get_or_past counts g None (omega (arith, l, limits_len)) in
               absurd (cc)
 
-  pub fault_of : length hosts ≤ 4096 → (breach : Breach) (fault : FleetFault) → IsFirstBreach subtree_ends chains members counts off breach → IsNamed n breach fault → IsFaultOf inventory fault
+  pub fault_of : length hosts ≤ 4096 → (breach : Breach) (fault : FleetFault) → IsFirstBreach subtree_ends chains members counts off breach
+      → IsNamed n breach fault → IsFaultOf inventory fault
   fault_of few (Nesting crossing) (NotNested host first second) found named =
       (omega (arith, few, ap length numbered.all_hosts), rw (named.0, named.1, named.2) (crossing_fault crossing.host crossing.first crossing.second found))
   fault_of few (Nesting crossing) TooManyHosts found named = absurd named

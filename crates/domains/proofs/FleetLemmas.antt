@@ -1,9 +1,12 @@
 -- Lists by numbers say what the inventory says by names.
-use Rattle.std.proofs.Common.{◌≡◌, ℕ, ◌+◌, ◌≤◌, ◌<◌, Bool, true, false, ◌||◌, ◌&&◌, nat_eq, nat_lt, Option, Some, None, All, List, [], ◌∷◌, length, get_or, map, filter, is_some, option_map, sym, ap, ◌∙◌, refl, subst, arith, inl, inr, ◌⊎◌}
+use Rattle.std.proofs.Common.{◌≡◌, ℕ, ◌≤◌, ◌<◌, Bool, true, false, ◌||◌, ◌&&◌, nat_eq, nat_lt, Option, Some, None, All, List, [], ◌∷◌, length, get_or}
+use Rattle.std.proofs.Common.{map, filter, is_some, option_map, sym, ap, ◌∙◌, refl, subst, arith, inl, inr, ◌⊎◌}
 use Rattle.std.specs.List.{range_with_len}
 use Rattle.std.specs.List.Sorted.{IsStrictlySortedBy}
-use Rattle.std.proofs.lemmas.Bool.{cases_lt, false≢true, and_parts, lt-ltb, ltb-true, or_cases}
+use Rattle.std.proofs.lemmas.Bool.{cases_lt, false≢true, and_parts, lt-ltb, ltb-true, or_cases, or_left, or_right}
 use Rattle.std.proofs.lemmas.List.{length-map, get_or-map, same_lists, get_or_default, get_or_past}
+use Rattle.std.proofs.lemmas.List.Elements.{All-head, All-tail}
+use Rattle.std.proofs.Math.Nat.{zero-add}
 use Rattle.std.proofs.lemmas.List.FromFn.{length-map-range_with_len, get_or-map-range_with_len}
 use Rattle.inventory_model.specs.Names.{Name, are_distinct}
 use Rattle.inventory_model.specs.Places.{Place, Row, Inventory, is_preorder}
@@ -12,51 +15,35 @@ use Rattle.inventory_model.specs.Bounds.{group_names}
 use Rattle.inventory_model.specs.Limits.{Limit, allowed}
 use Rattle.fleet_numbers.specs.SortedNames.{name_cmp}
 use Rattle.fleet_numbers.specs.NumberLists.{has_number, list_at, numbers_where, last_where, IsRising}
-use Rattle.fleet_numbers.specs.GroupPaths.{paths_from, is_member}
+use Rattle.fleet_numbers.specs.GroupPaths.{is_member}
 use Rattle.fleet_numbers.specs.Chains.{is_limited, ends_before}
 use Rattle.fleet_numbers.proofs.SortedNamesLemmas.{is_rising-sorted_names}
 use Rattle.fleet_numbers.proofs.RisingLemmas.{has_number-numbers_where}
-use Rattle.fleet_numbers.proofs.PathLemmas.{on_path, last_where-is, on_own, on_through}
-use Rattle.std.proofs.lemmas.List.Elements.{All-head, All-tail}
-use Rattle.domains.specs.Hosts.{hosts_of, is_off}
+use Rattle.fleet_numbers.proofs.PathLemmas.{last_where-is, on_own, on_through}
 use Rattle.domains.specs.Starts.{place_at, nowhere, member_count, allowed_of}
 use Rattle.domains.specs.FleetLists.{allowed_counts}
-use Rattle.domains.specs.Nested.{are_apart, is_limited_holder}
+use Rattle.domains.specs.Nested.{are_apart}
 use Rattle.domains.specs.Numbered.{host_at, IsNumbering}
 use Rattle.domains.specs.Members.{members_of, chains_of}
-use Rattle.domains.proofs.PlaceLemmas.{depths_of, among_path, apart_past}
+use Rattle.domains.proofs.ByNumber.{group_name, depths_of, paths_of, is_above, last_under, GroupsWithin, holds_at, held_hosts, limits_at, limited_groups}
+use Rattle.domains.proofs.KnownLists.{AreListsOf}
+use Rattle.domains.proofs.PlaceLemmas.{among_path, apart_past}
 use Rattle.domains.proofs.NumberLemmas.{holds-numbers}
 use Rattle.domains.proofs.WhereLemmas.{filtered_names, numbers_where-same, rising-numbers_where, filter-filter, and_swap}
 
--- each group's path
-abbrev pub paths_of : Inventory → List (List ℕ)
-paths_of inventory = paths_from [] 0 (depths_of inventory.places)
+-- the hosts whose lists hold a number
+abbrev hosts_under : List (List ℕ) → ℕ → List ℕ
+hosts_under held number = numbers_where (λ host. has_number number (list_at held host)) (length held)
 
--- what the lists of numbers say by names, on which the laws of crossings, of the start and of the deal order rest
-pub record AreListsOf (inventory : Inventory) (hosts : List Name) (limits : List (Option ℕ)) (off : List Bool) (chains members : List (List ℕ)) (subtree_ends : List ℕ) : Type 0 where
-  pub all_hosts : hosts ≡ hosts_of inventory
-  pub all_off : off ≡ map (is_off inventory) hosts
-  pub hosts_rise : IsStrictlySortedBy name_cmp hosts
-  pub limit_at : (g : ℕ) → get_or limits g None ≡ allowed_of inventory (place_at inventory.places g)
-  pub limited_at : (g : ℕ) → is_limited limits g ≡ is_some (place_at inventory.places g).limit
-  pub all_counts : limits ≡ map (allowed_of inventory) inventory.places
-  pub limited_within : (g : ℕ) → is_some (place_at inventory.places g).limit ≡ true → g < length inventory.places
-  pub chains_len : length chains ≡ length hosts
-  pub chain_at : (h : ℕ) → h < length hosts → list_at chains h ≡ numbers_where (λ group. is_limited_holder inventory (host_at hosts h) (place_at inventory.places group)) (length inventory.places)
-  pub chains_rise : All (IsRising (length inventory.places)) chains
-  pub all_chains : chains ≡ chains_of inventory hosts
-  pub chain_within : (g h : ℕ) → h < length hosts → has_number g (list_at chains h) ≡ true → g < length inventory.places
-  pub holder_at : (g h : ℕ) → g < length inventory.places → h < length hosts → has_number g (list_at chains h) ≡ is_limited_holder inventory (host_at hosts h) (place_at inventory.places g)
-  pub members_len : length members ≡ length inventory.places
-  pub members_rise : All (IsRising (length hosts)) members
-  pub all_members : members ≡ members_of inventory hosts
-  pub members_at : (g : ℕ) → g < length inventory.places → list_at members g ≡ numbers_where (λ host. holds inventory (place_at inventory.places g).name (host_at hosts host)) (length hosts)
-  pub last_at : (g : ℕ) → g < length inventory.places → get_or subtree_ends g 0 ≡ last_where (on_path (depths_of inventory.places) g) (length inventory.places)
-  pub last_above : (g : ℕ) → g < length inventory.places → g ≤ get_or subtree_ends g 0
-  pub ends_before_at : (i j : ℕ) → i < j → j < length inventory.places → are_apart (place_at inventory.places i) (place_at inventory.places j) ≡ ends_before subtree_ends i j
-  pub held_above : (g t h : ℕ) → g < length inventory.places → t < length inventory.places → h < length hosts → on_path (depths_of inventory.places) g t ≡ true → holds inventory (place_at inventory.places t).name (host_at hosts h) ≡ true → holds inventory (place_at inventory.places g).name (host_at hosts h) ≡ true
+abbrev allowed_for : ℕ → Option Limit → Option ℕ
+allowed_for count = option_map (λ (limit : Limit). allowed limit count)
 
-module _ (inventory : Inventory) (hosts groups : List Name) (limits : List (Option Limit)) (depths : List ℕ) (rows : List (ℕ × ℕ)) (off : List Bool) (numbered : IsNumbering inventory hosts groups limits depths rows off) (distinct : are_distinct (group_names inventory.places) ≡ true) (preorder : is_preorder inventory.places ≡ true) where
+abbrev count_of : List (Option Limit) → List (List ℕ) → ℕ → Option ℕ
+count_of limits members group = allowed_for (length (list_at members group)) (get_or limits group None)
+
+module _ (inventory : Inventory) (hosts groups : List Name) (limits : List (Option Limit)) (depths : List ℕ) (rows : List (ℕ × ℕ))
+    (off : List Bool) (numbered : IsNumbering inventory hosts groups limits depths rows off)
+    (distinct : are_distinct (group_names inventory.places) ≡ true) (preorder : is_preorder inventory.places ≡ true) where
   pub hosts_rise : IsStrictlySortedBy name_cmp hosts
   hosts_rise =
       subst (λ (l : List Name). IsStrictlySortedBy name_cmp l) (sym numbered.all_hosts) (is_rising-sorted_names (map (λ (row : Row). row.host) inventory.rows))
@@ -65,42 +52,64 @@ module _ (inventory : Inventory) (hosts groups : List Name) (limits : List (Opti
   own_limit_at g =
       ap (λ (l : List (Option Limit)). get_or l g None) numbered.all_limits ∙ by_case (cases_lt g (length inventory.places))
     where
-      by_case : (g < length inventory.places) ⊎ (length inventory.places ≤ g) → get_or (map (λ (p : Place). p.limit) inventory.places) g None ≡ (place_at inventory.places g).limit
-      by_case (inl l) = get_or-map (λ (p : Place). p.limit) inventory.places g nowhere None l
-      by_case (inr l) =
-          get_or_past (map (λ (p : Place). p.limit) inventory.places) g None (simp length-map l) ∙ sym (ap (λ (p : Place). p.limit) (get_or_past inventory.places g nowhere l))
+      limit : Place → Option Limit
+      limit p = p.limit
 
-  pub member_at : (g h : ℕ) → g < length inventory.places → h < length hosts → is_member (paths_of inventory) rows g h ≡ holds inventory (place_at inventory.places g).name (host_at hosts h)
+      by_case : (g < length inventory.places) ⊎ (length inventory.places ≤ g) → get_or (map limit inventory.places) g None ≡ limit (place_at inventory.places g)
+      by_case (inl l) = get_or-map limit inventory.places g nowhere None l
+      by_case (inr l) =
+          get_or_past (map limit inventory.places) g None (simp length-map l) ∙ sym (ap limit (get_or_past inventory.places g nowhere l))
+
+  pub member_at : (g h : ℕ) → g < length inventory.places → h < length hosts → is_member (paths_of inventory) rows g h ≡ holds_at inventory hosts g h
   member_at g h l m =
-      sym (holds-numbers inventory hosts rows (λ a b c d. among_path inventory.places distinct preorder a b c d) hosts_rise g h l m numbered.all_rows numbered.hosts_in numbered.groups_in)
+      let among = among_path inventory.places distinct preorder in
+      sym (holds-numbers inventory hosts rows among hosts_rise g h l m numbered.all_rows numbered.hosts_in numbered.groups_in)
+
+  -- the groups that hold a host, by the paths and the rows
+  abbrev member : ℕ → ℕ → Bool
+  member host group = is_member (paths_of inventory) rows group host
+
+  abbrev holders : ℕ → List ℕ
+  holders host = numbers_where (member host) (length inventory.places)
 
   -- the lists that are made of paths and rows
-  module _ (counts : List (Option ℕ)) (held chains members : List (List ℕ)) (subtree_ends : List ℕ) (held_are : held ≡ map (λ host. numbers_where (λ group. is_member (paths_of inventory) rows group host) (length inventory.places)) (range_with_len 0 (length hosts))) (counts_are : counts ≡ allowed_counts limits members) (chains_are : chains ≡ map (filter (is_limited counts)) held) (members_are : members ≡ map (λ group. numbers_where (λ host. has_number group (list_at held host)) (length held)) (range_with_len 0 (length inventory.places))) (subtree_ends_are : subtree_ends ≡ map (λ group. last_where (on_path (depths_of inventory.places) group) (length inventory.places)) (range_with_len 0 (length inventory.places))) where
+  module _ (counts : List (Option ℕ)) (held chains members : List (List ℕ)) (subtree_ends : List ℕ)
+      (held_are : held ≡ map holders (range_with_len 0 (length hosts))) (counts_are : counts ≡ allowed_counts limits members)
+      (chains_are : chains ≡ map (filter (is_limited counts)) held)
+      (members_are : members ≡ map (hosts_under held) (range_with_len 0 (length inventory.places)))
+      (subtree_ends_are : subtree_ends ≡ map (last_under inventory.places) (range_with_len 0 (length inventory.places))) where
     held_len : length held ≡ length hosts
     held_len =
-        ap length held_are ∙ length-map-range_with_len (λ host. numbers_where (λ group. is_member (paths_of inventory) rows group host) (length inventory.places)) 0 (length hosts)
+        ap length held_are ∙ length-map-range_with_len holders 0 (length hosts)
 
-    held_at : (h : ℕ) → h < length hosts → list_at held h ≡ numbers_where (λ group. is_member (paths_of inventory) rows group h) (length inventory.places)
+    held_at : (h : ℕ) → h < length hosts → list_at held h ≡ holders h
     held_at h l =
-        ap (λ (x : List (List ℕ)). list_at x h) held_are ∙ get_or-map-range_with_len (λ host. numbers_where (λ group. is_member (paths_of inventory) rows group host) (length inventory.places)) 0 (length hosts) h h [] l (omega arith)
+        ap (λ (x : List (List ℕ)). list_at x h) held_are ∙ get_or-map-range_with_len holders 0 (length hosts) h h [] l (omega arith)
 
     held_rise : All (IsRising (length inventory.places)) held
     held_rise k d l =
         let inside : k < length hosts = omega (arith, l, held_len) in
-        subst (λ (x : List ℕ). IsRising (length inventory.places) x) (sym (get_or_default held k d [] l ∙ held_at k inside)) (rising-numbers_where (λ group. is_member (paths_of inventory) rows group k) (length inventory.places))
+        subst (λ (x : List ℕ). IsRising (length inventory.places) x) (sym (get_or_default held k d [] l ∙ held_at k inside))
+        (rising-numbers_where (member k) (length inventory.places))
 
     counts_len : length counts ≡ length inventory.places
     counts_len =
-        ap length counts_are ∙ length-map-range_with_len (λ group. option_map (λ (limit : Limit). allowed limit (length (list_at members group))) (get_or limits group None)) 0 (length limits) ∙ ap length numbered.all_limits ∙ length-map inventory.places (λ (p : Place). p.limit)
+        ap length counts_are
+        ∙ length-map-range_with_len (count_of limits members) 0 (length limits)
+        ∙ ap length numbered.all_limits
+        ∙ length-map inventory.places (λ (p : Place). p.limit)
 
-    count_at : (g : ℕ) → g < length inventory.places → get_or counts g None ≡ option_map (λ (limit : Limit). allowed limit (length (list_at members g))) (place_at inventory.places g).limit
+    count_at : (g : ℕ) → g < length inventory.places → get_or counts g None ≡ allowed_for (length (list_at members g)) (place_at inventory.places g).limit
     count_at g l =
-        ap (λ (c : List (Option ℕ)). get_or c g None) counts_are ∙ get_or-map-range_with_len (λ group. option_map (λ (limit : Limit). allowed limit (length (list_at members group))) (get_or limits group None)) 0 (length limits) g g None (omega (arith, l, ap length numbered.all_limits, length-map inventory.places (λ (p : Place). p.limit))) (omega arith) ∙ ap (option_map (λ (limit : Limit). allowed limit (length (list_at members g)))) (own_limit_at g)
+        ap (λ (c : List (Option ℕ)). get_or c g None) counts_are
+        ∙ get_or-map-range_with_len (count_of limits members) 0 (length limits) g g None
+        (omega (arith, l, ap length numbered.all_limits, length-map inventory.places (λ (p : Place). p.limit))) (omega arith)
+        ∙ ap (allowed_for (length (list_at members g))) (own_limit_at g)
 
     limited_at : (g : ℕ) → is_limited counts g ≡ is_some (place_at inventory.places g).limit
     limited_at g = by_case (cases_lt g (length inventory.places))
       where
-        still : (n : ℕ) (o : Option Limit) → is_some (option_map (λ (limit : Limit). allowed limit n) o) ≡ is_some o
+        still : (n : ℕ) (o : Option Limit) → is_some (allowed_for n o) ≡ is_some o
         still n None = refl
         still n (Some limit) = refl
 
@@ -108,76 +117,105 @@ module _ (inventory : Inventory) (hosts groups : List Name) (limits : List (Opti
         by_case (inl l) =
             ap (λ (o : Option ℕ). is_some o) (count_at g l) ∙ still (length (list_at members g)) (place_at inventory.places g).limit
         by_case (inr l) =
-            ap (λ (o : Option ℕ). is_some o) (get_or_past counts g None (omega (arith, l, counts_len))) ∙ sym (ap (λ (p : Place). is_some p.limit) (get_or_past inventory.places g nowhere l))
+            ap (λ (o : Option ℕ). is_some o) (get_or_past counts g None (omega (arith, l, counts_len)))
+            ∙ sym (ap (λ (p : Place). is_some p.limit) (get_or_past inventory.places g nowhere l))
 
     chains_len : length chains ≡ length hosts
     chains_len = ap length chains_are ∙ length-map held (filter (is_limited counts)) ∙ held_len
 
-    chain_at : (h : ℕ) → h < length hosts → list_at chains h ≡ numbers_where (λ group. is_limited_holder inventory (host_at hosts h) (place_at inventory.places group)) (length inventory.places)
+    chain_at : (h : ℕ) → h < length hosts → list_at chains h ≡ limited_groups inventory (host_at hosts h)
     chain_at h l =
-        ap (λ (x : List (List ℕ)). list_at x h) chains_are ∙ get_or-map (filter (is_limited counts)) held h [] [] (omega (arith, held_len)) ∙ ap (filter (is_limited counts)) (held_at h l) ∙ filter-filter (is_limited counts) (λ group. is_member (paths_of inventory) rows group h) (range_with_len 0 (length inventory.places)) ∙ numbers_where-same (λ group. is_member (paths_of inventory) rows group h && is_limited counts group) (λ group. is_limited_holder inventory (host_at hosts h) (place_at inventory.places group)) (length inventory.places) (λ k m. and_swap (is_member (paths_of inventory) rows k h) (is_limited counts k) ∙ ap (λ b. b && is_member (paths_of inventory) rows k h) (limited_at k) ∙ ap (λ b. is_some (place_at inventory.places k).limit && b) (member_at k h m l))
+        ap (λ (x : List (List ℕ)). list_at x h) chains_are
+        ∙ get_or-map (filter (is_limited counts)) held h [] [] (omega (arith, held_len))
+        ∙ ap (filter (is_limited counts)) (held_at h l)
+        ∙ filter-filter (is_limited counts) (member h) (range_with_len 0 (length inventory.places))
+        ∙ numbers_where-same (λ group. member h group && is_limited counts group) (limits_at inventory (host_at hosts h)) (length inventory.places) λ k m.
+        and_swap (member h k) (is_limited counts k)
+        ∙ ap (λ b. b && member h k) (limited_at k)
+        ∙ ap (λ b. is_some (place_at inventory.places k).limit && b) (member_at k h m l)
 
     chains_rise : All (IsRising (length inventory.places)) chains
     chains_rise k d l =
         let inside : k < length hosts = omega (arith, l, chains_len) in
-        subst (λ (x : List ℕ). IsRising (length inventory.places) x) (sym (get_or_default chains k d [] l ∙ chain_at k inside)) (rising-numbers_where (λ group. is_limited_holder inventory (host_at hosts k) (place_at inventory.places group)) (length inventory.places))
+        subst (λ (x : List ℕ). IsRising (length inventory.places) x) (sym (get_or_default chains k d [] l ∙ chain_at k inside))
+        (rising-numbers_where (limits_at inventory (host_at hosts k)) (length inventory.places))
 
     all_chains : chains ≡ chains_of inventory hosts
     all_chains =
-        same_lists chains (chains_of inventory hosts) (chains_len ∙ sym (length-map hosts (λ host. numbers_where (λ group. is_limited_holder inventory host (place_at inventory.places group)) (length inventory.places)))) (λ k d l. get_or_default chains k d [] l ∙ chain_at k (omega (arith, l, chains_len)) ∙ sym (get_or-map (λ host. numbers_where (λ group. is_limited_holder inventory host (place_at inventory.places group)) (length inventory.places)) hosts k [] d (omega (arith, l, chains_len))))
+        same_lists chains (chains_of inventory hosts) (chains_len ∙ sym (length-map hosts (limited_groups inventory))) λ k d l.
+        let inside : k < length hosts = omega (arith, l, chains_len) in
+        get_or_default chains k d [] l ∙ chain_at k inside ∙ sym (get_or-map (limited_groups inventory) hosts k [] d inside)
 
     members_len : length members ≡ length inventory.places
     members_len =
-        ap length members_are ∙ length-map-range_with_len (λ group. numbers_where (λ host. has_number group (list_at held host)) (length held)) 0 (length inventory.places)
+        ap length members_are ∙ length-map-range_with_len (hosts_under held) 0 (length inventory.places)
 
-    members_at : (g : ℕ) → g < length inventory.places → list_at members g ≡ numbers_where (λ host. holds inventory (place_at inventory.places g).name (host_at hosts host)) (length hosts)
+    members_at : (g : ℕ) → g < length inventory.places → list_at members g ≡ held_hosts inventory hosts (group_name inventory.places g)
     members_at g l =
-        ap (λ (x : List (List ℕ)). list_at x g) members_are ∙ get_or-map-range_with_len (λ group. numbers_where (λ host. has_number group (list_at held host)) (length held)) 0 (length inventory.places) g g [] l (omega arith) ∙ ap (numbers_where (λ host. has_number g (list_at held host))) held_len ∙ numbers_where-same (λ host. has_number g (list_at held host)) (λ host. holds inventory (place_at inventory.places g).name (host_at hosts host)) (length hosts) (λ h m. ap (has_number g) (held_at h m) ∙ has_number-numbers_where (λ group. is_member (paths_of inventory) rows group h) (length inventory.places) g ∙ ap (λ b. b && is_member (paths_of inventory) rows g h) (lt-ltb g (length inventory.places) l) ∙ member_at g h l m)
+        ap (λ (x : List (List ℕ)). list_at x g) members_are
+        ∙ get_or-map-range_with_len (hosts_under held) 0 (length inventory.places) g g [] l (omega arith)
+        ∙ ap (numbers_where (λ host. has_number g (list_at held host))) held_len
+        ∙ numbers_where-same (λ host. has_number g (list_at held host)) (holds_at inventory hosts g) (length hosts) λ h m.
+        ap (has_number g) (held_at h m)
+        ∙ has_number-numbers_where (member h) (length inventory.places) g
+        ∙ ap (λ b. b && member h g) (lt-ltb g (length inventory.places) l)
+        ∙ member_at g h l m
 
-    member_count_at : (g : ℕ) → g < length inventory.places → length (list_at members g) ≡ member_count inventory (place_at inventory.places g).name
+    member_count_at : (g : ℕ) → g < length inventory.places → length (list_at members g) ≡ member_count inventory (group_name inventory.places g)
     member_count_at g l =
-        ap length (members_at g l) ∙ filtered_names (λ host. holds inventory (place_at inventory.places g).name (host_at hosts host)) (holds inventory (place_at inventory.places g).name) hosts 0 (λ k m. ap (λ (n : ℕ). holds inventory (place_at inventory.places g).name (host_at hosts n)) (zero_add k)) ∙ ap (λ (l : List Name). length (filter (holds inventory (place_at inventory.places g).name) l)) numbered.all_hosts
-      where
-        zero_add : (n : ℕ) → 0 + n ≡ n
-        zero_add n = omega arith
+        ap length (members_at g l)
+        ∙ filtered_names (holds_at inventory hosts g) (holds inventory (group_name inventory.places g)) hosts 0 (λ k m. ap (holds_at inventory hosts g) (zero-add k))
+        ∙ ap (λ (l : List Name). length (filter (holds inventory (group_name inventory.places g)) l)) numbered.all_hosts
 
     limit_at : (g : ℕ) → get_or counts g None ≡ allowed_of inventory (place_at inventory.places g)
     limit_at g = by_case (cases_lt g (length inventory.places))
       where
         by_case : (g < length inventory.places) ⊎ (length inventory.places ≤ g) → get_or counts g None ≡ allowed_of inventory (place_at inventory.places g)
         by_case (inl l) =
-            count_at g l ∙ ap (λ (n : ℕ). option_map (λ (limit : Limit). allowed limit n) (place_at inventory.places g).limit) (member_count_at g l)
+            count_at g l ∙ ap (λ (n : ℕ). allowed_for n (place_at inventory.places g).limit) (member_count_at g l)
         by_case (inr l) =
             get_or_past counts g None (omega (arith, l, counts_len)) ∙ sym (ap (allowed_of inventory) (get_or_past inventory.places g nowhere l))
 
     all_counts : counts ≡ map (allowed_of inventory) inventory.places
     all_counts =
-        same_lists counts (map (allowed_of inventory) inventory.places) (counts_len ∙ sym (length-map inventory.places (allowed_of inventory))) (λ k d l. get_or_default counts k d None l ∙ limit_at k ∙ sym (get_or-map (allowed_of inventory) inventory.places k nowhere d (omega (arith, l, counts_len))))
+        same_lists counts (map (allowed_of inventory) inventory.places) (counts_len ∙ sym (length-map inventory.places (allowed_of inventory)))
+        (λ k d l. get_or_default counts k d None l ∙ limit_at k ∙ sym (get_or-map (allowed_of inventory) inventory.places k nowhere d (omega (arith, l, counts_len))))
 
     members_rise : All (IsRising (length hosts)) members
     members_rise k d l =
         let inside : k < length inventory.places = omega (arith, l, members_len) in
-        subst (λ (x : List ℕ). IsRising (length hosts) x) (sym (get_or_default members k d [] l ∙ members_at k inside)) (rising-numbers_where (λ host. holds inventory (place_at inventory.places k).name (host_at hosts host)) (length hosts))
+        subst (λ (x : List ℕ). IsRising (length hosts) x) (sym (get_or_default members k d [] l ∙ members_at k inside))
+        (rising-numbers_where (holds_at inventory hosts k) (length hosts))
 
     all_members : members ≡ members_of inventory hosts
     all_members =
-        same_lists members (members_of inventory hosts) (members_len ∙ sym (length-map inventory.places (λ (place : Place). numbers_where (λ host. holds inventory place.name (host_at hosts host)) (length hosts)))) (λ k d l. get_or_default members k d [] l ∙ members_at k (omega (arith, l, members_len)) ∙ sym (get_or-map (λ (place : Place). numbers_where (λ host. holds inventory place.name (host_at hosts host)) (length hosts)) inventory.places k nowhere d (omega (arith, l, members_len))))
+        same_lists members (members_of inventory hosts)
+        (members_len ∙ sym (length-map inventory.places own)) λ k d l.
+        let inside : k < length inventory.places = omega (arith, l, members_len) in
+        get_or_default members k d [] l ∙ members_at k inside ∙ sym (get_or-map own inventory.places k nowhere d inside)
+      where
+        own : Place → List ℕ
+        own place = held_hosts inventory hosts place.name
 
     -- who stands in a chain
-    holder_at : (g h : ℕ) → g < length inventory.places → h < length hosts → has_number g (list_at chains h) ≡ is_limited_holder inventory (host_at hosts h) (place_at inventory.places g)
+    holder_at : (g h : ℕ) → g < length inventory.places → h < length hosts → has_number g (list_at chains h) ≡ limits_at inventory (host_at hosts h) g
     holder_at g h l m =
-        ap (has_number g) (chain_at h m) ∙ has_number-numbers_where (λ group. is_limited_holder inventory (host_at hosts h) (place_at inventory.places group)) (length inventory.places) g ∙ ap (λ b. b && is_limited_holder inventory (host_at hosts h) (place_at inventory.places g)) (lt-ltb g (length inventory.places) l)
+        ap (has_number g) (chain_at h m)
+        ∙ has_number-numbers_where (limits_at inventory (host_at hosts h)) (length inventory.places) g
+        ∙ ap (λ b. b && limits_at inventory (host_at hosts h) g) (lt-ltb g (length inventory.places) l)
 
-    last_at : (g : ℕ) → g < length inventory.places → get_or subtree_ends g 0 ≡ last_where (on_path (depths_of inventory.places) g) (length inventory.places)
+    last_at : (g : ℕ) → g < length inventory.places → get_or subtree_ends g 0 ≡ last_under inventory.places g
     last_at g l =
-        ap (λ (x : List ℕ). get_or x g 0) subtree_ends_are ∙ get_or-map-range_with_len (λ group. last_where (on_path (depths_of inventory.places) group) (length inventory.places)) 0 (length inventory.places) g g 0 l (omega arith)
+        ap (λ (x : List ℕ). get_or x g 0) subtree_ends_are ∙ get_or-map-range_with_len (last_under inventory.places) 0 (length inventory.places) g g 0 l (omega arith)
 
     depths_len : length (depths_of inventory.places) ≡ length inventory.places
     depths_len = length-map inventory.places (λ (p : Place). length p.above)
 
     ends_before_at : (i j : ℕ) → i < j → j < length inventory.places → are_apart (place_at inventory.places i) (place_at inventory.places j) ≡ ends_before subtree_ends i j
     ends_before_at i j l m =
-        apart_past inventory.places distinct preorder i j l m ∙ ap (λ (n : ℕ). nat_lt (last_where (on_path (depths_of inventory.places) i) n) j) depths_len ∙ sym (ap (λ (n : ℕ). nat_lt n j) (last_at i (omega arith)))
+        apart_past inventory.places distinct preorder i j l m
+        ∙ ap (λ (n : ℕ). nat_lt (last_where (is_above inventory.places i) n) j) depths_len
+        ∙ sym (ap (λ (n : ℕ). nat_lt n j) (last_at i (omega arith)))
 
     -- a limited group has a number
     limited_within : (g : ℕ) → is_some (place_at inventory.places g).limit ≡ true → g < length inventory.places
@@ -190,38 +228,37 @@ module _ (inventory : Inventory) (hosts groups : List Name) (limits : List (Opti
 
     last_above : (g : ℕ) → g < length inventory.places → g ≤ get_or subtree_ends g 0
     last_above g l =
-        let r = last_where-is (on_path (depths_of inventory.places) g) (length inventory.places) g l (on_own (depths_of inventory.places) g (omega (arith, depths_len))) in
+        let r = last_where-is (is_above inventory.places g) (length inventory.places) g l (on_own (depths_of inventory.places) g (omega (arith, depths_len))) in
         omega (arith, last_at g l, r.1)
 
     chain_within : (g h : ℕ) → h < length hosts → has_number g (list_at chains h) ≡ true → g < length inventory.places
     chain_within g h l e =
-        let split : (nat_lt g (length inventory.places) && is_limited_holder inventory (host_at hosts h) (place_at inventory.places g)) ≡ true = sym (ap (has_number g) (chain_at h l) ∙ has_number-numbers_where (λ group. is_limited_holder inventory (host_at hosts h) (place_at inventory.places group)) (length inventory.places) g) ∙ e in
-        ltb-true g (length inventory.places) (and_parts (nat_lt g (length inventory.places)) (is_limited_holder inventory (host_at hosts h) (place_at inventory.places g)) split).0
+        let split : (nat_lt g (length inventory.places) && limits_at inventory (host_at hosts h) g) ≡ true =
+        sym (ap (has_number g) (chain_at h l) ∙ has_number-numbers_where (limits_at inventory (host_at hosts h)) (length inventory.places) g) ∙ e in
+        ltb-true g (length inventory.places) (and_parts (nat_lt g (length inventory.places)) (limits_at inventory (host_at hosts h) g) split).0
 
     -- a host that a group holds is held by each group above it
-    held_above : (g t h : ℕ) → g < length inventory.places → t < length inventory.places → h < length hosts → on_path (depths_of inventory.places) g t ≡ true → holds inventory (place_at inventory.places t).name (host_at hosts h) ≡ true → holds inventory (place_at inventory.places g).name (host_at hosts h) ≡ true
+    held_above : (g t h : ℕ) → g < length inventory.places → t < length inventory.places → h < length hosts → is_above inventory.places g t ≡ true
+        → holds_at inventory hosts t h ≡ true → holds_at inventory hosts g h ≡ true
     held_above g t h l m w e f =
         sym (member_at g h l w) ∙ through rows numbered.groups_in (member_at t h m w ∙ f)
       where
-        or_true : (a : Bool) {b : Bool} → b ≡ true → (a || b) ≡ true
-        or_true true q = refl
-        or_true false q = q
-
-        true_or : {a : Bool} (b : Bool) → a ≡ true → (a || b) ≡ true
-        true_or {a} b q = ap (λ c. c || b) q
-
-        through : (rs : List (ℕ × ℕ)) → All (λ (r : ℕ × ℕ). r.1 < length inventory.places) rs → is_member (paths_of inventory) rs t h ≡ true → is_member (paths_of inventory) rs g h ≡ true
+        through : (rs : List (ℕ × ℕ)) → GroupsWithin inventory.places rs → is_member (paths_of inventory) rs t h ≡ true → is_member (paths_of inventory) rs g h ≡ true
         through [] within q = absurd (false≢true q)
         through (r ∷ rs) within q =
-            by_case (through rs (All-tail (λ (r : ℕ × ℕ). r.1 < length inventory.places) r rs within)) (or_cases (nat_eq h r.0 && has_number t (list_at (paths_of inventory) r.1)) (is_member (paths_of inventory) rs t h) q)
+            by_case (through rs (All-tail (λ (r : ℕ × ℕ). r.1 < length inventory.places) r rs within))
+            (or_cases (nat_eq h r.0 && is_above inventory.places t r.1) (is_member (paths_of inventory) rs t h) q)
           where
-            by_case : (is_member (paths_of inventory) rs t h ≡ true → is_member (paths_of inventory) rs g h ≡ true) → ((nat_eq h r.0 && has_number t (list_at (paths_of inventory) r.1)) ≡ true) ⊎ (is_member (paths_of inventory) rs t h ≡ true) → ((nat_eq h r.0 && has_number g (list_at (paths_of inventory) r.1)) || is_member (paths_of inventory) rs g h) ≡ true
+            by_case : (is_member (paths_of inventory) rs t h ≡ true → is_member (paths_of inventory) rs g h ≡ true)
+                → ((nat_eq h r.0 && is_above inventory.places t r.1) ≡ true) ⊎ (is_member (paths_of inventory) rs t h ≡ true)
+                → ((nat_eq h r.0 && is_above inventory.places g r.1) || is_member (paths_of inventory) rs g h) ≡ true
             by_case later (inl s) =
-                let parts = and_parts (nat_eq h r.0) (has_number t (list_at (paths_of inventory) r.1)) s in
-                let on : on_path (depths_of inventory.places) g r.1 ≡ true = on_through (depths_of inventory.places) g t r.1 (omega (arith, depths_len, All-head (λ (r : ℕ × ℕ). r.1 < length inventory.places) r rs within)) e parts.1 in
-                true_or (is_member (paths_of inventory) rs g h) (ap (λ b. b && has_number g (list_at (paths_of inventory) r.1)) parts.0 ∙ on)
+                let parts = and_parts (nat_eq h r.0) (is_above inventory.places t r.1) s in
+                let on : is_above inventory.places g r.1 ≡ true =
+                on_through (depths_of inventory.places) g t r.1 (omega (arith, depths_len, All-head (λ (r : ℕ × ℕ). r.1 < length inventory.places) r rs within)) e parts.1 in
+                or_left (nat_eq h r.0 && is_above inventory.places g r.1) (is_member (paths_of inventory) rs g h) (ap (λ b. b && is_above inventory.places g r.1) parts.0 ∙ on)
             by_case later (inr s) =
-                or_true (nat_eq h r.0 && has_number g (list_at (paths_of inventory) r.1)) (later s)
+                or_right (nat_eq h r.0 && is_above inventory.places g r.1) (is_member (paths_of inventory) rs g h) (later s)
 
     pub known : AreListsOf inventory hosts counts off chains members subtree_ends
     known =

@@ -1,10 +1,13 @@
+pub mod ByNumber
 pub mod WalkLemmas
 pub mod OffLemmas
+pub mod BeginLemmas
 pub mod PlaceLemmas
 pub mod ParentLemmas
 pub mod NumberLemmas
 pub mod NameLemmas
 pub mod WhereLemmas
+pub mod KnownLists
 pub mod FleetLemmas
 pub mod CrossingLemmas
 pub mod StartLemmas

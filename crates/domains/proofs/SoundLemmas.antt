@@ -1,23 +1,19 @@
 -- Chains and members of a fleet, by numbers alone.
-use Rattle.std.proofs.Common.{◌≡◌, ℕ, ◌+◌, ◌≤◌, ◌<◌, Bool, true, false, ◌&&◌, not, nat_lt, Option, Some, None, List, [], length, get_or, is_some, sym, ap, ◌∙◌, refl, subst, arith, inl, inr, ◌⊎◌}
-use Rattle.std.proofs.lemmas.Bool.{cases_lt, false≢true, and_parts, lt-ltb, le-ltb, ltb-true, ltb-false}
+use Rattle.std.proofs.Common.{◌≡◌, ℕ, ◌≤◌, ◌<◌, Bool, true, false, ◌&&◌, not, nat_lt, Option, Some, None, List, [], length, get_or, sym, ap, ◌∙◌, refl, arith, inl, inr, ◌⊎◌}
+use Rattle.std.proofs.lemmas.Bool.{cases_lt, false≢true, and_parts, lt-ltb, le-ltb, ltb-false}
 use Rattle.std.proofs.lemmas.List.{get_or_past, length-map}
+use Rattle.std.proofs.Math.Bool.{and-false}
 use Rattle.inventory_model.specs.Names.{Name}
 use Rattle.inventory_model.specs.Places.{Place, Inventory}
 use Rattle.inventory_model.specs.Members.{holds}
 use Rattle.fleet_numbers.specs.NumberLists.{has_number, list_at, last_where}
 use Rattle.fleet_numbers.specs.Chains.{is_limited, IsNestedChain}
 use Rattle.fleet_numbers.proofs.RisingLemmas.{has_number-numbers_where}
-use Rattle.fleet_numbers.proofs.PathLemmas.{on_path, on_path-last}
-use Rattle.domains.specs.Starts.{place_at, exceeds}
-use Rattle.domains.specs.Numbered.{host_at}
+use Rattle.fleet_numbers.proofs.PathLemmas.{on_path-last}
+use Rattle.domains.specs.Starts.{exceeds}
 use Rattle.domains.specs.FleetViews.{AreAmong}
-use Rattle.domains.proofs.PlaceLemmas.{depths_of}
-use Rattle.domains.proofs.FleetLemmas.{AreListsOf}
-
-and_false : (b : Bool) → (b && false) ≡ false
-and_false true = refl
-and_false false = refl
+use Rattle.domains.proofs.ByNumber.{depths_of, is_above, holds_at}
+use Rattle.domains.proofs.KnownLists.{AreListsOf}
 
 no_list : (lists : List (List ℕ)) (k n : ℕ) → length lists ≤ k → has_number n (list_at lists k) ≡ false
 no_list lists k n l = ap (has_number n) (get_or_past lists k [] l)
@@ -27,13 +23,13 @@ pub not_over : (limits : List (Option ℕ)) (group limit count : ℕ) → exceed
 not_over limits group limit count e f =
     ltb-false limit count (sym (ap (λ (o : Option ℕ). exceeds o count) f) ∙ e)
 
-module _ (inventory : Inventory) (hosts : List Name) (limits : List (Option ℕ)) (off : List Bool) (chains members : List (List ℕ)) (subtree_ends : List ℕ) (known : AreListsOf inventory hosts limits off chains members subtree_ends) where
-  abbrev held_by : ℕ → ℕ → Bool
-  held_by g h = holds inventory (place_at inventory.places g).name (host_at hosts h)
-
-  pub member_at : (g h : ℕ) → g < length inventory.places → h < length hosts → has_number h (list_at members g) ≡ held_by g h
+module _ {inventory : Inventory} {hosts : List Name} {limits : List (Option ℕ)} {off : List Bool} {chains members : List (List ℕ)}
+    {subtree_ends : List ℕ} (known : AreListsOf inventory hosts limits off chains members subtree_ends) where
+  pub member_at : (g h : ℕ) → g < length inventory.places → h < length hosts → has_number h (list_at members g) ≡ holds_at inventory hosts g h
   member_at g h l m =
-      ap (has_number h) (known.members_at g l) ∙ has_number-numbers_where (held_by g) (length hosts) h ∙ ap (λ b. b && held_by g h) (lt-ltb h (length hosts) m)
+      ap (has_number h) (known.members_at g l)
+      ∙ has_number-numbers_where (holds_at inventory hosts g) (length hosts) h
+      ∙ ap (λ b. b && holds_at inventory hosts g h) (lt-ltb h (length hosts) m)
 
   past_members : (g h : ℕ) → (length inventory.places ≤ g) ⊎ (length hosts ≤ h) → has_number h (list_at members g) ≡ false
   past_members g h (inl l) = no_list members g h (omega (arith, l, known.members_len))
@@ -41,7 +37,9 @@ module _ (inventory : Inventory) (hosts : List Name) (limits : List (Option ℕ)
     where
       by_case : (g < length inventory.places) ⊎ (length inventory.places ≤ g) → has_number h (list_at members g) ≡ false
       by_case (inl l) =
-          ap (has_number h) (known.members_at g l) ∙ has_number-numbers_where (held_by g) (length hosts) h ∙ ap (λ b. b && held_by g h) (le-ltb h (length hosts) m)
+          ap (has_number h) (known.members_at g l)
+          ∙ has_number-numbers_where (holds_at inventory hosts g) (length hosts) h
+          ∙ ap (λ b. b && holds_at inventory hosts g h) (le-ltb h (length hosts) m)
       by_case (inr l) = no_list members g h (omega (arith, l, known.members_len))
 
   pub member_within : (g h : ℕ) → has_number h (list_at members g) ≡ true → (g < length inventory.places) × (h < length hosts)
@@ -69,11 +67,12 @@ module _ (inventory : Inventory) (hosts : List Name) (limits : List (Option ℕ)
     where
       past : (length inventory.places ≤ g) ⊎ (length hosts ≤ h) → has_number g (list_at chains h) ≡ (is_limited limits g && has_number h (list_at members g))
       past out =
-          past_chain g h out ∙ sym (and_false (is_limited limits g)) ∙ ap (λ b. is_limited limits g && b) (sym (past_members g h out))
+          past_chain g h out ∙ sym (and-false (is_limited limits g)) ∙ ap (λ b. is_limited limits g && b) (sym (past_members g h out))
 
-      by_case : (g < length inventory.places) ⊎ (length inventory.places ≤ g) → (h < length hosts) ⊎ (length hosts ≤ h) → has_number g (list_at chains h) ≡ (is_limited limits g && has_number h (list_at members g))
+      by_case : (g < length inventory.places) ⊎ (length inventory.places ≤ g) → (h < length hosts) ⊎ (length hosts ≤ h)
+          → has_number g (list_at chains h) ≡ (is_limited limits g && has_number h (list_at members g))
       by_case (inl l) (inl m) =
-          known.holder_at g h l m ∙ ap (λ b. b && held_by g h) (sym (known.limited_at g)) ∙ ap (λ b. is_limited limits g && b) (sym (member_at g h l m))
+          known.holder_at g h l m ∙ ap (λ b. b && holds_at inventory hosts g h) (sym (known.limited_at g)) ∙ ap (λ b. is_limited limits g && b) (sym (member_at g h l m))
       by_case (inl l) (inr m) = past (inr m)
       by_case (inr l) m = past (inl l)
 
@@ -83,20 +82,22 @@ module _ (inventory : Inventory) (hosts : List Name) (limits : List (Option ℕ)
       member_within g h (and_parts (is_limited limits g) (has_number h (list_at members g)) (sym (chain_exact h g) ∙ e)).1
 
   -- a group above another holds the hosts that the other one holds
-  pub members_above : (top group : ℕ) → on_path (depths_of inventory.places) top group ≡ true → top < length inventory.places → AreAmong (list_at members group) (list_at members top)
+  pub members_above : (top group : ℕ) → is_above inventory.places top group ≡ true → top < length inventory.places → AreAmong (list_at members group) (list_at members top)
   members_above top group on l host e =
       let inside = member_within group host e in
       member_at top host l inside.1 ∙ known.held_above top group host l inside.0 inside.1 on (sym (member_at group host inside.0 inside.1) ∙ e)
 
   -- a group that does not end before a later one is above it
-  pub above_unless_past : (g k : ℕ) → g ≤ k → k < length inventory.places → nat_lt (get_or subtree_ends g 0) k ≡ false → on_path (depths_of inventory.places) g k ≡ true
+  pub above_unless_past : (g k : ℕ) → g ≤ k → k < length inventory.places → nat_lt (get_or subtree_ends g 0) k ≡ false → is_above inventory.places g k ≡ true
   above_unless_past g k m l e =
       let long : length (depths_of inventory.places) ≡ length inventory.places = length-map inventory.places (λ (p : Place). length p.above) in
-      let last : last_where (on_path (depths_of inventory.places) g) (length (depths_of inventory.places)) ≡ get_or subtree_ends g 0 = ap (last_where (on_path (depths_of inventory.places) g)) long ∙ sym (known.last_at g (omega arith)) in
+      let last : last_where (is_above inventory.places g) (length (depths_of inventory.places)) ≡ get_or subtree_ends g 0 =
+      ap (last_where (is_above inventory.places g)) long ∙ sym (known.last_at g (omega arith)) in
       on_path-last (depths_of inventory.places) g k m (omega (arith, l, long)) ∙ ap (λ (n : ℕ). not (nat_lt n k)) last ∙ ap not e
 
   -- of two groups of a chain the earlier one is above
-  pub chain_above : ((h : ℕ) → h < length chains → IsNestedChain subtree_ends (list_at chains h)) → (h outer inner : ℕ) → outer < inner → has_number outer (list_at chains h) ≡ true → has_number inner (list_at chains h) ≡ true → on_path (depths_of inventory.places) outer inner ≡ true
+  pub chain_above : ((h : ℕ) → h < length chains → IsNestedChain subtree_ends (list_at chains h)) → (h outer inner : ℕ) → outer < inner
+      → has_number outer (list_at chains h) ≡ true → has_number inner (list_at chains h) ≡ true → is_above inventory.places outer inner ≡ true
   chain_above nested_chains h outer inner m e f =
       let inside = in_chain inner h f in
       above_unless_past outer inner (omega arith) inside.0 (nested_chains h (omega (arith, inside.1, known.chains_len)) outer inner e f)

@@ -1,36 +1,38 @@
 -- The hosts of a limited group stand together in the deal order.
-use Rattle.std.proofs.Common.{◌≡◌, ℕ, suc, ◌+◌, ◌-◌, ◌≤◌, ◌<◌, Bool, true, false, ◌&&◌, not, nat_eq, nat_lt, Option, List, [], ◌∷◌, length, get_or, is_some, IsPermutation, sym, ap, ◌∙◌, refl, subst, arith, inl, inr, ◌⊎◌}
+use Rattle.std.proofs.Common.{◌≡◌, ℕ, suc, ◌+◌, ◌-◌, ◌≤◌, ◌<◌, Bool, true, false, ◌&&◌, not, nat_eq, nat_lt, Option, List, [], ◌∷◌, length, get_or, is_some}
+use Rattle.std.proofs.Common.{IsPermutation, sym, ap, ◌∙◌, refl, subst, arith, inl, inr, ◌⊎◌}
 use Rattle.std.specs.List.{range_with_len}
 use Rattle.std.proofs.lemmas.Bool.{cases_order, eq-eqb, false≢true, and_parts, lt-ltb, le-ltb, ltb-false}
 use Rattle.std.proofs.lemmas.List.{length-map}
 use Rattle.inventory_model.specs.Names.{Name}
 use Rattle.inventory_model.specs.Places.{Place, Inventory}
-use Rattle.inventory_model.specs.Members.{holds}
 use Rattle.fleet_numbers.specs.NumberLists.{has_number, list_at, last_where}
 use Rattle.fleet_numbers.specs.Chains.{is_limited, IsNestedChain}
 use Rattle.fleet_numbers.proofs.RisingLemmas.{Ascends, Ascends-numbers_where, has_number-numbers_where}
-use Rattle.fleet_numbers.proofs.PathLemmas.{on_path, on_path-last}
+use Rattle.fleet_numbers.proofs.PathLemmas.{on_path-last}
 use Rattle.fleet_numbers.proofs.ChainLemmas.{last_greatest}
 use Rattle.fleet_numbers.proofs.DealLemmas.{in_range}
 use Rattle.fleet_numbers.specs.DealOrder.{deal_key, key_at, IsDealt}
 use Rattle.std.proofs.lemmas.List.Folds.{list_any_at}
 use Rattle.domains.specs.Starts.{place_at}
-use Rattle.domains.specs.Nested.{is_limited_holder}
 use Rattle.domains.specs.Numbered.{host_at}
-use Rattle.domains.proofs.PlaceLemmas.{depths_of}
-use Rattle.domains.proofs.FleetLemmas.{AreListsOf}
+use Rattle.domains.proofs.ByNumber.{depths_of, is_above, last_under, holds_at, limits_at}
+use Rattle.domains.proofs.KnownLists.{AreListsOf}
 
-module _ (inventory : Inventory) (hosts : List Name) (limits : List (Option ℕ)) (off : List Bool) (chains members : List (List ℕ)) (subtree_ends : List ℕ) (known : AreListsOf inventory hosts limits off chains members subtree_ends) where
+module _ {inventory : Inventory} {hosts : List Name} {limits : List (Option ℕ)} {off : List Bool} {chains members : List (List ℕ)}
+    {subtree_ends : List ℕ} (known : AreListsOf inventory hosts limits off chains members subtree_ends) where
   depths_len : length (depths_of inventory.places) ≡ length inventory.places
   depths_len = length-map inventory.places (λ (p : Place). length p.above)
 
-  member_holds : (g h : ℕ) → g < length inventory.places → has_number h (list_at members g) ≡ true → holds inventory (place_at inventory.places g).name (host_at hosts h) ≡ true
+  member_holds : (g h : ℕ) → g < length inventory.places → has_number h (list_at members g) ≡ true → holds_at inventory hosts g h ≡ true
   member_holds g h l e =
-      (and_parts (nat_lt h (length hosts)) (holds inventory (place_at inventory.places g).name (host_at hosts h)) (sym (ap (has_number h) (known.members_at g l) ∙ has_number-numbers_where (λ host. holds inventory (place_at inventory.places g).name (host_at hosts host)) (length hosts) h) ∙ e)).1
+      let stands = ap (has_number h) (known.members_at g l) ∙ has_number-numbers_where (holds_at inventory hosts g) (length hosts) h in
+      (and_parts (nat_lt h (length hosts)) (holds_at inventory hosts g h) (sym stands ∙ e)).1
 
   chain_ascends : (h : ℕ) → h < length hosts → Ascends 0 (length inventory.places) (list_at chains h)
   chain_ascends h l =
-      subst (λ (x : List ℕ). Ascends 0 (length inventory.places) x) (sym (known.chain_at h l)) (Ascends-numbers_where (λ group. is_limited_holder inventory (host_at hosts h) (place_at inventory.places group)) (length inventory.places))
+      subst (λ (x : List ℕ). Ascends 0 (length inventory.places) x) (sym (known.chain_at h l))
+      (Ascends-numbers_where (limits_at inventory (host_at hosts h)) (length inventory.places))
 
   -- the key of a chain is its last group, counted from 1
   top_of : (chain : List ℕ) → 0 < deal_key chain → (t : ℕ) × (deal_key chain ≡ t + 1) × (has_number t chain ≡ true)
@@ -48,7 +50,10 @@ module _ (inventory : Inventory) (hosts : List Name) (limits : List (Option ℕ)
       less : (k : ℕ) → suc k - 1 ≡ k
       less k = omega arith
 
-  pub together : (order : List ℕ) → IsDealt chains order → IsPermutation (range_with_len 0 (length hosts)) order → ((h : ℕ) → h < length chains → IsNestedChain subtree_ends (list_at chains h)) → (g place later last : ℕ) → is_limited limits g ≡ true → place ≤ later → later ≤ last → last < length order → has_number (get_or order place 0) (list_at members g) ≡ true → has_number (get_or order last 0) (list_at members g) ≡ true → has_number (get_or order later 0) (list_at members g) ≡ true
+  pub together : (order : List ℕ) → IsDealt chains order → IsPermutation (range_with_len 0 (length hosts)) order
+      → ((h : ℕ) → h < length chains → IsNestedChain subtree_ends (list_at chains h)) → (g place later last : ℕ) → is_limited limits g ≡ true
+      → place ≤ later → later ≤ last → last < length order → has_number (get_or order place 0) (list_at members g) ≡ true
+      → has_number (get_or order last 0) (list_at members g) ≡ true → has_number (get_or order later 0) (list_at members g) ≡ true
   together order dealt once nested_chains g place later last limited p q within e f =
       let a = get_or order place 0 in
       let b = get_or order later 0 in
@@ -58,8 +63,10 @@ module _ (inventory : Inventory) (hosts : List Name) (limits : List (Option ℕ)
       let a_in : a < length hosts = in_range (length hosts) order once place (omega arith) in
       let b_in : b < length hosts = in_range (length hosts) order once later (omega arith) in
       let z_in : z < length hosts = in_range (length hosts) order once last within in
-      let g_a : has_number g (list_at chains a) ≡ true = known.holder_at g a inside a_in ∙ ap (λ t. t && holds inventory (place_at inventory.places g).name (host_at hosts a)) some ∙ member_holds g a inside e in
-      let g_z : has_number g (list_at chains z) ≡ true = known.holder_at g z inside z_in ∙ ap (λ t. t && holds inventory (place_at inventory.places g).name (host_at hosts z)) some ∙ member_holds g z inside f in
+      let in_chain : (h : ℕ) → h < length hosts → has_number h (list_at members g) ≡ true → has_number g (list_at chains h) ≡ true =
+      λ h h_in held. known.holder_at g h inside h_in ∙ ap (λ t. t && holds_at inventory hosts g h) some ∙ member_holds g h inside held in
+      let g_a : has_number g (list_at chains a) ≡ true = in_chain a a_in e in
+      let g_z : has_number g (list_at chains z) ≡ true = in_chain z z_in f in
       let above_a : g < deal_key (list_at chains a) = top_above g (length inventory.places) (list_at chains a) (chain_ascends a a_in) g_a in
       let above_z : g < deal_key (list_at chains z) = top_above g (length inventory.places) (list_at chains z) (chain_ascends z z_in) g_z in
       let low : deal_key (list_at chains a) ≤ deal_key (list_at chains b) = rises place later p (omega arith) in
@@ -69,19 +76,27 @@ module _ (inventory : Inventory) (hosts : List Name) (limits : List (Option ℕ)
       let t_in : top_b.0 < length inventory.places = known.chain_within top_b.0 b b_in top_b.2 in
       let nested_z : nat_lt (get_or subtree_ends g 0) top_z.0 ≡ false = nested_chains z (omega (arith, z_in, known.chains_len)) g top_z.0 g_z top_z.2 in
       let below_last : top_z.0 ≤ get_or subtree_ends g 0 = ltb-false (get_or subtree_ends g 0) top_z.0 nested_z in
-      let on : on_path (depths_of inventory.places) g top_b.0 ≡ true = on_path-last (depths_of inventory.places) g top_b.0 (omega (arith, above_a, low, top_b.1)) (omega (arith, t_in, depths_len)) ∙ ap (λ (k : ℕ). not (nat_lt (last_where (on_path (depths_of inventory.places) g) k) top_b.0)) depths_len ∙ ap not (le-ltb (last_where (on_path (depths_of inventory.places) g) (length inventory.places)) top_b.0 (omega (arith, known.last_at g inside, below_last, top_b.1, top_z.1, high))) in
-      let held = (and_parts (is_some (place_at inventory.places top_b.0).limit) (holds inventory (place_at inventory.places top_b.0).name (host_at hosts b)) (sym (known.holder_at top_b.0 b t_in b_in) ∙ top_b.2)).1 in
-      ap (has_number b) (known.members_at g inside) ∙ has_number-numbers_where (λ host. holds inventory (place_at inventory.places g).name (host_at hosts host)) (length hosts) b ∙ ap (λ t. t && holds inventory (place_at inventory.places g).name (host_at hosts b)) (lt-ltb b (length hosts) b_in) ∙ known.held_above g top_b.0 b inside t_in b_in on held
+      let on : is_above inventory.places g top_b.0 ≡ true =
+      on_path-last (depths_of inventory.places) g top_b.0 (omega (arith, above_a, low, top_b.1)) (omega (arith, t_in, depths_len))
+      ∙ ap (λ (k : ℕ). not (nat_lt (last_where (is_above inventory.places g) k) top_b.0)) depths_len
+      ∙ ap not (le-ltb (last_under inventory.places g) top_b.0 (omega (arith, known.last_at g inside, below_last, top_b.1, top_z.1, high))) in
+      let limited_b = is_some (place_at inventory.places top_b.0).limit in
+      let held = (and_parts limited_b (holds_at inventory hosts top_b.0 b) (sym (known.holder_at top_b.0 b t_in b_in) ∙ top_b.2)).1 in
+      ap (has_number b) (known.members_at g inside)
+      ∙ has_number-numbers_where (holds_at inventory hosts g) (length hosts) b
+      ∙ ap (λ t. t && holds_at inventory hosts g b) (lt-ltb b (length hosts) b_in)
+      ∙ known.held_above g top_b.0 b inside t_in b_in on held
     where
-      rises : (i j : ℕ) → i ≤ j → j < length order → deal_key (list_at chains (get_or order i 0)) ≤ deal_key (list_at chains (get_or order j 0))
+      rises : (i j : ℕ) → i ≤ j → j < length order → key_at chains order i ≤ key_at chains order j
       rises i j l m = by_case (cases_order i j)
         where
-          by_dealt : (key_at chains order i < key_at chains order j) ⊎ ((key_at chains order i ≡ key_at chains order j) × (get_or order i 0 ≤ get_or order j 0)) → deal_key (list_at chains (get_or order i 0)) ≤ deal_key (list_at chains (get_or order j 0))
+          by_dealt : (key_at chains order i < key_at chains order j) ⊎ ((key_at chains order i ≡ key_at chains order j) × (get_or order i 0 ≤ get_or order j 0))
+              → key_at chains order i ≤ key_at chains order j
           by_dealt (inl s) = omega (arith, s)
           by_dealt (inr s) = omega (arith, s.0)
 
-          by_case : (i ≡ j) ⊎ ((i < j) ⊎ (j < i)) → deal_key (list_at chains (get_or order i 0)) ≤ deal_key (list_at chains (get_or order j 0))
+          by_case : (i ≡ j) ⊎ ((i < j) ⊎ (j < i)) → key_at chains order i ≤ key_at chains order j
           by_case (inl s) =
-              subst (λ (k : ℕ). deal_key (list_at chains (get_or order i 0)) ≤ deal_key (list_at chains (get_or order k 0))) s (omega arith)
+              subst (λ (k : ℕ). key_at chains order i ≤ key_at chains order k) s (omega arith)
           by_case (inr (inl s)) = by_dealt (dealt i j s m)
           by_case (inr (inr s)) = absurd (omega (arith, s, l))

@@ -1,0 +1,89 @@
+-- An inventory by the numbers of its groups and hosts: the words of the lemmas.
+use Rattle.std.proofs.Common.{ℕ, ◌<◌, Bool, All, List, [], length, map}
+use Rattle.inventory_model.specs.Names.{Name}
+use Rattle.inventory_model.specs.Places.{Place, Row, Inventory, path_of}
+use Rattle.inventory_model.specs.Subtrees.{Host, Subtree}
+use Rattle.inventory_model.specs.Members.{holds}
+use Rattle.fleet_numbers.specs.NumberLists.{list_at, numbers_where, last_where}
+use Rattle.fleet_numbers.specs.GroupPaths.{paths_from}
+use Rattle.fleet_numbers.proofs.PathLemmas.{on_path}
+use Rattle.domains.specs.Walks.{row_at}
+use Rattle.domains.specs.Starts.{place_at}
+use Rattle.domains.specs.Nested.{is_limited_holder}
+use Rattle.domains.specs.Numbered.{host_at}
+
+abbrev pub group_name : List Place → ℕ → Name
+group_name places group = (place_at places group).name
+
+-- the names on a group's path, and those of them above the group
+abbrev pub names_to : List Place → ℕ → List Name
+names_to places group = path_of (place_at places group)
+
+abbrev pub names_above : List Place → ℕ → List Name
+names_above places group = (place_at places group).above
+
+abbrev pub depths_of : List Place → List ℕ
+depths_of places = map (λ (place : Place). length place.above) places
+
+abbrev pub path_at : List Place → ℕ → List ℕ
+path_at places group = list_at (paths_from [] 0 (depths_of places)) group
+
+abbrev pub paths_of : Inventory → List (List ℕ)
+paths_of inventory = paths_from [] 0 (depths_of inventory.places)
+
+-- whether a group stands on the path of another
+abbrev pub is_above : List Place → ℕ → ℕ → Bool
+is_above places = on_path (depths_of places)
+
+-- the last group whose path a group stands on
+abbrev pub last_under : List Place → ℕ → ℕ
+last_under places group = last_where (is_above places group) (length places)
+
+-- the groups of a walk
+abbrev pub walked_groups : List (Subtree × ℕ) → List Subtree
+walked_groups walk = map (λ (walked : Subtree × ℕ). walked.0) walk
+
+-- a row has its host and its group's number; in numbers, those of its host's name and of its group
+abbrev pub row_host : Host × ℕ → Host
+row_host row = row.0
+
+abbrev pub listed_by : ℕ → Host → Host × ℕ
+listed_by number host = (host, number)
+
+abbrev pub row_name : Host × ℕ → Name × ℕ
+row_name row = (row.0.name, row.1)
+
+abbrev pub number_name : List Name → ℕ × ℕ → Name × ℕ
+number_name hosts number = (host_at hosts number.0, number.1)
+
+abbrev pub numbered_row : List Place → Host × ℕ → Row
+numbered_row places row = row_at (place_at places row.1) row.0
+
+abbrev pub HostsWithin : List Name → List (ℕ × ℕ) → Type 0
+HostsWithin hosts numbers = All (λ (number : ℕ × ℕ). number.0 < length hosts) numbers
+
+abbrev pub GroupsWithin : List Place → List (ℕ × ℕ) → Type 0
+GroupsWithin places numbers = All (λ (number : ℕ × ℕ). number.1 < length places) numbers
+
+-- the row's group has a number below the count
+abbrev pub IsBelow : ℕ → Host × ℕ → Type 0
+IsBelow count row = row.1 < count
+
+abbrev pub RowsBelow : ℕ → List (Host × ℕ) → Type 0
+RowsBelow count rows = All (IsBelow count) rows
+
+-- whether a group holds a host
+abbrev pub holds_at : Inventory → List Name → ℕ → ℕ → Bool
+holds_at inventory hosts group host = holds inventory (group_name inventory.places group) (host_at hosts host)
+
+-- the hosts that a group holds
+abbrev pub held_hosts : Inventory → List Name → Name → List ℕ
+held_hosts inventory hosts group = numbers_where (λ host. holds inventory group (host_at hosts host)) (length hosts)
+
+-- whether a group is limited and holds a host
+abbrev pub limits_at : Inventory → Name → ℕ → Bool
+limits_at inventory host group = is_limited_holder inventory host (place_at inventory.places group)
+
+-- the limited groups that hold a host
+abbrev pub limited_groups : Inventory → Name → List ℕ
+limited_groups inventory host = numbers_where (limits_at inventory host) (length inventory.places)
