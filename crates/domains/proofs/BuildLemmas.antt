@@ -10,11 +10,11 @@ use Rattle.inventory_model.specs.Names.{Name, are_distinct}
 use Rattle.inventory_model.specs.Places.{Place, Inventory, is_preorder}
 use Rattle.inventory_model.specs.Bounds.{group_names}
 use Rattle.inventory_model.specs.Limits.{Limit}
-use Rattle.fleet_numbers.specs.NumberLists.{has_number, list_at, numbers_where, last_where, are_below, IsRising}
-use Rattle.fleet_numbers.specs.GroupPaths.{paths_from, is_member}
+use Rattle.fleet_numbers.specs.NumberLists.{has_number, list_at, are_below, IsRising}
+use Rattle.fleet_numbers.specs.GroupPaths.{paths_from}
 use Rattle.fleet_numbers.specs.DealOrder.{IsDealt, groups_bound}
 use Rattle.fleet_numbers.proofs.RisingLemmas.{Ascends, Ascends-rising, are_below-rising}
-use Rattle.fleet_numbers.proofs.PathLemmas.{on_path, length-paths_from}
+use Rattle.fleet_numbers.proofs.PathLemmas.{length-paths_from}
 use Rattle.domains.specs.Hosts.{is_off}
 use Rattle.domains.specs.Starts.{nowhere, allowed_of, StartsWithin, IsFirstOver}
 use Rattle.domains.specs.Nested.{IsNested, IsLeastCrossing}
@@ -23,7 +23,7 @@ use Rattle.domains.specs.FleetLists.{parent_on}
 use Rattle.domains.specs.Search.{IsFirstCrossing, IsFirstOverGroup}
 use Rattle.domains.specs.FleetViews.{AreAmong, IsInSubtree, IsSound, off_count}
 use Rattle.domains.specs.Fleets.{IsParentOf, IsOutermostFirst, IsFleetOf}
-use Rattle.domains.proofs.ByNumber.{group_name, depths_of, path_at, is_above, last_under}
+use Rattle.domains.proofs.ByNumber.{group_name, depths_of, path_at, is_above, last_under, held_lists, member_lists, end_lists}
 use Rattle.domains.proofs.ParentLemmas.{ascends_at, is_parent, above_of}
 use Rattle.domains.proofs.KnownLists.{AreListsOf}
 use Rattle.domains.proofs.FleetLemmas as facts
@@ -93,21 +93,21 @@ module _ (inventory : Inventory) (n : Numbers) (l : FleetLists) (numbered : IsNu
   long : length (depths_of inventory.places) ≡ length inventory.places
   long = length-map inventory.places (λ (p : Place). length p.above)
 
-  held_are : lists.held ≡ map (λ host. numbers_where (λ group. is_member paths rows group host) (length inventory.places)) (range_with_len 0 (length hosts))
+  held_are : lists.held ≡ held_lists paths rows (length inventory.places) (length hosts)
   held_are =
-      subst (λ (n : ℕ). lists.held ≡ map (λ host. numbers_where (λ group. is_member paths rows group host) n) (range_with_len 0 (length hosts))) long
-      (subst (λ (d : List ℕ). lists.held ≡ map (λ host. numbers_where (λ group. is_member (paths_from [] 0 d) rows group host) (length d)) (range_with_len 0 (length hosts))) numbered.all_depths lists.held_are)
+      subst (λ (n : ℕ). lists.held ≡ held_lists paths rows n (length hosts)) long
+      (subst (λ (d : List ℕ). lists.held ≡ held_lists (paths_from [] 0 d) rows (length d) (length hosts)) numbered.all_depths lists.held_are)
 
-  members_are : members ≡ map (λ group. numbers_where (λ host. has_number group (list_at lists.held host)) (length lists.held)) (range_with_len 0 (length inventory.places))
+  members_are : members ≡ member_lists lists.held (length inventory.places)
   members_are =
       subst
-      (λ (n : ℕ). members ≡ map (λ group. numbers_where (λ host. has_number group (list_at lists.held host)) (length lists.held)) (range_with_len 0 n))
+      (λ (n : ℕ). members ≡ member_lists lists.held n)
       (ap length numbered.all_depths ∙ long) lists.members_are
 
-  subtree_ends_are : subtree_ends ≡ map (last_under inventory.places) (range_with_len 0 (length inventory.places))
+  subtree_ends_are : subtree_ends ≡ end_lists paths (length inventory.places)
   subtree_ends_are =
-      subst (λ (n : ℕ). subtree_ends ≡ map (λ group. last_where (is_above inventory.places group) n) (range_with_len 0 n)) long
-      (subst (λ (d : List ℕ). subtree_ends ≡ map (λ group. last_where (on_path d group) (length d)) (range_with_len 0 (length d))) numbered.all_depths lists.subtree_ends_are)
+      subst (λ (n : ℕ). subtree_ends ≡ end_lists paths n) long
+      (subst (λ (d : List ℕ). subtree_ends ≡ end_lists (paths_from [] 0 d) (length d)) numbered.all_depths lists.subtree_ends_are)
 
   subtree_ends_len : length subtree_ends ≡ length inventory.places
   subtree_ends_len =

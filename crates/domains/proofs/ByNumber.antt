@@ -1,11 +1,13 @@
 -- An inventory by the numbers of its groups and hosts: the words of the lemmas.
-use Rattle.std.proofs.Common.{ℕ, ◌<◌, Bool, All, List, [], length, map}
+use Rattle.std.proofs.Common.{ℕ, ◌<◌, Bool, Option, None, All, List, [], length, get_or, map, option_map}
+use Rattle.std.specs.List.{range_with_len}
 use Rattle.inventory_model.specs.Names.{Name}
 use Rattle.inventory_model.specs.Places.{Place, Row, Inventory, path_of}
 use Rattle.inventory_model.specs.Subtrees.{Host, Subtree}
 use Rattle.inventory_model.specs.Members.{holds}
-use Rattle.fleet_numbers.specs.NumberLists.{list_at, numbers_where, last_where}
-use Rattle.fleet_numbers.specs.GroupPaths.{paths_from}
+use Rattle.inventory_model.specs.Limits.{Limit, allowed}
+use Rattle.fleet_numbers.specs.NumberLists.{has_number, list_at, numbers_where, last_where}
+use Rattle.fleet_numbers.specs.GroupPaths.{paths_from, is_member}
 use Rattle.fleet_numbers.proofs.PathLemmas.{on_path}
 use Rattle.domains.specs.Walks.{row_at}
 use Rattle.domains.specs.Starts.{place_at}
@@ -87,3 +89,27 @@ limits_at inventory host group = is_limited_holder inventory host (place_at inve
 -- the limited groups that hold a host
 abbrev pub limited_groups : Inventory → Name → List ℕ
 limited_groups inventory host = numbers_where (limits_at inventory host) (length inventory.places)
+
+-- the lists of a fleet, as they are made of paths and rows: a host's groups among so many, a group's hosts, and what it allows
+abbrev pub groups_held : List (List ℕ) → List (ℕ × ℕ) → ℕ → ℕ → List ℕ
+groups_held paths rows count host = numbers_where (λ group. is_member paths rows group host) count
+
+abbrev pub held_lists : List (List ℕ) → List (ℕ × ℕ) → ℕ → ℕ → List (List ℕ)
+held_lists paths rows count hosts = map (groups_held paths rows count) (range_with_len 0 hosts)
+
+abbrev pub hosts_under : List (List ℕ) → ℕ → List ℕ
+hosts_under held group = numbers_where (λ host. has_number group (list_at held host)) (length held)
+
+abbrev pub member_lists : List (List ℕ) → ℕ → List (List ℕ)
+member_lists held groups = map (hosts_under held) (range_with_len 0 groups)
+
+abbrev pub allowed_for : ℕ → Option Limit → Option ℕ
+allowed_for count = option_map (λ (limit : Limit). allowed limit count)
+
+abbrev pub count_of : List (Option Limit) → List (List ℕ) → ℕ → Option ℕ
+count_of limits members group = allowed_for (length (list_at members group)) (get_or limits group None)
+
+-- the last of so many groups on whose path a group stands
+abbrev pub end_lists : List (List ℕ) → ℕ → List ℕ
+end_lists paths count =
+    map (λ group. last_where (λ number. has_number group (list_at paths number)) count) (range_with_len 0 count)

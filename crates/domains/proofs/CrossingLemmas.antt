@@ -13,12 +13,13 @@ use Rattle.inventory_model.specs.Members.{holds, is_row_of}
 use Rattle.fleet_numbers.specs.SortedNames.{name_cmp}
 use Rattle.fleet_numbers.specs.NumberLists.{has_number, list_at}
 use Rattle.fleet_numbers.specs.Chains.{ends_before, IsNestedChain}
-use Rattle.fleet_numbers.proofs.SortedNamesLemmas.{same_name-true, same_name-itself, is_among-sorted_names}
+use Rattle.fleet_numbers.proofs.SortedNamesLemmas.{same_name-true, is_among-sorted_names}
 use Rattle.domains.specs.Starts.{place_at}
 use Rattle.domains.specs.Nested.{are_apart, is_crossing, IsNested, IsLeastCrossing}
 use Rattle.domains.specs.Numbered.{host_at}
 use Rattle.domains.specs.Search.{IsFirstCrossing}
 use Rattle.domains.proofs.ByNumber.{group_name, limits_at}
+use Rattle.domains.proofs.BeginLemmas.{begins_same}
 use Rattle.domains.proofs.WhereLemmas.{and_swap}
 use Rattle.domains.proofs.KnownLists.{AreListsOf}
 
@@ -52,10 +53,6 @@ held_has_row inventory group host (row ∷ rows) e =
 
 module _ {inventory : Inventory} {hosts : List Name} {limits : List (Option ℕ)} {off : List Bool} {chains members : List (List ℕ)}
     {subtree_ends : List ℕ} (known : AreListsOf inventory hosts limits off chains members subtree_ends) where
-  same_begins : (xs : List Name) → begins xs xs ≡ true
-  same_begins [] = refl
-  same_begins (x ∷ xs) = ap (λ b. b && begins xs xs) (same_name-itself x) ∙ same_begins xs
-
   apart_back : (p q : Place) → are_apart p q ≡ are_apart q p
   apart_back p q = or_swap (begins (path_of p) (path_of q)) (begins (path_of q) (path_of p))
     where
@@ -118,7 +115,7 @@ module _ {inventory : Inventory} {hosts : List Name} {limits : List (Option ℕ)
           let place : ℕ → Place = place_at inventory.places in
           let itself : are_apart (place i) (place j) ≡ false =
           ap (λ (n : ℕ). are_apart (place i) (place n)) (sym q)
-          ∙ ap (λ b. not (b || b)) (same_begins (path_of (place i))) in
+          ∙ ap (λ b. not (b || b)) (begins_same (path_of (place i))) in
           false≢true (sym itself ∙ (crossing_parts (host_at hosts h) i j e).2)
       by_order e w (inr (inl q)) = ordered i j q w.1 e
       by_order e w (inr (inr q)) = ordered j i q w.0 (crossing_back (host_at hosts h) j i ∙ e)

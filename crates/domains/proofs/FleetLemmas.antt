@@ -1,6 +1,6 @@
 -- Lists by numbers say what the inventory says by names.
 use Rattle.std.proofs.Common.{◌≡◌, ℕ, ◌≤◌, ◌<◌, Bool, true, false, ◌||◌, ◌&&◌, nat_eq, nat_lt, Option, Some, None, All, List, [], ◌∷◌, length, get_or}
-use Rattle.std.proofs.Common.{map, filter, is_some, option_map, sym, ap, ◌∙◌, refl, subst, arith, inl, inr, ◌⊎◌}
+use Rattle.std.proofs.Common.{map, filter, is_some, sym, ap, ◌∙◌, refl, subst, arith, inl, inr, ◌⊎◌}
 use Rattle.std.specs.List.{range_with_len}
 use Rattle.std.specs.List.Sorted.{IsStrictlySortedBy}
 use Rattle.std.proofs.lemmas.Bool.{cases_lt, false≢true, and_parts, lt-ltb, ltb-true, or_cases, or_left, or_right}
@@ -12,7 +12,7 @@ use Rattle.inventory_model.specs.Names.{Name, are_distinct}
 use Rattle.inventory_model.specs.Places.{Place, Row, Inventory, is_preorder}
 use Rattle.inventory_model.specs.Members.{holds}
 use Rattle.inventory_model.specs.Bounds.{group_names}
-use Rattle.inventory_model.specs.Limits.{Limit, allowed}
+use Rattle.inventory_model.specs.Limits.{Limit}
 use Rattle.fleet_numbers.specs.SortedNames.{name_cmp}
 use Rattle.fleet_numbers.specs.NumberLists.{has_number, list_at, numbers_where, last_where, IsRising}
 use Rattle.fleet_numbers.specs.GroupPaths.{is_member}
@@ -26,20 +26,11 @@ use Rattle.domains.specs.Nested.{are_apart}
 use Rattle.domains.specs.Numbered.{host_at, IsNumbering}
 use Rattle.domains.specs.Members.{members_of, chains_of}
 use Rattle.domains.proofs.ByNumber.{group_name, depths_of, paths_of, is_above, last_under, GroupsWithin, holds_at, held_hosts, limits_at, limited_groups}
+use Rattle.domains.proofs.ByNumber.{hosts_under, allowed_for, count_of}
 use Rattle.domains.proofs.KnownLists.{AreListsOf}
 use Rattle.domains.proofs.PlaceLemmas.{among_path, apart_past}
 use Rattle.domains.proofs.NumberLemmas.{holds-numbers}
 use Rattle.domains.proofs.WhereLemmas.{filtered_names, numbers_where-same, rising-numbers_where, filter-filter, and_swap}
-
--- the hosts whose lists hold a number
-abbrev hosts_under : List (List ℕ) → ℕ → List ℕ
-hosts_under held number = numbers_where (λ host. has_number number (list_at held host)) (length held)
-
-abbrev allowed_for : ℕ → Option Limit → Option ℕ
-allowed_for count = option_map (λ (limit : Limit). allowed limit count)
-
-abbrev count_of : List (Option Limit) → List (List ℕ) → ℕ → Option ℕ
-count_of limits members group = allowed_for (length (list_at members group)) (get_or limits group None)
 
 module _ (inventory : Inventory) (hosts groups : List Name) (limits : List (Option Limit)) (depths : List ℕ) (rows : List (ℕ × ℕ))
     (off : List Bool) (numbered : IsNumbering inventory hosts groups limits depths rows off)

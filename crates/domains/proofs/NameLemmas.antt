@@ -1,5 +1,6 @@
 -- Distinct names in a set, in the order in which they were put in.
-use Rattle.std.proofs.Common.{◌≡◌, ℕ, zero, suc, ◌+◌, ◌<◌, Bool, true, false, ◌||◌, not, cond, if◌then◌else◌, nat_lt, Some, None, List, [], ◌∷◌, ◌++◌, length, get_or, map, take, sym, ap, ◌∙◌, refl, arith}
+use Rattle.std.proofs.Common.{◌≡◌, ℕ, zero, suc, ◌+◌, ◌<◌, Bool, true, false, ◌||◌, not, cond, if◌then◌else◌, nat_lt, Some, None, List, [], ◌∷◌, ◌++◌, length}
+use Rattle.std.proofs.Common.{get_or, map, take, sym, ap, ◌∙◌, refl, arith}
 use Rattle.std.specs.List.{list_any, position, position_or_len}
 use Rattle.std.specs.Prelude.{String}
 use Rattle.std.specs.String.{string_bytes, string_eq}
@@ -29,9 +30,14 @@ fresh_among (x ∷ names) name (suc i) apart l =
     ap (λ b. b || is_among name (take i names)) (apart 0 (omega arith)) ∙ fresh_among names name i (λ k m. apart (suc k) (omega arith)) (omega arith)
 
 -- a set that holds the first of distinct names holds one more once the next is put in
-pub one_more_name : {Z : Type 0} (old : List (String Z)) (names : List Name) (i : ℕ) (name : String Z) → are_distinct names ≡ true → i < length names → string_bytes name ≡ get_or names i [] → map string_bytes old ≡ take i names → map string_bytes (insert_key string_eq old name) ≡ take (i + 1) names
+pub one_more_name : {Z : Type 0} (old : List (String Z)) (names : List Name) (i : ℕ) (name : String Z) → are_distinct names ≡ true → i < length names
+    → string_bytes name ≡ get_or names i [] → map string_bytes old ≡ take i names → map string_bytes (insert_key string_eq old name) ≡ take (i + 1) names
 one_more_name {Z} old names i name distinct within is before =
-    ap (λ b. map string_bytes (if b then old else old ++ name ∷ [])) new ∙ map-append string_bytes old (name ∷ []) ∙ ap (λ l. l ++ string_bytes name ∷ []) before ∙ ap (λ (n : Name). take i names ++ n ∷ []) is ∙ sym (take_more names i [] within)
+    ap (λ b. map string_bytes (if b then old else old ++ name ∷ [])) new
+    ∙ map-append string_bytes old (name ∷ [])
+    ∙ ap (λ l. l ++ string_bytes name ∷ []) before
+    ∙ ap (λ (n : Name). take i names ++ n ∷ []) is
+    ∙ sym (take_more names i [] within)
   where
     apart : (k : ℕ) → k < i → same_name (string_bytes name) (get_or names k []) ≡ false
     apart k l =
@@ -39,20 +45,20 @@ one_more_name {Z} old names i name distinct within is before =
 
     new : list_any (string_eq name) old ≡ false
     new =
-        sym (list_any-map (same_name (string_bytes name)) (string_bytes {Z = Z}) old) ∙ ap (is_among (string_bytes name)) before ∙ fresh_among names (string_bytes name) i apart within
+        sym (list_any-map (same_name (string_bytes name)) (string_bytes {Z = Z}) old)
+        ∙ ap (is_among (string_bytes name)) before
+        ∙ fresh_among names (string_bytes name) i apart within
 
 -- the place of a name among texts
 pub position_of_map : {X Y : Type 0} (test : Y → Bool) (f : X → Y) (xs : List X) → position test (map f xs) ≡ position (λ x. test (f x)) xs
 position_of_map {X = X} test f xs =
-    ap (λ (n : ℕ). cond (nat_lt n (length (map f xs))) (Some n) None) (places xs) ∙ ap (λ (n : ℕ). cond (nat_lt (position_or_len (λ x. test (f x)) xs) n) (Some (position_or_len (λ x. test (f x)) xs)) None) (lengths xs)
+    let first : ℕ = position_or_len (λ x. test (f x)) xs in
+    ap (λ (n : ℕ). cond (nat_lt n (length (map f xs))) (Some n) None) (places xs)
+    ∙ ap (λ (n : ℕ). cond (nat_lt first n) (Some first) None) (length-map xs f)
   where
     places : (l : List X) → position_or_len test (map f l) ≡ position_or_len (λ x. test (f x)) l
     places [] = refl
     places (x ∷ l) = ap (λ (n : ℕ). cond (not (test (f x))) (1 + n) 0) (places l)
-
-    lengths : (l : List X) → length (map f l) ≡ length l
-    lengths [] = refl
-    lengths (x ∷ l) = ap suc (lengths l)
 
 -- a name that has a place stands there
 pub position_found : (name : Name) (names : List Name) (i : ℕ) → position (same_name name) names ≡ Some i → (i < length names) × (get_or names i [] ≡ name)
@@ -60,27 +66,33 @@ position_found name names i e =
     let found = position-Some (same_name name) names i [] e in
     (found.0, sym (same_name-true name (get_or names i []) found.1))
 
+-- the first place where a name stands, and the length where it stands nowhere
+abbrev first_place : Name → List Name → ℕ
+first_place name names = position_or_len (same_name name) names
+
 -- where the search goes past the end, the name is not there
-absent : (name : Name) (names : List Name) → nat_lt (position_or_len (same_name name) names) (length names) ≡ false → is_among name names ≡ false
+absent : (name : Name) (names : List Name) → nat_lt (first_place name names) (length names) ≡ false → is_among name names ≡ false
 absent name [] e = refl
 absent name (x ∷ names) e = by_case (absent name names) (same_name name x) refl
   where
     less : (n m : ℕ) → nat_lt (1 + n) (suc m) ≡ false → nat_lt n m ≡ false
     less n m f = le-ltb n m (omega (arith, ltb-false (1 + n) (suc m) f))
 
-    by_case : (nat_lt (position_or_len (same_name name) names) (length names) ≡ false → is_among name names ≡ false) → (b : Bool) → same_name name x ≡ b → (same_name name x || is_among name names) ≡ false
+    by_case : (nat_lt (first_place name names) (length names) ≡ false → is_among name names ≡ false) → (b : Bool) → same_name name x ≡ b
+        → (same_name name x || is_among name names) ≡ false
     by_case later true f =
-        absurd (false≢true (sym e ∙ ap (λ b. nat_lt (cond (not b) (1 + position_or_len (same_name name) names) 0) (suc (length names))) f ∙ lt-ltb 0 (suc (length names)) (omega arith)))
+        absurd (false≢true (sym e ∙ ap (λ b. nat_lt (cond (not b) (1 + first_place name names) 0) (suc (length names))) f ∙ lt-ltb 0 (suc (length names)) (omega arith)))
     by_case later false f =
-        let whole : nat_lt (1 + position_or_len (same_name name) names) (suc (length names)) ≡ false = sym (ap (λ b. nat_lt (cond (not b) (1 + position_or_len (same_name name) names) 0) (suc (length names))) f) ∙ e in
-        ap (λ b. b || is_among name names) f ∙ later (less (position_or_len (same_name name) names) (length names) whole)
+        let whole : nat_lt (1 + first_place name names) (suc (length names)) ≡ false =
+        sym (ap (λ b. nat_lt (cond (not b) (1 + first_place name names) 0) (suc (length names))) f) ∙ e in
+        ap (λ b. b || is_among name names) f ∙ later (less (first_place name names) (length names) whole)
 
 -- a name that has no place stands nowhere
 pub position_missing : (name : Name) (names : List Name) → position (same_name name) names ≡ None → is_among name names ≡ false
-position_missing name names e = absent name names (by_case (nat_lt (position_or_len (same_name name) names) (length names)) refl)
+position_missing name names e = absent name names (by_case (nat_lt (first_place name names) (length names)) refl)
   where
-    by_case : (b : Bool) → nat_lt (position_or_len (same_name name) names) (length names) ≡ b → b ≡ false
+    by_case : (b : Bool) → nat_lt (first_place name names) (length names) ≡ b → b ≡ false
     by_case true f =
-        let some : position (same_name name) names ≡ Some (position_or_len (same_name name) names) = ap (λ b. cond b (Some (position_or_len (same_name name) names)) None) f in
+        let some : position (same_name name) names ≡ Some (first_place name names) = ap (λ b. cond b (Some (first_place name names)) None) f in
         absurd (cc)
     by_case false f = refl

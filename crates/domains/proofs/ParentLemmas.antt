@@ -1,6 +1,6 @@
 -- The group directly above a group, and a chain from the outermost group in.
 use Rattle.std.proofs.Common.{◌≡◌, ℕ, zero, suc, ◌+◌, ◌-◌, ◌≤◌, ◌<◌, min, Bool, true, false, ◌||◌, not, Some, None, List, [], ◌∷◌, ◌++◌, length, get_or, take}
-use Rattle.std.proofs.Common.{map, sym, ap, ◌∙◌, refl, subst, arith, inl, inr, ◌⊎◌}
+use Rattle.std.proofs.Common.{map, sym, ap, ◌∙◌, refl, subst, arith, inl, inr, ◌⊎◌, nat_eq}
 use Rattle.std.proofs.lemmas.Bool.{cases_lt, eq-eqb, false≢true}
 use Rattle.std.proofs.lemmas.List.{length-map, length-append, length-take, take-map, take-take, take-append-le, take_all, get_or_append_left, get_or-append_right, get_or-take}
 use Rattle.std.proofs.lemmas.List.Folds.{list_any_at}
@@ -10,13 +10,13 @@ use Rattle.inventory_model.specs.Bounds.{group_names}
 use Rattle.fleet_numbers.specs.NumberLists.{list_at}
 use Rattle.fleet_numbers.specs.GroupPaths.{paths_from}
 use Rattle.fleet_numbers.proofs.RisingLemmas.{Ascends, has_number-within}
-use Rattle.fleet_numbers.proofs.PathLemmas.{first_path, path_next, path_ascends, on_within}
+use Rattle.fleet_numbers.proofs.PathLemmas.{first_path, path_next, path_ascends}
 use Rattle.domains.specs.Starts.{place_at}
 use Rattle.domains.specs.Nested.{are_apart}
 use Rattle.domains.specs.FleetLists.{parent_on}
 use Rattle.domains.specs.Fleets.{IsParentOf}
-use Rattle.domains.proofs.ByNumber.{group_name, names_to, depths_of, path_at, is_above}
-use Rattle.domains.proofs.PlaceLemmas.{path_names, begins_on}
+use Rattle.domains.proofs.ByNumber.{group_name, names_to, names_above, depths_of, path_at}
+use Rattle.domains.proofs.PlaceLemmas.{path_names, begins_on, never_above}
 
 -- numbers that ascend rise from place to place
 pub ascends_at : (low high : ℕ) (xs : List ℕ) (i j : ℕ) → Ascends low high xs → i < j → j < length xs → get_or xs i 0 < get_or xs j 0
@@ -27,37 +27,39 @@ ascends_at low high (x ∷ xs) zero (suc j) up l m =
     omega (arith, r.0)
 ascends_at low high (x ∷ xs) (suc i) (suc j) up l m = ascends_at (suc x) high xs i j up.2 (omega arith) (omega arith)
 
+abbrev path_in : List ℕ → ℕ → List ℕ
+path_in depths group = list_at (paths_from [] 0 depths) group
+
 -- a group on a path has the path up to it
-pub path_on : (depths : List ℕ) (k i : ℕ) → k < length depths → i < length (list_at (paths_from [] 0 depths) k)
-    → list_at (paths_from [] 0 depths) (get_or (list_at (paths_from [] 0 depths) k) i 0) ≡ take (i + 1) (list_at (paths_from [] 0 depths) k)
+pub path_on : (depths : List ℕ) (k i : ℕ) → k < length depths → i < length (path_in depths k)
+    → path_in depths (get_or (path_in depths k) i 0) ≡ take (i + 1) (path_in depths k)
 path_on depths zero i l m =
     let first = first_path depths l in
     let only : i ≡ 0 = omega (arith, m, ap length first) in
-    subst
-    (λ (n : ℕ). list_at (paths_from [] 0 depths) (get_or (list_at (paths_from [] 0 depths) 0) n 0) ≡ take (n + 1) (list_at (paths_from [] 0 depths) 0))
-    (sym only) (ap (λ (xs : List ℕ). list_at (paths_from [] 0 depths) (get_or xs 0 0)) first ∙ first ∙ sym (ap (take 1) first))
+    let at_top = ap (λ (xs : List ℕ). path_in depths (get_or xs 0 0)) first ∙ first ∙ sym (ap (take 1) first) in
+    subst (λ (n : ℕ). path_in depths (get_or (path_in depths 0) n 0) ≡ take (n + 1) (path_in depths 0)) (sym only) at_top
 path_on depths (suc k) i l m = by_case (path_on depths k i (omega arith)) (cases_lt i (length kept))
   where
     here : List ℕ
-    here = list_at (paths_from [] 0 depths) k
+    here = path_in depths k
 
     kept : List ℕ
-    kept = take (get_or depths (suc k) 0) (list_at (paths_from [] 0 depths) k)
+    kept = take (get_or depths (suc k) 0) (path_in depths k)
 
-    next : list_at (paths_from [] 0 depths) (suc k) ≡ kept ++ suc k ∷ []
+    next : path_in depths (suc k) ≡ kept ++ suc k ∷ []
     next = path_next depths k l
 
     kept_len : length kept ≡ min (get_or depths (suc k) 0) (length here)
     kept_len = length-take (get_or depths (suc k) 0) here
 
-    long : length (list_at (paths_from [] 0 depths) (suc k)) ≡ length kept + 1
+    long : length (path_in depths (suc k)) ≡ length kept + 1
     long = ap length next ∙ length-append kept (suc k ∷ [])
 
-    by_case : (i < length here → list_at (paths_from [] 0 depths) (get_or here i 0) ≡ take (i + 1) here) → (i < length kept) ⊎ (length kept ≤ i)
-        → list_at (paths_from [] 0 depths) (get_or (list_at (paths_from [] 0 depths) (suc k)) i 0) ≡ take (i + 1) (list_at (paths_from [] 0 depths) (suc k))
+    by_case : (i < length here → path_in depths (get_or here i 0) ≡ take (i + 1) here) → (i < length kept) ⊎ (length kept ≤ i)
+        → path_in depths (get_or (path_in depths (suc k)) i 0) ≡ take (i + 1) (path_in depths (suc k))
     by_case before (inl q) =
-        ap (λ (xs : List ℕ). list_at (paths_from [] 0 depths) (get_or xs i 0)) next
-        ∙ ap (list_at (paths_from [] 0 depths)) (get_or_append_left kept (suc k ∷ []) 0 i q ∙ get_or-take (get_or depths (suc k) 0) here i 0 (omega (arith, q, kept_len)))
+        ap (λ (xs : List ℕ). path_in depths (get_or xs i 0)) next
+        ∙ ap (path_in depths) (get_or_append_left kept (suc k ∷ []) 0 i q ∙ get_or-take (get_or depths (suc k) 0) here i 0 (omega (arith, q, kept_len)))
         ∙ before (omega (arith, q, kept_len))
         ∙ sym (take-take (i + 1) (get_or depths (suc k) 0) here (omega (arith, q, kept_len)))
         ∙ sym (take-append-le (i + 1) kept (suc k ∷ []) (omega (arith, q)))
@@ -65,12 +67,16 @@ path_on depths (suc k) i l m = by_case (path_on depths k i (omega arith)) (cases
     by_case before (inr q) =
         let last : i ≡ length kept = omega (arith, q, m, long) in
         let zeroth : i - length kept ≡ 0 = omega (arith, last) in
-        let own : get_or (list_at (paths_from [] 0 depths) (suc k)) i 0 ≡ suc k =
+        let own : get_or (path_in depths (suc k)) i 0 ≡ suc k =
         ap (λ (xs : List ℕ). get_or xs i 0) next ∙ get_or-append_right kept (suc k ∷ []) (length kept) i 0 refl q ∙ ap (λ (n : ℕ). get_or (suc k ∷ []) n 0) zeroth in
-        ap (list_at (paths_from [] 0 depths)) own ∙ sym (take_all (i + 1) (list_at (paths_from [] 0 depths) (suc k)) (omega (arith, q, long)))
+        ap (path_in depths) own ∙ sym (take_all (i + 1) (path_in depths (suc k)) (omega (arith, q, long)))
 
 -- where the parent stands on a path
-parent_at : (path : List ℕ) → ((parent_on path ≡ None) × (length path ≤ 1)) ⊎ ((i : ℕ) × (i + 2 ≡ length path) × (parent_on path ≡ Some (get_or path i 0)))
+abbrev HasParentAt : List ℕ → Type 0
+HasParentAt path =
+    ((parent_on path ≡ None) × (length path ≤ 1)) ⊎ ((i : ℕ) × (i + 2 ≡ length path) × (parent_on path ≡ Some (get_or path i 0)))
+
+parent_at : (path : List ℕ) → HasParentAt path
 parent_at [] = inl (refl, omega arith)
 parent_at (g ∷ []) = inl (refl, omega arith)
 parent_at (g ∷ (h ∷ path)) = inr (length path, omega arith, refl)
@@ -82,12 +88,12 @@ module _ (places : List Place) (distinct : are_distinct (group_names places) ≡
   pub is_parent : (k : ℕ) → k < length places → IsParentOf places k (parent_on (path_at places k))
   is_parent k l = by_case (parent_at (path_at places k))
     where
-      names : map (λ (n : ℕ). (group_name places n)) (path_at places k) ≡ (place_at places k).above ++ (group_name places k) ∷ []
+      names : map (group_name places) (path_at places k) ≡ names_above places k ++ group_name places k ∷ []
       names = path_names places distinct preorder k l
 
-      count : length (path_at places k) ≡ length (place_at places k).above + 1
+      count : length (path_at places k) ≡ length (names_above places k) + 1
       count =
-          sym (length-map (path_at places k) (λ (n : ℕ). (group_name places n))) ∙ ap length names ∙ length-append (place_at places k).above ((group_name places k) ∷ [])
+          sym (length-map (path_at places k) (group_name places)) ∙ ap length names ∙ length-append (names_above places k) (group_name places k ∷ [])
 
       up : Ascends 0 (suc k) (path_at places k)
       up = path_ascends (depths_of places) k (omega (arith, long))
@@ -96,39 +102,34 @@ module _ (places : List Place) (distinct : are_distinct (group_names places) ≡
       empty [] m = refl
       empty (x ∷ xs) m = absurd (omega arith)
 
-      by_case : ((parent_on (path_at places k) ≡ None) × (length (path_at places k) ≤ 1)) ⊎ ((i : ℕ) × (i + 2 ≡ length (path_at places k)) × (parent_on (path_at places k) ≡ Some (get_or (path_at places k) i 0)))
-          → IsParentOf places k (parent_on (path_at places k))
+      by_case : HasParentAt (path_at places k) → IsParentOf places k (parent_on (path_at places k))
       by_case (inl q) =
-          subst (IsParentOf places k) (sym q.0) (empty (place_at places k).above (omega (arith, q.1, count)))
+          subst (IsParentOf places k) (sym q.0) (empty (names_above places k) (omega (arith, q.1, count)))
       by_case (inr q) =
           let i = q.0 in
-          let p = get_or (path_at places k) i 0 in
-          let below : get_or (path_at places k) (i + 1) 0 < suc k =
-          (has_number-within (get_or (path_at places k) (i + 1) 0) 0 (suc k) (path_at places k) up (list_any_at _ (path_at places k) (i + 1) 0 (omega (arith, q.1)) (eq-eqb (get_or (path_at places k) (i + 1) 0) (get_or (path_at places k) (i + 1) 0) refl))).1 in
-          let before : p < get_or (path_at places k) (i + 1) 0 = ascends_at 0 (suc k) (path_at places k) i (i + 1) up (omega arith) (omega (arith, q.1)) in
+          let path : List ℕ = path_at places k in
+          let p : ℕ = get_or path i 0 in
+          let next : ℕ = get_or path (i + 1) 0 in
+          let stands = list_any_at (nat_eq next) path (i + 1) 0 (omega (arith, q.1)) (eq-eqb next next refl) in
+          let below : next < suc k = (has_number-within next 0 (suc k) path up stands).1 in
+          let before : p < next = ascends_at 0 (suc k) path i (i + 1) up (omega arith) (omega (arith, q.1)) in
           let its_path : path_at places p ≡ take (i + 1) (path_at places k) = path_on (depths_of places) k i (omega (arith, l, long)) (omega (arith, q.1)) in
-          let at_end : i + 1 ≡ length (place_at places k).above = omega (arith, q.1, count) in
-          let above : names_to places p ≡ (place_at places k).above =
+          let at_end : i + 1 ≡ length (names_above places k) = omega (arith, q.1, count) in
+          let above : names_to places p ≡ names_above places k =
           sym (path_names places distinct preorder p (omega (arith, below, before, l)))
-          ∙ ap (map (λ (n : ℕ). (group_name places n))) its_path
-          ∙ sym (take-map (λ (n : ℕ). (group_name places n)) (i + 1) (path_at places k))
+          ∙ ap (map (group_name places)) its_path
+          ∙ sym (take-map (group_name places) (i + 1) (path_at places k))
           ∙ ap (take (i + 1)) names
-          ∙ take-append-le (i + 1) (place_at places k).above ((group_name places k) ∷ []) (omega (arith, at_end))
-          ∙ take_all (i + 1) (place_at places k).above (omega (arith, at_end)) in
+          ∙ take-append-le (i + 1) (names_above places k) (group_name places k ∷ []) (omega (arith, at_end))
+          ∙ take_all (i + 1) (names_above places k) (omega (arith, at_end)) in
           subst (IsParentOf places k) (sym q.2) (omega (arith, below, before), above)
 
   -- of two groups that are not apart the one with the lower number is above
   pub above_of : (g k : ℕ) → g < k → k < length places → are_apart (place_at places g) (place_at places k) ≡ false → begins (names_to places g) (names_to places k) ≡ true
   above_of g k l m apart =
       one_of (begins (names_to places g) (names_to places k)) (begins (names_to places k) (names_to places g)) apart
-      (begins_on places distinct preorder k g m (omega arith) ∙ none (is_above places k g) refl)
+      (begins_on places distinct preorder k g m (omega arith) ∙ never_above places distinct preorder g k l m)
     where
-      none : (b : Bool) → is_above places k g ≡ b → b ≡ false
-      none true e =
-          let r : k ≤ g = on_within (depths_of places) k g (omega (arith, long)) e in
-          absurd (omega arith)
-      none false e = refl
-
       one_of : (a b : Bool) → not (a || b) ≡ false → b ≡ false → a ≡ true
       one_of true b e f = refl
       one_of false true e f = absurd (false≢true (sym f))

@@ -1,7 +1,8 @@
 -- What the readers of a fleet lend and find.
-use Rattle.std.proofs.Common.{◌≡◌, ℕ, zero, suc, ◌+◌, ◌≤◌, ◌<◌, false, nat_eq, List, [], ◌∷◌, length, get_or, Result, Ok, Err, is_ok, IsPermutation, Option, Some, None, IfSome, Vec, Global, All, map, sym, ap, ◌∙◌, refl, subst, arith, inl, inr, ◌⊎◌}
+use Rattle.std.proofs.Common.{◌≡◌, ℕ, ◌≤◌, ◌<◌, false, nat_eq, List, [], length, get_or, Result, Ok, Err, is_ok, IsPermutation, Option, Some, None, IfSome}
+use Rattle.std.proofs.Common.{Vec, Global, All, map, sym, ap, ◌∙◌, refl, subst, arith, inl, inr, ◌⊎◌}
 use Rattle.std.specs.List.{range_with_len}
-use Rattle.std.specs.List.Sorted.{IsBinarySearchResult, IsSearchInRange, IsNonDecreasingBy}
+use Rattle.std.specs.List.Sorted.{IsBinarySearchResult, IsSearchInRange}
 use Rattle.std.specs.Ordering.{nat_cmp, ordering_index}
 use Rattle.std.proofs.lemmas.Bool.{cases_lt, eq-eqb, ne_eqb}
 use Rattle.std.proofs.lemmas.List.{get_or_default, get_or-map, length-map}
@@ -21,6 +22,7 @@ use Rattle.domains.specs.FleetViews.{FleetView, IsSound}
 use Rattle.domains.specs.Inside.{shown}
 use Rattle.domains.specs.declared.fleet.Fleet.TheInside.{Inside}
 use Rattle.domains.proofs.MarkLemmas.{rising_below}
+use Rattle.std.proofs.Math.Nat.{zero-add}
 
 pub is_found : (bound : ℕ) (xs : List ℕ) (x : ℕ) (r : Result ℕ ℕ) → IsRising bound xs → IsBinarySearchResult (λ y. nat_cmp y x) xs r → is_ok r ≡ has_number x xs
 is_found bound xs x (Ok i) up h =
@@ -30,12 +32,14 @@ is_found bound xs x (Err i) up h =
     let s = searched xs x (Err i) h (λ i j l m. ascends_le 0 bound xs i j (Ascends-rising bound xs up) l m) in
     sym (or_from_places (has_number x) (nat_eq x) refl (λ _ _. refl) xs 0 (λ k l. side k l (cases_lt k i) s.1 s.2))
   where
-    side : (k : ℕ) → k < length xs → (k < i) ⊎ (i ≤ k) → ((k : ℕ) → k < i → get_or xs k 0 < x) → ((k : ℕ) → i ≤ k → k < length xs → x < get_or xs k 0) → nat_eq x (get_or xs k 0) ≡ false
+    side : (k : ℕ) → k < length xs → (k < i) ⊎ (i ≤ k) → ((k : ℕ) → k < i → get_or xs k 0 < x) → ((k : ℕ) → i ≤ k → k < length xs → x < get_or xs k 0)
+        → nat_eq x (get_or xs k 0) ≡ false
     side k l (inl q) below above = ne_eqb x (get_or xs k 0) (λ e. omega (arith, e, below k q))
     side k l (inr q) below above = ne_eqb x (get_or xs k 0) (λ e. omega (arith, e, above k q l))
 
 -- the same of a search by the numbers of hosts
-pub found_number : (bound : ℕ) (hosts : List HostId) (x : ℕ) (r : Result ℕ ℕ) → IsRising bound (host_numbers hosts) → IsBinarySearchResult (λ (y : HostId). nat_cmp y.index x) hosts r → IsSearchInRange r (length hosts) → is_ok r ≡ has_number x (host_numbers hosts)
+pub found_number : (bound : ℕ) (hosts : List HostId) (x : ℕ) (r : Result ℕ ℕ) → IsRising bound (host_numbers hosts)
+    → IsBinarySearchResult (λ (y : HostId). nat_cmp y.index x) hosts r → IsSearchInRange r (length hosts) → is_ok r ≡ has_number x (host_numbers hosts)
 found_number bound hosts x r up h within = is_found bound (host_numbers hosts) x r up (by_number r h within)
   where
     any : HostId
@@ -44,14 +48,17 @@ found_number bound hosts x r up h within = is_found bound (host_numbers hosts) x
     at : (k : ℕ) (d : HostId) (e : ℕ) → k < length hosts → get_or (host_numbers hosts) k e ≡ (get_or hosts k d).index
     at k d e l = get_or-map (λ (host : HostId). host.index) hosts k d e l
 
-    by_number : (r : Result ℕ ℕ) → IsBinarySearchResult (λ (y : HostId). nat_cmp y.index x) hosts r → IsSearchInRange r (length hosts) → IsBinarySearchResult (λ (n : ℕ). nat_cmp n x) (host_numbers hosts) r
+    by_number : (r : Result ℕ ℕ) → IsBinarySearchResult (λ (y : HostId). nat_cmp y.index x) hosts r → IsSearchInRange r (length hosts)
+        → IsBinarySearchResult (λ (n : ℕ). nat_cmp n x) (host_numbers hosts) r
     by_number (Ok i) h within = λ e. ap (λ (n : ℕ). nat_cmp n x) (at i any e within) ∙ h any
     by_number (Err i) h within = λ rises.
-        let split = h (λ i j d l m. omega (arith, ap (λ (n : ℕ). ordering_index (nat_cmp n x)) (at i d 0 (omega arith)), ap (λ (n : ℕ). ordering_index (nat_cmp n x)) (at j d 0 m), rises i j 0 l (simp length-map m))) in
+        let place : ℕ → ℕ = λ n. ordering_index (nat_cmp n x) in
+        let split = h (λ i j d l m. omega (arith, ap place (at i d 0 (omega arith)), ap place (at j d 0 m), rises i j 0 l (simp length-map m))) in
         (λ k e a b. ap (λ (n : ℕ). nat_cmp n x) (at k any e (omega (arith, b, within))) ∙ split.0 k any a b, λ k e a b. ap (λ (n : ℕ). nat_cmp n x) (at k any e (simp length-map at b)) ∙ split.1 k any a (simp length-map at b))
 
 -- a list that is lent, by its numbers
-pub lent_list : {X : Type 0} (number : X → ℕ) (lists : List (Vec X Global)) (k : ℕ) (own : Vec X Global) (lent : List X) → k < length lists → own ≡ get_or lists k own → lent ≡ own.items → map number lent ≡ list_at (map (λ (list : Vec X Global). map number list.items) lists) k
+pub lent_list : {X : Type 0} (number : X → ℕ) (lists : List (Vec X Global)) (k : ℕ) (own : Vec X Global) (lent : List X) → k < length lists
+    → own ≡ get_or lists k own → lent ≡ own.items → map number lent ≡ list_at (map (λ (list : Vec X Global). map number list.items) lists) k
 lent_list {X} number lists k own lent l is same =
     ap (map number) same ∙ ap (λ (list : Vec X Global). map number list.items) is ∙ sym (get_or-map (λ (list : Vec X Global). map number list.items) lists k own [] l)
 
@@ -65,25 +72,26 @@ lent_within number bound lent up k d l =
     let below : get_or (map number lent) k (number d) < bound = rising_below bound (map number lent) up k (number d) (simp length-map l) in
     omega (arith, below, get_or-map number lent k d (number d) l)
 
-pub dealt_within : {X : Type 0} (number : X → ℕ) (bound : ℕ) (order : List ℕ) (lent : List X) → map number lent ≡ order → IsPermutation (range_with_len 0 bound) order → All (λ (x : X). number x < bound) lent
+pub dealt_within : {X : Type 0} (number : X → ℕ) (bound : ℕ) (order : List ℕ) (lent : List X) → map number lent ≡ order
+    → IsPermutation (range_with_len 0 bound) order → All (λ (x : X). number x < bound) lent
 dealt_within number bound order lent is once k d l =
     let long : k < length order = omega (arith, l, ap length is, length-map lent number) in
     let below : get_or order k 0 < bound = in_range bound order once k long in
     omega (arith, below, get_or-map number lent k d 0 l, ap (λ (o : List ℕ). get_or o k 0) is)
 
-pub placed : (n : ℕ) (order places : List ℕ) (h : ℕ) → IsPermutation (range_with_len 0 n) order → ArePlacesOf order places → h < n → (get_or places h 0 < length order) × (get_or order (get_or places h 0) 0 ≡ h)
+pub placed : (n : ℕ) (order places : List ℕ) (h : ℕ) → IsPermutation (range_with_len 0 n) order → ArePlacesOf order places → h < n
+    → (get_or places h 0 < length order) × (get_or order (get_or places h 0) 0 ≡ h)
 placed n order places h once at l =
     let long : length (range_with_len 0 n) ≡ n = length-range_with_len 0 n in
-    let stands = Contains-permutation (range_with_len 0 n) order h once (h, omega (arith, long), get_or-range_with_len 0 n h h l ∙ zero_add h) in
+    let stands = Contains-permutation (range_with_len 0 n) order h once (h, omega (arith, long), get_or-range_with_len 0 n h h l ∙ zero-add h) in
     let here : get_or order stands.0 0 ≡ h = get_or_default order stands.0 0 h stands.1 ∙ stands.2 in
     let place : get_or places h 0 ≡ stands.0 = ap (λ (k : ℕ). get_or places k 0) (sym here) ∙ at.at stands.0 stands.1 in
     (omega (arith, place, stands.1), ap (λ (k : ℕ). get_or order k 0) place ∙ here)
-  where
-    zero_add : (k : ℕ) → 0 + k ≡ k
-    zero_add k = omega arith
 
 -- the members of a group as they are lent
-pub members_lent : (fleet : Inside) (now : FleetView) (g : ℕ) (own : Vec HostId Global) (lent : List HostId) → shown fleet ≡ now → IsSound (shown fleet) → g < length now.groups → own ≡ get_or fleet.members.items g own → lent ≡ own.items → (host_numbers lent ≡ list_at now.members g) × IsRising (length now.hosts) (host_numbers lent)
+pub members_lent : (fleet : Inside) (now : FleetView) (g : ℕ) (own : Vec HostId Global) (lent : List HostId) → shown fleet ≡ now
+    → IsSound (shown fleet) → g < length now.groups → own ≡ get_or fleet.members.items g own → lent ≡ own.items
+    → (host_numbers lent ≡ list_at now.members g) × IsRising (length now.hosts) (host_numbers lent)
 members_lent fleet now g own lent is kept l own_is lent_is =
     let numbers : Vec HostId Global → List ℕ = λ (list : Vec HostId Global). host_numbers list.items in
     let sound : IsSound now = subst IsSound is kept in
@@ -94,7 +102,9 @@ members_lent fleet now g own lent is kept l own_is lent_is =
     (here, subst (IsRising (length now.hosts)) (sym here) (sound.members_rise g [] (omega (arith, l, sound.all_members))))
 
 -- the chain of a host as it is lent
-pub chain_lent : (fleet : Inside) (now : FleetView) (h : ℕ) (own : Vec GroupId Global) (lent : List GroupId) → shown fleet ≡ now → IsSound (shown fleet) → h < length now.hosts → own ≡ get_or fleet.chains.items h own → lent ≡ own.items → (group_numbers lent ≡ list_at now.chains h) × IsRising (length now.groups) (group_numbers lent)
+pub chain_lent : (fleet : Inside) (now : FleetView) (h : ℕ) (own : Vec GroupId Global) (lent : List GroupId) → shown fleet ≡ now
+    → IsSound (shown fleet) → h < length now.hosts → own ≡ get_or fleet.chains.items h own → lent ≡ own.items
+    → (group_numbers lent ≡ list_at now.chains h) × IsRising (length now.groups) (group_numbers lent)
 chain_lent fleet now h own lent is kept l own_is lent_is =
     let numbers : Vec GroupId Global → List ℕ = λ (list : Vec GroupId Global). group_numbers list.items in
     let sound : IsSound now = subst IsSound is kept in

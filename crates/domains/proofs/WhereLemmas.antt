@@ -18,19 +18,23 @@ rising-numbers_where p n =
 
 pub filter-filter : (p q : ℕ → Bool) (xs : List ℕ) → filter p (filter q xs) ≡ filter (λ x. q x && p x) xs
 filter-filter p q [] = refl
-filter-filter p q (x ∷ xs) = by_case (q x) (p x) refl (filter-filter p q xs)
+filter-filter p q (x ∷ xs) = by_case (q x) (p x) (filter q xs) (filter (λ x. q x && p x) xs) refl (filter-filter p q xs)
   where
-    by_case : (a b : Bool) → p x ≡ b → filter p (filter q xs) ≡ filter (λ x. q x && p x) xs → filter p (cond a (x ∷ filter q xs) (filter q xs)) ≡ cond (a && p x) (x ∷ filter (λ x. q x && p x) xs) (filter (λ x. q x && p x) xs)
-    by_case true true e rest =
-        ap (λ c. cond c (x ∷ filter p (filter q xs)) (filter p (filter q xs))) e ∙ ap (λ (l : List ℕ). x ∷ l) rest ∙ sym (ap (λ c. cond c (x ∷ filter (λ x. q x && p x) xs) (filter (λ x. q x && p x) xs)) e)
-    by_case true false e rest =
-        ap (λ c. cond c (x ∷ filter p (filter q xs)) (filter p (filter q xs))) e ∙ rest ∙ sym (ap (λ c. cond c (x ∷ filter (λ x. q x && p x) xs) (filter (λ x. q x && p x) xs)) e)
-    by_case false b e rest = rest
+    by_case : (a b : Bool) (inner both : List ℕ) → p x ≡ b → filter p inner ≡ both
+        → filter p (cond a (x ∷ inner) inner) ≡ cond (a && p x) (x ∷ both) both
+    by_case true true inner both e rest =
+        ap (λ c. cond c (x ∷ filter p inner) (filter p inner)) e
+        ∙ ap (λ (l : List ℕ). x ∷ l) rest
+        ∙ sym (ap (λ c. cond c (x ∷ both) both) e)
+    by_case true false inner both e rest =
+        ap (λ c. cond c (x ∷ filter p inner) (filter p inner)) e ∙ rest ∙ sym (ap (λ c. cond c (x ∷ both) both) e)
+    by_case false b inner both e rest = rest
 
-pub filtered_names : (t : ℕ → Bool) (u : Name → Bool) (names : List Name) (from : ℕ) → ((k : ℕ) → k < length names → t (from + k) ≡ u (host_at names k)) → length (filter t (range_with_len from (length names))) ≡ length (filter u names)
+pub filtered_names : (t : ℕ → Bool) (u : Name → Bool) (names : List Name) (from : ℕ)
+    → ((k : ℕ) → k < length names → t (from + k) ≡ u (host_at names k)) → length (filter t (range_with_len from (length names))) ≡ length (filter u names)
 filtered_names t u [] from at = refl
 filtered_names t u (name ∷ names) from at =
-    by_case (u name) here (filtered_names t u names (from + 1) (λ k l. shift k l))
+    by_case (u name) (filter t (range_with_len (from + 1) (length names))) here (filtered_names t u names (from + 1) (λ k l. shift k l))
   where
     at_zero : (n : ℕ) → n ≡ n + 0
     at_zero n = omega arith
@@ -44,11 +48,10 @@ filtered_names t u (name ∷ names) from at =
     shift : (k : ℕ) → k < length names → t ((from + 1) + k) ≡ u (host_at names k)
     shift k l = ap t (more from k) ∙ at (suc k) (omega arith)
 
-    by_case : (b : Bool) → t from ≡ b → length (filter t (range_with_len (from + 1) (length names))) ≡ length (filter u names) → length (cond (t from) (from ∷ filter t (range_with_len (from + 1) (length names))) (filter t (range_with_len (from + 1) (length names)))) ≡ length (cond b (name ∷ filter u names) (filter u names))
-    by_case true e rest =
-        ap (λ b. length (cond b (from ∷ filter t (range_with_len (from + 1) (length names))) (filter t (range_with_len (from + 1) (length names))))) e ∙ ap suc rest
-    by_case false e rest =
-        ap (λ b. length (cond b (from ∷ filter t (range_with_len (from + 1) (length names))) (filter t (range_with_len (from + 1) (length names))))) e ∙ rest
+    by_case : (b : Bool) (tail : List ℕ) → t from ≡ b → length tail ≡ length (filter u names)
+        → length (cond (t from) (from ∷ tail) tail) ≡ length (cond b (name ∷ filter u names) (filter u names))
+    by_case true tail e rest = ap (λ b. length (cond b (from ∷ tail) tail)) e ∙ ap suc rest
+    by_case false tail e rest = ap (λ b. length (cond b (from ∷ tail) tail)) e ∙ rest
 
 pub and_swap : (a b : Bool) → (a && b) ≡ (b && a)
 and_swap true true = refl
