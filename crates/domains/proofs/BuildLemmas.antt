@@ -16,14 +16,12 @@ use Rattle.fleet_numbers.specs.DealOrder.{IsDealt, groups_bound}
 use Rattle.fleet_numbers.proofs.RisingLemmas.{Ascends, Ascends-rising, are_below-rising}
 use Rattle.fleet_numbers.proofs.PathLemmas.{length-paths_from}
 use Rattle.domains.specs.Hosts.{is_off}
-use Rattle.domains.specs.Starts.{nowhere, allowed_of, StartsWithin, IsFirstOver}
-use Rattle.domains.specs.Nested.{IsNested, IsLeastCrossing}
-use Rattle.domains.specs.Numbered.{host_at}
+use Rattle.domains.specs.Starts.{allowed_of, StartsWithin}
+use Rattle.domains.specs.Nested.{IsNested}
 use Rattle.domains.specs.FleetLists.{parent_on}
-use Rattle.domains.specs.Search.{IsFirstCrossing, IsFirstOverGroup}
 use Rattle.domains.specs.FleetViews.{AreAmong, IsInSubtree, IsSound, off_count}
 use Rattle.domains.specs.Fleets.{IsParentOf, IsOutermostFirst, IsFleetOf}
-use Rattle.domains.proofs.ByNumber.{group_name, depths_of, path_at, is_above, last_under, held_lists, member_lists, end_lists}
+use Rattle.domains.proofs.ByNumber.{depths_of, path_at, is_above, last_under, held_lists, member_lists, end_lists}
 use Rattle.domains.proofs.ParentLemmas.{ascends_at, is_parent, above_of}
 use Rattle.domains.proofs.KnownLists.{AreListsOf}
 use Rattle.domains.proofs.FleetLemmas as facts
@@ -35,15 +33,10 @@ use Rattle.domains.proofs.SoundLemmas as sounds
 use Rattle.std.specs.String.{string_bytes}
 use Rattle.inventory_model.specs.Bounds.{IsWithinBounds}
 use Rattle.group_tree.specs.Limits.{limit_of}
-use Rattle.domains.specs.Faults.{IsFaultOf}
-use Rattle.domains.specs.Search.{AreChainsNested, AreStartsWithin, IsFirstBreach}
-use Rattle.domains.specs.Outcomes.{IsNamed, IsNumberingOf, AreListsFrom, dealt_fleet}
+use Rattle.domains.specs.Search.{AreChainsNested, AreStartsWithin}
+use Rattle.domains.specs.Outcomes.{IsNumberingOf, AreListsFrom, dealt_fleet}
 use Rattle.domains.specs.declared.numbers.Numbers.{Numbers}
 use Rattle.domains.specs.declared.lists.FleetLists.{FleetLists}
-use Rattle.domains.specs.declared.search.Breach.{Breach}
-use Rattle.domains.specs.declared.search.Breach.TheVariants.{Nesting, Start}
-use Rattle.domains.specs.declared.fault.FleetFault.{FleetFault}
-use Rattle.domains.specs.declared.fault.FleetFault.TheVariants.{TooManyHosts, NotNested, StartOver, Memory}
 use Rattle.domains.proofs.MadeLemmas.{are_below-more}
 
 module _ (inventory : Inventory) (n : Numbers) (l : FleetLists) (numbered : IsNumberingOf inventory n) (within : IsWithinBounds inventory) (lists : AreListsFrom n l) where
@@ -100,9 +93,7 @@ module _ (inventory : Inventory) (n : Numbers) (l : FleetLists) (numbered : IsNu
 
   members_are : members ≡ member_lists lists.held (length inventory.places)
   members_are =
-      subst
-      (λ (n : ℕ). members ≡ member_lists lists.held n)
-      (ap length numbered.all_depths ∙ long) lists.members_are
+      subst (λ (n : ℕ). members ≡ member_lists lists.held n) (ap length numbered.all_depths ∙ long) lists.members_are
 
   subtree_ends_are : subtree_ends ≡ end_lists paths (length inventory.places)
   subtree_ends_are =
@@ -113,21 +104,20 @@ module _ (inventory : Inventory) (n : Numbers) (l : FleetLists) (numbered : IsNu
   subtree_ends_len =
       ap length subtree_ends_are ∙ length-map-range_with_len (last_under inventory.places) 0 (length inventory.places)
 
-  known : AreListsOf inventory hosts counts off chains members subtree_ends
+  pub known : AreListsOf inventory hosts counts off chains members subtree_ends
   known =
-      facts.known inventory hosts groups limits depths rows off numbered distinct preorder counts lists.held chains members subtree_ends held_are lists.counts_are lists.chains_are members_are subtree_ends_are
+      facts.known inventory hosts groups limits depths rows off numbered distinct preorder counts lists.held chains members subtree_ends
+      held_are lists.counts_are lists.chains_are members_are subtree_ends_are
 
   groups_rise : All (IsRising (length inventory.places)) chains
-  groups_rise =
-      known.chains_rise
+  groups_rise = known.chains_rise
 
   pub chains_rise : All (IsRising (length subtree_ends)) chains
   chains_rise k d l =
       subst (λ (n : ℕ). IsRising n (get_or chains k d)) (sym subtree_ends_len) (groups_rise k d l)
 
   members_len : length members ≡ length inventory.places
-  members_len =
-      known.members_len
+  members_len = known.members_len
 
   limits_long : length counts ≡ length inventory.places
   limits_long = ap length known.all_counts ∙ length-map inventory.places (allowed_of inventory)
@@ -140,32 +130,11 @@ module _ (inventory : Inventory) (n : Numbers) (l : FleetLists) (numbered : IsNu
       are_below-more (length inventory.places) groups_bound (get_or chains k d) (omega (arith, within.groups))
       (are_below-rising (length inventory.places) (get_or chains k d) (groups_rise k d at))
 
-  crossing_fault : (h first second : ℕ) → IsFirstCrossing subtree_ends chains h first second
-      → IsLeastCrossing inventory (host_at hosts h) (host_at groups first) (host_at groups second)
-  crossing_fault h first second found =
-      let name : (g : ℕ) → g < length inventory.places → (group_name inventory.places g) ≡ host_at groups g =
-      λ (g : ℕ) l. sym (get_or-map (λ (p : Place). p.name) inventory.places g nowhere [] l) ∙ sym (ap (λ (l : List Name). host_at l g) numbered.all_groups) in
-      let least = crossings.least_crossing known h first second found in
-      let inside : h < length hosts = omega (arith, found.within, known.chains_len) in
-      let in_first : first < length inventory.places = known.chain_within first h inside found.least.first_in in
-      let in_second : second < length inventory.places = known.chain_within second h inside found.least.second_in in
-      subst (λ (n : Name). IsLeastCrossing inventory (host_at hosts h) (host_at groups first) n) (name second in_second)
-      (subst (λ (n : Name). IsLeastCrossing inventory (host_at hosts h) n (group_name inventory.places second)) (name first in_first) least)
-
-  nested : AreChainsNested subtree_ends chains → IsNested inventory
-  nested =
-      crossings.nested known
-
-  over_fault : (group down limit : ℕ) → IsFirstOverGroup members counts off group down limit → IsFirstOver inventory (host_at groups group) down limit
-  over_fault group down limit found =
-      let inside : group < length inventory.places = omega (arith, found.within, members_len) in
-      subst (λ (n : Name). IsFirstOver inventory n down limit)
-      (sym (get_or-map (λ (p : Place). p.name) inventory.places group nowhere [] inside) ∙ sym (ap (λ (l : List Name). host_at l group) numbered.all_groups))
-      (starts.first_over known group down limit found)
+  pub nested : AreChainsNested subtree_ends chains → IsNested inventory
+  nested = crossings.nested known
 
   starts_within : AreStartsWithin members counts off → StartsWithin inventory
-  starts_within =
-      starts.starts_within known
+  starts_within = starts.starts_within known
 
   groups_len : length groups ≡ length inventory.places
   groups_len = ap length numbered.all_groups ∙ length-map inventory.places (λ (p : Place). p.name)
@@ -188,17 +157,19 @@ module _ (inventory : Inventory) (n : Numbers) (l : FleetLists) (numbered : IsNu
   outermost_first : AreChainsNested subtree_ends chains → All (IsOutermostFirst inventory.places) chains
   outermost_first nested_chains h d l i j before within =
       let chain = get_or chains h d in
+      let outer : ℕ = get_or chain i 0 in
+      let inner : ℕ = get_or chain j 0 in
       let same : chain ≡ list_at chains h = get_or_default chains h d [] l in
       let inside : h < length hosts = omega (arith, l, known.chains_len) in
       let up : Ascends 0 (length inventory.places) chain = Ascends-rising (length inventory.places) chain (groups_rise h d l) in
-      let rises : get_or chain i 0 < get_or chain j 0 = ascends_at 0 (length inventory.places) chain i j up before within in
-      let first_in : has_number (get_or chain i 0) (list_at chains h) ≡ true =
-      ap (has_number (get_or chain i 0)) (sym same) ∙ list_any_at (nat_eq (get_or chain i 0)) chain i 0 (omega (arith, before, within)) (eq-eqb _ _ refl) in
-      let second_in : has_number (get_or chain j 0) (list_at chains h) ≡ true =
-      ap (has_number (get_or chain j 0)) (sym same) ∙ list_any_at (nat_eq (get_or chain j 0)) chain j 0 within (eq-eqb _ _ refl) in
-      let below = known.chain_within (get_or chain j 0) h inside second_in in
-      above_of inventory.places distinct preorder (get_or chain i 0) (get_or chain j 0) rises below
-      (known.ends_before_at (get_or chain i 0) (get_or chain j 0) rises below ∙ nested_chains h l (get_or chain i 0) (get_or chain j 0) first_in second_in)
+      let rises : outer < inner = ascends_at 0 (length inventory.places) chain i j up before within in
+      let stands : (n : ℕ) → n < length chain → has_number (get_or chain n 0) (list_at chains h) ≡ true =
+      λ n m. ap (has_number (get_or chain n 0)) (sym same) ∙ list_any_at (nat_eq (get_or chain n 0)) chain n 0 m (eq-eqb _ _ refl) in
+      let outer_in : has_number outer (list_at chains h) ≡ true = stands i (omega (arith, before, within)) in
+      let inner_in : has_number inner (list_at chains h) ≡ true = stands j within in
+      let below = known.chain_within inner h inside inner_in in
+      let apart = known.ends_before_at outer inner rises below ∙ nested_chains h l outer inner outer_in inner_in in
+      above_of inventory.places distinct preorder outer inner rises below apart
 
   pub fleet_of : (order : List ℕ) → AreChainsNested subtree_ends chains → AreStartsWithin members counts off → IsFleetOf inventory (dealt_fleet n l order)
   fleet_of order nested_chains none =
@@ -237,8 +208,7 @@ module _ (inventory : Inventory) (n : Numbers) (l : FleetLists) (numbered : IsNu
         members_above = members_above;
         chains_rise = subst (λ (n : ℕ). All (IsRising n) chains) (sym groups_len) groups_rise;
         chain_exact = sounds.chain_exact known;
-        chain_nested =
-            λ h outer inner m e f. subtrees.in_subtree (depths_of inventory.places) parents parents_are outer inner (on_length inner (group_in inner h f)) (above h outer inner m e f);
+        chain_nested = λ h outer inner m e f. in_subtree outer inner (group_in inner h f) (above h outer inner m e f);
         inner_members = λ h outer inner m e f. sounds.members_above known outer inner (above h outer inner m e f) (omega (arith, m, group_in inner h f));
         within_limits = λ g limit e. sounds.not_over counts g limit (off_count off (list_at members g)) (none g (limited g limit e)) e;
         dealt_once = all_dealt;
@@ -258,14 +228,16 @@ module _ (inventory : Inventory) (n : Numbers) (l : FleetLists) (numbered : IsNu
 
       above : (h outer inner : ℕ) → outer < inner → has_number outer (list_at chains h) ≡ true → has_number inner (list_at chains h) ≡ true
           → is_above inventory.places outer inner ≡ true
-      above =
-          sounds.chain_above known nested_chains
+      above = sounds.chain_above known nested_chains
+
+      in_subtree : (outer inner : ℕ) → inner < length inventory.places → is_above inventory.places outer inner ≡ true → IsInSubtree parents outer inner
+      in_subtree outer inner m on = subtrees.in_subtree (depths_of inventory.places) parents parents_are outer inner (on_length inner m) on
 
       members_above : (top group : ℕ) → IsInSubtree parents top group → AreAmong (list_at members group) (list_at members top)
       members_above top group s host e =
           let inside = sounds.member_within known group host e in
-          sounds.members_above known top group (subtrees.on_subtree (depths_of inventory.places) parents parents_are top group (on_length group inside.0) s)
-          (omega (arith, s.after, inside.0)) host e
+          let on = subtrees.on_subtree (depths_of inventory.places) parents parents_are top group (on_length group inside.0) s in
+          sounds.members_above known top group on (omega (arith, s.after, inside.0)) host e
 
       limited : (g limit : ℕ) → get_or counts g None ≡ Some limit → g < length members
       limited g limit e = by_case (cases_lt g (length members))
@@ -275,16 +247,3 @@ module _ (inventory : Inventory) (n : Numbers) (l : FleetLists) (numbered : IsNu
           by_case (inr l) =
               let past : get_or counts g None ≡ None = get_or_past counts g None (omega (arith, l, limits_len)) in
               absurd (cc)
-
-  pub fault_of : length hosts ≤ 4096 → (breach : Breach) (fault : FleetFault) → IsFirstBreach subtree_ends chains members counts off breach
-      → IsNamed n breach fault → IsFaultOf inventory fault
-  fault_of few (Nesting crossing) (NotNested host first second) found named =
-      (omega (arith, few, ap length numbered.all_hosts), rw (named.0, named.1, named.2) (crossing_fault crossing.host crossing.first crossing.second found))
-  fault_of few (Nesting crossing) TooManyHosts found named = absurd named
-  fault_of few (Nesting crossing) (StartOver group down limit) found named = absurd named
-  fault_of few (Nesting crossing) Memory found named = tt
-  fault_of few (Start over) (StartOver group down limit) found named =
-      (omega (arith, few, ap length numbered.all_hosts), nested found.0, rw (named.0, named.1, named.2) (over_fault over.group over.down over.limit found.1))
-  fault_of few (Start over) TooManyHosts found named = absurd named
-  fault_of few (Start over) (NotNested host first second) found named = absurd named
-  fault_of few (Start over) Memory found named = tt

@@ -16,5 +16,6 @@ pub mod SubtreeLemmas
 pub mod SoundLemmas
 pub mod MadeLemmas
 pub mod BuildLemmas
+pub mod BreachLemmas
 pub mod ReaderLemmas
 pub mod MarkLemmas

@@ -1,4 +1,4 @@
-use Rattle.std.proofs.Common.{◌≡◌, ◌∙◌, ◌≤◌, ◌<◌, ◌^◌, ℕ, List, [], Global, map, filter, option_map, length, get_or, sym, ap, subst, arith, true}
+use Rattle.std.proofs.Common.{◌≡◌, ◌∙◌, ◌≤◌, ◌<◌, ◌^◌, ℕ, List, [], Global, map, filter, option_map, length, get_or, sym, ap, subst, arith, true, Bool}
 use Rattle.std.specs.List.{list_all, range_with_len}
 use Rattle.std.specs.String.{string_bytes}
 use Rattle.std.proofs.lemmas.List.{length-map}
@@ -9,6 +9,7 @@ use Rattle.fleet_numbers.specs.GroupPaths.{paths_from, is_member}
 use Rattle.fleet_numbers.specs.Chains.{is_limited}
 use Rattle.fleet_numbers.proofs.PathLemmas.{length-paths_from}
 use Rattle.domains.specs.FleetLists.{allowed_counts}
+use Rattle.domains.proofs.ByNumber.{groups_held, held_lists, hosts_under, member_lists}
 use Rattle.domains.proofs.MadeLemmas.{lists_rise, made, paths_within, short_list}
 use Rattle.domains.proofs.lists.make_lists.Goals as goal
 
@@ -16,22 +17,44 @@ pub list_held-requires-clause-groups_in : goal.list_held-requires-clause-groups_
 list_held-requires-clause-groups_in c = λ k d l.
     let rows = c.args.numbers.now.rows.items in
     let row : get_or c.as_slice-rows.result.now k d ≡ get_or rows k d = ap (λ (r : List (ℕ × ℕ)). get_or r k d) c.as_slice-rows.ensures.value in
-    omega (arith, c.requires.groups_in k d (omega (arith, l, ap length c.as_slice-rows.ensures.value)), ap (λ (r : ℕ × ℕ). r.1) row, ap length c.in_ok-paths.ensures.paths, length-paths_from [] 0 c.as_slice-depths.result.now, ap length c.as_slice-depths.ensures.value)
+    omega (
+      arith,
+      c.requires.groups_in k d (omega (arith, l, ap length c.as_slice-rows.ensures.value)),
+      ap (λ (r : ℕ × ℕ). r.1) row,
+      ap length c.in_ok-paths.ensures.paths,
+      length-paths_from [] 0 c.as_slice-depths.result.now,
+      ap length c.as_slice-depths.ensures.value,
+    )
 
 pub list_members-requires : goal.list_members-requires
 list_members-requires c =
     let long : length c.in_ok-paths.paths ≡ length c.as_slice-depths.result.now = ap length c.in_ok-paths.ensures.paths ∙ length-paths_from [] 0 c.as_slice-depths.result.now in
     λ k d l.
-    subst (λ (n : ℕ). IsRising n (get_or c.in_ok-held.held k d)) long (lists_rise (λ host group. is_member c.in_ok-paths.paths c.as_slice-rows.result.now group host) (length c.in_ok-paths.paths) c.len-hosts.result c.in_ok-held.held c.in_ok-held.ensures k d l)
+    let paths : List (List ℕ) = c.in_ok-paths.paths in
+    let held : List (List ℕ) = c.in_ok-held.held in
+    let member : ℕ → ℕ → Bool = λ host group. is_member paths c.as_slice-rows.result.now group host in
+    subst (λ (n : ℕ). IsRising n (get_or held k d)) long (lists_rise member (length paths) c.len-hosts.result held c.in_ok-held.ensures k d l)
 
 pub list_allowed-requires-clause-len : goal.list_allowed-requires-clause-len
 list_allowed-requires-clause-len c =
-    omega (arith, c.requires.len, ap length c.as_slice.ensures.value, ap length c.as_slice-depths.ensures.value, ap length c.in_ok-members.ensures, length-map-range_with_len (λ group. numbers_where (λ host. has_number group (list_at c.in_ok-held.held host)) (length c.in_ok-held.held)) 0 (length c.as_slice-depths.result.now))
+    omega (
+      arith,
+      c.requires.len,
+      ap length c.as_slice.ensures.value,
+      ap length c.as_slice-depths.ensures.value,
+      ap length c.in_ok-members.ensures,
+      length-map-range_with_len (hosts_under c.in_ok-held.held) 0 (length c.as_slice-depths.result.now),
+    )
 
 pub list_allowed-requires-clause-few : goal.list_allowed-requires-clause-few
 list_allowed-requires-clause-few c = λ k d l.
-    let count : length c.in_ok-held.held ≡ c.len-hosts.result = ap length c.in_ok-held.ensures ∙ length-map-range_with_len (λ host. numbers_where (λ group. is_member c.in_ok-paths.paths c.as_slice-rows.result.now group host) (length c.in_ok-paths.paths)) 0 c.len-hosts.result in
-    let short : length (get_or c.in_ok-members.members k d) ≤ length c.in_ok-held.held = short_list (λ group host. has_number group (list_at c.in_ok-held.held host)) (length c.in_ok-held.held) (length c.as_slice-depths.result.now) c.in_ok-members.members c.in_ok-members.ensures k d l in
+    let count : length c.in_ok-held.held ≡ c.len-hosts.result =
+    ap length c.in_ok-held.ensures
+    ∙ length-map-range_with_len (groups_held c.in_ok-paths.paths c.as_slice-rows.result.now (length c.in_ok-paths.paths)) 0 c.len-hosts.result in
+    let held : List (List ℕ) = c.in_ok-held.held in
+    let members : List (List ℕ) = c.in_ok-members.members in
+    let short : length (get_or members k d) ≤ length held =
+    short_list (λ group host. has_number group (list_at held host)) (length held) (length c.as_slice-depths.result.now) members c.in_ok-members.ensures k d l in
     omega (arith, short, count, c.len-hosts.ensures, c.requires.few)
 
 pub list_subtree_ends-requires : goal.list_subtree_ends-requires
@@ -44,10 +67,16 @@ returns c =
     let rows = c.args.numbers.now.rows.items in
     let limits = map (option_map limit_of) c.args.numbers.now.limits.items in
     let hosts : ℕ = length (map (string_bytes {Z = Global}) c.args.numbers.now.hosts.items) in
-    let count : c.len-hosts.result ≡ hosts = omega (arith, c.len-hosts.ensures, c.args.numbers.now.hosts.ok.0, length-map c.args.numbers.now.hosts.items (string_bytes {Z = Global})) in
+    let count : c.len-hosts.result ≡ hosts =
+    omega (arith, c.len-hosts.ensures, c.args.numbers.now.hosts.ok.0, length-map c.args.numbers.now.hosts.items (string_bytes {Z = Global})) in
     let paths : c.in_ok-paths.paths ≡ paths_from [] 0 depths = c.in_ok-paths.ensures.paths ∙ ap (paths_from [] 0) c.as_slice-depths.ensures.value in
-    let held : c.in_ok-held.held ≡ map (λ host. numbers_where (λ group. is_member c.in_ok-paths.paths rows group host) (length c.in_ok-paths.paths)) (range_with_len 0 hosts) = rw (c.as_slice-rows.ensures.value, count) at c.in_ok-held.ensures in
-    let members : c.in_ok-members.members ≡ map (λ group. numbers_where (λ host. has_number group (list_at c.in_ok-held.held host)) (length c.in_ok-held.held)) (range_with_len 0 (length depths)) = rw c.as_slice-depths.ensures.value at c.in_ok-members.ensures in
+    let held : c.in_ok-held.held ≡ held_lists c.in_ok-paths.paths rows (length c.in_ok-paths.paths) hosts = rw (c.as_slice-rows.ensures.value, count) at c.in_ok-held.ensures in
+    let members : c.in_ok-members.members ≡ member_lists c.in_ok-held.held (length depths) = rw c.as_slice-depths.ensures.value at c.in_ok-members.ensures in
     let counts : c.in_ok-limits.limits.items ≡ allowed_counts limits c.in_ok-members.members = rw c.as_slice.ensures.value at c.in_ok-limits.ensures in
-    let chains : c.in_ok-list_chains.field-0 ≡ map (filter (is_limited c.in_ok-limits.limits.items)) c.in_ok-held.held = rw c.as_slice-2.ensures.value at c.in_ok-list_chains.ensures in
-    rw c.members.view_is (made hosts limits depths rows c.in_ok-limits.limits.items c.in_ok-list_chains.field-0 c.in_ok-members.members c.in_ok-held.held c.in_ok-paths.paths c.in_ok-list_parents.field-0.items c.in_ok-list_subtree_ends.field-0.items paths held members counts chains c.in_ok-list_parents.ensures c.in_ok-list_subtree_ends.ensures)
+    let chains : c.in_ok-list_chains.field-0 ≡ map (filter (is_limited c.in_ok-limits.limits.items)) c.in_ok-held.held =
+    rw c.as_slice-2.ensures.value at c.in_ok-list_chains.ensures in
+    let parents = c.in_ok-list_parents.field-0.items in
+    let ends = c.in_ok-list_subtree_ends.field-0.items in
+    rw c.members.view_is
+    (made hosts limits depths rows c.in_ok-limits.limits.items c.in_ok-list_chains.field-0 c.in_ok-members.members c.in_ok-held.held
+    c.in_ok-paths.paths parents ends paths held members counts chains c.in_ok-list_parents.ensures c.in_ok-list_subtree_ends.ensures)

@@ -5,4 +5,6 @@ use Rattle.domains.proofs.marks.flag_all.Given as goal
 
 abbrev pub invariant-loop-host : goal.invariant-loop-host
 invariant-loop-host l =
-    (length l.flags.items ≡ length l.initial.flags.items) × ((place : ℕ) → place < length l.initial.flags.items → get_or l.flags.items place false ≡ (get_or l.initial.flags.items place false || has_number place (host_numbers (take l.host-index l.hosts))))
+    (length l.flags.items ≡ length l.initial.flags.items)
+    × ((place : ℕ) → place < length l.initial.flags.items
+    → get_or l.flags.items place false ≡ (get_or l.initial.flags.items place false || has_number place (host_numbers (take l.host-index l.hosts))))

@@ -16,11 +16,18 @@ loop-index-preserved g c =
     let inside_rows : i < length hosts = simp length-map (omega arith) in
     let inside : i < length numbers = omega arith in
     let here : number.0 < length c.loop-index.last_downs.items = omega (arith, c.requires.hosts_in i (0, 0) inside, c.loop-index.invariant.len) in
-    let own : get_or hosts i c.index-rows-index.result.host.now ≡ c.index-rows-index.result.host.now = get_or-map (λ row. row.host.now) rows i c.index-rows-index.result c.index-rows-index.result.host.now (omega arith) ∙ sym (ap (λ row. row.host.now) c.index-rows-index.is) in
-    let last_downs : c.down_here.result ≡ truth_of (value_of down (get_or hosts i c.index-rows-index.result.host.now).variables) = c.down_here.ensures ∙ sym (ap (λ (h : Host). truth_of (value_of down h.variables)) own) in
+    let own : Host = c.index-rows-index.result.host.now in
+    let own_is : get_or hosts i own ≡ own =
+    get_or-map (λ row. row.host.now) rows i c.index-rows-index.result own (omega arith) ∙ sym (ap (λ row. row.host.now) c.index-rows-index.is) in
+    let last_downs : c.down_here.result ≡ truth_of (value_of down (get_or hosts i own).variables) =
+    c.down_here.ensures ∙ sym (ap (λ (h : Host). truth_of (value_of down h.variables)) own_is) in
     record {
       len = ap length c.note_place.ensures ∙ length-set c.loop-index.last_downs.items _ _ ∙ c.loop-index.invariant.len;
       last_downs = λ host within.
-          let before : get_or c.loop-index.last_downs.items host None ≡ last_down_of host (take i numbers) (take i hosts) = c.loop-index.invariant.last_downs host within ∙ sym (ap (last_down_of host (take i numbers)) (take-map (λ row. row.host.now) i rows)) in
-          last_downs_more numbers hosts i (0, 0) c.index-rows-index.result.host.now c.loop-index.last_downs.items c.note_place.new.last_downs.items host c.down_here.result inside inside_rows before last_downs here c.note_place.ensures ∙ ap (last_down_of host (take (i + 1) numbers)) (take-map (λ row. row.host.now) (i + 1) rows);
+          let old = c.loop-index.last_downs.items in
+          let new = c.note_place.new.last_downs.items in
+          let before : get_or old host None ≡ last_down_of host (take i numbers) (take i hosts) =
+          c.loop-index.invariant.last_downs host within ∙ sym (ap (last_down_of host (take i numbers)) (take-map (λ row. row.host.now) i rows)) in
+          last_downs_more numbers hosts i (0, 0) own old new host c.down_here.result inside inside_rows before last_downs here c.note_place.ensures
+          ∙ ap (last_down_of host (take (i + 1) numbers)) (take-map (λ row. row.host.now) (i + 1) rows);
     }

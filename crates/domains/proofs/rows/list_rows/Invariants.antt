@@ -5,4 +5,5 @@ use Rattle.domains.proofs.rows.list_rows.Given as goal
 
 abbrev pub invariant-loop-number : goal.invariant-loop-number
 invariant-loop-number g l =
-    map {B = Host × ℕ} (λ row. (row.host.now, row.group)) l.rows.items ++ rows_from l.number (map (λ walked. walked.group.now) (drop l.number l.groups)) ≡ rows_from 0 (map (λ walked. walked.group.now) l.groups)
+    map {B = Host × ℕ} (λ row. (row.host.now, row.group)) l.rows.items ++ rows_from l.number
+    (map (λ walked. walked.group.now) (drop l.number l.groups)) ≡ rows_from 0 (map (λ walked. walked.group.now) l.groups)

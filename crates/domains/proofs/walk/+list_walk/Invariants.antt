@@ -5,7 +5,9 @@ use Rattle.domains.proofs.walk.+list_walk.Given as goal
 
 abbrev pub invariant-loop-child : goal.invariant-loop-child
 invariant-loop-child g l =
-    (walk : List (Subtree × ℕ)) × (map (λ walked. (walked.group.now, walked.depth)) l.groups.items ≡ map (λ walked. (walked.group.now, walked.depth)) l.initial.groups.items ++ walk) × IsWalkOf (side_by_side (take l.child-index l.child-items)) (l.depth + 1) walk
+    (walk : List (Subtree × ℕ))
+    × (map (λ walked. (walked.group.now, walked.depth)) l.groups.items ≡ map (λ walked. (walked.group.now, walked.depth)) l.initial.groups.items ++ walk)
+    × IsWalkOf (side_by_side (take l.child-index l.child-items)) (l.depth + 1) walk
 
 abbrev pub decreases-list_walk : goal.decreases-list_walk
 decreases-list_walk g l = length l.group.now.below.places

@@ -10,7 +10,9 @@ returns c =
     let g : ℕ = c.args.group.index in
     let sound : IsSound fleet = subst IsSound c.self.view_is c.self.invariant.sound in
     let hosts = host_numbers c.as_slice-members.result.now in
-    let lent = members_lent c.self.inside fleet c.args.group.index c.index.result.now c.as_slice-members.result.now c.self.view_is c.self.invariant.sound c.requires c.index.ensures c.as_slice-members.ensures.value in
+    let lent =
+    members_lent c.self.inside fleet c.args.group.index c.index.result.now c.as_slice-members.result.now
+    c.self.view_is c.self.invariant.sound c.requires c.index.ensures c.as_slice-members.ensures.value in
     let off : c.as_slice.result.now ≡ fleet.off = c.as_slice.ensures.value ∙ ap (λ (f : FleetView). f.off) c.self.view_is in
     let down : c.count_off.result ≡ down_at_start fleet g = c.count_off.ensures ∙ ap (λ (o : List Bool). off_count o hosts) off ∙ ap (off_count fleet.off) lent.0 in
     record {
