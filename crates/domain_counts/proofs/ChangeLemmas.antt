@@ -1,5 +1,6 @@
 -- One host's change of place, counted in one of the trees.
-use Rattle.std.proofs.Common.{◌≡◌, ℕ, zero, suc, ◌+◌, ◌-◌, ◌≤◌, ◌<◌, Bool, true, false, ◌||◌, ◌&&◌, not, cond, nat_eq, nat_lt, List, [], ◌∷◌, ◌++◌, map, length, get_or, set, take, drop, sym, ap, ◌∙◌, refl, subst, arith}
+use Rattle.std.proofs.Common.{◌≡◌, ℕ, zero, suc, ◌+◌, ◌-◌, ◌≤◌, ◌<◌, Bool, true, false, ◌||◌, ◌&&◌, not, cond, nat_eq, nat_lt, List, [], ◌∷◌, ◌++◌, map}
+use Rattle.std.proofs.Common.{length, get_or, set, take, drop, sym, ap, ◌∙◌, refl, subst, arith}
 use Rattle.std.specs.List.{list_all}
 use Rattle.std.proofs.lemmas.Bool.{ne_eqb, eq-eqb, and_parts, not-true, ltb-true, ltb-false}
 use Rattle.std.proofs.lemmas.List.{map-append, take_all, length-map, get_or-map}
@@ -28,27 +29,55 @@ recounted_none was is (node ∷ nodes) =
     let here : recounted_along [] was is node ≡ node = ap (λ b. cond b (recounted was is node) node) (begins_nothing node) in
     ap (λ (n : Node). n ∷ nodes) (sym here) ∙ ap (λ (l : List Node). recounted_along [] was is node ∷ l) (recounted_none was is nodes)
 
+-- a count of hosts, one of which passed before and now does or doesn't
+abbrev moved : Bool → Bool → ℕ → ℕ
+moved before after count = (count - bit before) + bit after
+
+tops_long : (trees : List Subtree) (i : ℕ) → i < length trees → suc i < suc (length (tops_of trees))
+tops_long [] i l = absurd (omega arith)
+tops_long (tree ∷ trees) zero l = omega arith
+tops_long (tree ∷ trees) (suc i) l =
+    let rest = tops_long trees i (omega arith) in
+    omega (arith, rest)
+
 module _ (group : ℕ) (inner : List ℕ) (was is : Place) where
+  -- a node, and nodes, once the change is counted on the chain
+  abbrev recount_node : Node → Node
+  recount_node = recounted_along (group ∷ inner) was is
+
+  abbrev recount : List Node → List Node
+  recount nodes = map recount_node nodes
+
   -- a tree of another group has no node on the chain
   module _ (tree : Subtree) (apart : nat_eq tree.group group ≡ false) where
-    unchanged_below : (nodes : List Node) → map (recounted_along (group ∷ inner) was is) (map (under tree.group) nodes) ≡ map (under tree.group) nodes
+    abbrev lower : Node → Node
+    lower = under tree.group
+
+    unchanged_below : (nodes : List Node) → recount (map lower nodes) ≡ map lower nodes
     unchanged_below [] = refl
     unchanged_below (node ∷ nodes) =
-        let here : recounted_along (group ∷ inner) was is (under tree.group node) ≡ under tree.group node = ap (λ b. cond (b && begins (path_of node) inner) (recounted was is (under tree.group node)) (under tree.group node)) apart in
-        ap (λ (n : Node). n ∷ map (recounted_along (group ∷ inner) was is) (map (under tree.group) nodes)) here ∙ ap (λ (l : List Node). under tree.group node ∷ l) (unchanged_below nodes)
+        let here : recount_node (lower node) ≡ lower node =
+        ap (λ b. cond (b && begins (path_of node) inner) (recounted was is (lower node)) (lower node)) apart in
+        ap (λ (n : Node). n ∷ recount (map lower nodes)) here ∙ ap (λ (l : List Node). lower node ∷ l) (unchanged_below nodes)
 
-    unchanged_tree : map (recounted_along (group ∷ inner) was is) (nodes_of tree) ≡ nodes_of tree
+    unchanged_tree : recount (nodes_of tree) ≡ nodes_of tree
     unchanged_tree =
-        let here : recounted_along (group ∷ inner) was is (own_node tree) ≡ own_node tree = ap (λ b. cond (b && true) (recounted was is (own_node tree)) (own_node tree)) apart in
-        ap (λ (n : Node). n ∷ map (recounted_along (group ∷ inner) was is) (map (under tree.group) tree.below)) here ∙ ap (λ (l : List Node). own_node tree ∷ l) (unchanged_below tree.below)
+        let own : Node = own_node tree in
+        let here : recount_node own ≡ own = ap (λ b. cond (b && true) (recounted was is own) own) apart in
+        ap (λ (n : Node). n ∷ recount (map lower tree.below)) here ∙ ap (λ (l : List Node). own ∷ l) (unchanged_below tree.below)
 
-  unchanged : (trees : List Subtree) → ((i : ℕ) → i < length trees → (get_or (tops_of trees) i 0 ≡ group) → ⊥) → map (recounted_along (group ∷ inner) was is) (side_by_side trees) ≡ side_by_side trees
+  unchanged : (trees : List Subtree) → ((i : ℕ) → i < length trees → (get_or (tops_of trees) i 0 ≡ group) → ⊥)
+      → recount (side_by_side trees) ≡ side_by_side trees
   unchanged [] none = refl
   unchanged (tree ∷ trees) none =
-      map-append (recounted_along (group ∷ inner) was is) (nodes_of tree) (side_by_side trees) ∙ ap (λ (l : List Node). l ++ map (recounted_along (group ∷ inner) was is) (side_by_side trees)) (unchanged_tree tree (ne_eqb tree.group group (none 0 (omega arith)))) ∙ ap (λ (l : List Node). nodes_of tree ++ l) (unchanged trees (λ i l. none (suc i) (omega arith)))
+      let first = unchanged_tree tree (ne_eqb tree.group group (none 0 (omega arith))) in
+      map-append recount_node (nodes_of tree) (side_by_side trees)
+      ∙ ap (λ (l : List Node). l ++ recount (side_by_side trees)) first
+      ∙ ap (λ (l : List Node). nodes_of tree ++ l) (unchanged trees (λ i l. none (suc i) (omega arith)))
 
   -- no tree of the chain's first group
-  pub recounted_nowhere : (trees : List Subtree) (place : ℕ) → IsGap (tops_of trees) group place → length (tops_of trees) ≡ length trees → side_by_side trees ≡ map (recounted_along (group ∷ inner) was is) (side_by_side trees)
+  pub recounted_nowhere : (trees : List Subtree) (place : ℕ) → IsGap (tops_of trees) group place → length (tops_of trees) ≡ length trees
+      → side_by_side trees ≡ recount (side_by_side trees)
   recounted_nowhere trees place gap len = sym (unchanged trees none)
     where
       none : (i : ℕ) → i < length trees → (get_or (tops_of trees) i 0 ≡ group) → ⊥
@@ -56,70 +85,93 @@ module _ (group : ℕ) (inner : List ℕ) (was is : Place) where
 
   -- the tree of the chain's first group, whose nodes below changed along the rest of it
   module _ (tree : Subtree) (same : nat_eq tree.group group ≡ true) where
-    changed_below : (nodes : List Node) → map (under tree.group) (map (recounted_along inner was is) nodes) ≡ map (recounted_along (group ∷ inner) was is) (map (under tree.group) nodes)
+    abbrev within : Node → Node
+    within = under tree.group
+
+    changed_below : (nodes : List Node) → map within (map (recounted_along inner was is) nodes) ≡ recount (map within nodes)
     changed_below [] = refl
     changed_below (node ∷ nodes) =
-        let deeper : cond (true && begins (path_of node) inner) (recounted was is (under tree.group node)) (under tree.group node) ≡ under tree.group (recounted_along inner was is node) = by (begins (path_of node) inner) in
-        let here : recounted_along (group ∷ inner) was is (under tree.group node) ≡ under tree.group (recounted_along inner was is node) = ap (λ b. cond (b && begins (path_of node) inner) (recounted was is (under tree.group node)) (under tree.group node)) same ∙ deeper in
-        ap (λ (n : Node). n ∷ map (under tree.group) (map (recounted_along inner was is) nodes)) (sym here) ∙ ap (λ (l : List Node). recounted_along (group ∷ inner) was is (under tree.group node) ∷ l) (changed_below nodes)
+        let on : Bool = begins (path_of node) inner in
+        let changed : Node = within (recounted_along inner was is node) in
+        let deeper : cond (true && on) (recounted was is (within node)) (within node) ≡ changed = by on in
+        let here : recount_node (within node) ≡ changed =
+        ap (λ b. cond (b && on) (recounted was is (within node)) (within node)) same ∙ deeper in
+        ap (λ (n : Node). n ∷ map within (map (recounted_along inner was is) nodes)) (sym here)
+        ∙ ap (λ (l : List Node). recount_node (within node) ∷ l) (changed_below nodes)
       where
-        by : (b : Bool) → cond b (recounted was is (under tree.group node)) (under tree.group node) ≡ under tree.group (cond b (recounted was is node) node)
+        by : (b : Bool) → cond b (recounted was is (within node)) (within node) ≡ within (cond b (recounted was is node) node)
         by true = refl
         by false = refl
 
-    pub changed_tree : (changed : Subtree) → changed.group ≡ tree.group → changed.waiting ≡ (tree.waiting - bit (waits was)) + bit (waits is) → changed.down ≡ (tree.down - bit (is_down was)) + bit (is_down is) → changed.below ≡ map (recounted_along inner was is) tree.below → nodes_of changed ≡ map (recounted_along (group ∷ inner) was is) (nodes_of tree)
+    pub changed_tree : (changed : Subtree) → changed.group ≡ tree.group → changed.waiting ≡ moved (waits was) (waits is) tree.waiting
+        → changed.down ≡ moved (is_down was) (is_down is) tree.down → changed.below ≡ map (recounted_along inner was is) tree.below
+        → nodes_of changed ≡ recount (nodes_of tree)
     changed_tree changed groups waiting down below =
-        let own : own_node changed ≡ recounted was is (own_node tree) = rw (groups, waiting, down) refl in
-        let on : recounted_along (group ∷ inner) was is (own_node tree) ≡ recounted was is (own_node tree) = ap (λ b. cond (b && true) (recounted was is (own_node tree)) (own_node tree)) same in
-        ap (λ (n : Node). n ∷ map (under changed.group) changed.below) (own ∙ sym on) ∙ ap (λ (l : List Node). recounted_along (group ∷ inner) was is (own_node tree) ∷ l) (ap (λ g. map (under g) changed.below) groups ∙ ap (map (under tree.group)) below ∙ changed_below tree.below)
+        let top : Node = own_node tree in
+        let own : own_node changed ≡ recounted was is top = rw (groups, waiting, down) refl in
+        let on : recount_node top ≡ recounted was is top = ap (λ b. cond (b && true) (recounted was is top) top) same in
+        let lower : map (under changed.group) changed.below ≡ recount (map within tree.below) =
+        ap (λ g. map (under g) changed.below) groups ∙ ap (map within) below ∙ changed_below tree.below in
+        ap (λ (n : Node). n ∷ map (under changed.group) changed.below) (own ∙ sym on) ∙ ap (λ (l : List Node). recount_node top ∷ l) lower
 
   -- the other trees rise apart from it
-  pub changed_at : (low : ℕ) (trees : List Subtree) (place : ℕ) (changed d : Subtree) → RiseFrom low (tops_of trees) → place < length trees → get_or (tops_of trees) place 0 ≡ group → nodes_of changed ≡ map (recounted_along (group ∷ inner) was is) (nodes_of (get_or trees place d)) → side_by_side (set trees place changed) ≡ map (recounted_along (group ∷ inner) was is) (side_by_side trees)
+  pub changed_at : (low : ℕ) (trees : List Subtree) (place : ℕ) (changed d : Subtree) → RiseFrom low (tops_of trees) → place < length trees
+      → get_or (tops_of trees) place 0 ≡ group → nodes_of changed ≡ recount (nodes_of (get_or trees place d))
+      → side_by_side (set trees place changed) ≡ recount (side_by_side trees)
   changed_at low [] place changed d up within here nodes = absurd (omega arith)
   changed_at low (tree ∷ trees) zero changed d up within here nodes =
-      let others : side_by_side trees ≡ map (recounted_along (group ∷ inner) was is) (side_by_side trees) = sym (unchanged trees (λ i l e. let more = rise_sorted low (tops_of (tree ∷ trees)) 0 (suc i) up (omega arith) (long i l) in omega (arith, more, e, here))) in
-      ap (λ (l : List Node). l ++ side_by_side trees) nodes ∙ ap (λ (l : List Node). map (recounted_along (group ∷ inner) was is) (nodes_of tree) ++ l) others ∙ sym (map-append (recounted_along (group ∷ inner) was is) (nodes_of tree) (side_by_side trees))
-    where
-      long : (i : ℕ) → i < length trees → suc i < length (tops_of (tree ∷ trees))
-      long i l = tops_long trees i l
-        where
-          tops_long : (ts : List Subtree) (i : ℕ) → i < length ts → suc i < suc (length (tops_of ts))
-          tops_long [] i l = absurd (omega arith)
-          tops_long (t ∷ ts) zero l = omega arith
-          tops_long (t ∷ ts) (suc i) l = let r = tops_long ts i (omega arith) in omega (arith, r)
+      let apart : (i : ℕ) → i < length trees → (get_or (tops_of trees) i 0 ≡ group) → ⊥ =
+      λ i l e. let more = rise_sorted low (tops_of (tree ∷ trees)) 0 (suc i) up (omega arith) (tops_long trees i l) in omega (arith, more, e, here) in
+      ap (λ (l : List Node). l ++ side_by_side trees) nodes
+      ∙ ap (λ (l : List Node). recount (nodes_of tree) ++ l) (sym (unchanged trees apart))
+      ∙ sym (map-append recount_node (nodes_of tree) (side_by_side trees))
   changed_at low (tree ∷ trees) (suc place) changed d up within here nodes =
-      let less : tree.group < group = before in
-      let own : nodes_of tree ≡ map (recounted_along (group ∷ inner) was is) (nodes_of tree) = sym (unchanged_tree tree (ne_eqb tree.group group (λ e. omega (arith, less, e)))) in
-      ap (λ (l : List Node). nodes_of tree ++ l) (changed_at (tree.group + 1) trees place changed d up.1 (omega arith) here nodes) ∙ ap (λ (l : List Node). l ++ map (recounted_along (group ∷ inner) was is) (side_by_side trees)) own ∙ sym (map-append (recounted_along (group ∷ inner) was is) (nodes_of tree) (side_by_side trees))
-    where
-      before : tree.group < group
-      before = let more = rise_sorted low (tops_of (tree ∷ trees)) 0 (suc place) up (omega arith) (long trees place (omega arith)) in omega (arith, more, here)
-        where
-          long : (ts : List Subtree) (i : ℕ) → i < length ts → suc i < suc (length (tops_of ts))
-          long [] i l = absurd (omega arith)
-          long (t ∷ ts) zero l = omega arith
-          long (t ∷ ts) (suc i) l = let r = long ts i (omega arith) in omega (arith, r)
+      let more = rise_sorted low (tops_of (tree ∷ trees)) 0 (suc place) up (omega arith) (tops_long trees place (omega arith)) in
+      let less : tree.group < group = omega (arith, more, here) in
+      let own : nodes_of tree ≡ recount (nodes_of tree) = sym (unchanged_tree tree (ne_eqb tree.group group (λ e. omega (arith, less, e)))) in
+      ap (λ (l : List Node). nodes_of tree ++ l) (changed_at (tree.group + 1) trees place changed d up.1 (omega arith) here nodes)
+      ∙ ap (λ (l : List Node). l ++ recount (side_by_side trees)) own
+      ∙ sym (map-append recount_node (nodes_of tree) (side_by_side trees))
+
+-- each node on the chain has counts that the host's place can leave
+abbrev Allow : List ℕ → Place → List Node → Type 0
+Allow chain was nodes = list_all (counts_on chain was) nodes ≡ true
+
+abbrev leaves_enough : Place → ℕ → ℕ → Bool
+leaves_enough was waiting down = not (nat_lt waiting (bit (waits was))) && not (nat_lt down (bit (is_down was)))
+
+allow_parts : (chain : List ℕ) (was : Place) (tree : Subtree) (trees : List Subtree) → Allow chain was (side_by_side (tree ∷ trees))
+    → Allow chain was (nodes_of tree) × Allow chain was (side_by_side trees)
+allow_parts chain was tree trees all =
+    let test : Node → Bool = counts_on chain was in
+    let split = list_all-append test (nodes_of tree) (side_by_side trees) in
+    and_parts (list_all test (nodes_of tree)) (list_all test (side_by_side trees)) (sym split ∙ all)
 
 -- what is asked of the counts, asked of the trees' parts
-pub counted_at : (group : ℕ) (inner : List ℕ) (was : Place) (trees : List Subtree) (place : ℕ) (d : Subtree) → place < length trees → (get_or trees place d).group ≡ group → list_all (counts_on (group ∷ inner) was) (side_by_side trees) ≡ true → (counts_on (group ∷ inner) was (own_node (get_or trees place d)) ≡ true) × (list_all (counts_on inner was) (get_or trees place d).below ≡ true)
+pub counted_at : (group : ℕ) (inner : List ℕ) (was : Place) (trees : List Subtree) (place : ℕ) (d : Subtree) → place < length trees
+    → (get_or trees place d).group ≡ group → Allow (group ∷ inner) was (side_by_side trees)
+    → (counts_on (group ∷ inner) was (own_node (get_or trees place d)) ≡ true) × Allow inner was (get_or trees place d).below
 counted_at group inner was [] place d within here all = absurd (omega arith)
 counted_at group inner was (tree ∷ trees) zero d within here all =
-    let parts = and_parts (list_all (counts_on (group ∷ inner) was) (nodes_of tree)) (list_all (counts_on (group ∷ inner) was) (side_by_side trees)) (sym (list_all-append (counts_on (group ∷ inner) was) (nodes_of tree) (side_by_side trees)) ∙ all) in
-    let own = and_parts (counts_on (group ∷ inner) was (own_node tree)) (list_all (counts_on (group ∷ inner) was) (map (under tree.group) tree.below)) parts.0 in
+    let test : Node → Bool = counts_on (group ∷ inner) was in
+    let own = and_parts (test (own_node tree)) (list_all test (map (under tree.group) tree.below)) (allow_parts (group ∷ inner) was tree trees all).0 in
     (own.0, below tree.below own.1)
   where
     same : nat_eq tree.group group ≡ true
     same = eq-eqb _ _ here
 
-    below : (nodes : List Node) → list_all (counts_on (group ∷ inner) was) (map (under tree.group) nodes) ≡ true → list_all (counts_on inner was) nodes ≡ true
+    counts : Node → Bool → Bool
+    counts node on = nat_lt node.waiting 0x1_0000 && (nat_lt node.down 0x1_0000 && (not on || leaves_enough was node.waiting node.down))
+
+    below : (nodes : List Node) → Allow (group ∷ inner) was (map (under tree.group) nodes) → Allow inner was nodes
     below [] h = refl
     below (node ∷ nodes) h =
-        let parts = and_parts (counts_on (group ∷ inner) was (under tree.group node)) (list_all (counts_on (group ∷ inner) was) (map (under tree.group) nodes)) h in
-        let first : counts_on (group ∷ inner) was (under tree.group node) ≡ counts_on inner was node = ap (λ b. nat_lt node.waiting 0x1_0000 && (nat_lt node.down 0x1_0000 && (not (b && begins (path_of node) inner) || (not (nat_lt node.waiting (bit (waits was))) && not (nat_lt node.down (bit (is_down was))))))) same in
+        let test : Node → Bool = counts_on (group ∷ inner) was in
+        let parts = and_parts (test (under tree.group node)) (list_all test (map (under tree.group) nodes)) h in
+        let first : test (under tree.group node) ≡ counts_on inner was node = ap (λ b. counts node (b && begins (path_of node) inner)) same in
         ap (λ b. b && list_all (counts_on inner was) nodes) (sym first ∙ parts.0) ∙ below nodes parts.1
 counted_at group inner was (tree ∷ trees) (suc place) d within here all =
-    let parts = and_parts (list_all (counts_on (group ∷ inner) was) (nodes_of tree)) (list_all (counts_on (group ∷ inner) was) (side_by_side trees)) (sym (list_all-append (counts_on (group ∷ inner) was) (nodes_of tree) (side_by_side trees)) ∙ all) in
-    counted_at group inner was trees place d (omega arith) here parts.1
+    counted_at group inner was trees place d (omega arith) here (allow_parts (group ∷ inner) was tree trees all).1
 
 pub record Leaves (was : Place) (waiting down : ℕ) : Type 0 where
   pub few_waiting : waiting < 0x1_0000
@@ -128,13 +180,16 @@ pub record Leaves (was : Place) (waiting down : ℕ) : Type 0 where
   pub some_down : bit (is_down was) ≤ down
 
 -- what it says of the tree at hand
-pub leaves : (group : ℕ) (inner : List ℕ) (was : Place) (tree : Subtree) → tree.group ≡ group → counts_on (group ∷ inner) was (own_node tree) ≡ true → Leaves was tree.waiting tree.down
+pub leaves : (group : ℕ) (inner : List ℕ) (was : Place) (tree : Subtree) → tree.group ≡ group → counts_on (group ∷ inner) was (own_node tree) ≡ true
+    → Leaves was tree.waiting tree.down
 leaves group inner was tree here all =
-    let path = not (begins (path_of (own_node tree)) (group ∷ inner)) || (not (nat_lt tree.waiting (bit (waits was))) && not (nat_lt tree.down (bit (is_down was)))) in
+    let enough : Bool = leaves_enough was tree.waiting tree.down in
+    let path : Bool = not (begins (path_of (own_node tree)) (group ∷ inner)) || enough in
     let first = and_parts (nat_lt tree.waiting 0x1_0000) (nat_lt tree.down 0x1_0000 && path) all in
     let second = and_parts (nat_lt tree.down 0x1_0000) path first.1 in
     let on : begins (path_of (own_node tree)) (group ∷ inner) ≡ true = ap (λ b. b && true) (eq-eqb tree.group group here) in
-    let rest = and_parts (not (nat_lt tree.waiting (bit (waits was)))) (not (nat_lt tree.down (bit (is_down was)))) (sym (ap (λ b. not b || (not (nat_lt tree.waiting (bit (waits was))) && not (nat_lt tree.down (bit (is_down was))))) on) ∙ second.1) in
+    let left : enough ≡ true = sym (ap (λ b. not b || enough) on) ∙ second.1 in
+    let rest = and_parts (not (nat_lt tree.waiting (bit (waits was)))) (not (nat_lt tree.down (bit (is_down was)))) left in
     record {
       few_waiting = ltb-true _ _ first.0;
       few_down = ltb-true _ _ second.0;
@@ -156,7 +211,9 @@ pub chain_split : (chain : List GroupId) → 1 ≤ length chain → group_number
 chain_split [] l = absurd (omega arith)
 chain_split (group ∷ chain) l =
     let n : suc (length chain) - 1 ≡ length chain = omega arith in
-    sym (ap (λ k. group.index ∷ group_numbers (take k (drop 1 (group ∷ chain)))) n ∙ ap (λ (l : List GroupId). group.index ∷ group_numbers l) (take_all (length chain) chain (omega arith)))
+    sym
+    (ap (λ k. group.index ∷ group_numbers (take k (drop 1 (group ∷ chain)))) n
+    ∙ ap (λ (l : List GroupId). group.index ∷ group_numbers l) (take_all (length chain) chain (omega arith)))
 
 pub shorter : (chain : List GroupId) → 1 ≤ length chain → length (take (length chain - 1) (drop 1 chain)) < length chain
 shorter [] l = absurd (omega arith)
@@ -175,19 +232,34 @@ at_tree trees group place d at =
     (within, sym (get_or-map (λ (tree : Subtree). tree.group) trees place d 0 within) ∙ at.here)
 
 -- what is asked of all the counts, asked of the chain's first tree
-pub tree_leaves : (chain : List GroupId) (was : Place) (trees : List Subtree) (place : ℕ) (tree d : Subtree) → 1 ≤ length chain → IsAt (tops_of trees) (first_of chain) place → list_all (counts_on (group_numbers chain) was) (side_by_side trees) ≡ true → tree ≡ get_or trees place d → Leaves was tree.waiting tree.down × (list_all (counts_on (inner_of chain) was) tree.below ≡ true)
+pub tree_leaves : (chain : List GroupId) (was : Place) (trees : List Subtree) (place : ℕ) (tree d : Subtree) → 1 ≤ length chain
+    → IsAt (tops_of trees) (first_of chain) place → Allow (group_numbers chain) was (side_by_side trees) → tree ≡ get_or trees place d
+    → Leaves was tree.waiting tree.down × Allow (inner_of chain) was tree.below
 tree_leaves chain was trees place tree d long at all is =
     let here = at_tree trees (first_of chain) place d at in
-    let parts = counted_at (first_of chain) (inner_of chain) was trees place d here.0 here.1 (subst (λ ns. list_all (counts_on ns was) (side_by_side trees) ≡ true) (chain_split chain long) all) in
-    subst (λ (t : Subtree). Leaves was t.waiting t.down × (list_all (counts_on (inner_of chain) was) t.below ≡ true)) (sym is) (leaves (first_of chain) (inner_of chain) was (get_or trees place d) here.1 parts.0, parts.1)
+    let all' = subst (λ ns. Allow ns was (side_by_side trees)) (chain_split chain long) all in
+    let parts = counted_at (first_of chain) (inner_of chain) was trees place d here.0 here.1 all' in
+    let left = leaves (first_of chain) (inner_of chain) was (get_or trees place d) here.1 parts.0 in
+    subst (λ (t : Subtree). Leaves was t.waiting t.down × Allow (inner_of chain) was t.below) (sym is) (left, parts.1)
 
 -- what is done to the chain's first tree, seen on all nodes
-pub tree_changed : (chain : List GroupId) (was is : Place) (trees : List Subtree) (place : ℕ) (tree changed d : Subtree) → 1 ≤ length chain → RiseFrom 0 (groups_in (side_by_side trees)) → IsAt (tops_of trees) (first_of chain) place → tree ≡ get_or trees place d → changed.group ≡ tree.group → changed.waiting ≡ (tree.waiting - bit (waits was)) + bit (waits is) → changed.down ≡ (tree.down - bit (is_down was)) + bit (is_down is) → changed.below ≡ map (recounted_along (inner_of chain) was is) tree.below → side_by_side (set trees place changed) ≡ map (recounted_along (group_numbers chain) was is) (side_by_side trees)
+pub tree_changed : (chain : List GroupId) (was is : Place) (trees : List Subtree) (place : ℕ) (tree changed d : Subtree) → 1 ≤ length chain
+    → RiseFrom 0 (groups_in (side_by_side trees)) → IsAt (tops_of trees) (first_of chain) place → tree ≡ get_or trees place d → changed.group ≡ tree.group
+    → changed.waiting ≡ moved (waits was) (waits is) tree.waiting → changed.down ≡ moved (is_down was) (is_down is) tree.down
+    → changed.below ≡ map (recounted_along (inner_of chain) was is) tree.below
+    → side_by_side (set trees place changed) ≡ map (recounted_along (group_numbers chain) was is) (side_by_side trees)
 tree_changed chain was is trees place tree changed d long rise at here group waiting down below =
     let first = at_tree trees (first_of chain) place d at in
     let same : nat_eq (get_or trees place d).group (first_of chain) ≡ true = eq-eqb _ _ first.1 in
-    let nodes = changed_tree (first_of chain) (inner_of chain) was is (get_or trees place d) same changed (group ∙ ap (λ (t : Subtree). t.group) here) (waiting ∙ ap (λ (t : Subtree). (t.waiting - bit (waits was)) + bit (waits is)) here) (down ∙ ap (λ (t : Subtree). (t.down - bit (is_down was)) + bit (is_down is)) here) (below ∙ ap (λ (t : Subtree). map (recounted_along (inner_of chain) was is) t.below) here) in
-    subst (λ ns. side_by_side (set trees place changed) ≡ map (recounted_along ns was is) (side_by_side trees)) (sym (chain_split chain long)) (changed_at (first_of chain) (inner_of chain) was is 0 trees place changed d (tops_rise 0 trees rise) first.0 at.here nodes)
+    let old : Subtree = get_or trees place d in
+    let own = group ∙ ap (λ (t : Subtree). t.group) here in
+    let waits' = waiting ∙ ap (λ (t : Subtree). moved (waits was) (waits is) t.waiting) here in
+    let downs' = down ∙ ap (λ (t : Subtree). moved (is_down was) (is_down is) t.down) here in
+    let lower = below ∙ ap (λ (t : Subtree). map (recounted_along (inner_of chain) was is) t.below) here in
+    let nodes = changed_tree (first_of chain) (inner_of chain) was is old same changed own waits' downs' lower in
+    let rises = tops_rise 0 trees rise in
+    let whole = changed_at (first_of chain) (inner_of chain) was is 0 trees place changed d rises first.0 at.here nodes in
+    subst (λ ns. side_by_side (set trees place changed) ≡ map (recounted_along ns was is) (side_by_side trees)) (sym (chain_split chain long)) whole
 
 pub bit_small : (b : Bool) → bit b ≤ 1
 bit_small true = omega arith

@@ -13,7 +13,7 @@ use Rattle.std.proofs.lemmas.List.Sorted.{searched, Contains-permutation}
 use Rattle.fleet_numbers.specs.NumberLists.{list_at, has_number, IsRising}
 use Rattle.fleet_numbers.specs.DealOrder.{ArePlacesOf}
 use Rattle.group_tree.specs.declared.ids.HostId.{HostId}
-use Rattle.fleet_numbers.proofs.HeldLemmas.{ascends_le}
+use Rattle.fleet_numbers.proofs.RisingLemmas.{ascends_le}
 use Rattle.fleet_numbers.proofs.RisingLemmas.{Ascends-rising}
 use Rattle.fleet_numbers.proofs.DealLemmas.{in_range}
 use Rattle.group_tree.specs.declared.ids.GroupId.{GroupId}

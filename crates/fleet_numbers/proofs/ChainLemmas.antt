@@ -1,5 +1,6 @@
 -- The first two groups of a chain that cross, by two searches.
-use Rattle.std.proofs.Common.{◌≡◌, ℕ, suc, ◌-◌, ◌≤◌, ◌<◌, Bool, true, false, ◌||◌, cond, nat_eq, nat_lt, Some, None, List, [], ◌∷◌, length, get_or, find, sym, ap, ◌∙◌, refl, subst, arith, sub-one, inl, inr, ◌⊎◌}
+use Rattle.std.proofs.Common.{◌≡◌, ℕ, suc, ◌-◌, ◌≤◌, ◌<◌, Bool, true, false, ◌||◌, cond, nat_eq, nat_lt, Some, None, List, [], ◌∷◌, length, get_or, find, sym}
+use Rattle.std.proofs.Common.{ap, ◌∙◌, refl, subst, arith, sub-one, inl, inr, ◌⊎◌}
 use Rattle.std.proofs.lemmas.Bool.{eqb-true, eq-eqb, ltb-true, ltb-false, lt-ltb, le-ltb, cases_lt, false≢true, or_right}
 use Rattle.std.proofs.lemmas.List.Folds.{list_any_at}
 use Rattle.fleet_numbers.specs.NumberLists.{has_number}
@@ -10,7 +11,8 @@ pub found_in : (p : ℕ → Bool) (xs : List ℕ) (x : ℕ) → find p xs ≡ So
 found_in p [] x e = absurd (cc)
 found_in p (y ∷ xs) x e = by_case (found_in p xs x) (p y) refl e
   where
-    by_case : (find p xs ≡ Some x → (has_number x xs ≡ true) × (p x ≡ true)) → (b : Bool) → p y ≡ b → cond b (Some y) (find p xs) ≡ Some x → ((nat_eq x y || has_number x xs) ≡ true) × (p x ≡ true)
+    by_case : (find p xs ≡ Some x → (has_number x xs ≡ true) × (p x ≡ true)) → (b : Bool) → p y ≡ b → cond b (Some y) (find p xs) ≡ Some x
+        → ((nat_eq x y || has_number x xs) ≡ true) × (p x ≡ true)
     by_case later true s e =
         let same : y ≡ x = cc in
         (ap (λ b. b || has_number x xs) (itself same), subst (λ (n : ℕ). p n ≡ true) same s)
@@ -26,7 +28,8 @@ found_least p low high [] x n up e h t = absurd (cc)
 found_least p low high (y ∷ xs) x n up e h t =
     by_case (found_least p (suc y) high xs x n up.2) (p y) refl e (nat_eq n y) refl
   where
-    by_case : (find p xs ≡ Some x → has_number n xs ≡ true → p n ≡ true → x ≤ n) → (b : Bool) → p y ≡ b → cond b (Some y) (find p xs) ≡ Some x → (s : Bool) → nat_eq n y ≡ s → x ≤ n
+    by_case : (find p xs ≡ Some x → has_number n xs ≡ true → p n ≡ true → x ≤ n) → (b : Bool) → p y ≡ b → cond b (Some y) (find p xs) ≡ Some x
+        → (s : Bool) → nat_eq n y ≡ s → x ≤ n
     by_case later true q e s r =
         let same : y ≡ x = cc in
         let within = has_number-within n low high (y ∷ xs) up h in
@@ -65,12 +68,20 @@ last_greatest low high (x ∷ (y ∷ xs)) n d up h =
     index : get_or (x ∷ (y ∷ xs)) (length (x ∷ (y ∷ xs)) - 1) d ≡ get_or (y ∷ xs) (length (y ∷ xs) - 1) d
     index = simp sub-one
 
-    by_case : y ≤ get_or (y ∷ xs) (length (y ∷ xs) - 1) d → (has_number n (y ∷ xs) ≡ true → n ≤ get_or (y ∷ xs) (length (y ∷ xs) - 1) d) → (b : Bool) → nat_eq n x ≡ b → n ≤ get_or (x ∷ (y ∷ xs)) (length (x ∷ (y ∷ xs)) - 1) d
+    by_case : y ≤ get_or (y ∷ xs) (length (y ∷ xs) - 1) d → (has_number n (y ∷ xs) ≡ true → n ≤ get_or (y ∷ xs) (length (y ∷ xs) - 1) d) → (b : Bool)
+        → nat_eq n x ≡ b → n ≤ get_or (x ∷ (y ∷ xs)) (length (x ∷ (y ∷ xs)) - 1) d
     by_case head_below later true s = omega (arith, index, head_below, eqb-true n x s, up.2.0)
     by_case head_below later false s =
         omega (arith, index, later (sym (ap (λ b. b || has_number n (y ∷ xs)) s) ∙ h))
 
 module _ (subtree_ends chain : List ℕ) (up : Ascends 0 (length subtree_ends) chain) where
+  -- the last group of the chain, and the groups that end before it
+  abbrev top : ℕ
+  top = get_or chain (length chain - 1) 0
+
+  abbrev ends_early : ℕ → Bool
+  ends_early group = ends_before subtree_ends group top
+
   pub nested_empty : length chain ≡ 0 → IsNestedChain subtree_ends chain
   nested_empty e first second h k = absurd (none chain e h)
     where
@@ -78,15 +89,16 @@ module _ (subtree_ends chain : List ℕ) (up : Ascends 0 (length subtree_ends) c
       none [] e h = cc
       none (x ∷ xs) e h = absurd (omega (arith, e))
 
-  pub nested_none : find (λ group. ends_before subtree_ends group (get_or chain (length chain - 1) 0)) chain ≡ None → IsNestedChain subtree_ends chain
+  pub nested_none : find ends_early chain ≡ None → IsNestedChain subtree_ends chain
   nested_none e first second h k =
-      let top : second ≤ get_or chain (length chain - 1) 0 = last_greatest 0 (length subtree_ends) chain second 0 up k in
-      let ends : nat_lt (get_or subtree_ends first 0) (get_or chain (length chain - 1) 0) ≡ false = found_none (λ group. ends_before subtree_ends group (get_or chain (length chain - 1) 0)) chain first e h in
+      let below_top : second ≤ top = last_greatest 0 (length subtree_ends) chain second 0 up k in
+      let ends : nat_lt (get_or subtree_ends first 0) top ≡ false = found_none ends_early chain first e h in
       le-ltb (get_or subtree_ends first 0) second (omega (arith, ltb-false _ _ ends))
 
-  pub crossing_least : (first second : ℕ) → find (λ group. ends_before subtree_ends group (get_or chain (length chain - 1) 0)) chain ≡ Some first → find (nat_lt (get_or subtree_ends first 0)) chain ≡ Some second → IsLeastCrossingPair subtree_ends chain first second
+  pub crossing_least : (first second : ℕ) → find ends_early chain ≡ Some first → find (nat_lt (get_or subtree_ends first 0)) chain ≡ Some second
+      → IsLeastCrossingPair subtree_ends chain first second
   crossing_least first second e f =
-      let a = found_in (λ group. ends_before subtree_ends group (get_or chain (length chain - 1) 0)) chain first e in
+      let a = found_in ends_early chain first e in
       let b = found_in (nat_lt (get_or subtree_ends first 0)) chain second f in
       record {
         first_in = a.0;
@@ -95,24 +107,26 @@ module _ (subtree_ends chain : List ℕ) (up : Ascends 0 (length subtree_ends) c
         least = λ other later h k q. before other later h k q;
       }
     where
-      before : (other later : ℕ) → has_number other chain ≡ true → has_number later chain ≡ true → ends_before subtree_ends other later ≡ true → (first < other) ⊎ ((first ≡ other) × (second ≤ later))
+      before : (other later : ℕ) → has_number other chain ≡ true → has_number later chain ≡ true → ends_before subtree_ends other later ≡ true
+          → (first < other) ⊎ ((first ≡ other) × (second ≤ later))
       before other later h k q =
-          let top : later ≤ get_or chain (length chain - 1) 0 = last_greatest 0 (length subtree_ends) chain later 0 up k in
-          let ends : nat_lt (get_or subtree_ends other 0) (get_or chain (length chain - 1) 0) ≡ true = lt-ltb _ _ (omega (arith, ltb-true _ _ q)) in
-          let least : first ≤ other = found_least (λ group. ends_before subtree_ends group (get_or chain (length chain - 1) 0)) 0 (length subtree_ends) chain first other up e h ends in
+          let below_top : later ≤ top = last_greatest 0 (length subtree_ends) chain later 0 up k in
+          let ends : nat_lt (get_or subtree_ends other 0) top ≡ true = lt-ltb _ _ (omega (arith, ltb-true _ _ q)) in
+          let least : first ≤ other = found_least ends_early 0 (length subtree_ends) chain first other up e h ends in
           by_case (cases_lt first other) least
         where
           by_case : (first < other) ⊎ (other ≤ first) → first ≤ other → (first < other) ⊎ ((first ≡ other) × (second ≤ later))
           by_case (inl l) m = inl l
           by_case (inr l) m =
               let same : first ≡ other = omega arith in
-              inr (same, found_least (nat_lt (get_or subtree_ends first 0)) 0 (length subtree_ends) chain second later up f k (subst (λ (g : ℕ). ends_before subtree_ends g later ≡ true) (sym same) q))
+              let crosses = subst (λ (g : ℕ). ends_before subtree_ends g later ≡ true) (sym same) q in
+              inr (same, found_least (nat_lt (get_or subtree_ends first 0)) 0 (length subtree_ends) chain second later up f k crosses)
 
   -- where some group ends before the last one, something comes past it
-  pub crossing_some : (first : ℕ) → find (λ group. ends_before subtree_ends group (get_or chain (length chain - 1) 0)) chain ≡ Some first → find (nat_lt (get_or subtree_ends first 0)) chain ≡ None → 0 < length chain → ⊥
+  pub crossing_some : (first : ℕ) → find ends_early chain ≡ Some first → find (nat_lt (get_or subtree_ends first 0)) chain ≡ None → 0 < length chain → ⊥
   crossing_some first e f some =
-      let a = found_in (λ group. ends_before subtree_ends group (get_or chain (length chain - 1) 0)) chain first e in
-      let none : nat_lt (get_or subtree_ends first 0) (get_or chain (length chain - 1) 0) ≡ false = found_none (nat_lt (get_or subtree_ends first 0)) chain (get_or chain (length chain - 1) 0) f (at_last chain some) in
+      let a = found_in ends_early chain first e in
+      let none : nat_lt (get_or subtree_ends first 0) top ≡ false = found_none (nat_lt (get_or subtree_ends first 0)) chain top f (at_last chain some) in
       false≢true (sym none ∙ a.1)
     where
       at_last : (xs : List ℕ) → 0 < length xs → has_number (get_or xs (length xs - 1) 0) xs ≡ true

@@ -6,4 +6,5 @@ pub mod ChainLemmas
 pub mod LoopLemmas
 pub mod DealLemmas
 pub mod PathLemmas
+pub mod SplitLemmas
 pub mod HeldLemmas

@@ -4,13 +4,17 @@ use Rattle.std.proofs.Common.{Global, Vec}
 use Rattle.std.proofs.lemmas.List.{map-set, get_or-map, length-map}
 use Rattle.std.proofs.Math.Seq.{map-set_same}
 
-pub extended : (lists : List (Vec ℕ Global)) (shown : List (List ℕ)) (place : ℕ) (old new : Vec ℕ Global) (more : List ℕ) → map (λ (list : Vec ℕ Global). list.items) lists ≡ shown → place < length shown → old ≡ get_or lists place old → new.items ≡ old.items ++ more → map (λ (list : Vec ℕ Global). list.items) (set lists place new) ≡ set shown place (get_or shown place [] ++ more)
+abbrev items_of : Vec ℕ Global → List ℕ
+items_of list = list.items
+
+pub extended : (lists : List (Vec ℕ Global)) (shown : List (List ℕ)) (place : ℕ) (old new : Vec ℕ Global) (more : List ℕ) → map items_of lists ≡ shown
+    → place < length shown → old ≡ get_or lists place old → new.items ≡ old.items ++ more
+    → map items_of (set lists place new) ≡ set shown place (get_or shown place [] ++ more)
 extended lists shown place old new more is inside here grown =
     let within : place < length lists = omega (arith, simp length-map at (ap length is), inside) in
-    let items : Vec ℕ Global → List ℕ = λ list. list.items in
-    let read : get_or (map items lists) place [] ≡ items (get_or lists place old) = get_or-map items lists place old [] within in
-    let read' : get_or shown place [] ≡ old.items = sym (ap (λ (l : List (List ℕ)). get_or l place []) is) ∙ read ∙ sym (ap items here) in
-    let wrote : map items (set lists place new) ≡ set (map items lists) place new.items = map-set items lists place new in
+    let read : get_or (map items_of lists) place [] ≡ items_of (get_or lists place old) = get_or-map items_of lists place old [] within in
+    let read' : get_or shown place [] ≡ old.items = sym (ap (λ (l : List (List ℕ)). get_or l place []) is) ∙ read ∙ sym (ap items_of here) in
+    let wrote : map items_of (set lists place new) ≡ set (map items_of lists) place new.items = map-set items_of lists place new in
     wrote ∙ ap (λ (l : List (List ℕ)). set l place new.items) is ∙ ap (λ (l : List ℕ). set shown place l) (grown ∙ sym (ap (λ (l : List ℕ). l ++ more) read'))
 
 -- a list that was written back as it was leaves all lists as they are, whatever the answer

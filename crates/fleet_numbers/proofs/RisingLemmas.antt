@@ -1,11 +1,13 @@
 -- Rising numbers: what stands in them says what they are.
-use Rattle.std.proofs.Common.{◌≡◌, ℕ, zero, suc, ◌+◌, ◌≤◌, ◌<◌, Bool, true, false, ◌||◌, ◌&&◌, cond, nat_eq, nat_lt, List, [], ◌∷◌, ◌++◌, length, get_or, take, filter, sym, ap, ◌∙◌, refl, subst, arith, add-one, inl, inr, ◌⊎◌}
+use Rattle.std.proofs.Common.{◌≡◌, ℕ, zero, suc, ◌+◌, ◌≤◌, ◌<◌, Bool, true, false, ◌||◌, ◌&&◌, cond, nat_eq, nat_lt, List, [], ◌∷◌, ◌++◌, length, get_or, take}
+use Rattle.std.proofs.Common.{filter, sym, ap, ◌∙◌, refl, subst, arith, add-one, inl, inr, ◌⊎◌}
 use Rattle.std.specs.List.{range_with_len}
 use Rattle.std.proofs.lemmas.List.{map-id}
 use Rattle.std.proofs.lemmas.List.Elements.{filter-append}
 use Rattle.std.proofs.lemmas.List.Folds.{list_any-append, list_any_at}
 use Rattle.std.proofs.lemmas.List.Recursion.{and_at}
 use Rattle.std.proofs.lemmas.List.FromFn.{map-range_with_len_more}
+use Rattle.std.proofs.Math.Bool.{and-true, and-false, or-false}
 use Rattle.std.proofs.lemmas.Bool.{le-ltb, eqb-true, eq-eqb, ne_eqb, ltb-true, lt-ltb, cases_lt, cases_eq}
 use Rattle.fleet_numbers.specs.NumberLists.{has_number, numbers_where, are_below, IsRising}
 
@@ -43,31 +45,42 @@ has_number-within n low high (x ∷ xs) up e =
         (omega (arith, up.0, r.0), r.1)
 
 -- rising numbers are the numbers that pass the test that they pass
-pub filtered_range : (p : ℕ → Bool) (count low : ℕ) (xs : List ℕ) → Ascends low (low + count) xs → ((n : ℕ) → low ≤ n → n < low + count → has_number n xs ≡ p n) → xs ≡ filter p (range_with_len low count)
+-- the numbers after `low` that pass
+abbrev passing : (ℕ → Bool) → ℕ → ℕ → List ℕ
+passing p low count = filter p (range_with_len (low + 1) count)
+
+-- a test says of each number from `low` on whether it is among these
+abbrev Tells : (ℕ → Bool) → ℕ → ℕ → List ℕ → Type 0
+Tells p low count xs = (n : ℕ) → low ≤ n → n < low + count → has_number n xs ≡ p n
+
+pub filtered_range : (p : ℕ → Bool) (count low : ℕ) (xs : List ℕ) → Ascends low (low + count) xs → Tells p low count xs → xs ≡ filter p (range_with_len low count)
 filtered_range p zero low [] up agree = refl
 filtered_range p zero low (x ∷ xs) up agree = absurd (omega (arith, up.0, up.1))
 filtered_range p (suc count) low [] up agree =
     let here : false ≡ p low = agree low (omega arith) (omega arith) in
-    let later : [] ≡ filter p (range_with_len (low + 1) count) = filtered_range p count (low + 1) [] tt (λ n l h. agree n (omega arith) (omega arith)) in
-    later ∙ sym (ap (λ b. cond b (low ∷ filter p (range_with_len (low + 1) count)) (filter p (range_with_len (low + 1) count))) (sym here))
+    let later : [] ≡ passing p low count = filtered_range p count (low + 1) [] tt (λ n l h. agree n (omega arith) (omega arith)) in
+    later ∙ sym (ap (λ b. cond b (low ∷ passing p low count) (passing p low count)) (sym here))
 filtered_range p (suc count) low (x ∷ xs) up agree =
-    by_case (λ e above. filtered_range p count (low + 1) xs (subst (λ (h : ℕ). Ascends (low + 1) h xs) (omega arith) (subst (λ (l : ℕ). Ascends l (low + suc count) xs) (omega (arith, e)) up.2)) above) (λ l above. filtered_range p count (low + 1) (x ∷ xs) (omega arith, omega (arith, up.1), subst (λ (h : ℕ). Ascends (suc x) h xs) (omega arith) up.2) above) (cases_eq low x)
+    let own : low ≡ x → Ascends (low + 1) ((low + 1) + count) xs =
+    λ e. subst (λ (h : ℕ). Ascends (low + 1) h xs) (omega arith) (subst (λ (l : ℕ). Ascends l (low + suc count) xs) (omega (arith, e)) up.2) in
+    let past : low < x → Ascends (low + 1) ((low + 1) + count) (x ∷ xs) =
+    λ l. (omega arith, omega (arith, up.1), subst (λ (h : ℕ). Ascends (suc x) h xs) (omega arith) up.2) in
+    by_case (λ e above. filtered_range p count (low + 1) xs (own e) above) (λ l above. filtered_range p count (low + 1) (x ∷ xs) (past l) above) (cases_eq low x)
   where
-    rest : List ℕ
-    rest = filter p (range_with_len (low + 1) count)
-
-    by_case : (low ≡ x → ((n : ℕ) → low + 1 ≤ n → n < (low + 1) + count → has_number n xs ≡ p n) → xs ≡ filter p (range_with_len (low + 1) count)) → (low < x → ((n : ℕ) → low + 1 ≤ n → n < (low + 1) + count → has_number n (x ∷ xs) ≡ p n) → (x ∷ xs) ≡ filter p (range_with_len (low + 1) count)) → (low ≡ x) ⊎ (low ≡ x → ⊥) → (x ∷ xs) ≡ cond (p low) (low ∷ filter p (range_with_len (low + 1) count)) (filter p (range_with_len (low + 1) count))
+    by_case : (low ≡ x → Tells p (low + 1) count xs → xs ≡ passing p low count)
+        → (low < x → Tells p (low + 1) count (x ∷ xs) → (x ∷ xs) ≡ passing p low count) → (low ≡ x) ⊎ (low ≡ x → ⊥)
+        → (x ∷ xs) ≡ cond (p low) (low ∷ passing p low count) (passing p low count)
     by_case same other (inl e) =
         let here : has_number low (x ∷ xs) ≡ p low = agree low (omega arith) (omega arith) in
         let first : nat_eq low x ≡ true = eq-eqb low x e in
         let yes : p low ≡ true = sym here ∙ ap (λ b. b || has_number low xs) first in
-        let later : xs ≡ filter p (range_with_len (low + 1) count) = same e (λ n l h. sym (ap (λ b. b || has_number n xs) (ne_eqb n x (λ d. omega arith))) ∙ agree n (omega arith) (omega arith)) in
-        ap (λ ys. x ∷ ys) later ∙ ap (λ (y : ℕ). y ∷ filter p (range_with_len (low + 1) count)) (sym e) ∙ sym (ap (λ b. cond b (low ∷ filter p (range_with_len (low + 1) count)) (filter p (range_with_len (low + 1) count))) yes)
+        let later : xs ≡ passing p low count = same e (λ n l h. sym (ap (λ b. b || has_number n xs) (ne_eqb n x (λ d. omega arith))) ∙ agree n (omega arith) (omega arith)) in
+        ap (λ ys. x ∷ ys) later ∙ ap (λ (y : ℕ). y ∷ passing p low count) (sym e) ∙ sym (ap (λ b. cond b (low ∷ passing p low count) (passing p low count)) yes)
     by_case same other (inr d) =
         let less : low < x = omega (arith, up.0, d) in
         let none : has_number low (x ∷ xs) ≡ false = has_number-below low (suc low) (low + suc count) (x ∷ xs) (omega arith, up.1, up.2) (omega arith) in
         let no : p low ≡ false = sym (agree low (omega arith) (omega arith)) ∙ none in
-        other less (λ n l h. agree n (omega arith) (omega arith)) ∙ sym (ap (λ b. cond b (low ∷ filter p (range_with_len (low + 1) count)) (filter p (range_with_len (low + 1) count))) no)
+        other less (λ n l h. agree n (omega arith) (omega arith)) ∙ sym (ap (λ b. cond b (low ∷ passing p low count) (passing p low count)) no)
 
 pub rising_is : (p : ℕ → Bool) (bound : ℕ) (xs : List ℕ) → Ascends 0 bound xs → ((n : ℕ) → n < bound → has_number n xs ≡ p n) → xs ≡ numbers_where p bound
 rising_is p bound xs up agree =
@@ -76,13 +89,14 @@ rising_is p bound xs up agree =
 Ascends-filter : (p : ℕ → Bool) (count low : ℕ) → Ascends low (low + count) (filter p (range_with_len low count))
 Ascends-filter p zero low = tt
 Ascends-filter p (suc count) low =
-    by_case (subst (λ (h : ℕ). Ascends (low + 1) h (filter p (range_with_len (low + 1) count))) (omega arith) (Ascends-filter p count (low + 1))) (p low)
+    by_case (subst (λ (h : ℕ). Ascends (low + 1) h (passing p low count)) (omega arith) (Ascends-filter p count (low + 1))) (p low)
   where
-    by_case : Ascends (low + 1) (low + suc count) (filter p (range_with_len (low + 1) count)) → (b : Bool) → Ascends low (low + suc count) (cond b (low ∷ filter p (range_with_len (low + 1) count)) (filter p (range_with_len (low + 1) count)))
+    by_case : Ascends (low + 1) (low + suc count) (passing p low count) → (b : Bool)
+        → Ascends low (low + suc count) (cond b (low ∷ filter p (range_with_len (low + 1) count)) (passing p low count))
     by_case up true =
-        (omega arith, omega arith, subst (λ (l : ℕ). Ascends l (low + suc count) (filter p (range_with_len (low + 1) count))) (omega arith) up)
+        (omega arith, omega arith, subst (λ (l : ℕ). Ascends l (low + suc count) (passing p low count)) (omega arith) up)
     by_case up false =
-        Ascends-lower (low + 1) low (low + suc count) (filter p (range_with_len (low + 1) count)) (omega arith) up
+        Ascends-lower (low + 1) low (low + suc count) (passing p low count) (omega arith) up
 
 pub Ascends-numbers_where : (p : ℕ → Bool) (bound : ℕ) → Ascends 0 bound (numbers_where p bound)
 Ascends-numbers_where p bound =
@@ -111,23 +125,14 @@ numbers_where_more p n =
 any-append : (n : ℕ) (xs ys : List ℕ) → has_number n (xs ++ ys) ≡ (has_number n xs || has_number n ys)
 any-append n xs ys = list_any-append (nat_eq n) xs ys
 
-and_true : (b : Bool) → (b && true) ≡ b
-and_true true = refl
-and_true false = refl
-
-and_false : (b : Bool) → (b && false) ≡ false
-and_false true = refl
-and_false false = refl
-
-or_false : (b : Bool) → (b || false) ≡ b
-or_false true = refl
-or_false false = refl
-
 -- what passes stands in the list, and nothing else
 pub has_number-numbers_where : (p : ℕ → Bool) (bound n : ℕ) → has_number n (numbers_where p bound) ≡ (nat_lt n bound && p n)
 has_number-numbers_where p zero n = ap (λ b. b && p n) (sym (le-ltb n 0 (omega arith)))
 has_number-numbers_where p (suc bound) n =
-    ap (has_number n) (ap (numbers_where p) (sym (add-one bound)) ∙ numbers_where_more p bound) ∙ any-append n (numbers_where p bound) (cond (p bound) (bound ∷ []) []) ∙ ap (λ b. b || has_number n (cond (p bound) (bound ∷ []) [])) (has_number-numbers_where p bound n) ∙ by_case (cases_eq n bound)
+    ap (has_number n) (ap (numbers_where p) (sym (add-one bound)) ∙ numbers_where_more p bound)
+    ∙ any-append n (numbers_where p bound) (cond (p bound) (bound ∷ []) [])
+    ∙ ap (λ b. b || has_number n (cond (p bound) (bound ∷ []) [])) (has_number-numbers_where p bound n)
+    ∙ by_case (cases_eq n bound)
   where
     own : (b : Bool) → has_number n (cond b (bound ∷ []) []) ≡ (b && nat_eq n bound)
     own true = by (nat_eq n bound)
@@ -143,11 +148,16 @@ has_number-numbers_where p (suc bound) n =
         let here : nat_eq n bound ≡ true = eq-eqb n bound e in
         let within : nat_lt n (suc bound) ≡ true = lt-ltb n (suc bound) (omega (arith, e)) in
         let same : p n ≡ p bound = ap p e in
-        ap (λ b. (b && p n) || has_number n (cond (p bound) (bound ∷ []) [])) past ∙ own (p bound) ∙ ap (λ b. p bound && b) here ∙ and_true (p bound) ∙ sym same ∙ sym (ap (λ b. b && p n) within)
+        ap (λ b. (b && p n) || has_number n (cond (p bound) (bound ∷ []) [])) past
+        ∙ own (p bound)
+        ∙ ap (λ b. p bound && b) here
+        ∙ and-true (p bound)
+        ∙ sym same
+        ∙ sym (ap (λ b. b && p n) within)
     by_case (inr d) =
         let other : nat_eq n bound ≡ false = ne_eqb n bound d in
-        let none : has_number n (cond (p bound) (bound ∷ []) []) ≡ false = own (p bound) ∙ ap (λ b. p bound && b) other ∙ and_false (p bound) in
-        ap (λ b. (nat_lt n bound && p n) || b) none ∙ or_false (nat_lt n bound && p n) ∙ ap (λ b. b && p n) (next (cases_lt n bound))
+        let none : has_number n (cond (p bound) (bound ∷ []) []) ≡ false = own (p bound) ∙ ap (λ b. p bound && b) other ∙ and-false (p bound) in
+        ap (λ b. (nat_lt n bound && p n) || b) none ∙ or-false (nat_lt n bound && p n) ∙ ap (λ b. b && p n) (next (cases_lt n bound))
       where
         next : (n < bound) ⊎ (bound ≤ n) → nat_lt n bound ≡ nat_lt n (suc bound)
         next (inl l) = lt-ltb n bound l ∙ sym (lt-ltb n (suc bound) (omega arith))
@@ -167,3 +177,12 @@ fresh low high (x ∷ xs) (suc i) up within =
     let above = has_number-within (get_or xs i 0) (suc x) high xs up.2 here in
     let apart : nat_eq (get_or xs i 0) x ≡ false = ne_eqb _ _ (λ e. omega (arith, above.0)) in
     ap (λ b. b || has_number (get_or xs i 0) (take i xs)) apart ∙ fresh (suc x) high xs i up.2 inside
+
+pub ascends_le : (low high : ℕ) (xs : List ℕ) (i j : ℕ) → Ascends low high xs → i ≤ j → j < length xs → get_or xs i 0 ≤ get_or xs j 0
+ascends_le low high [] i j up l m = absurd (omega arith)
+ascends_le low high (x ∷ xs) zero zero up l m = omega arith
+ascends_le low high (x ∷ xs) zero (suc j) up l m =
+    let r = has_number-within (get_or xs j 0) (suc x) high xs up.2 (list_any_at (nat_eq (get_or xs j 0)) xs j 0 (omega arith) (eq-eqb _ _ refl)) in
+    omega (arith, r.0)
+ascends_le low high (x ∷ xs) (suc i) zero up l m = absurd (omega arith)
+ascends_le low high (x ∷ xs) (suc i) (suc j) up l m = ascends_le (suc x) high xs i j up.2 (omega arith) (omega arith)
