@@ -27,19 +27,28 @@ count_some p at (x ∷ xs) here =
     by_case later (inr e) = omega (arith, count_cons p x xs, later e)
 
 -- the tests agree but at one number
-pub count_change : (p q : ℕ → Bool) (at : ℕ) → ((x : ℕ) → (x ≡ at → ⊥) → p x ≡ q x) → (low : ℕ) (xs : List ℕ) → RiseFrom low xs → count_by q xs + cond (has_number at xs) (bit (p at)) 0 ≡ count_by p xs + cond (has_number at xs) (bit (q at)) 0
+-- what the number adds to the count where it stands in the list
+abbrev member_bit : ℕ → List ℕ → (ℕ → Bool) → ℕ
+member_bit at xs test = cond (has_number at xs) (bit (test at)) 0
+
+pub count_change : (p q : ℕ → Bool) (at : ℕ) → ((x : ℕ) → (x ≡ at → ⊥) → p x ≡ q x) → (low : ℕ) (xs : List ℕ) → RiseFrom low xs
+    → count_by q xs + member_bit at xs p ≡ count_by p xs + member_bit at xs q
 count_change p q at same low [] up = refl
 count_change p q at same low (x ∷ xs) up =
     by_case (count_change p q at same (x + 1) xs up.1) (cases_eq x at)
   where
-    by_case : count_by q xs + cond (has_number at xs) (bit (p at)) 0 ≡ count_by p xs + cond (has_number at xs) (bit (q at)) 0 → (x ≡ at) ⊎ (x ≡ at → ⊥) → count_by q (x ∷ xs) + cond (has_number at (x ∷ xs)) (bit (p at)) 0 ≡ count_by p (x ∷ xs) + cond (has_number at (x ∷ xs)) (bit (q at)) 0
+    by_case : count_by q xs + member_bit at xs p ≡ count_by p xs + member_bit at xs q → (x ≡ at) ⊎ (x ≡ at → ⊥)
+        → count_by q (x ∷ xs) + member_bit at (x ∷ xs) p ≡ count_by p (x ∷ xs) + member_bit at (x ∷ xs) q
     by_case later (inl e) =
         let gone : has_number at xs ≡ false = has_below at (x + 1) xs up.1 (omega (arith, e)) in
-        let rest : count_by q xs + 0 ≡ count_by p xs + 0 = ap (λ b. count_by q xs + cond b (bit (p at)) 0) (sym gone) ∙ later ∙ ap (λ b. count_by p xs + cond b (bit (q at)) 0) gone in
+        let rest : count_by q xs + 0 ≡ count_by p xs + 0 =
+        ap (λ b. count_by q xs + cond b (bit (p at)) 0) (sym gone) ∙ later ∙ ap (λ b. count_by p xs + cond b (bit (q at)) 0) gone in
         let here : has_number at (x ∷ xs) ≡ true = ap (λ b. b || has_number at xs) (eq-eqb at x (sym e)) in
-        let both : count_by q (x ∷ xs) + bit (p at) ≡ count_by p (x ∷ xs) + bit (q at) = omega (arith, count_cons p x xs, count_cons q x xs, ap (λ n. bit (p n)) e, ap (λ n. bit (q n)) e, rest) in
+        let both : count_by q (x ∷ xs) + bit (p at) ≡ count_by p (x ∷ xs) + bit (q at) =
+        omega (arith, count_cons p x xs, count_cons q x xs, ap (λ n. bit (p n)) e, ap (λ n. bit (q n)) e, rest) in
         ap (λ c. count_by q (x ∷ xs) + cond c (bit (p at)) 0) here ∙ both ∙ sym (ap (λ c. count_by p (x ∷ xs) + cond c (bit (q at)) 0) here)
     by_case later (inr d) =
         let other : has_number at (x ∷ xs) ≡ has_number at xs = ap (λ b. b || has_number at xs) (ne_eqb at x (λ e. d (sym e))) in
-        let both : count_by q (x ∷ xs) + cond (has_number at xs) (bit (p at)) 0 ≡ count_by p (x ∷ xs) + cond (has_number at xs) (bit (q at)) 0 = omega (arith, count_cons p x xs, count_cons q x xs, ap bit (same x d), later) in
+        let both : count_by q (x ∷ xs) + member_bit at xs p ≡ count_by p (x ∷ xs) + member_bit at xs q =
+        omega (arith, count_cons p x xs, count_cons q x xs, ap bit (same x d), later) in
         ap (λ c. count_by q (x ∷ xs) + cond c (bit (p at)) 0) other ∙ both ∙ sym (ap (λ c. count_by p (x ∷ xs) + cond c (bit (q at)) 0) other)

@@ -1,5 +1,6 @@
 -- The nodes of a fleet, as its hosts' places change.
-use Rattle.std.proofs.Common.{◌≡◌, ℕ, ◌+◌, ◌-◌, ◌≤◌, ◌<◌, Bool, true, false, ◌||◌, ◌&&◌, not, cond, nat_eq, nat_lt, is_some, None, List, [], ◌∷◌, map, length, get_or, set, replicate, sym, ap, ◌∙◌, refl, subst, arith, inl, inr, ◌⊎◌}
+use Rattle.std.proofs.Common.{Option, ◌≡◌, ℕ, ◌+◌, ◌-◌, ◌≤◌, ◌<◌, Bool, true, false, ◌||◌, ◌&&◌, not, cond, nat_eq, nat_lt, is_some, None, List, [], ◌∷◌, map, length}
+use Rattle.std.proofs.Common.{get_or, set, replicate, sym, ap, ◌∙◌, refl, subst, arith, inl, inr, ◌⊎◌}
 use Rattle.std.specs.List.{list_all, list_any}
 use Rattle.std.proofs.lemmas.List.{get_or_past, get_or_default, get_or-set_same, get_or-set_other, get_or-replicate, length-replicate, length-set}
 use Rattle.std.proofs.lemmas.List.Sums.{count_by-le-length}
@@ -8,6 +9,7 @@ use Rattle.fleet_numbers.specs.NumberLists.{has_number, list_at, IsRising}
 use Rattle.fleet_numbers.specs.Chains.{is_limited}
 use Rattle.fleet_numbers.proofs.RisingLemmas.{has_number-numbers_where}
 use Rattle.domains.specs.FleetViews.{FleetView, IsSound, IsInSubtree}
+use Rattle.std.proofs.lemmas.Simd.{map-map}
 use Rattle.domain_counts.specs.declared.place.Place.{Place}
 use Rattle.domain_counts.specs.declared.place.Place.TheVariants.{Up}
 use Rattle.domain_counts.specs.Places.{bit, waits, is_down}
@@ -18,10 +20,6 @@ use Rattle.domain_counts.specs.Counts.{Counted, place_at, waiting_in, down_in, l
 use Rattle.domain_counts.proofs.WhereLemmas.{rise_where, length-where, map_where, all_where}
 use Rattle.domain_counts.proofs.PathLemmas.{IsBelow, on_chain}
 use Rattle.domain_counts.proofs.CountLemmas.{count_none, count_some, count_change}
-
-map-map : {X : Type 0} (f : Node → X) (g : ℕ → Node) (xs : List ℕ) → map f (map g xs) ≡ map (λ x. f (g x)) xs
-map-map f g [] = refl
-map-map f g (x ∷ xs) = ap (λ l. f (g x) ∷ l) (map-map f g xs)
 
 groups_are : (counted : Counted) (groups : List ℕ) → groups_in (map (node_at counted) groups) ≡ groups
 groups_are counted [] = refl
@@ -41,35 +39,55 @@ limited_within fleet sound group limited = by (cases_lt group (length fleet.grou
         let none : is_limited fleet.limits group ≡ false = ap (λ o. is_some o) past in
         absurd (both_ways _ none limited)
 
+-- the tree has the group's counts, and a node of one of the groups has those of the tree
+abbrev HasCounts : Counted → ℕ → Subtree → Type 0
+HasCounts counted group tree = (waiting_in counted group ≡ tree.waiting) × (down_in counted group ≡ tree.down)
+
+abbrev IsFoundAmong : Counted → ℕ → Subtree → List ℕ → Type 0
+IsFoundAmong counted group tree groups = list_any (counts_as group tree) (map (node_at counted) groups) ≡ true
+
 -- a limited group's node has its counts
-found_counts : (counted : Counted) (group : ℕ) (tree : Subtree) (groups : List ℕ) → list_any (counts_as group tree) (map (node_at counted) groups) ≡ true → (waiting_in counted group ≡ tree.waiting) × (down_in counted group ≡ tree.down)
+found_counts : (counted : Counted) (group : ℕ) (tree : Subtree) (groups : List ℕ) → IsFoundAmong counted group tree groups → HasCounts counted group tree
 found_counts counted group tree [] found = absurd (cc)
 found_counts counted group tree (first ∷ groups) found =
     by (found_counts counted group tree groups) (or_cases (counts_as group tree (node_at counted first)) (list_any (counts_as group tree) (map (node_at counted) groups)) found)
   where
-    by : (list_any (counts_as group tree) (map (node_at counted) groups) ≡ true → (waiting_in counted group ≡ tree.waiting) × (down_in counted group ≡ tree.down)) → (counts_as group tree (node_at counted first) ≡ true) ⊎ (list_any (counts_as group tree) (map (node_at counted) groups) ≡ true) → (waiting_in counted group ≡ tree.waiting) × (down_in counted group ≡ tree.down)
+    by : (IsFoundAmong counted group tree groups → HasCounts counted group tree)
+        → (counts_as group tree (node_at counted first) ≡ true) ⊎ (IsFoundAmong counted group tree groups) → HasCounts counted group tree
     by later (inr e) = later e
     by later (inl e) =
-        let parts = and_parts (nat_eq first group) (nat_eq (waiting_in counted first) tree.waiting && nat_eq (down_in counted first) tree.down) e in
-        let counts = and_parts (nat_eq (waiting_in counted first) tree.waiting) (nat_eq (down_in counted first) tree.down) parts.1 in
+        let waits_same : Bool = nat_eq (waiting_in counted first) tree.waiting in
+        let down_same : Bool = nat_eq (down_in counted first) tree.down in
+        let parts = and_parts (nat_eq first group) (waits_same && down_same) e in
+        let counts = and_parts waits_same down_same parts.1 in
         let same : first ≡ group = eqb-true first group parts.0 in
         (ap (waiting_in counted) (sym same) ∙ eqb-true _ _ counts.0, ap (down_in counted) (sym same) ∙ eqb-true _ _ counts.1)
 
-pub counts_found : (counted : Counted) (nodes : List Node) (group : ℕ) (tree : Subtree) → nodes ≡ nodes_at counted → IsCountedIn nodes group tree → (waiting_in counted group ≡ tree.waiting) × (down_in counted group ≡ tree.down)
+pub counts_found : (counted : Counted) (nodes : List Node) (group : ℕ) (tree : Subtree) → nodes ≡ nodes_at counted → IsCountedIn nodes group tree → HasCounts counted group tree
 counts_found counted nodes group tree is found =
     found_counts counted group tree (limited_groups counted.fleet) (ap (list_any (counts_as group tree)) (sym is) ∙ found)
 
-pub never_missing : (counted : Counted) (nodes : List Node) (group : ℕ) → IsSound counted.fleet → nodes ≡ nodes_at counted → is_limited counted.fleet.limits group ≡ true → has_number group (groups_in nodes) ≡ false → ⊥
+pub never_missing : (counted : Counted) (nodes : List Node) (group : ℕ) → IsSound counted.fleet → nodes ≡ nodes_at counted
+    → is_limited counted.fleet.limits group ≡ true → has_number group (groups_in nodes) ≡ false → ⊥
 never_missing counted nodes group sound is limited none =
     let groups : groups_in nodes ≡ limited_groups counted.fleet = ap groups_in is ∙ groups_are counted (limited_groups counted.fleet) in
-    let here : has_number group (limited_groups counted.fleet) ≡ true = has_number-numbers_where (is_limited counted.fleet.limits) (length counted.fleet.groups) group ∙ and_from _ _ (lt-ltb _ _ (limited_within counted.fleet sound group limited)) limited in
+    let limits : List (Option ℕ) = counted.fleet.limits in
+    let inside : group < length counted.fleet.groups = limited_within counted.fleet sound group limited in
+    let here : has_number group (limited_groups counted.fleet) ≡ true =
+    has_number-numbers_where (is_limited limits) (length counted.fleet.groups) group ∙ and_from _ _ (lt-ltb _ _ inside) limited in
     both_ways _ none (ap (has_number group) groups ∙ here)
 
 -- all hosts are up
-pub nobody_waits : (fleet : FleetView) (hosts : ℕ) (group : ℕ) → node_at (record { fleet = fleet; places = replicate hosts Up }) group ≡ bare fleet.limits fleet.parents group
+abbrev idle : FleetView → ℕ → Counted
+idle fleet hosts = record { fleet = fleet; places = replicate hosts Up }
+
+pub nobody_waits : (fleet : FleetView) (hosts : ℕ) (group : ℕ) → node_at (idle fleet hosts) group ≡ bare fleet.limits fleet.parents group
 nobody_waits fleet hosts group =
-    let none_wait : waiting_in (record { fleet = fleet; places = replicate hosts Up }) group ≡ 0 = count_none (λ host. waits (place_at (replicate hosts Up) host)) (λ host. ap waits (up host)) (list_at fleet.members group) in
-    let none_down : down_in (record { fleet = fleet; places = replicate hosts Up }) group ≡ 0 = count_none (λ host. is_down (place_at (replicate hosts Up) host)) (λ host. ap is_down (up host)) (list_at fleet.members group) in
+    let place : ℕ → Place = place_at (replicate hosts Up) in
+    let none_wait : waiting_in (idle fleet hosts) group ≡ 0 =
+    count_none (λ host. waits (place host)) (λ host. ap waits (up host)) (list_at fleet.members group) in
+    let none_down : down_in (idle fleet hosts) group ≡ 0 =
+    count_none (λ host. is_down (place host)) (λ host. ap is_down (up host)) (list_at fleet.members group) in
     rw (none_wait, none_down) refl
   where
     up : (host : ℕ) → place_at (replicate hosts Up) host ≡ Up
@@ -122,11 +140,21 @@ module _ (counted : Counted) (sound : IsSound counted.fleet) where
   below_of top group at = at.parent_there
 
   -- a group's path leads down a host's chain where the host is a member
-  path_leads : (host group : ℕ) → host < length counted.fleet.hosts → is_limited counted.fleet.limits group ≡ true → begins (path_of (node_at counted group)) (chain_of host) ≡ is_in host group
+  path_leads : (host group : ℕ) → host < length counted.fleet.hosts → is_limited counted.fleet.limits group ≡ true
+      → begins (path_of (node_at counted group)) (chain_of host) ≡ is_in host group
   path_leads host group within limited =
-      on_chain counted.fleet.limits counted.fleet.parents counted.fleet.members (chain_of host) host (length counted.fleet.groups) (sound.chains_rise host [] (omega (arith, within, sound.all_chains))) (sound.chain_exact host) (λ outer inner less out inn. below_of outer inner (sound.chain_nested host outer inner less out inn)) (λ top group le below. sound.members_above top group (record { after = le; parent_there = below }) host) group limited
+      let fleet : FleetView = counted.fleet in
+      let rises = sound.chains_rise host [] (omega (arith, within, sound.all_chains)) in
+      let nested : (outer inner : ℕ) → outer < inner → has_number outer (chain_of host) ≡ true → has_number inner (chain_of host) ≡ true
+      → IsBelow fleet.parents outer inner =
+      λ outer inner less out inn. below_of outer inner (sound.chain_nested host outer inner less out inn) in
+      on_chain fleet.limits fleet.parents fleet.members (chain_of host) host (length fleet.groups) rises (sound.chain_exact host) nested
+      (λ top group le below. sound.members_above top group (record { after = le; parent_there = below }) host) group limited
 
   module _ (host : ℕ) (within : host < length counted.fleet.hosts) (placed : length counted.places ≡ length counted.fleet.hosts) (is : Place) where
+    abbrev new_place : ℕ → Place
+    new_place x = place_at (set counted.places host is) x
+
     pub place_there : place_at (set counted.places host is) host ≡ is
     place_there = get_or-set_same counted.places host is Up (omega (arith, within, placed))
 
@@ -134,38 +162,63 @@ module _ (counted : Counted) (sound : IsSound counted.fleet) where
     place_elsewhere other apart = get_or-set_other counted.places host other is Up apart
 
     pub has_moved : (group : ℕ) → HasMoved counted host is group
-    has_moved group = record {
-      waiting = count_change (λ x. waits (place_of x)) (λ x. waits (place_at (set counted.places host is) x)) host (λ x apart. ap waits (sym (place_elsewhere x apart))) 0 (members group) (members_rise group).0 ∙ ap (λ (p : Place). waiting_in counted group + member_bit counted.fleet group host (waits p)) place_there;
-      down = count_change (λ x. is_down (place_of x)) (λ x. is_down (place_at (set counted.places host is) x)) host (λ x apart. ap is_down (sym (place_elsewhere x apart))) 0 (members group) (members_rise group).0 ∙ ap (λ (p : Place). down_in counted group + member_bit counted.fleet group host (is_down p)) place_there;
-    }
+    has_moved group =
+        let kept : (x : ℕ) → (x ≡ host → ⊥) → place_of x ≡ new_place x = λ x apart. sym (place_elsewhere x apart) in
+        let rises = (members_rise group).0 in
+        let waiting = count_change (λ x. waits (place_of x)) (λ x. waits (new_place x)) host (λ x apart. ap waits (kept x apart)) 0 (members group) rises in
+        let down = count_change (λ x. is_down (place_of x)) (λ x. is_down (new_place x)) host (λ x apart. ap is_down (kept x apart)) 0 (members group) rises in
+        record {
+          waiting = waiting ∙ ap (λ (p : Place). waiting_in counted group + member_bit counted.fleet group host (waits p)) place_there;
+          down = down ∙ ap (λ (p : Place). down_in counted group + member_bit counted.fleet group host (is_down p)) place_there;
+        }
 
     abbrev recounted_if : Bool → ℕ → Node
     recounted_if b group = cond b (recounted (place_of host) is (node_at counted group)) (node_at counted group)
 
+    -- the counts of a group once the host has moved
+    abbrev new_waiting : ℕ → ℕ
+    new_waiting group = waiting_in (moved counted host is) group
+
+    abbrev new_down : ℕ → ℕ
+    new_down group = down_in (moved counted host is) group
+
+    -- a count that a member left for one that it joins
+    abbrev Balances : Bool → ℕ → ℕ → Bool → Bool → Type 0
+    Balances member new old left joined = new + cond member (bit left) 0 ≡ old + cond member (bit joined) 0
+
     -- a limited group's node is counted anew where the host is a member
-    node_moved : (group : ℕ) → is_limited counted.fleet.limits group ≡ true → recounted_along (chain_of host) (place_of host) is (node_at counted group) ≡ node_at (moved counted host is) group
+    node_moved : (group : ℕ) → is_limited counted.fleet.limits group ≡ true
+        → recounted_along (chain_of host) (place_of host) is (node_at counted group) ≡ node_at (moved counted host is) group
     node_moved group limited =
         ap (λ b. recounted_if b group) (path_leads host group within limited) ∙ by (is_in host group) refl (has_moved group)
       where
         by : (b : Bool) → is_in host group ≡ b → HasMoved counted host is group → recounted_if b group ≡ node_at (moved counted host is) group
-        by true e change =
-            let some_wait = count_some (λ x. waits (place_of x)) host (members group) e in
-            let some_down = count_some (λ x. is_down (place_of x)) host (members group) e in
-            let waiting = subst (λ b. waiting_in (moved counted host is) group + cond b (bit (waits (place_of host))) 0 ≡ waiting_in counted group + cond b (bit (waits is)) 0) e change.waiting in
-            let down = subst (λ b. down_in (moved counted host is) group + cond b (bit (is_down (place_of host))) 0 ≡ down_in counted group + cond b (bit (is_down is)) 0) e change.down in
-            let same_waiting : waiting_in (moved counted host is) group ≡ (waiting_in counted group - bit (waits (place_of host))) + bit (waits is) = omega (arith, some_wait, waiting) in
-            let same_down : down_in (moved counted host is) group ≡ (down_in counted group - bit (is_down (place_of host))) + bit (is_down is) = omega (arith, some_down, down) in
-            rw (same_waiting, same_down) refl
-        by false e change =
-            let waiting = subst (λ b. waiting_in (moved counted host is) group + cond b (bit (waits (place_of host))) 0 ≡ waiting_in counted group + cond b (bit (waits is)) 0) e change.waiting in
-            let down = subst (λ b. down_in (moved counted host is) group + cond b (bit (is_down (place_of host))) 0 ≡ down_in counted group + cond b (bit (is_down is)) 0) e change.down in
-            let same_waiting : waiting_in (moved counted host is) group ≡ waiting_in counted group = omega (arith, waiting) in
-            let same_down : down_in (moved counted host is) group ≡ down_in counted group = omega (arith, down) in
-            rw (same_waiting, same_down) refl
+        by b e change =
+            by_member b e
+            (subst (λ b. Balances b (new_waiting group) (waiting_in counted group) (waits (place_of host)) (waits is)) e change.waiting)
+            (subst (λ b. Balances b (new_down group) (down_in counted group) (is_down (place_of host)) (is_down is)) e change.down)
+          where
+            by_member : (b : Bool) → is_in host group ≡ b → Balances b (new_waiting group) (waiting_in counted group) (waits (place_of host)) (waits is)
+                → Balances b (new_down group) (down_in counted group) (is_down (place_of host)) (is_down is)
+                → recounted_if b group ≡ node_at (moved counted host is) group
+            by_member true e waiting down =
+                let some_wait = count_some (λ x. waits (place_of x)) host (members group) e in
+                let some_down = count_some (λ x. is_down (place_of x)) host (members group) e in
+                let same_waiting : new_waiting group ≡ (waiting_in counted group - bit (waits (place_of host))) + bit (waits is) = omega (arith, some_wait, waiting) in
+                let same_down : new_down group ≡ (down_in counted group - bit (is_down (place_of host))) + bit (is_down is) = omega (arith, some_down, down) in
+                rw (same_waiting, same_down) refl
+            by_member false e waiting down =
+                let same_waiting : new_waiting group ≡ waiting_in counted group = omega (arith, waiting) in
+                let same_down : new_down group ≡ down_in counted group = omega (arith, down) in
+                rw (same_waiting, same_down) refl
 
     pub nodes_moved : map (recounted_along (chain_of host) (place_of host) is) (nodes_at counted) ≡ nodes_at (moved counted host is)
     nodes_moved =
-        map-map (recounted_along (chain_of host) (place_of host) is) (node_at counted) (limited_groups counted.fleet) ∙ map_where (λ group. recounted_along (chain_of host) (place_of host) is (node_at counted group)) (node_at (moved counted host is)) (is_limited counted.fleet.limits) (length counted.fleet.groups) (λ group l limited. node_moved group limited)
+        let recount : Node → Node = recounted_along (chain_of host) (place_of host) is in
+        let limits : List (Option ℕ) = counted.fleet.limits in
+        map-map recount (node_at counted) (limited_groups counted.fleet)
+        ∙ map_where (λ group. recount (node_at counted group)) (node_at (moved counted host is)) (is_limited limits) (length counted.fleet.groups)
+        (λ group l limited. node_moved group limited)
 
   pub all_counted : (host : ℕ) → host < length counted.fleet.hosts → list_all (counts_on (chain_of host) (place_of host)) (nodes_at counted) ≡ true
   all_counted host within =
@@ -190,17 +243,27 @@ module _ (counted : Counted) (tops : List Subtree) (is : IsCounted counted tops)
   pub tops_rising : RiseFrom 0 (groups_in (side_by_side tops))
   tops_rising = subst (λ (nodes : List Node). RiseFrom 0 (groups_in nodes)) (sym is.nodes) (nodes_rise counted)
 
-  module _ (host : ℕ) (within : host < length counted.fleet.hosts) (chain : List ℕ) (leads : chain ≡ list_at counted.fleet.chains host) (was : Place) (stood : was ≡ place_at counted.places host) where
+  module _ (host : ℕ) (within : host < length counted.fleet.hosts) (chain : List ℕ)
+      (leads : chain ≡ list_at counted.fleet.chains host) (was : Place) (stood : was ≡ place_at counted.places host) where
     pub tops_counted : list_all (counts_on chain was) (side_by_side tops) ≡ true
     tops_counted =
-        ap (λ (c : List ℕ). list_all (counts_on c was) (side_by_side tops)) leads ∙ ap (λ (p : Place). list_all (counts_on (list_at counted.fleet.chains host) p) (side_by_side tops)) stood ∙ ap (list_all (counts_on (list_at counted.fleet.chains host) (place_at counted.places host))) is.nodes ∙ all_counted counted is.sound host within
+        let own : List ℕ = list_at counted.fleet.chains host in
+        ap (λ (c : List ℕ). list_all (counts_on c was) (side_by_side tops)) leads
+        ∙ ap (λ (p : Place). list_all (counts_on own p) (side_by_side tops)) stood
+        ∙ ap (list_all (counts_on own (place_at counted.places host))) is.nodes
+        ∙ all_counted counted is.sound host within
 
-    pub tops_kept : (place : Place) (after : List Subtree) → side_by_side after ≡ map (recounted_along chain was place) (side_by_side tops) → IsCounted (moved counted host place) after
-    tops_kept place after changed = record {
-      sound = is.sound;
-      all_placed = length-set counted.places host place ∙ is.all_placed;
-      nodes = changed ∙ ap (λ (c : List ℕ). map (recounted_along c was place) (side_by_side tops)) leads ∙ ap (λ (p : Place). map (recounted_along (list_at counted.fleet.chains host) p place) (side_by_side tops)) stood ∙ ap (map (recounted_along (list_at counted.fleet.chains host) (place_at counted.places host) place)) is.nodes ∙ nodes_moved counted is.sound host within is.all_placed place;
-    }
+    pub tops_kept : (place : Place) (after : List Subtree) → side_by_side after ≡ map (recounted_along chain was place) (side_by_side tops)
+        → IsCounted (moved counted host place) after
+    tops_kept place after changed =
+        let own : List ℕ = list_at counted.fleet.chains host in
+        let kept : side_by_side after ≡ nodes_at (moved counted host place) =
+        changed
+        ∙ ap (λ (c : List ℕ). map (recounted_along c was place) (side_by_side tops)) leads
+        ∙ ap (λ (p : Place). map (recounted_along own p place) (side_by_side tops)) stood
+        ∙ ap (map (recounted_along own (place_at counted.places host) place)) is.nodes
+        ∙ nodes_moved counted is.sound host within is.all_placed place in
+        record { sound = is.sound; all_placed = length-set counted.places host place ∙ is.all_placed; nodes = kept }
 
 pub stood_there : (places : List Place) (host : ℕ) (was : Place) → host < length places → was ≡ get_or places host was → was ≡ place_at places host
 stood_there places host was within is = is ∙ get_or_default places host was Up within

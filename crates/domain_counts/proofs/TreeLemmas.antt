@@ -14,7 +14,8 @@ groups_under group (node ∷ nodes) = ap (λ (l : List ℕ). node.group ∷ l) (
 
 pub groups_split : (tree : Subtree) (trees : List Subtree) → groups_in (side_by_side (tree ∷ trees)) ≡ tree.group ∷ (groups_in tree.below ++ groups_in (side_by_side trees))
 groups_split tree trees =
-    ap (λ (l : List ℕ). tree.group ∷ l) (map-append (λ (node : Node). node.group) (map (under tree.group) tree.below) (side_by_side trees) ∙ ap (λ (l : List ℕ). l ++ groups_in (side_by_side trees)) (groups_under tree.group tree.below))
+    ap (λ (l : List ℕ). tree.group ∷ l)
+    (map-append (λ (node : Node). node.group) (map (under tree.group) tree.below) (side_by_side trees) ∙ ap (λ (l : List ℕ). l ++ groups_in (side_by_side trees)) (groups_under tree.group tree.below))
 
 pub tops_rise : (low : ℕ) (trees : List Subtree) → RiseFrom low (groups_in (side_by_side trees)) → RiseFrom low (tops_of trees)
 tops_rise low [] up = tt
@@ -22,7 +23,8 @@ tops_rise low (tree ∷ trees) up =
     let parts = subst (RiseFrom low) (groups_split tree trees) up in
     (parts.0, tops_rise (tree.group + 1) trees (rise_right (tree.group + 1) (groups_in tree.below) (groups_in (side_by_side trees)) parts.1))
 
-pub below_rise : (low : ℕ) (trees : List Subtree) (i : ℕ) (d : Subtree) → i < length trees → RiseFrom low (groups_in (side_by_side trees)) → RiseFrom 0 (groups_in (get_or trees i d).below)
+pub below_rise : (low : ℕ) (trees : List Subtree) (i : ℕ) (d : Subtree) → i < length trees → RiseFrom low (groups_in (side_by_side trees))
+    → RiseFrom 0 (groups_in (get_or trees i d).below)
 below_rise low [] i d within up = absurd (omega arith)
 below_rise low (tree ∷ trees) zero d within up =
     let parts = subst (RiseFrom low) (groups_split tree trees) up in
