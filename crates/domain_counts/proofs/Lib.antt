@@ -1,10 +1,12 @@
 pub mod RiseLemmas
 pub mod TreeLemmas
 pub mod FindLemmas
+pub mod LeaveLemmas
 pub mod ChangeLemmas
 pub mod ShapeLemmas
 pub mod WhereLemmas
 pub mod PathLemmas
 pub mod CountLemmas
+pub mod FoundLemmas
 pub mod FleetLemmas
 pub mod GrowLemmas

@@ -11,7 +11,7 @@ use Rattle.inventory_model.specs.Names.{Name, same_name, is_among, are_distinct}
 use Rattle.fleet_numbers.proofs.SortedNamesLemmas.{same_name-true, same_name-itself}
 use Rattle.indexmap.specs.IndexSet.{insert_key}
 use Rattle.domains.proofs.BeginLemmas.{distinct_at}
-use Rattle.domains.proofs.NumberLemmas.{list_any-map}
+use Rattle.group_tree.proofs.MemberLemmas.{list_any-map}
 
 same_back : (x y : Name) → same_name x y ≡ false → same_name y x ≡ false
 same_back x y e = by_case (same_name y x) refl

@@ -19,6 +19,7 @@ use Rattle.inventory_model.specs.Members.{holds}
 use Rattle.inventory_model.specs.Variables.{value_of}
 use Rattle.inventory_model.specs.Bounds.{group_names}
 use Rattle.inventory_model.specs.Limits.{Limit}
+use Rattle.group_tree.proofs.MemberLemmas.{list_any-map}
 use Rattle.fleet_numbers.specs.SortedNames.{name_cmp, sorted_names}
 use Rattle.fleet_numbers.specs.GroupPaths.{is_member}
 use Rattle.fleet_numbers.proofs.SortedNamesLemmas.{same_name-true, same_name-itself, is_rising-sorted_names}
@@ -33,10 +34,6 @@ pub map-same : {X Y : Type 0} (f g : X → Y) (xs : List X) → ((x : X) → f x
 map-same f g [] e = refl
 map-same {Y = Y} f g (x ∷ xs) e =
     ap (λ (y : Y). y ∷ map f xs) (e x) ∙ ap (λ (l : List Y). g x ∷ l) (map-same f g xs e)
-
-pub list_any-map : {X Y : Type 0} (test : Y → Bool) (f : X → Y) (xs : List X) → list_any test (map f xs) ≡ list_any (λ x. test (f x)) xs
-list_any-map test f [] = refl
-list_any-map test f (x ∷ xs) = ap (λ b. test (f x) || b) (list_any-map test f xs)
 
 -- hosts at two places differ
 pub same_host : (hosts : List Name) (i j : ℕ) → IsStrictlySortedBy name_cmp hosts → i < length hosts → j < length hosts

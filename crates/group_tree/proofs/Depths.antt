@@ -27,18 +27,27 @@ within-under name depth place =
 within_parts : (group : Subtree) (left : ℕ) → are_within_depth (left + 1) (places_of group) ≡ are_within_depth left group.below.places
 within_parts group left =
     let top : leb 1 (left + 1) ≡ true = le-leb 1 (left + 1) (omega arith) in
-    rw top (list_all-map (λ place. leb (depth_of place) (left + 1)) (place_under group.name) group.below.places ∙ list_all-same (λ place. leb (depth_of (place_under group.name place)) (left + 1)) (λ place. leb (depth_of place) left) (within-under group.name left) group.below.places)
+    let below : Place → Bool = λ place. leb (depth_of place) left in
+    let at_most : Place → Bool = λ place. leb (depth_of place) (left + 1) in
+    let same = list_all-same (λ place. at_most (place_under group.name place)) below (within-under group.name left) group.below.places in
+    rw top (list_all-map at_most (place_under group.name) group.below.places ∙ same)
 
 -- a group is within a depth where its children are within one less
 module _ (group : Subtree) (children : List Subtree) (parts : side_by_side children ≡ group.below) (left depth : ℕ) (more : depth ≡ left + 1) where
   parts_within : are_within_depth depth (places_of group) ≡ list_all (λ child. are_within_depth left (places_of child)) children
   parts_within =
-      ap (λ most. are_within_depth most (places_of group)) more ∙ within_parts group left ∙ ap (λ (below : Inventory). are_within_depth left below.places) (sym parts) ∙ list_all-flat_map (λ place. leb (depth_of place) left) places_of children
+      ap (λ most. are_within_depth most (places_of group)) more
+      ∙ within_parts group left
+      ∙ ap (λ (below : Inventory). are_within_depth left below.places) (sym parts)
+      ∙ list_all-flat_map (λ place. leb (depth_of place) left) places_of children
 
-  pub are_within_depth-child : (i : ℕ) (child : Subtree) → i < length children → child ≡ get_or children i child → are_within_depth left (places_of child) ≡ false → false ≡ are_within_depth depth (places_of group)
+  pub are_within_depth-child : (i : ℕ) (child : Subtree) → i < length children → child ≡ get_or children i child
+      → are_within_depth left (places_of child) ≡ false → false ≡ are_within_depth depth (places_of group)
   are_within_depth-child i child within is deep =
-      sym (parts_within ∙ list_all_at (λ child. are_within_depth left (places_of child)) children i child within (subst (λ (c : Subtree). are_within_depth left (places_of c) ≡ false) is deep))
+      sym
+      (parts_within ∙ list_all_at (λ child. are_within_depth left (places_of child)) children i child within (subst (λ (c : Subtree). are_within_depth left (places_of c) ≡ false) is deep))
 
-  pub are_within_depth-all : (i : ℕ) → length children ≤ i → list_all (λ child. are_within_depth left (places_of child)) (take i children) ≡ true → true ≡ are_within_depth depth (places_of group)
+  pub are_within_depth-all : (i : ℕ) → length children ≤ i → list_all (λ child. are_within_depth left (places_of child)) (take i children) ≡ true
+      → true ≡ are_within_depth depth (places_of group)
   are_within_depth-all i past all =
       sym (parts_within ∙ (rw (take_all i children past) at all))

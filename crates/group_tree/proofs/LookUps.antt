@@ -5,18 +5,22 @@ use Rattle.std.proofs.lemmas.List.{drop_more}
 use Rattle.inventory_model.specs.Names.{Name, same_name}
 use Rattle.inventory_model.specs.Variables.{Scalar, Variable, value_of}
 
-option_or-choice : (later found : Option Scalar) (test : Bool) (value : Scalar) → option_or (option_or later (cond test (Some value) None)) found ≡ option_or later (cond test (Some value) found)
+option_or-choice : (later found : Option Scalar) (test : Bool) (value : Scalar)
+    → option_or (option_or later (cond test (Some value) None)) found ≡ option_or later (cond test (Some value) found)
 option_or-choice (Some x) found test value = refl
 option_or-choice None found true value = refl
 option_or-choice None found false value = refl
 
-module _ (name : Name) (variables : List Variable) (i : ℕ) (variable : Variable) (found : Option Scalar) (within : i < length variables) (is : variable ≡ get_or variables i variable) where
-  next : (test : Bool) → same_name name variable.name ≡ test → option_or (value_of name (drop (i + 1) variables)) (cond test (Some variable.value) found) ≡ option_or (value_of name (drop i variables)) found
+module _ (name : Name) (variables : List Variable) (i : ℕ) (variable : Variable) (found : Option Scalar)
+    (within : i < length variables) (is : variable ≡ get_or variables i variable) where
+  next : (test : Bool) → same_name name variable.name ≡ test
+      → option_or (value_of name (drop (i + 1) variables)) (cond test (Some variable.value) found) ≡ option_or (value_of name (drop i variables)) found
   next test e =
       sym (rw (drop_more variables i variable within, ← is) (rw e (option_or-choice (value_of name (drop (i + 1) variables)) found test variable.value)))
 
   -- a variable of the name takes the place of what was found before it
-  pub value_of-takes : same_name name variable.name ≡ true → option_or (value_of name (drop (i + 1) variables)) (Some variable.value) ≡ option_or (value_of name (drop i variables)) found
+  pub value_of-takes : same_name name variable.name ≡ true
+      → option_or (value_of name (drop (i + 1) variables)) (Some variable.value) ≡ option_or (value_of name (drop i variables)) found
   value_of-takes = next true
 
   pub value_of-passes : same_name name variable.name ≡ false → option_or (value_of name (drop (i + 1) variables)) found ≡ option_or (value_of name (drop i variables)) found

@@ -1,15 +1,16 @@
 -- Where a group's rows come from, and what that says of the hosts that it holds.
-use Rattle.std.proofs.Common.{◌≡◌, ℕ, ◌<◌, ◌≤◌, length, get_or, take, Bool, true, false, ◌||◌, ◌&&◌, List, [], ◌∷◌, map, sym, ap, ◌∙◌, refl}
+use Rattle.std.proofs.Common.{◌≡◌, ℕ, ◌<◌, ◌≤◌, length, get_or, take, Bool, true, false, ◌||◌, List, [], ◌∷◌, map, sym, ap, ◌∙◌, refl}
 use Rattle.std.specs.List.{list_any, flat_map}
 use Rattle.std.proofs.lemmas.List.Folds.{list_any-append, list_any_at}
 use Rattle.std.proofs.lemmas.List.{take_all}
 use Rattle.std.proofs.lemmas.Bool.{or_left, or_right, or_from}
+use Rattle.std.proofs.Math.Bool.{and-true, and-false}
 use Rattle.inventory_model.specs.Names.{Name, same_name}
 use Rattle.inventory_model.specs.Places.{Row, Inventory}
 use Rattle.inventory_model.specs.Subtrees.{Host, Subtree, own_row, row_under, rows_of, inventory_of, side_by_side}
 use Rattle.inventory_model.specs.Members.{is_of, is_row_of, holds}
 
-list_any-map : {X Y : Type 0} (test : Y → Bool) (f : X → Y) (xs : List X) → list_any test (map f xs) ≡ list_any (λ x. test (f x)) xs
+pub list_any-map : {X Y : Type 0} (test : Y → Bool) (f : X → Y) (xs : List X) → list_any test (map f xs) ≡ list_any (λ x. test (f x)) xs
 list_any-map test f [] = refl
 list_any-map test f (x ∷ xs) = ap (λ rest. test (f x) || rest) (list_any-map test f xs)
 
@@ -19,7 +20,8 @@ list_any-flat_map test f (x ∷ xs) =
     list_any-append test (f x) (flat_map f xs) ∙ ap (λ rest. list_any test (f x) || rest) (list_any-flat_map test f xs)
 
 -- a row is of the host whatever the path above it
-pub is_listed-split : (group : Subtree) (host : Name) → list_any (is_of host) (rows_of group) ≡ (list_any (λ own. same_name host own.name) group.hosts || list_any (is_of host) group.below.rows)
+pub is_listed-split : (group : Subtree) (host : Name)
+    → list_any (is_of host) (rows_of group) ≡ (list_any (λ own. same_name host own.name) group.hosts || list_any (is_of host) group.below.rows)
 is_listed-split group host =
     rw (list_any-append, list_any-map (is_of host) (own_row group.name), list_any-map (is_of host) (row_under group.name)) refl
 
@@ -31,24 +33,16 @@ list_any-same : {X : Type 0} (test other : X → Bool) → ((x : X) → test x �
 list_any-same test other e [] = refl
 list_any-same test other e (x ∷ xs) = rw (e x, list_any-same test other e xs) refl
 
-and_true : (b : Bool) → (b && true) ≡ b
-and_true true = refl
-and_true false = refl
-
-and_false : (b : Bool) → (b && false) ≡ false
-and_false true = refl
-and_false false = refl
-
 -- whose rows count as a row of the group that is looked for
 module _ (group : Subtree) (name host : Name) where
   own_here : same_name name group.name ≡ true → (own : Host) → is_row_of name host (own_row group.name own) ≡ is_of host (own_row group.name own)
-  own_here e own = rw e (and_true (same_name host own.name))
+  own_here e own = rw e (and-true (same_name host own.name))
 
   under_here : same_name name group.name ≡ true → (row : Row) → is_row_of name host (row_under group.name row) ≡ is_of host (row_under group.name row)
-  under_here e row = rw e (and_true (same_name host row.host))
+  under_here e row = rw e (and-true (same_name host row.host))
 
   own_elsewhere : same_name name group.name ≡ false → (own : Host) → is_row_of name host (own_row group.name own) ≡ false
-  own_elsewhere e own = rw e (and_false (same_name host own.name))
+  own_elsewhere e own = rw e (and-false (same_name host own.name))
 
   under_elsewhere : same_name name group.name ≡ false → (row : Row) → is_row_of name host (row_under group.name row) ≡ is_row_of name host row
   under_elsewhere e row = rw e refl
@@ -78,28 +72,34 @@ module _ (group : Subtree) (children : List Subtree) (parts : side_by_side child
       ap (λ (below : Inventory). list_any test below.rows) (sym parts) ∙ list_any-flat_map test rows_of children
 
   -- at a child that holds it
-  below_child : (test : Row → Bool) (i : ℕ) (child : Subtree) → i < length children → child ≡ get_or children i child → true ≡ list_any test (rows_of child) → list_any test group.below.rows ≡ true
+  below_child : (test : Row → Bool) (i : ℕ) (child : Subtree) → i < length children → child ≡ get_or children i child
+      → true ≡ list_any test (rows_of child) → list_any test group.below.rows ≡ true
   below_child test i child within is held =
       below_parts test ∙ list_any_at (λ child. list_any test (rows_of child)) children i child within (rw (← is) (sym held))
 
   -- past the last child, none of which holds it
-  below_none : (test : Row → Bool) (i : ℕ) → length children ≤ i → list_any (λ child. list_any test (rows_of child)) (take i children) ≡ false → list_any test group.below.rows ≡ false
+  below_none : (test : Row → Bool) (i : ℕ) → length children ≤ i → list_any (λ child. list_any test (rows_of child)) (take i children) ≡ false
+      → list_any test group.below.rows ≡ false
   below_none test i past none = below_parts test ∙ (rw (take_all i children past) at none)
 
   -- `lists`: the group itself, a child, or none
-  pub is_listed-child : (host : Name) (i : ℕ) (child : Subtree) → i < length children → child ≡ get_or children i child → true ≡ list_any (is_of host) (rows_of child) → true ≡ list_any (is_of host) (rows_of group)
+  pub is_listed-child : (host : Name) (i : ℕ) (child : Subtree) → i < length children → child ≡ get_or children i child
+      → true ≡ list_any (is_of host) (rows_of child) → true ≡ list_any (is_of host) (rows_of group)
   is_listed-child host i child within is held =
       sym (is_listed-split group host ∙ or_right _ _ (below_child (is_of host) i child within is held))
 
-  pub is_listed-none : (host : Name) (i : ℕ) → list_any (λ (own : Host). same_name host own.name) group.hosts ≡ false → length children ≤ i → list_any (λ child. list_any (is_of host) (rows_of child)) (take i children) ≡ false → false ≡ list_any (is_of host) (rows_of group)
+  pub is_listed-none : (host : Name) (i : ℕ) → list_any (λ (own : Host). same_name host own.name) group.hosts ≡ false → length children ≤ i
+      → list_any (λ child. list_any (is_of host) (rows_of child)) (take i children) ≡ false → false ≡ list_any (is_of host) (rows_of group)
   is_listed-none host i here past none =
       sym (is_listed-split group host ∙ or_from _ _ here (below_none (is_of host) i past none))
 
   -- `holds`, elsewhere than at the group of the name: a child, or none
-  pub holds-child : (name host : Name) (i : ℕ) (child : Subtree) → same_name name group.name ≡ false → i < length children → child ≡ get_or children i child → true ≡ holds (inventory_of child) name host → true ≡ holds (inventory_of group) name host
+  pub holds-child : (name host : Name) (i : ℕ) (child : Subtree) → same_name name group.name ≡ false → i < length children
+      → child ≡ get_or children i child → true ≡ holds (inventory_of child) name host → true ≡ holds (inventory_of group) name host
   holds-child name host i child elsewhere within is held =
       sym (holds-elsewhere group name host elsewhere ∙ below_child (is_row_of name host) i child within is held)
 
-  pub holds-none : (name host : Name) (i : ℕ) → same_name name group.name ≡ false → length children ≤ i → list_any (λ child. holds (inventory_of child) name host) (take i children) ≡ false → false ≡ holds (inventory_of group) name host
+  pub holds-none : (name host : Name) (i : ℕ) → same_name name group.name ≡ false → length children ≤ i
+      → list_any (λ child. holds (inventory_of child) name host) (take i children) ≡ false → false ≡ holds (inventory_of group) name host
   holds-none name host i elsewhere past none =
       sym (holds-elsewhere group name host elsewhere ∙ below_none (is_row_of name host) i past none)

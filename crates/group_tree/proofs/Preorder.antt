@@ -17,14 +17,16 @@ goes_on-under name path (place ∷ places) walk =
     and_from _ _ (and_from _ _ (same_name-self name) parts.0) (goes_on-under name (path_of place) places parts.1)
 
 -- a walk may go on at the top
-goes_on-top : (path : List Name) (walked : List Place) (group : Subtree) (below : List Place) → goes_on path walked ≡ true → goes_on (group.name ∷ []) below ≡ true → goes_on path (walked ++ own_place group ∷ below) ≡ true
+goes_on-top : (path : List Name) (walked : List Place) (group : Subtree) (below : List Place) → goes_on path walked ≡ true
+    → goes_on (group.name ∷ []) below ≡ true → goes_on path (walked ++ own_place group ∷ below) ≡ true
 goes_on-top path [] group below walk further = further
 goes_on-top path (place ∷ walked) group below walk further =
     let parts = and_parts (begins place.above path) (goes_on (path_of place) walked) walk in
     and_from _ _ parts.0 (goes_on-top (path_of place) walked group below parts.1 further)
 
 -- the walk over a group, and over one child more
-pub is_preorder-with_child : (walked : List Place) (child : Subtree) → is_preorder walked ≡ true → is_preorder child.below.places ≡ true → is_preorder (walked ++ places_of child) ≡ true
+pub is_preorder-with_child : (walked : List Place) (child : Subtree) → is_preorder walked ≡ true → is_preorder child.below.places ≡ true
+    → is_preorder (walked ++ places_of child) ≡ true
 is_preorder-with_child walked child walk below =
     goes_on-top [] walked child (map (place_under child.name) child.below.places) walk (goes_on-under child.name [] child.below.places below)
 

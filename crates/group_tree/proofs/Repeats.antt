@@ -22,14 +22,19 @@ are_distinct-push [] name distinct new = refl
 are_distinct-push (first ∷ names) name distinct new =
     let had = and_parts (not (is_among first names)) (are_distinct names) distinct in
     let apart = or_parts (same_name name first) (is_among name names) new in
-    and_from _ _ (not_from_false _ (list_any-append (same_name first) names (name ∷ []) ∙ or_from _ _ (not-true _ had.0) (or_from _ _ (same_name-other first name apart.0) refl))) (are_distinct-push names name had.1 apart.1)
+    let other = or_from _ _ (same_name-other first name apart.0) refl in
+    let absent = list_any-append (same_name first) names (name ∷ []) ∙ or_from _ _ (not-true _ had.0) other in
+    and_from _ _ (not_from_false _ absent) (are_distinct-push names name had.1 apart.1)
 
 -- a name that did not stand before keeps the names distinct
-pub are_distinct-more : (names : List Name) (i : ℕ) → i < length names → are_distinct (take i names) ≡ true → is_among (get_or names i []) (take i names) ≡ false → are_distinct (take (i + 1) names) ≡ true
+pub are_distinct-more : (names : List Name) (i : ℕ) → i < length names → are_distinct (take i names) ≡ true
+    → is_among (get_or names i []) (take i names) ≡ false → are_distinct (take (i + 1) names) ≡ true
 are_distinct-more names i within distinct new =
     ap are_distinct (take_more names i [] within) ∙ are_distinct-push (take i names) (get_or names i []) distinct new
 
 -- the name of the group at a place
 pub IsGroupAt-name : (tree : Inventory) (index : ℕ) (group : Subtree) (depth : ℕ) → IsGroupAt tree index group depth → group.name ≡ get_or (group_names tree.places) index []
 IsGroupAt-name tree index group depth at =
-    sym (get_or_from_slice_get (group_names tree.places) index group.name [] (slice_get-map (λ (place : Place). place.name) tree.places index ∙ ap (option_map (λ (place : Place). place.name)) at.here))
+    let name : Place → Name = λ place. place.name in
+    let stands = slice_get-map name tree.places index ∙ ap (option_map name) at.here in
+    sym (get_or_from_slice_get (group_names tree.places) index group.name [] stands)

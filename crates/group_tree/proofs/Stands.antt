@@ -14,9 +14,14 @@ stands-itself whole =
     record { before = nothing; after = nothing; places = sym (append-nil whole.places); rows = sym (append-nil whole.rows) }
 
 -- a run of a run
-nested_run : {X : Type 0} (whole before middle after inner part outer : List X) → whole ≡ before ++ (middle ++ after) → middle ≡ inner ++ (part ++ outer) → whole ≡ before ++ inner ++ (part ++ (outer ++ after))
+nested_run : {X : Type 0} (whole before middle after inner part outer : List X) → whole ≡ before ++ (middle ++ after)
+    → middle ≡ inner ++ (part ++ outer) → whole ≡ before ++ inner ++ (part ++ (outer ++ after))
 nested_run whole before middle after inner part outer e f =
-    e ∙ ap (λ run. before ++ (run ++ after)) f ∙ ap (λ run. before ++ run) (append_assoc inner (part ++ outer) after ∙ ap (λ run. inner ++ run) (append_assoc part outer after)) ∙ sym (append_assoc before inner (part ++ (outer ++ after)))
+    let inside = append_assoc inner (part ++ outer) after ∙ ap (λ run. inner ++ run) (append_assoc part outer after) in
+    e
+    ∙ ap (λ run. before ++ (run ++ after)) f
+    ∙ ap (λ run. before ++ run) inside
+    ∙ sym (append_assoc before inner (part ++ (outer ++ after)))
 
 stands-within : (part middle whole : Inventory) → StandsIn part middle → StandsIn middle whole → StandsIn part whole
 stands-within part middle whole inner outer =
@@ -63,8 +68,14 @@ stands-beside (child ∷ children) (suc i) d within =
       rows = ap (λ run. rows_of child ++ run) rest.rows ∙ sym (append_assoc (rows_of child) rest.before.rows _);
     }
 
-pub stands-child : (group : Subtree) (children : List Subtree) (parts : side_by_side children ≡ group.below) (i : ℕ) (child : Subtree) (within : i < length children) (is : child ≡ get_or children i child) (part : Inventory) → StandsIn part (inventory_of child) → StandsIn (under_group group.name part) (inventory_of group)
+pub stands-child : (group : Subtree) (children : List Subtree) (parts : side_by_side children ≡ group.below) (i : ℕ) (child : Subtree)
+    (within : i < length children) (is : child ≡ get_or children i child) (part : Inventory)
+    → StandsIn part (inventory_of child) → StandsIn (under_group group.name part) (inventory_of group)
 stands-child group children parts i child within is part stands =
-    let here : StandsIn (inventory_of child) (side_by_side children) = subst (λ (c : Subtree). StandsIn (inventory_of c) (side_by_side children)) (sym is) (stands-beside children i child within) in
-    let below : StandsIn part group.below = subst (λ (below : Inventory). StandsIn part below) parts (stands-within part (inventory_of child) (side_by_side children) stands here) in
-    stands-within (under_group group.name part) (under_group group.name group.below) (inventory_of group) (stands-under group.name part group.below below) (stands-below group)
+    let siblings : Inventory = side_by_side children in
+    let here : StandsIn (inventory_of child) siblings =
+    subst (λ (c : Subtree). StandsIn (inventory_of c) siblings) (sym is) (stands-beside children i child within) in
+    let below : StandsIn part group.below =
+    subst (λ (below : Inventory). StandsIn part below) parts (stands-within part (inventory_of child) siblings stands here) in
+    let lower : StandsIn (under_group group.name part) (under_group group.name group.below) = stands-under group.name part group.below below in
+    stands-within (under_group group.name part) (under_group group.name group.below) (inventory_of group) lower (stands-below group)

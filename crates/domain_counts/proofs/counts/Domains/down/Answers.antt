@@ -2,7 +2,8 @@ use Rattle.std.proofs.Common.{◌≡◌, true, List, sym, ap, ◌∙◌, subst}
 use Rattle.fleet_numbers.specs.Chains.{is_limited}
 use Rattle.domain_counts.specs.Nodes.{Subtree, side_by_side, groups_in, RiseFrom}
 use Rattle.domain_counts.specs.Counts.{Counted, down_in, nodes_at}
-use Rattle.domain_counts.proofs.FleetLemmas.{tops_rising, counts_found, never_missing}
+use Rattle.domain_counts.proofs.FleetLemmas.{tops_rising}
+use Rattle.domain_counts.proofs.FoundLemmas.{counts_found, never_missing}
 use Rattle.domain_counts.proofs.counts.Domains.down.Goals as goal
 
 pub find-requires : goal.find-requires
