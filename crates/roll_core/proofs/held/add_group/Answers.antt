@@ -19,10 +19,10 @@ loop-host-preserved c =
     let none : HostId = record { index = 0 } in
     let is : get_or (host_numbers members) i 0 ≡ (get_or members i none).index = number_of_host members i none c.loop-host-test.true in
     let now = c.loop-host.held in
-    let wrote = subst (λ (n : ℕ). c.add.new.self ≡ set now n (list_at now n ++ c.args.group ∷ [])) (sym is) c.in_ok-add.ensures in
+    let wrote = subst (λ (n : ℕ). c.add.new.self ≡ set now n (list_at now n ++ c.args.group ∷ [])) (sym is) c.in_ok-add.ensures.ok in
     let inside : i < length (host_numbers members) = omega (arith, length-host_numbers members) in
     let added = added_more c.args.held.now now c.add.new.self (host_numbers members) c.args.group i invariant.len c.requires.distinct c.requires.within inside wrote in
     record {
-      len = ap length c.in_ok-add.ensures ∙ length-set now _ _ ∙ invariant.len;
+      len = ap length c.in_ok-add.ensures.ok ∙ length-set now _ _ ∙ invariant.len;
       added = λ host inside. added host inside (invariant.added host inside);
     }
