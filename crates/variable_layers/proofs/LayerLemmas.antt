@@ -1,0 +1,40 @@
+-- Look-ups in layers, from the first to the last.
+use Rattle.std.proofs.Common.{◌≡◌, ℕ, ◌+◌, ◌<◌, Bool, true, false, ◌||◌, cond, Option, Some, None, List, [], ◌∷◌, ◌++◌, length, filter, get_or, drop, take, map, sym, ap, ◌∙◌, refl, option_map, append-nil}
+use Rattle.std.specs.List.{list_any}
+use Rattle.std.specs.Option.{option_or}
+use Rattle.std.proofs.lemmas.List.{drop_more, map-append}
+use Rattle.std.proofs.lemmas.List.Elements.{filter_more}
+use Rattle.inventory_model.specs.Names.{Name}
+use Rattle.inventory_model.specs.Variables.{Scalar}
+use Rattle.variable_layers.specs.Tables.{LayerView, last_value}
+use Rattle.variable_layers.proofs.ValueLemmas.{or_assoc}
+
+pub map_or : {X Y : Type 0} (f : X → Y) (a b : Option X) → option_map f (option_or a b) ≡ option_or (option_map f a) (option_map f b)
+map_or f (Some a) b = refl
+map_or f None b = refl
+
+-- one more layer over those before it
+pub last_step : {X : Type 0} (view : X → LayerView) (name : Name) (layers : List X) (i : ℕ) (layer : X) (here found now whole : Option Scalar) → i < length layers → layer ≡ get_or layers i layer → here ≡ (view layer).value name → now ≡ option_or here found → option_or (last_value name (map view (drop i layers))) found ≡ whole → option_or (last_value name (map view (drop (i + 1) layers))) now ≡ whole
+last_step {X = X} view name layers i layer here found now whole within is at put before =
+    let next : last_value name (map view (drop i layers)) ≡ option_or (last_value name (map view (drop (i + 1) layers))) ((view layer).value name) = ap (λ (l : List X). last_value name (map view l)) (drop_more layers i layer within) ∙ ap (λ (x : X). option_or (last_value name (map view (drop (i + 1) layers))) ((view x).value name)) (sym is) in
+    let later = last_value name (map view (drop (i + 1) layers)) in
+    ap (λ (o : Option Scalar). option_or later o) (put ∙ ap (λ (o : Option Scalar). option_or o found) at) ∙ sym (or_assoc later ((view layer).value name) found) ∙ sym (ap (λ (o : Option Scalar). option_or o found) next) ∙ before
+
+pub list_any-map : {X Y : Type 0} (p : Y → Bool) (f : X → Y) (xs : List X) → list_any p (map f xs) ≡ list_any (λ x. p (f x)) xs
+list_any-map p f [] = refl
+list_any-map p f (x ∷ xs) = ap (λ (b : Bool). p (f x) || b) (list_any-map p f xs)
+
+-- one more number, which passes or not
+pub passes : {Y : Type 0} (g : ℕ → Y) (p : ℕ → Bool) (numbers : List ℕ) (i number : ℕ) (old new : List Y) (here : Y) → i < length numbers → number ≡ get_or numbers i number → old ≡ map g (filter p (take i numbers)) → p number ≡ true → new ≡ old ++ here ∷ [] → here ≡ g number → new ≡ map g (filter p (take (i + 1) numbers))
+passes {Y = Y} g p numbers i number old new here within is was pass more made =
+    more ∙ ap (λ (l : List Y). l ++ here ∷ []) was ∙ ap (λ (y : Y). map g (filter p (take i numbers)) ++ y ∷ []) made ∙ sym (map-append g (filter p (take i numbers)) (number ∷ [])) ∙ sym (ap (map g) (filter_more p numbers i number within ∙ ap (λ (n : ℕ). filter p (take i numbers) ++ cond (p n) (n ∷ []) []) (sym is) ∙ ap (λ (b : Bool). filter p (take i numbers) ++ cond b (number ∷ []) []) pass))
+
+pub fails : {Y : Type 0} (g : ℕ → Y) (p : ℕ → Bool) (numbers : List ℕ) (i number : ℕ) (old : List Y) → i < length numbers → number ≡ get_or numbers i number → old ≡ map g (filter p (take i numbers)) → p number ≡ false → old ≡ map g (filter p (take (i + 1) numbers))
+fails g p numbers i number old within is was fail =
+    was ∙ sym (ap (map g) (filter_more p numbers i number within ∙ ap (λ (n : ℕ). filter p (take i numbers) ++ cond (p n) (n ∷ []) []) (sym is) ∙ ap (λ (b : Bool). filter p (take i numbers) ++ cond b (number ∷ []) []) fail ∙ append-nil (filter p (take i numbers))))
+
+abbrev record_of : Name → (Name → Option Scalar) → LayerView
+record_of name value = record { name = name; value = value }
+
+pub same_layer : (a b : Name) (f g : Name → Option Scalar) → a ≡ b → ((name : Name) → f name ≡ g name) → record_of a f ≡ record_of b g
+same_layer a b f g names values = λ i. record { name = names i; value = λ name. values name i }

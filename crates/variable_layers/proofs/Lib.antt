@@ -1,0 +1,5 @@
+pub mod ValueLemmas
+pub mod OrderLemmas
+pub mod LayerLemmas
+pub mod OwnLemmas
+pub mod HostLemmas

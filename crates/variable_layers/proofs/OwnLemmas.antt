@@ -1,0 +1,36 @@
+-- A host's own variables, list by list.
+use Rattle.std.proofs.Common.{◌≡◌, ℕ, ◌+◌, ◌<◌, Bool, true, false, cond, Option, List, [], ◌∷◌, ◌++◌, length, filter, get_or, take, map, sym, ap, ◌∙◌, append-nil}
+use Rattle.std.specs.List.{flat_map}
+use Rattle.std.specs.Option.{option_or}
+use Rattle.std.proofs.lemmas.Grind.{flat_map-append}
+use Rattle.std.proofs.lemmas.List.{take_more, map-append}
+use Rattle.std.proofs.lemmas.List.Elements.{filter_more}
+use Rattle.inventory_model.specs.Names.{Name, same_name}
+use Rattle.inventory_model.specs.Variables.{Scalar, Variable, value_of}
+use Rattle.inventory_model.specs.Subtrees.{Host, Subtree}
+use Rattle.variable_layers.specs.Own.{own_in, own_below}
+use Rattle.variable_layers.proofs.ValueLemmas.{value_of-append, or_assoc}
+
+abbrev variables : Host → List Variable
+variables host = host.variables
+
+-- values over others, and more over these
+pub over_more : (name : Name) (before here after : List Variable) (initial was now : Option Scalar) → was ≡ option_or (value_of name before) initial → now ≡ option_or (value_of name here) was → after ≡ before ++ here → now ≡ option_or (value_of name after) initial
+over_more name before here after initial was now old put more =
+    put ∙ ap (λ (o : Option Scalar). option_or (value_of name here) o) old ∙ sym (or_assoc (value_of name here) (value_of name before) initial) ∙ sym (ap (λ (o : Option Scalar). option_or o initial) (ap (value_of name) more ∙ value_of-append name before here))
+
+module _ (name : Name) (hosts : List Host) (i : ℕ) (host : Host) (within : i < length hosts) (is : host ≡ get_or hosts i host) where
+  next : (test : Bool) → same_name name host.name ≡ test → own_in name (take (i + 1) hosts) ≡ own_in name (take i hosts) ++ flat_map variables (cond test (host ∷ []) [])
+  next test e =
+      ap (flat_map variables) (filter_more (λ (host : Host). same_name name host.name) hosts i host within ∙ ap (λ (h : Host). filter (λ (host : Host). same_name name host.name) (take i hosts) ++ cond (same_name name h.name) (h ∷ []) []) (sym is) ∙ ap (λ (b : Bool). filter (λ (host : Host). same_name name host.name) (take i hosts) ++ cond b (host ∷ []) []) e) ∙ flat_map-append variables (filter (λ (host : Host). same_name name host.name) (take i hosts)) (cond test (host ∷ []) [])
+
+  pub own_here : same_name name host.name ≡ true → own_in name (take (i + 1) hosts) ≡ own_in name (take i hosts) ++ host.variables
+  own_here e =
+      next true e ∙ ap (λ (l : List Variable). own_in name (take i hosts) ++ l) (append-nil host.variables)
+
+  pub own_elsewhere : same_name name host.name ≡ false → own_in name (take (i + 1) hosts) ≡ own_in name (take i hosts)
+  own_elsewhere e = next false e ∙ append-nil (own_in name (take i hosts))
+
+pub own_more : {X : Type 0} (view : X → Subtree × ℕ) (name : Name) (groups : List X) (i : ℕ) (group : X) → i < length groups → group ≡ get_or groups i group → own_below name (map view (take (i + 1) groups)) ≡ own_below name (map view (take i groups)) ++ own_in name (view group).0.hosts
+own_more {X = X} view name groups i group within is =
+    ap (λ (l : List X). own_below name (map view l)) (take_more groups i group within) ∙ ap (own_below name) (map-append view (take i groups) (get_or groups i group ∷ [])) ∙ flat_map-append (λ (w : Subtree × ℕ). own_in name w.0.hosts) (map view (take i groups)) (view (get_or groups i group) ∷ []) ∙ ap (λ (l : List Variable). own_below name (map view (take i groups)) ++ l) (append-nil (own_in name (view (get_or groups i group)).0.hosts)) ∙ ap (λ (x : X). own_below name (map view (take i groups)) ++ own_in name (view x).0.hosts) (sym is)

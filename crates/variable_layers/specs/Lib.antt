@@ -1,0 +1,5 @@
+pub mod Layers
+pub mod Tables
+pub mod Walked
+pub mod Own
+pub mod Shown

@@ -1,0 +1,44 @@
+-- What is kept of variables.
+use Rattle.std.specs.Prelude.{Option, None, List, [], ◌∷◌, map, option_map, string_bytes}
+use Rattle.std.specs.Option.{option_or}
+use Rattle.std.specs.Arc.{arc_value}
+use Rattle.std.specs.declared.sync.Arc.{Arc}
+use Rattle.std.specs.BTreeMap.{get_by_text}
+use Rattle.inventory_model.specs.Names.{Name}
+use Rattle.inventory_model.specs.Variables as model
+use Rattle.inventory_model.specs.Subtrees.{Subtree}
+use Rattle.variable_layers.specs.declared.table.Table.{Table}
+use Rattle.variable_layers.specs.declared.table.Held.{Held}
+use Rattle.variable_layers.specs.declared.table.Held.TheVariants as held
+use Rattle.variable_layers.specs.declared.layer.Layer.{Layer}
+
+abbrev pub held_scalar : Held → model.Scalar
+held_scalar (held.Text text) = model.Text (string_bytes text)
+held_scalar (held.Int number) = model.Int number
+held_scalar (held.Bool truth) = model.Truth truth
+
+-- the value that a table has for a name
+abbrev pub value_in : Table → Name → Option model.Scalar
+value_in table name = option_map held_scalar (get_by_text table.values name)
+
+-- a group's name, and the values of its own variables
+pub record LayerView : Type 0 where
+  pub name : Name
+  pub value : Name → Option model.Scalar
+
+abbrev pub layer_view : Layer → LayerView
+layer_view layer = record { name = string_bytes layer.name; value = value_in layer.table }
+
+abbrev pub layer_name : {Z : Type 0} → Arc Layer Z → Name
+layer_name layer = string_bytes (arc_value layer).name
+
+abbrev pub layer_views : {Z : Type 0} → List (Arc Layer Z) → List LayerView
+layer_views layers = map (λ layer. layer_view (arc_value layer)) layers
+
+abbrev pub group_layer : Subtree → LayerView
+group_layer group = record { name = group.name; value = λ name. model.value_of name group.variables }
+
+-- the value of the last layer that has the name
+abbrev pub last_value : Name → List LayerView → Option model.Scalar
+last_value name [] = None
+last_value name (layer ∷ later) = option_or (last_value name later) (layer.value name)

@@ -1,0 +1,30 @@
+-- Groups of a walk, and the order in which their variables are laid over one another, by their numbers.
+use Rattle.std.specs.Prelude.{ℕ, None, List, [], map, slice_index_or}
+use Rattle.std.specs.List.Sorted.{IsSortedBy}
+use Rattle.std.specs.Ordering.{nat_cmp, ordering_then, is_lt}
+use Rattle.std.specs.Cmp.Lexicographic.{slice_cmp}
+use Rattle.std.specs.declared.cmp.Ordering.{Ordering}
+use Rattle.inventory_model.specs.Subtrees.{Subtree}
+use Rattle.variable_layers.specs.declared.walk.WalkedGroup.{WalkedGroup}
+
+abbrev pub walked_group : {A : Type 0} → WalkedGroup A → Subtree × ℕ
+walked_group walked = (walked.group.now, walked.depth)
+
+abbrev pub walked_groups : {A : Type 0} → List (WalkedGroup A) → List (Subtree × ℕ)
+walked_groups groups = map walked_group groups
+
+abbrev pub no_group : Subtree
+no_group =
+    record { name = []; limit = None; variables = []; hosts = []; below = record { places = []; rows = [] } }
+
+-- the group of a number, and one without a name past the end
+abbrev pub walked_at : List (Subtree × ℕ) → ℕ → Subtree × ℕ
+walked_at walk number = slice_index_or walk number (no_group, 0)
+
+-- by how many groups stand above, then by the name
+abbrev pub walked_cmp : List (Subtree × ℕ) → ℕ → ℕ → Ordering
+walked_cmp walk number other =
+    ordering_then (nat_cmp (walked_at walk number).1 (walked_at walk other).1) (slice_cmp nat_cmp (walked_at walk number).0.name (walked_at walk other).0.name)
+
+abbrev pub IsInOrder : List (Subtree × ℕ) → List ℕ → Type 0
+IsInOrder walk order = IsSortedBy (λ number other. is_lt (walked_cmp walk number other)) order

@@ -1,0 +1,53 @@
+//! Groups that hold a host, with their variables.
+ghost use Rattle.std.specs.Prelude.{◌≡◌, ◌<◌, All, IfOk, filter, map, length};
+ghost use Rattle.fleet_numbers.specs.NumberLists.{has_number, list_at};
+ghost use Rattle.variable_layers.specs.Walked.{walked_groups, walked_at};
+ghost use Rattle.variable_layers.specs.Tables.{layer_views, layer_view, group_layer};
+ghost use Rattle.std.specs.Arc.{arc_value};
+
+use crate::table::Table;
+use crate::walk::WalkedGroup;
+use domains::Fleet;
+use group_tree::{Group, GroupId, HostId};
+use std::alloc::{AllocError, Allocator, Global};
+use std::sync::Arc;
+
+/// A group's name and its own variables.
+#[derive(Drop)]
+pub(crate) struct Layer {
+    pub(crate) name: String,
+    pub(crate) table: Table,
+}
+
+fn layer_of<A: Allocator>(alloc: Global, group: &Group<A>) -> Result<Layer, AllocError>
+    ensures { IfOk result (λ layer. layer_view layer ≡ group_layer group.now) }
+{
+    let mut table = Table::new(alloc);
+    table.put_all(alloc, group.variables())?;
+    let name = String::from_str(alloc, group.name())?;
+    Ok(Layer { name, table })
+}
+
+/// The groups that hold the host, in this order.
+pub(crate) fn list_layers<A: Allocator>(
+    alloc: Global,
+    groups: &[WalkedGroup<'_, A>],
+    order: &[usize],
+    fleet: &Fleet,
+    host: HostId,
+) -> Result<Vec<Arc<Layer>>, AllocError>
+    requires within { All (λ number. number < length groups.now) order.now }
+    requires same { length fleet.now.groups ≡ length groups.now }
+    ensures { IfOk result (λ layers. layer_views layers.items
+        ≡ map (λ number. group_layer (walked_at (walked_groups groups.now) number).0)
+        (filter (λ number. has_number host.index (list_at fleet.now.members number)) order.now)) }
+{
+    let mut layers = Vec::new(alloc);
+    for number in order {
+        if fleet.is_member(GroupId { index: *number }, host) {
+            let layer = layer_of(alloc, groups[*number].group)?;
+            layers.push(Arc::new(alloc, layer)?)?;
+        }
+    }
+    Ok(layers)
+}

@@ -1,0 +1,33 @@
+//! The groups of a tree in preorder.
+ghost use Rattle.std.specs.Prelude.{◌≡◌, ℕ, ◌+◌, ◌<◌, ◌^◌, ◌++◌, OnOk, List, map, length};
+ghost use Rattle.inventory_model.specs.Subtrees.{Subtree, inventory_of};
+ghost use Rattle.domains.specs.Walks.{IsWalkOf};
+ghost use Rattle.variable_layers.specs.Walked.{walked_groups};
+
+use group_tree::Group;
+use std::alloc::{AllocError, Allocator};
+
+/// A group, with how many groups stand above it.
+#[derive(Drop)]
+pub(crate) struct WalkedGroup<'a, A: Allocator> {
+    pub(crate) group: &'a Group<A>,
+    pub(crate) depth: usize,
+}
+
+/// Adds a group and all below it to a list, in preorder.
+pub(crate) fn list_walk<'a, A: Allocator>(
+    group: &'a Group<A>,
+    depth: usize,
+    groups: &mut Vec<WalkedGroup<'a, A>>,
+) -> Result<(), AllocError>
+    requires { depth + length group.now.below.places < 2 ^ 64 }
+    ensures { OnOk result ((walk : List (Subtree × ℕ))
+        × (walked_groups groups.new.items ≡ walked_groups groups.old.items ++ walk)
+        × IsWalkOf (inventory_of group.now) depth walk) }
+{
+    groups.push(WalkedGroup { group, depth })?;
+    for child in group.children() {
+        list_walk(child, depth + 1, groups)?;
+    }
+    Ok(())
+}
