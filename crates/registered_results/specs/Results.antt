@@ -25,3 +25,7 @@ has_place results name = is_some (get_by_text results.places name)
 -- the result that is registered under the name; a place without one is none
 abbrev pub result_of : Results → Name → Option Row
 result_of results name = option_and_then (λ place. option_map row_of place) (get_by_text results.places name)
+
+-- what stands at the name: a place, and in it a result
+abbrev pub seen_at : Results → Name → Option (Option Row)
+seen_at results name = option_map (λ place. option_map row_of place) (get_by_text results.places name)

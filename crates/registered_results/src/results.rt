@@ -1,7 +1,8 @@
 //! Names with a place for a result, in the order in which they were first used.
-ghost use Rattle.std.specs.Prelude.{◌≡◌, IsTrue, OnOk, Some, cond, ◌||◌, option_map, None, false};
+ghost use Rattle.std.specs.Prelude.{◌≡◌, IsTrue, IfOk, OnOk, Some, cond, ◌||◌, option_map, None, false};
 ghost use Rattle.inventory_model.specs.Names.{Name, same_name};
-ghost use Rattle.registered_results.specs.Results.{row_of, has_place, result_of};
+ghost use Rattle.registered_results.specs.Results.{row_of, has_place, result_of, seen_at};
+ghost use Rattle.std.specs.Option.{option_or};
 
 use crate::registered::Registered;
 use indexmap::IndexMap;
@@ -19,6 +20,7 @@ pub struct Results {
 impl Results {
     pub fn new(alloc: Global) -> Results
         ensures places { (name : Name) → has_place result name ≡ false }
+        ensures nothing { (name : Name) → seen_at result name ≡ None }
         ensures results { (name : Name) → result_of result name ≡ None }
     {
         Results {
@@ -68,5 +70,49 @@ impl Results {
             Some(Some(registered)) => Some(registered),
             _ => None,
         }
+    }
+
+    /// A place for a name that has none, with this result or without one.
+    fn add(
+        &mut self,
+        alloc: Global,
+        name: &str,
+        place: &Option<Registered>,
+    ) -> Result<(), AllocError>
+        ensures { OnOk result ((other : Name) → seen_at self.new other
+            ≡ option_or (seen_at self.old other) (cond (same_name name.now other) (Some (option_map row_of place.now)) None)) }
+    {
+        let standing = self.is_reserved(name);
+        if standing {
+            return Ok(());
+        }
+        let key = String::from_str(alloc, name)?;
+        let held = copy_place(alloc, place)?;
+        self.places.insert(key, held)?;
+        Ok(())
+    }
+
+    /// The same places with the same results.
+    pub fn copy(&self, alloc: Global) -> Result<Results, AllocError>
+        ensures places { IfOk result (λ copy. (name : Name) → has_place copy name ≡ has_place self.now name) }
+        ensures results { IfOk result (λ copy. (name : Name) → result_of copy name ≡ result_of self.now name) }
+    {
+        let mut copy = Results::new(alloc);
+        for index in 0..self.places.len() {
+            let Some((name, place)) = self.places.get_index(index) else {
+                break;
+            };
+            copy.add(alloc, name.as_str(), place)?;
+        }
+        Ok(copy)
+    }
+}
+
+fn copy_place(alloc: Global, place: &Option<Registered>) -> Result<Option<Registered>, AllocError>
+    ensures { IfOk result (λ copy. option_map row_of copy ≡ option_map row_of place.now) }
+{
+    match place {
+        Some(registered) => Ok(Some(registered.copy(alloc)?)),
+        None => Ok(None),
     }
 }
