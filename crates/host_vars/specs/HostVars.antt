@@ -1,0 +1,61 @@
+-- What a host's variables and registered results say.
+use Rattle.std.specs.Prelude.{◌≡◌, ℤ, Bool, Option, Some, None, option_map, option_and_then}
+use Rattle.std.specs.Arc.{arc_value}
+use Rattle.inventory_model.specs.Names.{Name}
+use Rattle.inventory_model.specs.Variables.{Scalar, Text, Int, Truth}
+use Rattle.registered_results.specs.Results.{Row, has_place, result_of}
+use Rattle.variable_layers.specs.Layers.{HostView}
+use Rattle.variable_layers.specs.Shown.{shown}
+use Rattle.word_parts.specs.Words.{Ref, whole, part, hostname}
+use Rattle.word_parts.specs.declared.field.Field.{Field}
+use Rattle.word_parts.specs.declared.field.Field.TheVariants.{Rc, Stdout, Stderr, Changed, Failed, Skipped}
+use Rattle.word_render.specs.Renders.{Values}
+use Rattle.host_vars.specs.declared.vars.Vars.{Vars}
+
+-- the host's name, the groups that hold it, and its variables
+abbrev pub variables_of : Vars → HostView
+variables_of vars = shown (arc_value vars.variables)
+
+-- whether a place is kept for a result under the name
+abbrev pub has_place_in : Vars → Name → Bool
+has_place_in vars name = has_place vars.results name
+
+-- the result that is registered under the name
+abbrev pub result_in : Vars → Name → Option Row
+result_in vars name = result_of vars.results name
+
+abbrev pub number_of : Option ℤ → Option Scalar
+number_of None = None
+number_of (Some number) = Some (Int number)
+
+-- a field of a result; one without a return code has no `rc`
+abbrev pub field_in_row : Row → Field → Option Scalar
+field_in_row row Rc = number_of row.rc
+field_in_row row Stdout = Some (Text row.stdout)
+field_in_row row Stderr = Some (Text row.stderr)
+field_in_row row Changed = Some (Truth row.changed)
+field_in_row row Failed = Some (Truth row.failed)
+field_in_row row Skipped = Some (Truth row.skipped)
+
+abbrev pub field_in : Vars → Name → Field → Option Scalar
+field_in vars name field = option_and_then (λ row. field_in_row row field) (result_in vars name)
+
+-- a variable, where no result is registered under its name
+abbrev pub unless_result : Option Row → Option Scalar → Option Scalar
+unless_result (Some row) variable = None
+unless_result None variable = variable
+
+abbrev pub plain_in : Vars → Name → Option Scalar
+plain_in vars name = unless_result (result_in vars name) ((variables_of vars).variable name)
+
+-- what the holes of a word stand for; a registered result as a whole has no text
+abbrev pub values_of : Vars → Values
+values_of vars (whole name) = plain_in vars name
+values_of vars (part name field) = field_in vars name field
+values_of vars hostname = Some (Text (variables_of vars).name)
+
+-- two hosts have the same variables, places and results
+pub record IsSame (copy vars : Vars) : Type 0 where
+  pub variables : variables_of copy ≡ variables_of vars
+  pub places : (name : Name) → has_place_in copy name ≡ has_place_in vars name
+  pub results : (name : Name) → result_in copy name ≡ result_in vars name

@@ -1,0 +1,2 @@
+pub mod HostVars
+pub mod Conditions

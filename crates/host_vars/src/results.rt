@@ -1,0 +1,44 @@
+//! The registered results of a host.
+ghost use Rattle.std.specs.Prelude.{◌≡◌, Some, cond, ◌||◌, IfOk, IsTrue, OnOk};
+ghost use Rattle.inventory_model.specs.Names.{Name, same_name};
+ghost use Rattle.registered_results.specs.Results.{row_of};
+ghost use Rattle.host_vars.specs.HostVars.{variables_of, has_place_in, result_in, IsSame};
+
+use crate::vars::Vars;
+use registered_results::Registered;
+use std::alloc::{AllocError, Global};
+use std::sync::Arc;
+
+impl Vars {
+    /// Makes a place for a result under the name, so that registering takes no memory. No result is changed, also
+    /// where memory is refused.
+    pub fn reserve(&mut self, alloc: Global, name: &str) -> Result<(), AllocError>
+        ensures place { OnOk result ((other : Name) → has_place_in self.new other
+            ≡ (same_name name.now other || has_place_in self.old other)) }
+        ensures results { (other : Name) → result_in self.new other ≡ result_in self.old other }
+        ensures variables { variables_of self.new ≡ variables_of self.old }
+    {
+        self.results.reserve(alloc, name)
+    }
+
+    /// Registers a result under a name that has a place, in place of one that stood there. It takes no memory.
+    pub fn register(&mut self, name: &str, registered: Registered)
+        requires { IsTrue (has_place_in self.old name.now) }
+        ensures place { (other : Name) → has_place_in self.new other ≡ has_place_in self.old other }
+        ensures results { (other : Name) → result_in self.new other
+            ≡ cond (same_name name.now other) (Some (row_of registered)) (result_in self.old other) }
+        ensures variables { variables_of self.new ≡ variables_of self.old }
+    {
+        self.results.register(name, registered);
+    }
+
+    /// The same variables, which are shared and not copied, and a copy of each result.
+    pub fn copy(&self, alloc: Global) -> Result<Vars, AllocError>
+        ensures { IfOk result (λ copy. IsSame copy self.now) }
+    {
+        Ok(Vars {
+            variables: Arc::try_clone(&self.variables)?,
+            results: self.results.copy(alloc)?,
+        })
+    }
+}

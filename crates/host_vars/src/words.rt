@@ -1,0 +1,39 @@
+//! Words rendered for a host.
+ghost use Rattle.std.specs.Prelude.{IfOk, IfErr, string_bytes};
+ghost use Rattle.word_render.specs.Faults.{IsRendering, IsFaultOf};
+ghost use Rattle.host_vars.specs.HostVars.{values_of};
+
+use crate::vars::Vars;
+use group_tree::Scalar;
+use std::alloc::Allocator;
+use word_parts::Ref;
+use word_render::{RenderFault, Values, render};
+
+impl Values for Vars {
+    ghost use Rattle.host_vars.specs.HostVars.{values_of};
+
+    ghost values = { values_of };
+
+    fn value(&self, of: Ref<'_>) -> Option<Scalar<'_>> {
+        match of {
+            Ref::Whole(name) => self.plain(name),
+            Ref::Field(name, field) => self.field_of(name, field),
+            Ref::Hostname => Some(Scalar::Text(self.variables.name())),
+        }
+    }
+}
+
+impl Vars {
+    /// The word with the values in the places of its holes; of several faults the one that comes first in
+    /// `RenderFault` is told. It takes memory once, for the whole text.
+    pub fn render<'w, A: Allocator>(
+        &self,
+        alloc: A,
+        word: &'w str,
+    ) -> Result<String<A>, RenderFault<'w>>
+        ensures ok { IfOk result (λ text. IsRendering (values_of self.now) word.now (string_bytes text)) }
+        ensures err { IfErr result (IsFaultOf (values_of self.now) word.now) }
+    {
+        render(alloc, self, word)
+    }
+}
