@@ -32,11 +32,11 @@ use Rattle.variable_layers.proofs.ValueLemmas.{value_of-append}
 abbrev pub place_layer : Place → LayerView
 place_layer place = record { name = place.name; value = λ name. value_of name place.variables }
 
-map-map : {X Y Z : Type 0} (g : Y → Z) (f : X → Y) (xs : List X) → map g (map f xs) ≡ map (λ x. g (f x)) xs
+pub map-map : {X Y Z : Type 0} (g : Y → Z) (f : X → Y) (xs : List X) → map g (map f xs) ≡ map (λ x. g (f x)) xs
 map-map g f [] = refl
 map-map {Z = Z} g f (x ∷ xs) = ap (λ (l : List Z). g (f x) ∷ l) (map-map g f xs)
 
-filter-map : {X : Type 0} (p : X → Bool) (q : ℕ → Bool) (f : ℕ → X) (xs : List ℕ) → ((k : ℕ) → k < length xs → q (get_or xs k 0) ≡ p (f (get_or xs k 0))) → filter p (map f xs) ≡ map f (filter q xs)
+pub filter-map : {X : Type 0} (p : X → Bool) (q : ℕ → Bool) (f : ℕ → X) (xs : List ℕ) → ((k : ℕ) → k < length xs → q (get_or xs k 0) ≡ p (f (get_or xs k 0))) → filter p (map f xs) ≡ map f (filter q xs)
 filter-map p q f [] same = refl
 filter-map {X = X} p q f (x ∷ xs) same =
     ap (λ (b : Bool). cond b (f x ∷ filter p (map f xs)) (filter p (map f xs))) (sym (same 0 (omega arith))) ∙ by_case (q x) (filter-map p q f xs (λ k l. same (suc k) (omega arith)))
@@ -45,7 +45,7 @@ filter-map {X = X} p q f (x ∷ xs) same =
     by_case true rest = ap (λ (l : List X). f x ∷ l) rest
     by_case false rest = rest
 
-map-same : {X : Type 0} (f g : ℕ → X) (q : ℕ → Bool) (xs : List ℕ) → ((k : ℕ) → k < length xs → f (get_or xs k 0) ≡ g (get_or xs k 0)) → map f (filter q xs) ≡ map g (filter q xs)
+pub map-same : {X : Type 0} (f g : ℕ → X) (q : ℕ → Bool) (xs : List ℕ) → ((k : ℕ) → k < length xs → f (get_or xs k 0) ≡ g (get_or xs k 0)) → map f (filter q xs) ≡ map g (filter q xs)
 map-same f g q [] same = refl
 map-same {X = X} f g q (x ∷ xs) same =
     by_case (q x) (same 0 (omega arith)) (map-same f g q xs (λ k l. same (suc k) (omega arith)))

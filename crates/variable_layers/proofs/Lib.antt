@@ -3,3 +3,5 @@ pub mod OrderLemmas
 pub mod LayerLemmas
 pub mod OwnLemmas
 pub mod HostLemmas
+pub mod RowLemmas
+pub mod AllLemmas

@@ -3,3 +3,4 @@ pub mod Tables
 pub mod Walked
 pub mod Own
 pub mod Shown
+pub mod Shared

@@ -1,5 +1,5 @@
 -- What is kept of variables.
-use Rattle.std.specs.Prelude.{Option, None, List, [], ◌∷◌, map, option_map, string_bytes}
+use Rattle.std.specs.Prelude.{ℕ, Option, None, List, [], ◌∷◌, map, slice_index_or, option_map, string_bytes}
 use Rattle.std.specs.Option.{option_or}
 use Rattle.std.specs.Arc.{arc_value}
 use Rattle.std.specs.declared.sync.Arc.{Arc}
@@ -37,6 +37,13 @@ layer_views layers = map (λ layer. layer_view (arc_value layer)) layers
 
 abbrev pub group_layer : Subtree → LayerView
 group_layer group = record { name = group.name; value = λ name. model.value_of name group.variables }
+
+abbrev pub no_layer : LayerView
+no_layer = record { name = []; value = λ name. None }
+
+-- the layer at a place, and one without a name past the end
+abbrev pub layer_at : List LayerView → ℕ → LayerView
+layer_at layers place = slice_index_or layers place no_layer
 
 -- the value of the last layer that has the name
 abbrev pub last_value : Name → List LayerView → Option model.Scalar

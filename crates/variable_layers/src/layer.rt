@@ -2,7 +2,7 @@
 ghost use Rattle.std.specs.Prelude.{◌≡◌, ◌<◌, All, IfOk, filter, map, length};
 ghost use Rattle.fleet_numbers.specs.NumberLists.{has_number, list_at};
 ghost use Rattle.variable_layers.specs.Walked.{walked_groups, walked_at};
-ghost use Rattle.variable_layers.specs.Tables.{layer_views, layer_view, group_layer};
+ghost use Rattle.variable_layers.specs.Tables.{layer_at, layer_views, layer_view, group_layer};
 ghost use Rattle.std.specs.Arc.{arc_value};
 
 use crate::table::Table;
@@ -50,4 +50,38 @@ pub(crate) fn list_layers<A: Allocator>(
         }
     }
     Ok(layers)
+}
+
+/// The groups in this order, each with its variables.
+pub(crate) fn list_all_layers<A: Allocator>(
+    alloc: Global,
+    groups: &[WalkedGroup<'_, A>],
+    order: &[usize],
+) -> Result<Vec<Arc<Layer>>, AllocError>
+    requires { All (λ number. number < length groups.now) order.now }
+    ensures { IfOk result (λ layers. layer_views layers.items
+        ≡ map (λ number. group_layer (walked_at (walked_groups groups.now) number).0) order.now) }
+{
+    let mut layers = Vec::with_capacity(alloc, order.len())?;
+    for number in order {
+        let layer = layer_of(alloc, groups[*number].group)?;
+        layers.push(Arc::new(alloc, layer)?)?;
+    }
+    Ok(layers)
+}
+
+/// The layers at these places, shared with the list.
+pub(crate) fn share_layers(
+    alloc: Global,
+    layers: &[Arc<Layer>],
+    places: &[usize],
+) -> Result<Vec<Arc<Layer>>, AllocError>
+    requires { All (λ place. place < length layers.now) places.now }
+    ensures { IfOk result (λ shared. layer_views shared.items ≡ map (layer_at (layer_views layers.now)) places.now) }
+{
+    let mut shared = Vec::with_capacity(alloc, places.len())?;
+    for place in places {
+        shared.push(Arc::try_clone(&layers[*place])?)?;
+    }
+    Ok(shared)
 }

@@ -1,11 +1,11 @@
 //! A host's own variables.
-ghost use Rattle.std.specs.Prelude.{◌≡◌, OnOk, IfOk, map};
+ghost use Rattle.std.specs.Prelude.{◌≡◌, ◌<◌, OnOk, IfOk, All, length};
 ghost use Rattle.std.specs.Option.{option_or};
 ghost use Rattle.inventory_model.specs.Names.{Name};
 ghost use Rattle.inventory_model.specs.Variables.{value_of};
 ghost use Rattle.variable_layers.specs.Walked.{walked_groups};
 ghost use Rattle.variable_layers.specs.Tables.{value_in};
-ghost use Rattle.variable_layers.specs.Own.{own_in, own_below};
+ghost use Rattle.variable_layers.specs.Own.{own_in, own_below, hosts_shown, variables_at};
 
 use crate::table::Table;
 use crate::walk::WalkedGroup;
@@ -43,6 +43,24 @@ pub(crate) fn own_table<A: Allocator>(
     for walked in groups {
         let group = walked.group;
         put_own(&mut table, alloc, group.hosts(), name)?;
+    }
+    Ok(table)
+}
+
+/// The variables of the rows at these places, of which the later count.
+pub(crate) fn table_of_rows<A: Allocator>(
+    alloc: Global,
+    rows: &[&Host<A>],
+    places: &[usize],
+) -> Result<Table, AllocError>
+    requires { All (λ place. place < length rows.now) places.now }
+    ensures { IfOk result (λ table. (variable : Name) → value_in table variable
+        ≡ value_of variable (variables_at (hosts_shown rows.now) places.now)) }
+{
+    let mut table = Table::new(alloc);
+    for place in places {
+        let host = rows[*place];
+        table.put_all(alloc, host.variables())?;
     }
     Ok(table)
 }
