@@ -1,0 +1,46 @@
+-- Hosts that wait, and how many of them may go down at once.
+use Rattle.std.specs.Prelude.{ℕ, Bool, false, ◌&&◌, cond, nat_lt, Option, None, Some, List, map, count_by, option_map, slice_index_or}
+use Rattle.std.specs.Int.{div_ceil}
+use Rattle.fleet_states.specs.declared.status.Status.{Status}
+use Rattle.fleet_states.specs.Statuses.{is_waiting, waiting_count}
+use Rattle.fleet_states.specs.Groups.{FleetGroup, room}
+use Rattle.batch_plan.specs.declared.needs.Need.{Need}
+
+-- how many of all hosts wait
+abbrev pub total_waiting : List Status → ℕ
+total_waiting statuses = count_by is_waiting statuses
+
+-- how many of the group's members wait and how many may go down, where it has a limit
+abbrev pub need_of : List Status → FleetGroup → Option Need
+need_of statuses group =
+    option_map (λ room. record { waiting = waiting_count statuses group.members; room = room }) (room statuses group)
+
+-- what each group needs, each at the place of its number; what all hosts need, where a batch has a greatest size; how many hosts wait
+pub record Needs : Type 0 where
+  pub groups : List (Option Need)
+  pub serial : Option Need
+  pub waiting : ℕ
+
+abbrev pub serial_need : ℕ → Option ℕ → Option Need
+serial_need waiting cap = option_map (λ size. record { waiting = waiting; room = size }) cap
+
+abbrev pub needs_of : List FleetGroup → List Status → Option ℕ → Needs
+needs_of groups statuses cap = record {
+  groups = map (need_of statuses) groups;
+  serial = serial_need (total_waiting statuses) cap;
+  waiting = total_waiting statuses;
+}
+
+-- the need of the group with this number, and none past the end
+abbrev pub need_at : List (Option Need) → ℕ → Option Need
+need_at needs group = slice_index_or needs group None
+
+-- somebody waits, and nobody may go down
+abbrev pub is_blocked : Option Need → Bool
+is_blocked None = false
+is_blocked (Some need) = nat_lt 0 need.waiting && nat_lt need.room 1
+
+-- the fewest batches in which those that wait go, with no more of them in a batch than there is room for
+abbrev pub fewest : Option Need → ℕ
+fewest None = 0
+fewest (Some need) = cond (nat_lt 0 need.room) (div_ceil need.waiting need.room) 0

@@ -1,0 +1,25 @@
+-- Plans: the batches in which all waiting hosts go.
+use Rattle.std.specs.Prelude.{◌≡◌, ℕ, ◌<◌, ◌≤◌, false, cond, nat_eq, Option, List, All, map, sum_by, count_by, length}
+use Rattle.std.specs.declared.alloc.Global.{Global}
+use Rattle.std.specs.declared.vec.Vec.{Vec}
+use Rattle.group_tree.specs.declared.ids.HostId.{HostId}
+use Rattle.domains.specs.Ids.{host_numbers}
+use Rattle.domains.specs.Starts.{exceeds}
+use Rattle.fleet_states.specs.declared.status.Status.{Status}
+use Rattle.fleet_states.specs.Statuses.{is_waiting, status_at}
+use Rattle.fleet_states.specs.Groups.{FleetGroup, Fits}
+
+-- how often a host stands in the batches
+abbrev pub times_in : List (List ℕ) → ℕ → ℕ
+times_in batches host = sum_by (λ batch. count_by (nat_eq host) batch) batches
+
+-- each waiting host stands in the batches once, and no other host does; a batch has no more hosts of a group than that has room for, nor more than the cap
+pub record IsPlan (groups : List FleetGroup) (statuses : List Status) (cap : Option ℕ) (batches : List (List ℕ)) : Type 0 where
+  pub once : (host : ℕ) → times_in batches host ≡ cond (is_waiting (status_at statuses host)) 1 0
+  pub none_empty : All (λ batch. 0 < length batch) batches
+  pub fits : All (Fits groups statuses) batches
+  pub within_cap : All (λ batch. exceeds cap (length batch) ≡ false) batches
+
+-- the batches by the numbers of their hosts
+abbrev pub batch_numbers : List (Vec HostId Global) → List (List ℕ)
+batch_numbers batches = map (λ (batch : Vec HostId Global). host_numbers batch.items) batches
