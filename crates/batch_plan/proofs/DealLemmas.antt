@@ -35,7 +35,7 @@ count_dealt p count batch place host hosts = by_bool (nat_eq (place % count) bat
 
 -- of all numbers below a bound one is equal to a number
 module _ (k : ℕ) (c : Bool) where
-  abbrev hits : ℕ → ℕ
+  abbrev pub hits : ℕ → ℕ
   hits n = sum_by (λ b. bit (nat_eq k b && c)) (range_with_len 0 n)
 
   hits_more : (n : ℕ) → hits (suc n) ≡ hits n + bit (nat_eq k n && c)
@@ -49,7 +49,7 @@ module _ (k : ℕ) (c : Bool) where
       let here : bit (nat_eq k n && c) ≡ 0 = ap (λ b. bit (b && c)) (ne_eqb k n (λ e. omega (arith, e, l))) in
       omega (arith, hits_more n, here, hits_none n (omega (arith, l)))
 
-  hits_one : (n : ℕ) → k < n → hits n ≡ bit c
+  pub hits_one : (n : ℕ) → k < n → hits n ≡ bit c
   hits_one zero l = absurd (omega (arith, l))
   hits_one (suc n) l = found (hits_one n) (cases_lt k n)
     where

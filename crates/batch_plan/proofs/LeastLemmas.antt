@@ -46,6 +46,10 @@ module _ (statuses : List Status) (group : FleetGroup) (need : Need) (is : need_
       by_case None e = absurd (cc)
       by_case (Some r) e = refl
 
+pub serial_waiting : (total : ℕ) (cap : Option ℕ) (waiting size : ℕ) → serial_need total cap ≡ Some (record { waiting = waiting; room = size }) → total ≡ waiting
+serial_waiting total None waiting size e = absurd (cc)
+serial_waiting total (Some s) waiting size e = ap waiting_told e
+
 -- the need of a group that has one is that of a group of the fleet
 pub need_inside : (groups : List FleetGroup) (statuses : List Status) (group : ℕ) (need : Need) → need_at (map (need_of statuses) groups) group ≡ Some need → group < length groups
 need_inside groups statuses group need is = by_case (cases_lt group (length groups))

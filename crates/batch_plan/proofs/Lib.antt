@@ -5,3 +5,5 @@ pub mod DealLemmas
 pub mod ShareLemmas
 pub mod NamingLemmas
 pub mod CountedLemmas
+pub mod PlannedLemmas
+pub mod AnswerLemmas

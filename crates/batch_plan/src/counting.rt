@@ -2,6 +2,7 @@
 ghost use Rattle.std.specs.Prelude.{◌≡◌, ◌<◌, ◌++◌, ◌∷◌, [], cond, length, map, IfOk, OnOk};
 ghost use Rattle.std.specs.List.{range_with_len};
 ghost use Rattle.domains.specs.Ids.{host_numbers};
+ghost use Rattle.domains.specs.FleetViews.{IsSound};
 ghost use Rattle.domain_counts.specs.Places.{waits};
 ghost use Rattle.batch_plan.specs.Places as model;
 ghost use Rattle.batch_plan.specs.Inside.{counted_need, counted_order};
@@ -58,7 +59,8 @@ pub(crate) fn list_needs<A: Allocator>(
     alloc: Global,
     domains: &Domains<'_, A>,
 ) -> Result<Vec<Option<Need>>, AllocError>
-    ensures { IfOk result (λ needs. needs.items ≡ map (counted_need domains.now) (range_with_len 0 (length domains.now.fleet.groups))) }
+    ensures needs { IfOk result (λ needs. needs.items ≡ map (counted_need domains.now) (range_with_len 0 (length domains.now.fleet.groups))) }
+    ensures sound { IfOk result (λ _. IsSound domains.now.fleet) }
 {
     let groups = domains.fleet().groups();
     let mut needs = Vec::with_capacity(alloc, groups)?;

@@ -1,3 +1,4 @@
+//! The planner: the fewest batches in which all waiting hosts can go while no limit is passed, and why they are not fewer.
 #![tactic(auto)]
 
 pub mod answers;
@@ -6,8 +7,10 @@ mod dealing;
 mod laws;
 mod naming;
 mod needs;
+mod planner;
 
 pub use answers::{Answer, Bound};
 pub use counting::counted;
 pub use fleet_states::Status;
 pub use laws::{a_blocked_group_has_no_plan, bounds_hold};
+pub use planner::{plan, plan_over};
