@@ -1,0 +1,16 @@
+//! A step of a play.
+use cond::Cond;
+
+/// A task or a handler. `words` are the program and its arguments, in which holes stand for values of the host. `notify`
+/// are the handlers that a task notifies where it changed, each by its place among the play's handlers, from 0.
+#[derive(Debug, Drop)]
+pub struct Step {
+    pub name: Option<String>,
+    pub words: Vec<String>,
+    pub register: Option<String>,
+    pub when: Option<Cond>,
+    pub changed_when: Option<Cond>,
+    pub failed_when: Option<Cond>,
+    pub ignore_errors: bool,
+    pub notify: Vec<usize>,
+}
