@@ -1,0 +1,25 @@
+//! The parts of a JSON value.
+ghost use Rattle.std.specs.Prelude.{◌≡◌, option_map, map, MatchOption};
+ghost use Rattle.serde_json.specs.Data.{no_members};
+ghost use Rattle.serde_json.specs.View.{view, members_view};
+ghost use Rattle.json_shapes.specs.Shapes as spec;
+
+use serde_json::{Map, Value};
+
+/// The entries of a value that is an object.
+pub fn entries_of(value: &Value) -> Option<&Map<String, Value>>
+    ensures { MatchOption result (spec.members_in (view value.now) ≡ no_members)
+        (λ object. members_view object.now.entries ≡ spec.members_in (view value.now)) }
+{
+    value.as_object()
+}
+
+/// The elements of a value that is a list.
+pub fn elements_of(value: &Value) -> Option<&[Value]>
+    ensures { option_map (λ list. map view list.now) result ≡ spec.elements_of (view value.now) }
+{
+    match value.as_array() {
+        Some(elements) => Some(elements.as_slice()),
+        None => None,
+    }
+}
