@@ -6,4 +6,4 @@ mod parts;
 mod worked;
 
 pub use numerals::{number_in_digits, percentage_in, whole_number};
-pub use parts::{elements_of, entries_of};
+pub use parts::{elements_of, entries_of, listed};

@@ -5,6 +5,7 @@ ghost use Rattle.serde_json.specs.View.{view, members_view};
 ghost use Rattle.json_shapes.specs.Shapes as spec;
 
 use serde_json::{Map, Value};
+use std::slice;
 
 /// The entries of a value that is an object.
 pub fn entries_of(value: &Value) -> Option<&Map<String, Value>>
@@ -21,5 +22,15 @@ pub fn elements_of(value: &Value) -> Option<&[Value]>
     match value.as_array() {
         Some(elements) => Some(elements.as_slice()),
         None => None,
+    }
+}
+
+/// The elements of a list; any other value stands for a list of itself alone.
+pub fn listed(value: &Value) -> &[Value]
+    ensures { map view result.now ≡ spec.listed (view value.now) }
+{
+    match elements_of(value) {
+        Some(elements) => elements,
+        None => slice::from_ref(value),
     }
 }

@@ -1,0 +1,112 @@
+-- What a step runs: the words of its command.
+use Rattle.std.specs.Prelude.{ℕ, zero, suc, ◌+◌, ◌-◌, Bool, true, false, not, ◌&&◌, ◌||◌, ◌==◌, Option, Some, None, is_some, option_map, option_and_then, unwrap_or, List, [], ◌∷◌, ◌++◌, length, take, drop, filter, nat_lt, bytes_eq, codes, if◌then◌else◌}
+use Rattle.std.specs.List.{list_any, list_all, filter_map}
+use Rattle.std.specs.Fmt.{signed_decimal}
+use Rattle.serde_json.specs.Data.{Data, null, boolean, number, string, array, object, Members, no_members, member}
+use Rattle.serde_json.specs.Find.{get, as_i64, as_str}
+use Rattle.inventory_model.specs.Names.{Name, same_name, begins}
+use Rattle.host_patterns.specs.Patterns.{is_filled}
+use Rattle.word_parts.specs.Words.{is_blank, starts, has_braces}
+use Rattle.json_shapes.specs.Shapes.{elements_of}
+use Rattle.play_rules.specs.Keys.{command_key, long_command_key, argv_key, cmd_key}
+use Rattle.play_rules.specs.Breaches.{Breach, BadShape, BadBraces, Spot, unless}
+
+abbrev pub Word : Type 0
+Word = List ℕ
+
+-- how many bytes there are up to the end of the first `}}`
+abbrev pub closing_in : List ℕ → Option ℕ
+closing_in [] = None
+closing_in (byte ∷ bytes) =
+    if starts 125 125 (byte ∷ bytes) then Some 2 else option_map (λ more. suc more) (closing_in bytes)
+
+-- how many bytes are between `{{` in front and the end of the next `}}`, both counted; 0 where they don't stand there
+abbrev pub hole_length : List ℕ → ℕ
+hole_length bytes =
+    if starts 123 123 bytes then unwrap_or (option_map (λ more. more + 2) (closing_in (drop 2 bytes))) 0 else 0
+
+-- the pieces between single blanks, where `inside` more bytes belong to a hole, and `word` was read of the present piece
+abbrev pub pieces : ℕ → Word → List ℕ → List Word
+pieces inside word [] = word ∷ []
+pieces (suc inside) word (byte ∷ bytes) = pieces inside (word ++ byte ∷ []) bytes
+pieces zero word (byte ∷ bytes) =
+    if is_blank byte then word ∷ pieces 0 [] bytes else pieces (hole_length (byte ∷ bytes) - 1) (word ++ byte ∷ []) bytes
+
+-- free-form text is split at runs of blanks, save between `{{` and the next `}}`
+abbrev pub split : List ℕ → List Word
+split text = filter is_filled (pieces 0 [] text)
+
+-- `'`, `"` or a backslash
+abbrev pub is_quoting : ℕ → Bool
+is_quoting byte = (byte == 39 || byte == 34) || byte == 92
+
+-- one of the parameters that a command may not have
+abbrev pub is_parameter : Word → Bool
+is_parameter word =
+    ((bytes_eq (take 8 word) (codes "creates=") || bytes_eq (take 8 word) (codes "removes=")) || bytes_eq (take 6 word) (codes "chdir=")) || bytes_eq (take 6 word) (codes "stdin=")
+
+abbrev pub are_free : List Word → Bool
+are_free words = nat_lt 0 (length words) && not (list_any is_parameter words)
+
+abbrev pub free_words : List ℕ → Option (List Word)
+free_words text =
+    if not (list_any is_quoting text) && are_free (split text) then Some (split text) else None
+
+-- a text is a word, and a whole number its decimal digits
+abbrev pub word_of : Data → Option Word
+word_of (string text) = Some text
+word_of (number n) = option_map signed_decimal (as_i64 n)
+word_of null = None
+word_of (boolean _) = None
+word_of (array _) = None
+word_of (object _) = None
+
+abbrev pub is_word : Data → Bool
+is_word value = is_some (word_of value)
+
+-- the list has at least one element, and all are words
+abbrev pub words_listed : List Data → Option (List Word)
+words_listed list =
+    if nat_lt 0 (length list) && list_all is_word list then Some (filter_map word_of list) else None
+
+-- an object with one key alone, `argv` or `cmd`
+abbrev pub words_under : Name → Data → Option (List Word)
+words_under key value =
+    if same_name key argv_key then option_and_then words_listed (elements_of value) else (if same_name key cmd_key then option_and_then free_words (as_str value) else None)
+
+abbrev pub words_in_object : Members → Option (List Word)
+words_in_object no_members = None
+words_in_object (member key value no_members) = words_under key value
+words_in_object (member key value (member other more rest)) = None
+
+abbrev pub words_of : Data → Option (List Word)
+words_of (string text) = free_words text
+words_of (object members) = words_in_object members
+words_of null = None
+words_of (boolean _) = None
+words_of (number _) = None
+words_of (array _) = None
+
+-- a step has one of the two forms of the key
+abbrev pub one_of : {T : Type 0} → Option T → Option T → Option T
+one_of (Some value) None = Some value
+one_of None other = other
+one_of (Some value) (Some other) = None
+
+abbrev pub command_in : Data → Option Data
+command_in step = one_of (get command_key step) (get long_command_key step)
+
+abbrev pub words_in : Data → Option (List Word)
+words_in step = option_and_then words_of (command_in step)
+
+-- 602: an opening brace in a word begins no hole
+abbrev pub bad_braces : Spot → List Word → List Breach
+bad_braces spot words = unless (not (list_any has_braces words)) (BadBraces spot)
+
+abbrev pub bad_words : Spot → Option (List Word) → List Breach
+bad_words spot None = BadShape ∷ []
+bad_words spot (Some words) = bad_braces spot words
+
+-- 702, and then 602 of the words
+abbrev pub bad_command : Spot → Data → List Breach
+bad_command spot step = bad_words spot (words_in step)

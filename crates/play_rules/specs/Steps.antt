@@ -1,0 +1,112 @@
+-- A step: the rules that it breaks, and what it says.
+use Rattle.std.specs.Prelude.{ℕ, suc, Bool, true, false, not, Option, Some, None, is_some, option_and_then, option_to_list, unwrap_or, position, List, [], ◌∷◌, ◌++◌, map, filter, if◌then◌else◌}
+use Rattle.std.specs.List.{list_all, filter_map}
+use Rattle.serde_json.specs.Data.{Data}
+use Rattle.serde_json.specs.Find.{get, as_str, as_bool}
+use Rattle.inventory_model.specs.Names.{Name, same_name, is_among}
+use Rattle.word_parts.specs.Words.{is_name}
+use Rattle.json_shapes.specs.Shapes.{entries_in, is_object, is_truth, is_text}
+use Rattle.play_rules.specs.Keys.{name_key, register_key, when_key, changed_key, failed_key, ignore_key, notify_key, task_keys, handler_keys}
+use Rattle.play_rules.specs.Breaches.{Breach, BadShape, UnknownKey, NoSuchHandler, TwiceHandler, Check, Broken, Spot, unless, joined, where_given, is_known}
+use Rattle.play_rules.specs.Settings.{texts_in, bad_texts}
+use Rattle.play_rules.specs.Commands.{Word, words_in, bad_command}
+use Rattle.play_rules.specs.Conditions.{Clause, clauses_at, checks_at}
+
+-- 702: a step is no object
+abbrev pub bad_step : Data → List Breach
+bad_step step = unless (is_object step) BadShape
+
+-- 703: a key that the step may not have
+abbrev pub unknown_key : List Name → Data → List Breach
+unknown_key keys value = unless (list_all (is_known keys) (entries_in value)) UnknownKey
+
+abbrev pub name_in : Data → Option Name
+name_in step = option_and_then as_str (get name_key step)
+
+-- 702: a task's name is no text
+abbrev pub bad_task_name : Data → List Breach
+bad_task_name step = where_given (λ value. unless (is_text value) BadShape) (get name_key step)
+
+-- 702: a handler's name is no text, or is missing
+abbrev pub bad_handler_name : Data → List Breach
+bad_handler_name step = unless (is_some (name_in step)) BadShape
+
+-- 702: what a result is registered under is no name
+abbrev pub registered : Data → Option Name
+registered value = option_and_then (λ text. if is_name text then Some text else None) (as_str value)
+
+abbrev pub bad_register : Data → List Breach
+bad_register step = where_given (λ value. unless (is_some (registered value)) BadShape) (get register_key step)
+
+-- 702: `ignore_errors` is no truth value
+abbrev pub bad_ignore : Data → List Breach
+bad_ignore step = where_given (λ value. unless (is_truth value) BadShape) (get ignore_key step)
+
+-- 702: `notify` is no text and no list of texts
+abbrev pub bad_notify : Data → List Breach
+bad_notify step = where_given bad_texts (get notify_key step)
+
+-- the handlers that a task notifies, by their names
+abbrev pub notified_in : Data → List Name
+notified_in step = where_given texts_in (get notify_key step)
+
+-- a step up to its conditions
+abbrev pub bad_head : Spot → List Name → List Breach → Data → List Breach
+bad_head spot keys name step =
+    joined (bad_step step ∷ unknown_key keys step ∷ name ∷ bad_command spot step ∷ bad_register step ∷ [])
+
+abbrev pub condition_checks : Spot → Data → List Check
+condition_checks spot step = checks_at spot when_key step ++ (checks_at spot changed_key step ++ checks_at spot failed_key step)
+
+abbrev pub checks_of_task : Spot → Data → List Check
+checks_of_task spot step =
+    map Broken (bad_head spot task_keys (bad_task_name step) step) ++ (condition_checks spot step ++ map Broken (bad_ignore step ++ bad_notify step))
+
+abbrev pub checks_of_handler : Spot → Data → List Check
+checks_of_handler spot step =
+    map Broken (bad_head spot handler_keys (bad_handler_name step) step) ++ (condition_checks spot step ++ map Broken (bad_ignore step))
+
+-- 704: a task notifies a handler that isn't there
+abbrev pub is_missing : List Name → Name → Bool
+is_missing handlers name = not (is_among name handlers)
+
+abbrev pub unknown_handlers : List Name → Data → List Breach
+unknown_handlers handlers step = map NoSuchHandler (filter (is_missing handlers) (notified_in step))
+
+-- 705: a handler has the name of one before it
+abbrev pub twice : List Name → Name → List Breach
+twice met name = unless (is_missing met name) (TwiceHandler name)
+
+abbrev pub twice_named : List Name → Data → List Breach
+twice_named met step = where_given (twice met) (name_in step)
+
+-- what a step says; handlers that it notifies by their places among these
+pub record WrittenStep : Type 0 where
+  pub name : Option Name
+  pub words : List Word
+  pub register : Option Name
+  pub when : List Clause
+  pub changed_when : List Clause
+  pub failed_when : List Clause
+  pub ignore_errors : Bool
+  pub notify : List ℕ
+
+abbrev pub place_of : List Name → Name → Option ℕ
+place_of handlers name = position (same_name name) handlers
+
+abbrev pub step_of : List Name → Data → WrittenStep
+step_of handlers step =
+    record {
+      name = name_in step;
+      words = unwrap_or (words_in step) [];
+      register = option_and_then registered (get register_key step);
+      when = clauses_at when_key step;
+      changed_when = clauses_at changed_key step;
+      failed_when = clauses_at failed_key step;
+      ignore_errors = unwrap_or (option_and_then as_bool (get ignore_key step)) false;
+      notify = filter_map (place_of handlers) (notified_in step);
+    }
+
+-- handlers notify nobody
+abbrev pub handler_of : Data → WrittenStep
+handler_of step = record (step_of [] step) { notify = [] }
