@@ -1,0 +1,23 @@
+//! What is wrong with a part of a play.
+
+/// Where something stands, seen from a play or a step: it is the play or step itself, the value under a key, an element of
+/// the list there, or the same below a parameter of a step's command.
+#[derive(Clone, Copy, Debug, PartialEq, Eq)]
+pub enum Below<'a> {
+    Itself,
+    Key(&'a str),
+    Element(&'a str, usize),
+    Parameter(&'a str, &'a str),
+    ParameterElement(&'a str, &'a str, usize),
+}
+
+/// The first rule that a part of a play breaks, and where.
+#[derive(Clone, Copy, Debug, PartialEq, Eq)]
+pub enum Flaw<'a> {
+    BadShape(Below<'a>),
+    UnknownKey(&'a str),
+    BadSerial(Below<'a>),
+    BadPercent,
+    TooManySteps,
+    BadBraces,
+}
