@@ -1,10 +1,10 @@
 -- The conditions of a step.
-use Rattle.std.specs.Prelude.{ℕ, Bool, Option, Some, None, is_some, List, [], ◌∷◌, ◌++◌, map}
+use Rattle.std.specs.Prelude.{ℕ, Bool, Option, Some, None, is_some, List, [], ◌∷◌, ◌++◌, map, if◌then◌else◌}
 use Rattle.std.specs.List.{filter_map, flat_map, list_all}
 use Rattle.serde_json.specs.Data.{Data, null, boolean, number, string, array, object}
 use Rattle.serde_json.specs.Find.{get}
 use Rattle.inventory_model.specs.Names.{Name}
-use Rattle.json_shapes.specs.Shapes.{elements_of, listed}
+use Rattle.json_shapes.specs.Shapes.{is_null, listed}
 use Rattle.play_rules.specs.Breaches.{Breach, BadShape, Check, Broken, Asked, Spot, unless, where_given}
 
 -- a part of a condition: a truth value, or a text that has to be a condition
@@ -22,12 +22,7 @@ clause_of (object _) = None
 
 -- null is as if nothing were given
 abbrev pub clauses_listed : Data → List Data
-clauses_listed null = []
-clauses_listed (boolean truth) = boolean truth ∷ []
-clauses_listed (number n) = number n ∷ []
-clauses_listed (string text) = string text ∷ []
-clauses_listed (array items) = listed (array items)
-clauses_listed (object members) = object members ∷ []
+clauses_listed value = if is_null value then [] else listed value
 
 -- the parts that are joined by `and`; without any there is no condition
 abbrev pub clauses_of : Data → List Clause
