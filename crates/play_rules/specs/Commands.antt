@@ -14,23 +14,24 @@ use Rattle.play_rules.specs.Breaches.{Breach, BadShape, BadBraces, Spot, unless}
 abbrev pub Word : Type 0
 Word = List ℕ
 
--- how many bytes there are up to the end of the first `}}`
-abbrev pub closing_in : List ℕ → Option ℕ
-closing_in [] = None
-closing_in (byte ∷ bytes) =
-    if starts 125 125 (byte ∷ bytes) then Some 2 else option_map (λ more. suc more) (closing_in bytes)
+-- how many bytes stand before the first `}}`
+abbrev pub before_closing : List ℕ → Option ℕ
+before_closing [] = None
+before_closing (byte ∷ bytes) =
+    if starts 125 125 (byte ∷ bytes) then Some 0 else option_map (λ more. suc more) (before_closing bytes)
 
--- how many bytes are between `{{` in front and the end of the next `}}`, both counted; 0 where they don't stand there
-abbrev pub hole_length : List ℕ → ℕ
-hole_length bytes =
-    if starts 123 123 bytes then unwrap_or (option_map (λ more. more + 2) (closing_in (drop 2 bytes))) 0 else 0
+-- how many bytes more belong to a hole that the bytes begin with: those behind the first brace of `{{` up to the end of the
+-- next `}}`; 0 where they begin with none
+abbrev pub hole_behind : List ℕ → ℕ
+hole_behind bytes =
+    if starts 123 123 bytes then unwrap_or (option_map (λ more. more + 3) (before_closing (drop 2 bytes))) 0 else 0
 
 -- the pieces between single blanks, where `inside` more bytes belong to a hole, and `word` was read of the present piece
 abbrev pub pieces : ℕ → Word → List ℕ → List Word
 pieces inside word [] = word ∷ []
 pieces (suc inside) word (byte ∷ bytes) = pieces inside (word ++ byte ∷ []) bytes
 pieces zero word (byte ∷ bytes) =
-    if is_blank byte then word ∷ pieces 0 [] bytes else pieces (hole_length (byte ∷ bytes) - 1) (word ++ byte ∷ []) bytes
+    if is_blank byte then word ∷ pieces 0 [] bytes else pieces (hole_behind (byte ∷ bytes)) (word ++ byte ∷ []) bytes
 
 -- free-form text is split at runs of blanks, save between `{{` and the next `}}`
 abbrev pub split : List ℕ → List Word

@@ -1,0 +1,39 @@
+//! Holes in a text: `{{`, and what follows up to the next `}}`.
+ghost use Rattle.std.specs.Prelude.{◌≡◌, ◌+◌, ◌<◌, ◌≤◌, length, option_map, unwrap_or, IfSome, true};
+ghost use Rattle.word_parts.specs.Words.{starts};
+ghost use Rattle.play_rules.specs.Commands as spec;
+
+/// How many bytes more belong to a hole that the bytes begin with; 0 where they begin with none.
+pub(crate) fn hole_behind(bytes: &[u8]) -> usize
+    ensures { result ≡ spec.hole_behind bytes.now }
+{
+    if !starts_with_pair(bytes, b'{', b'{') {
+        return 0;
+    }
+    match before_closing(&bytes[2..]) {
+        Some(more) => more + 3,
+        None => 0,
+    }
+}
+
+/// How many bytes stand before the first `}}`.
+fn before_closing(bytes: &[u8]) -> Option<usize>
+    ensures place { result ≡ spec.before_closing bytes.now }
+    ensures within { IfSome result (λ place. place + 2 ≤ length bytes.now) }
+{
+    for index in 0..bytes.len() {
+        if starts_with_pair(&bytes[index..], b'}', b'}') {
+            return Some(index);
+        }
+    }
+    None
+}
+
+fn starts_with_pair(bytes: &[u8], first: u8, second: u8) -> bool
+    requires some { 0 < first }
+    requires second_some { 0 < second }
+    ensures same { result ≡ starts first second bytes.now }
+    ensures two { result ≡ true → 2 ≤ length bytes.now }
+{
+    bytes.len() > 1 && bytes[0] == first && bytes[1] == second
+}

@@ -1,0 +1,44 @@
+//! Pieces of a text between single blanks.
+ghost use Rattle.std.specs.Prelude.{◌≡◌, ◌+◌, ◌<◌, ◌≤◌, [], ◌∷◌, length, take, drop, IfSome};
+ghost use Rattle.word_parts.specs.Words as words;
+ghost use Rattle.play_rules.specs.Commands as spec;
+ghost use Rattle.free_words.specs.Pieces.{piece_length, pieces_left};
+
+use crate::holes::hole_behind;
+
+/// The first piece, and the text behind the blank that ends it.
+pub(crate) fn cut_piece(text: &str) -> (&str, Option<&str>)
+    ensures pieces { spec.pieces 0 [] text.now ≡ result.0.now ∷ pieces_left result.1 }
+    ensures shorter { IfSome result.1 (λ rest. length rest.now < length text.now) }
+{
+    let length = count_piece(text.as_bytes());
+    let piece = text.split_at(length).0;
+    if length == text.len() {
+        return (piece, None);
+    }
+    (piece, Some(text.split_at(length + 1).1))
+}
+
+/// How many bytes stand before the first blank outside holes.
+fn count_piece(bytes: &[u8]) -> usize
+    ensures number { result ≡ piece_length 0 bytes.now }
+    ensures within { result ≤ length bytes.now }
+{
+    let mut inside = 0usize;
+    for index in 0..bytes.len() {
+        if inside > 0 {
+            inside -= 1;
+        } else if is_blank(bytes[index]) {
+            return index;
+        } else {
+            inside = hole_behind(&bytes[index..]);
+        }
+    }
+    bytes.len()
+}
+
+fn is_blank(byte: u8) -> bool
+    ensures { result ≡ words.is_blank byte }
+{
+    matches!(byte, b' ' | b'\t' | b'\n' | b'\r')
+}
