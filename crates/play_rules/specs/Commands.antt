@@ -1,13 +1,14 @@
 -- What a step runs: the words of its command.
-use Rattle.std.specs.Prelude.{ℕ, zero, suc, ◌+◌, ◌-◌, Bool, true, false, not, ◌&&◌, ◌||◌, ◌==◌, Option, Some, None, is_some, option_map, option_and_then, unwrap_or, List, [], ◌∷◌, ◌++◌, length, take, drop, filter, nat_lt, bytes_eq, codes, if◌then◌else◌}
-use Rattle.std.specs.List.{list_any, list_all, filter_map}
+use Rattle.std.specs.Prelude.{ℕ, zero, suc, ◌+◌, ◌-◌, Bool, true, false, not, ◌&&◌, ◌||◌, ◌==◌, Option, Some, None, is_some, option_map, option_and_then, unwrap_or, List, [], ◌∷◌, ◌++◌, length, drop, filter, nat_lt, nat_eq, codes, if◌then◌else◌}
+use Rattle.std.specs.List.{list_any, list_all, filter_map, starts_with}
 use Rattle.std.specs.Fmt.{signed_decimal}
-use Rattle.serde_json.specs.Data.{Data, null, boolean, number, string, array, object, Members, no_members, member}
+use Rattle.std.specs.Option.{option_or}
+use Rattle.serde_json.specs.Data.{Data, null, boolean, number, string, array, object}
 use Rattle.serde_json.specs.Find.{get, as_i64, as_str}
-use Rattle.inventory_model.specs.Names.{Name, same_name, begins}
+use Rattle.inventory_model.specs.Names.{Name}
 use Rattle.host_patterns.specs.Patterns.{is_filled}
 use Rattle.word_parts.specs.Words.{is_blank, starts, has_braces}
-use Rattle.json_shapes.specs.Shapes.{elements_of}
+use Rattle.json_shapes.specs.Shapes.{elements_of, entries_in}
 use Rattle.play_rules.specs.Keys.{command_key, long_command_key, argv_key, cmd_key}
 use Rattle.play_rules.specs.Breaches.{Breach, BadShape, BadBraces, Spot, unless}
 
@@ -44,7 +45,7 @@ is_quoting byte = (byte == 39 || byte == 34) || byte == 92
 -- one of the parameters that a command may not have
 abbrev pub is_parameter : Word → Bool
 is_parameter word =
-    ((bytes_eq (take 8 word) (codes "creates=") || bytes_eq (take 8 word) (codes "removes=")) || bytes_eq (take 6 word) (codes "chdir=")) || bytes_eq (take 6 word) (codes "stdin=")
+    ((starts_with nat_eq word (codes "creates=") || starts_with nat_eq word (codes "removes=")) || starts_with nat_eq word (codes "chdir=")) || starts_with nat_eq word (codes "stdin=")
 
 abbrev pub are_free : List Word → Bool
 are_free words = nat_lt 0 (length words) && not (list_any is_parameter words)
@@ -71,22 +72,17 @@ words_listed list =
     if nat_lt 0 (length list) && list_all is_word list then Some (filter_map word_of list) else None
 
 -- an object with one key alone, `argv` or `cmd`
-abbrev pub words_under : Name → Data → Option (List Word)
-words_under key value =
-    if same_name key argv_key then option_and_then words_listed (elements_of value) else (if same_name key cmd_key then option_and_then free_words (as_str value) else None)
+abbrev pub words_in_object : Data → Option (List Word)
+words_in_object value =
+    if length (entries_in value) == 1 then option_or (option_and_then words_listed (option_and_then elements_of (get argv_key value))) (option_and_then free_words (option_and_then as_str (get cmd_key value))) else None
 
-abbrev pub words_in_object : Members → Option (List Word)
-words_in_object no_members = None
-words_in_object (member key value no_members) = words_under key value
-words_in_object (member key value (member other more rest)) = None
+abbrev pub words_by : Option (List ℕ) → Data → Option (List Word)
+words_by (Some text) value = free_words text
+words_by None value = words_in_object value
 
+-- free-form text, or such an object
 abbrev pub words_of : Data → Option (List Word)
-words_of (string text) = free_words text
-words_of (object members) = words_in_object members
-words_of null = None
-words_of (boolean _) = None
-words_of (number _) = None
-words_of (array _) = None
+words_of value = words_by (as_str value) value
 
 -- a step has one of the two forms of the key
 abbrev pub one_of : {T : Type 0} → Option T → Option T → Option T

@@ -1,0 +1,65 @@
+//! A command that is written as one text.
+ghost use Rattle.std.specs.Prelude.{◌≡◌, ◌++◌, IfOk, map, option_map, string_bytes};
+ghost use Rattle.std.specs.List.{list_any};
+ghost use Rattle.free_words.specs.Pieces.{lent_texts};
+ghost use Rattle.play_rules.specs.Commands as spec;
+ghost use Rattle.play_words.specs.Kept.{kept};
+
+use free_words::split_words;
+use std::alloc::{AllocError, Global};
+
+/// The words of the text; nothing where it has quotes or a backslash, has no word, or has a parameter among its words.
+pub(crate) fn free_words(alloc: Global, text: &str) -> Result<Option<Vec<String>>, AllocError>
+    ensures { IfOk result (λ words. option_map kept words ≡ spec.free_words text.now) }
+{
+    if has_quoting(text.as_bytes()) {
+        return Ok(None);
+    }
+    let words = split_words(alloc, text)?;
+    if words.is_empty() || have_parameter(words.as_slice()) {
+        return Ok(None);
+    }
+    Ok(Some(copied(alloc, words.as_slice())?))
+}
+
+fn has_quoting(bytes: &[u8]) -> bool
+    ensures { result ≡ list_any spec.is_quoting bytes.now }
+{
+    bytes.iter().any(|byte| is_quoting(*byte))
+}
+
+fn is_quoting(byte: u8) -> bool
+    ensures { result ≡ spec.is_quoting byte }
+{
+    matches!(byte, b'\'' | b'"' | b'\\')
+}
+
+fn have_parameter(words: &[&str]) -> bool
+    ensures { result ≡ list_any spec.is_parameter (lent_texts words.now) }
+{
+    for word in words {
+        if is_parameter(word.as_bytes()) {
+            return true;
+        }
+    }
+    false
+}
+
+fn is_parameter(word: &[u8]) -> bool
+    ensures { result ≡ spec.is_parameter word.now }
+{
+    word.starts_with(b"creates=")
+        || word.starts_with(b"removes=")
+        || word.starts_with(b"chdir=")
+        || word.starts_with(b"stdin=")
+}
+
+fn copied(alloc: Global, words: &[&str]) -> Result<Vec<String>, AllocError>
+    ensures { IfOk result (λ copies. map string_bytes copies.items ≡ lent_texts words.now) }
+{
+    let mut copies = Vec::new(alloc);
+    for word in words {
+        copies.push(String::from_str(alloc, word)?)?;
+    }
+    Ok(copies)
+}
