@@ -104,14 +104,27 @@ run limits "$work"
 check 'a folder' 1 '' "rollout: 902 File name=$work$newline"
 run limits "$(printf 'caf\303\251\tx')"
 check 'a file with an unprintable name' 1 '' "rollout: 902 File name=caf???x$newline"
+run limits ' missing '
+check 'a file whose name begins and ends with a blank' 1 '' "rollout: 902 File name= missing $newline"
+run limits ''
+check 'a file without a name' 1 '' "rollout: 902 File name=$newline"
+run limits "$work/racks.json" ''
+check 'an empty word behind the file' 1 '' "rollout: 901 BadLine
+error: unexpected argument '' found
+
+Usage: rollout limits <INV>
+
+For more information, try '--help'.
+"
 "$rollout" <&- >"$work/out" 2>"$work/errors"
 status=$?
 check 'no standard input' 1 '' "rollout: 902 File name=-$newline"
-# sized COUNT: the empty inventory, with blanks behind it to so many bytes
+# sized COUNT: the empty inventory, with blanks inside it to so many bytes
 sized() {
     {
-        printf '{"all":{}}'
+        printf '{"all":{'
         head -c $(($1 - 10)) /dev/zero | tr '\0' ' '
+        printf '}}'
     } >"$work/sized.json"
 }
 sized 16777216

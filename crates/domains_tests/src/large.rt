@@ -1,7 +1,7 @@
 //! The largest inputs, with ample memory: no contract says that memory is enough.
 use crate::text::{fleet_of, with};
 use domains::Fleet;
-use group_tree::{Group, GroupId, HostId, Limit, Percentage};
+use group_tree::{Group, GroupFault, GroupId, HostId, Limit, Percentage};
 use std::alloc::{AllocError, Allocator, Global};
 use std::test::Fail;
 
@@ -95,5 +95,32 @@ fn a_pattern_of_thousands_of_parts_names_each_host_once(rt: HostRuntime) -> Resu
     let pattern = pattern(rt.alloc(), &fleet)?;
     let hosts = fleet.target(rt.alloc(), pattern.as_str())?;
     assert_eq!(rt; hosts.as_slice().len(), HOSTS);
+    Ok(())
+}
+
+/// One host that is listed in as many groups as there may be.
+fn everywhere<A: Allocator + Clone + Drop>(alloc: A) -> Result<Group<A>, Fail> {
+    let mut all = Group::new(alloc.clone()?, "all", Some(Limit::Count(1)), &[])?;
+    for number in 1..1024usize {
+        let name = format!(in alloc.clone()?; "g{number}")?;
+        let group = Group::new(alloc.clone()?, name.as_str(), None, &[])?;
+        all = with(all, group_with_a(group)?)?;
+    }
+    Ok(all)
+}
+
+fn group_with_a<A: Allocator + Clone>(mut group: Group<A>) -> Result<Group<A>, GroupFault> {
+    group.add_host("a", &[])?;
+    Ok(group)
+}
+
+#[test]
+fn a_host_may_be_in_every_group(rt: HostRuntime) -> Result<(), Fail> {
+    let fleet = fleet_of(rt.alloc(), everywhere(rt.alloc())?)?;
+    assert_eq!(rt; fleet.hosts(), 1);
+    for index in 0..fleet.groups() {
+        let members = fleet.members(GroupId { index });
+        assert!(rt; members == [HostId { index: 0 }].as_slice());
+    }
     Ok(())
 }

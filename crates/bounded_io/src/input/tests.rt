@@ -5,8 +5,8 @@ use std::io;
 use std::io::ErrorKind;
 use std::test::Fail;
 
-/// Gives `left` zeros, at most `most` in a read; then it ends, or fails. It keeps the place of the last byte that it
-/// was asked for.
+/// Gives `left` zeros, at most `most` in a read; then it ends, or fails once, and would go on with three more. It keeps the
+/// place of the last byte that it was asked for.
 #[derive(Drop)]
 struct Zeros {
     left: usize,
@@ -21,7 +21,13 @@ impl Read for Zeros {
         self.asked = self.asked.max(self.given.saturating_add(buf.len()));
         let count = buf.len().min(self.most).min(self.left);
         if count == 0 {
-            return self.then.map_or(Ok(0), |kind| Err(io::Error::from(kind)));
+            return match self.then.take() {
+                Some(kind) => {
+                    self.left = 3;
+                    Err(io::Error::from(kind))
+                }
+                None => Ok(0),
+            };
         }
         self.left -= count;
         self.given = self.given.saturating_add(count);
