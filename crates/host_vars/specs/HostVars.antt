@@ -1,5 +1,5 @@
 -- What a host's variables and registered results say.
-use Rattle.std.specs.Prelude.{◌≡◌, ℤ, Bool, Option, Some, None, option_map, option_and_then}
+use Rattle.std.specs.Prelude.{◌≡◌, ℤ, Bool, false, Option, Some, None, option_and_then}
 use Rattle.std.specs.Arc.{arc_value}
 use Rattle.inventory_model.specs.Names.{Name}
 use Rattle.inventory_model.specs.Variables.{Scalar, Text, Int, Truth}
@@ -59,3 +59,8 @@ pub record IsSame (copy vars : Vars) : Type 0 where
   pub variables : variables_of copy ≡ variables_of vars
   pub places : (name : Name) → has_place_in copy name ≡ has_place_in vars name
   pub results : (name : Name) → result_in copy name ≡ result_in vars name
+
+-- no name has a place or a result
+pub record HasNoResult (vars : Vars) : Type 0 where
+  pub places : (name : Name) → has_place_in vars name ≡ false
+  pub results : (name : Name) → result_in vars name ≡ None

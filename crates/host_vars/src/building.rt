@@ -1,10 +1,10 @@
-//! The variables of one host of a fleet, before any result is registered.
-ghost use Rattle.std.specs.Prelude.{◌≡◌, ◌<◌, None, false, IfOk, length};
-ghost use Rattle.inventory_model.specs.Names.{Name};
+//! The hosts of a fleet with their variables, before any result is registered.
+ghost use Rattle.std.specs.Prelude.{◌≡◌, ◌<◌, All, IfOk, length, map};
 ghost use Rattle.domains.specs.Fleets.{IsFleetOf};
 ghost use Rattle.domains.specs.Numbered.{host_at};
 ghost use Rattle.variable_layers.specs.Layers.{IsHostOf};
-ghost use Rattle.host_vars.specs.HostVars.{variables_of, has_place_in, result_in};
+ghost use Rattle.variable_layers.specs.Shared.{all_shown, AreHostsOf};
+ghost use Rattle.host_vars.specs.HostVars.{variables_of, HasNoResult};
 
 use crate::vars::Vars;
 use domains::Fleet;
@@ -12,7 +12,7 @@ use group_tree::{HostId, Tree};
 use registered_results::Results;
 use std::alloc::{AllocError, Allocator, Global};
 use std::sync::Arc;
-use variable_layers::layered_variables;
+use variable_layers::{HostVariables, all_layered_variables, layered_variables};
 
 /// The host with its groups and variables: its own win over those of the groups that hold it, and of these the
 /// deepest group's, among groups of one depth that of the last name. It fails for want of memory alone.
@@ -25,12 +25,41 @@ pub fn layered<A: Allocator>(
     requires fleet { IsFleetOf tree.now fleet.now }
     requires host { host.index < length fleet.now.hosts }
     ensures variables { IfOk result (λ vars. IsHostOf tree.now (host_at fleet.now.hosts host.index) (variables_of vars)) }
-    ensures places { IfOk result (λ vars. (name : Name) → has_place_in vars name ≡ false) }
-    ensures results { IfOk result (λ vars. (name : Name) → result_in vars name ≡ None) }
+    ensures results { IfOk result HasNoResult }
 {
     let variables = layered_variables(alloc, tree, fleet, host)?;
     Ok(Vars {
         variables: Arc::new(alloc, variables)?,
         results: Results::new(alloc),
     })
+}
+
+/// Each host of the fleet, in the order of the names, as `layered` gives it. The variables of a group are kept once,
+/// and shared by the hosts that it holds. It fails for want of memory alone.
+pub fn layered_all<A: Allocator>(
+    alloc: Global,
+    tree: &Tree<A>,
+    fleet: &Fleet,
+) -> Result<Vec<Vars>, AllocError>
+    requires { IsFleetOf tree.now fleet.now }
+    ensures variables { IfOk result (λ all. AreHostsOf tree.now fleet.now.hosts (map variables_of all.items)) }
+    ensures results { IfOk result (λ all. All HasNoResult all.items) }
+{
+    let hosts = all_layered_variables(alloc, tree, fleet)?;
+    let all = without_results(alloc, hosts.as_slice())?;
+    Ok(all)
+}
+
+fn without_results(alloc: Global, hosts: &[Arc<HostVariables>]) -> Result<Vec<Vars>, AllocError>
+    ensures variables { IfOk result (λ all. map variables_of all.items ≡ all_shown hosts.now) }
+    ensures results { IfOk result (λ all. All HasNoResult all.items) }
+{
+    let mut all = Vec::with_capacity(alloc, hosts.len())?;
+    for host in hosts {
+        all.push(Vars {
+            variables: Arc::try_clone(host)?,
+            results: Results::new(alloc),
+        })?;
+    }
+    Ok(all)
 }

@@ -8,7 +8,7 @@ mod results;
 mod vars;
 mod words;
 
-pub use building::layered;
+pub use building::{layered, layered_all};
 pub use registered_results::Registered;
 pub use vars::Vars;
 pub use word_parts::{BadBraces, check_word};
