@@ -47,7 +47,8 @@ paths_within depths paths is =
     (subst (λ (n : ℕ). list_all (are_below n) (paths_from [] 0 depths) ≡ true) (sym long) below)
 
 -- the lists of a fleet, by the paths and each host's groups
-pub made : (hosts : ℕ) (limits : List (Option Limit)) (depths : List ℕ) (rows : List (ℕ × ℕ)) (counts : List (Option ℕ)) (chains members held paths : List (List ℕ)) (parents : List (Option ℕ)) (subtree_ends : List ℕ)
+pub made : (hosts : ℕ) (limits : List (Option Limit)) (depths : List ℕ) (rows : List (ℕ × ℕ))
+    (counts : List (Option ℕ)) (chains members held paths : List (List ℕ)) (parents : List (Option ℕ)) (subtree_ends : List ℕ)
     → paths ≡ paths_from [] 0 depths → held ≡ held_lists paths rows (length paths) hosts → members ≡ member_lists held (length depths)
     → counts ≡ allowed_counts limits members → chains ≡ map (filter (is_limited counts)) held → parents ≡ map parent_on paths
     → subtree_ends ≡ end_lists paths (length paths) → AreFleetLists hosts limits depths rows counts chains members parents subtree_ends

@@ -53,8 +53,10 @@ found_number bound hosts x r up h within = is_found bound (host_numbers hosts) x
     by_number (Ok i) h within = λ e. ap (λ (n : ℕ). nat_cmp n x) (at i any e within) ∙ h any
     by_number (Err i) h within = λ rises.
         let place : ℕ → ℕ = λ n. ordering_index (nat_cmp n x) in
-        let split = h (λ i j d l m. omega (arith, ap place (at i d 0 (omega arith)), ap place (at j d 0 m), rises i j 0 l (simp length-map m))) in
-        (λ k e a b. ap (λ (n : ℕ). nat_cmp n x) (at k any e (omega (arith, b, within))) ∙ split.0 k any a b, λ k e a b. ap (λ (n : ℕ). nat_cmp n x) (at k any e (simp length-map at b)) ∙ split.1 k any a (simp length-map at b))
+        let split = h (λ i j d l m. omega (arith, ap place (at i d 0 (omega arith)), ap place (at j d 0 m), rises i j 0 l (simp length-map m))) in (
+          λ k e a b. ap (λ (n : ℕ). nat_cmp n x) (at k any e (omega (arith, b, within))) ∙ split.0 k any a b,
+          λ k e a b. ap (λ (n : ℕ). nat_cmp n x) (at k any e (simp length-map at b)) ∙ split.1 k any a (simp length-map at b),
+        )
 
 -- a list that is lent, by its numbers
 pub lent_list : {X : Type 0} (number : X → ℕ) (lists : List (Vec X Global)) (k : ℕ) (own : Vec X Global) (lent : List X) → k < length lists

@@ -1,5 +1,6 @@
 -- Groups at or below a group, by paths and by the groups directly above.
-use Rattle.std.proofs.Common.{◌≡◌, ℕ, zero, suc, ◌+◌, ◌-◌, ◌≤◌, ◌<◌, true, nat_eq, Option, Some, None, List, [], ◌∷◌, ◌++◌, length, get_or, take, map, sym, ap, ◌∙◌, refl, subst, arith, sub-one, inl, inr, ◌⊎◌}
+use Rattle.std.proofs.Common.{◌≡◌, ℕ, zero, suc, ◌+◌, ◌-◌, ◌≤◌, ◌<◌, true, nat_eq, Option, Some, None, List, [], ◌∷◌, ◌++◌, length, get_or, take, map, sym, ap}
+use Rattle.std.proofs.Common.{◌∙◌, refl, subst, arith, sub-one, inl, inr, ◌⊎◌}
 use Rattle.std.proofs.lemmas.Bool.{cases_lt, eq-eqb, false≢true}
 use Rattle.std.proofs.lemmas.List.{get_or-map, get_or_append_left, get_or_past, length-append, length-map}
 use Rattle.std.proofs.lemmas.List.Folds.{list_any_at}
@@ -66,7 +67,8 @@ parent_above depths (suc k) p l e = by_case (cases_lt 0 (length before))
         let pushed : parent_on (path depths (suc k)) ≡ Some (last_of (kept depths k)) = ap parent_on (path_next depths k l) ∙ parent_push (kept depths k) (suc k) some in
         let same : last_of (kept depths k) ≡ p = cc in
         let there : has_number p (kept depths k) ≡ true = subst (λ (n : ℕ). has_number n (kept depths k) ≡ true) same (last_in (kept depths k) some) in
-        let within = has_number-within p 0 (suc k) (kept depths k) (Ascends-take (get_or depths (suc k) 0) 0 (suc k) (path depths k) (path_ascends depths k (omega arith))) there in
+        let within =
+        has_number-within p 0 (suc k) (kept depths k) (Ascends-take (get_or depths (suc k) 0) 0 (suc k) (path depths k) (path_ascends depths k (omega arith))) there in
         (within.1, on_next depths p k l (omega (arith, within.1)) ∙ there)
     by_case (inr none) =
         let alone : parent_on (path depths (suc k)) ≡ None = ap parent_on (path_next depths k l) ∙ only (kept depths k) none in
@@ -102,7 +104,8 @@ module _ (depths : List ℕ) (parents : List (Option ℕ)) (parents_are : parent
       there : (between : ℕ) → top < between → between ≤ k → (p : ℕ) × (get_or parents between None ≡ Some p) × (top ≤ p)
       there between m n =
           let step : k ≡ between + (k - between) = omega arith in
-          let on : on_path depths top between ≡ true = on_run depths top between (k - between) (omega (arith, l, step)) (omega arith) (subst (λ (n : ℕ). on_path depths top n ≡ true) step e) in
+          let on : on_path depths top between ≡ true =
+          on_run depths top between (k - between) (omega (arith, l, step)) (omega arith) (subst (λ (n : ℕ). on_path depths top n ≡ true) step e) in
           let found = parent_after depths top between (omega (arith, l, n)) m on in
           (found.0, parent_at between (omega (arith, l, n)) ∙ found.1, found.2)
 
@@ -115,7 +118,8 @@ module _ (depths : List ℕ) (parents : List (Option ℕ)) (parents_are : parent
       by_case higher (inl m) =
           let up = s.parent_there k m (omega arith) in
           let above = parent_above depths k up.0 l (sym (parent_at k l) ∙ up.1) in
-          on_through depths top up.0 k l (higher up.0 (omega (arith, above.0, f)) (omega (arith, above.0, l)) (record { after = up.2; parent_there = λ between a b. s.parent_there between a (omega (arith, b, above.0)) })) above.1
+          let its_parents : IsInSubtree parents top up.0 = record { after = up.2; parent_there = λ between a b. s.parent_there between a (omega (arith, b, above.0)) } in
+          on_through depths top up.0 k l (higher up.0 (omega (arith, above.0, f)) (omega (arith, above.0, l)) its_parents) above.1
       by_case higher (inr m) =
           subst (λ (n : ℕ). on_path depths n k ≡ true) (omega (arith, m, s.after)) (on_own depths k l)
 

@@ -18,11 +18,15 @@ allowed_counts limits members =
     map (λ group. option_map (λ (limit : Limit). allowed limit (length (list_at members group))) (slice_index_or limits group None)) (range_with_len 0 (length limits))
 
 -- what is allowed down, the groups of each host, its limited ones, the hosts of each group, its parent, and the last group at or below each
-pub record AreFleetLists (hosts : ℕ) (limits : List (Option Limit)) (depths : List ℕ) (rows : List (ℕ × ℕ)) (counts : List (Option ℕ)) (chains members : List (List ℕ)) (parents : List (Option ℕ)) (subtree_ends : List ℕ) : Type 0 where
+pub record AreFleetLists (hosts : ℕ) (limits : List (Option Limit)) (depths : List ℕ) (rows : List (ℕ × ℕ))
+    (counts : List (Option ℕ)) (chains members : List (List ℕ)) (parents : List (Option ℕ)) (subtree_ends : List ℕ) : Type 0 where
   pub held : List (List ℕ)
-  pub held_are : held ≡ map (λ host. numbers_where (λ group. is_member (paths_from [] 0 depths) rows group host) (length depths)) (range_with_len 0 hosts)
+  pub held_are : held
+      ≡ map (λ host. numbers_where (λ group. is_member (paths_from [] 0 depths) rows group host) (length depths)) (range_with_len 0 hosts)
   pub counts_are : counts ≡ allowed_counts limits members
   pub chains_are : chains ≡ map (filter (is_limited counts)) held
-  pub members_are : members ≡ map (λ group. numbers_where (λ host. has_number group (list_at held host)) (length held)) (range_with_len 0 (length depths))
+  pub members_are : members
+      ≡ map (λ group. numbers_where (λ host. has_number group (list_at held host)) (length held)) (range_with_len 0 (length depths))
   pub parents_are : parents ≡ map parent_on (paths_from [] 0 depths)
-  pub subtree_ends_are : subtree_ends ≡ map (λ group. last_where (λ number. has_number group (list_at (paths_from [] 0 depths) number)) (length depths)) (range_with_len 0 (length depths))
+  pub subtree_ends_are : subtree_ends
+      ≡ map (λ group. last_where (λ number. has_number group (list_at (paths_from [] 0 depths) number)) (length depths)) (range_with_len 0 (length depths))

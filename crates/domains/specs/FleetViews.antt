@@ -39,7 +39,10 @@ pub record IsInSubtree (parents : List (Option ℕ)) (top group : ℕ) : Type 0 
 -- between two hosts of a limited group in the deal order stand hosts of that group alone
 abbrev pub AreTogether : FleetView → Type 0
 AreTogether fleet =
-    (group place later last : ℕ) → is_limited fleet.limits group ≡ true → place ≤ later → later ≤ last → last < length fleet.order → has_number (slice_index_or fleet.order place 0) (list_at fleet.members group) ≡ true → has_number (slice_index_or fleet.order last 0) (list_at fleet.members group) ≡ true → has_number (slice_index_or fleet.order later 0) (list_at fleet.members group) ≡ true
+    (group place later last : ℕ) → is_limited fleet.limits group ≡ true → place ≤ later → later ≤ last → last < length fleet.order
+    → has_number (slice_index_or fleet.order place 0) (list_at fleet.members group) ≡ true
+    → has_number (slice_index_or fleet.order last 0) (list_at fleet.members group) ≡ true
+    → has_number (slice_index_or fleet.order later 0) (list_at fleet.members group) ≡ true
 
 -- what holds of every fleet, whatever inventory it came from
 pub record IsSound (fleet : FleetView) : Type 0 where
@@ -60,8 +63,10 @@ pub record IsSound (fleet : FleetView) : Type 0 where
   -- a host's chain is the limited groups that it is a member of, each below the one before it
   pub chains_rise : All (IsRising (length fleet.groups)) fleet.chains
   pub chain_exact : (host group : ℕ) → has_number group (list_at fleet.chains host) ≡ (is_limited fleet.limits group && has_number host (list_at fleet.members group))
-  pub chain_nested : (host outer inner : ℕ) → outer < inner → has_number outer (list_at fleet.chains host) ≡ true → has_number inner (list_at fleet.chains host) ≡ true → IsInSubtree fleet.parents outer inner
-  pub inner_members : (host outer inner : ℕ) → outer < inner → has_number outer (list_at fleet.chains host) ≡ true → has_number inner (list_at fleet.chains host) ≡ true → AreAmong (list_at fleet.members inner) (list_at fleet.members outer)
+  pub chain_nested : (host outer inner : ℕ) → outer < inner → has_number outer (list_at fleet.chains host) ≡ true
+      → has_number inner (list_at fleet.chains host) ≡ true → IsInSubtree fleet.parents outer inner
+  pub inner_members : (host outer inner : ℕ) → outer < inner → has_number outer (list_at fleet.chains host) ≡ true
+      → has_number inner (list_at fleet.chains host) ≡ true → AreAmong (list_at fleet.members inner) (list_at fleet.members outer)
   -- no group has more hosts off than its limit
   pub within_limits : (group limit : ℕ) → slice_index_or fleet.limits group None ≡ Some limit → down_at_start fleet group ≤ limit
   -- each host is dealt once, after those whose innermost limited group comes earlier

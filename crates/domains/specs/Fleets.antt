@@ -18,7 +18,8 @@ IsParentOf places group (Some parent) =
 -- of two groups in the list the earlier one's path begins the later one's
 abbrev pub IsOutermostFirst : List Place → List ℕ → Type 0
 IsOutermostFirst places groups =
-    (earlier later : ℕ) → earlier < later → later < length groups → begins (path_of (place_at places (slice_index_or groups earlier 0))) (path_of (place_at places (slice_index_or groups later 0))) ≡ true
+    (earlier later : ℕ) → earlier < later → later < length groups
+    → begins (path_of (place_at places (slice_index_or groups earlier 0))) (path_of (place_at places (slice_index_or groups later 0))) ≡ true
 
 -- the fleet's hosts, groups, parents, members, chains and starting state are those of the inventory
 pub record IsFleetOf (inventory : Inventory) (fleet : FleetView) : Type 0 where

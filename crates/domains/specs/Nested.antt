@@ -17,7 +17,9 @@ is_limited_holder inventory host place = is_some place.limit && holds inventory 
 -- both groups are limited and hold the host, and neither path begins the other
 abbrev pub is_crossing : Inventory → Name → ℕ → ℕ → Bool
 is_crossing inventory host first second =
-    (is_limited_holder inventory host (place_at inventory.places first) && is_limited_holder inventory host (place_at inventory.places second)) && are_apart (place_at inventory.places first) (place_at inventory.places second)
+    (is_limited_holder inventory host (place_at inventory.places first)
+    && is_limited_holder inventory host (place_at inventory.places second))
+    && are_apart (place_at inventory.places first) (place_at inventory.places second)
 
 -- of any two limited groups that hold a host, the path of one begins the path of the other
 abbrev pub IsNested : Inventory → Type 0

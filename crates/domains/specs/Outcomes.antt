@@ -1,8 +1,10 @@
 -- What is made of an inventory's numbers and lists: the fault of a breach, or a fleet.
-use Rattle.std.specs.Prelude.{◌≡◌, ℕ, List, length, map, option_map}
+use Rattle.std.specs.Prelude.{◌≡◌, ℕ, Option, List, length, map, option_map}
 use Rattle.std.specs.String.{string_bytes}
 use Rattle.domains.specs.FleetViews.{FleetView}
+use Rattle.inventory_model.specs.Names.{Name}
 use Rattle.inventory_model.specs.Places.{Inventory}
+use Rattle.inventory_model.specs.Limits.{Limit}
 use Rattle.group_tree.specs.Limits.{limit_of}
 use Rattle.domains.specs.Numbered.{IsNumbering, host_at}
 use Rattle.domains.specs.FleetLists.{AreFleetLists}
@@ -13,30 +15,43 @@ use Rattle.domains.specs.declared.search.Breach.TheVariants.{Nesting, Start}
 use Rattle.domains.specs.declared.fault.FleetFault.{FleetFault}
 use Rattle.domains.specs.declared.fault.FleetFault.TheVariants.{NotNested, StartOver}
 
+-- the names of the hosts and of the groups, and the groups' limits
+abbrev pub host_names : Numbers → List Name
+host_names numbers = map string_bytes numbers.hosts.items
+
+abbrev pub listed_groups : Numbers → List Name
+listed_groups numbers = map string_bytes numbers.groups.keys
+
+abbrev pub own_limits : Numbers → List (Option Limit)
+own_limits numbers = map (option_map limit_of) numbers.limits.items
+
 -- the numbers are those of the inventory
 abbrev pub IsNumberingOf : Inventory → Numbers → Type 0
 IsNumberingOf inventory numbers =
-    IsNumbering inventory (map string_bytes numbers.hosts.items) (map string_bytes numbers.groups.keys) (map (option_map limit_of) numbers.limits.items) numbers.depths.items numbers.rows.items numbers.off.items
+    IsNumbering inventory (host_names numbers) (listed_groups numbers) (own_limits numbers) numbers.depths.items numbers.rows.items numbers.off.items
 
 -- the lists follow from the numbers
 abbrev pub AreListsFrom : Numbers → FleetLists → Type 0
 AreListsFrom numbers lists =
-    AreFleetLists (length (map string_bytes numbers.hosts.items)) (map (option_map limit_of) numbers.limits.items) numbers.depths.items numbers.rows.items lists.limits.items lists.chains lists.members lists.parents.items lists.subtree_ends.items
+    AreFleetLists (length (host_names numbers)) (own_limits numbers) numbers.depths.items numbers.rows.items lists.limits.items
+    lists.chains lists.members lists.parents.items lists.subtree_ends.items
 
 -- the fault tells the breach by the names of its host and groups
 abbrev pub IsNamed : Numbers → Breach → FleetFault → Type 0
 IsNamed numbers (Nesting crossing) (NotNested host first second) =
-    (string_bytes host ≡ host_at (map string_bytes numbers.hosts.items) crossing.host) × (string_bytes first ≡ host_at (map string_bytes numbers.groups.keys) crossing.first) × (string_bytes second ≡ host_at (map string_bytes numbers.groups.keys) crossing.second)
+    (string_bytes host ≡ host_at (host_names numbers) crossing.host)
+    × (string_bytes first ≡ host_at (listed_groups numbers) crossing.first)
+    × (string_bytes second ≡ host_at (listed_groups numbers) crossing.second)
 IsNamed numbers (Start over) (StartOver group down limit) =
-    (string_bytes group ≡ host_at (map string_bytes numbers.groups.keys) over.group) × (down ≡ over.down) × (limit ≡ over.limit)
+    (string_bytes group ≡ host_at (listed_groups numbers) over.group) × (down ≡ over.down) × (limit ≡ over.limit)
 IsNamed numbers breach fault = ⊥
 
 -- the fleet of the numbers and lists, its hosts dealt in this order
 abbrev pub dealt_fleet : Numbers → FleetLists → List ℕ → FleetView
 dealt_fleet numbers lists order =
     record {
-      hosts = map string_bytes numbers.hosts.items;
-      groups = map string_bytes numbers.groups.keys;
+      hosts = host_names numbers;
+      groups = listed_groups numbers;
       limits = lists.limits.items;
       parents = lists.parents.items;
       members = lists.members;

@@ -19,4 +19,5 @@ pub record IsLeastCrossingPair (subtree_ends chain : List ℕ) (first second : �
   pub first_in : has_number first chain ≡ true
   pub second_in : has_number second chain ≡ true
   pub crosses : ends_before subtree_ends first second ≡ true
-  pub least : (other later : ℕ) → has_number other chain ≡ true → has_number later chain ≡ true → ends_before subtree_ends other later ≡ true → (first < other) ⊎ ((first ≡ other) × (second ≤ later))
+  pub least : (other later : ℕ) → has_number other chain ≡ true → has_number later chain ≡ true → ends_before subtree_ends other later ≡ true
+      → (first < other) ⊎ ((first ≡ other) × (second ≤ later))

@@ -17,7 +17,8 @@ key_at chains order place = deal_key (list_at chains (slice_index_or order place
 -- by the key, then by the host's number
 abbrev pub IsDealt : List (List ℕ) → List ℕ → Type 0
 IsDealt chains order =
-    (place later : ℕ) → place < later → later < length order → (key_at chains order place < key_at chains order later) ⊎ ((key_at chains order place ≡ key_at chains order later) × (slice_index_or order place 0 ≤ slice_index_or order later 0))
+    (place later : ℕ) → place < later → later < length order
+    → (key_at chains order place < key_at chains order later) ⊎ ((key_at chains order place ≡ key_at chains order later) × (slice_index_or order place 0 ≤ slice_index_or order later 0))
 
 -- the host at each place has that place
 pub record ArePlacesOf (order places : List ℕ) : Type 0 where

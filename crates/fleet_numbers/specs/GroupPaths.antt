@@ -17,4 +17,5 @@ is_member paths rows group host =
 -- a path rises and has no group after its own; the groups that have a group on their paths stand in one run from it on
 pub record ArePreorderPaths (paths : List (List ℕ)) : Type 0 where
   pub rising : (group : ℕ) → group < length paths → IsRising (suc group) (list_at paths group)
-  pub run : (above group later : ℕ) → above ≤ group → group ≤ later → later < length paths → has_number above (list_at paths later) ≡ true → has_number above (list_at paths group) ≡ true
+  pub run : (above group later : ℕ) → above ≤ group → group ≤ later → later < length paths → has_number above (list_at paths later) ≡ true
+      → has_number above (list_at paths group) ≡ true

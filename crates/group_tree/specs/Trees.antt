@@ -13,7 +13,9 @@ IsRefusal (TwicePlaced group) inventory = IsFirstRepeat (group_names inventory.p
 IsRefusal TooDeep inventory =
     IsTrue (are_distinct (group_names inventory.places)) × IsFalse (are_within_depth depth_bound inventory.places)
 IsRefusal TooMany inventory =
-    IsTrue (are_distinct (group_names inventory.places)) × IsTrue (are_within_depth depth_bound inventory.places) × ((groups_bound < length inventory.places) ⊎ (rows_bound < length inventory.rows))
+    IsTrue (are_distinct (group_names inventory.places))
+    × IsTrue (are_within_depth depth_bound inventory.places)
+    × ((groups_bound < length inventory.places) ⊎ (rows_bound < length inventory.rows))
 
 -- the part stands in the whole: its places are one run of the whole's, and so are its rows
 pub record StandsIn (part whole : Inventory) : Type 0 where

@@ -12,18 +12,24 @@ returns-in_default-first_ending c =
     let subtree_ends = c.args.subtree_ends.now in
     let chain = c.args.chain.now in
     let top : c.in-Some.top.now ≡ get_or chain (length chain - 1) 0 = c.in-Some.ensures.item.4 (omega arith) 0 in
-    nested_none subtree_ends chain (Ascends-rising (length subtree_ends) chain c.requires) (sym (ap (λ (t : ℕ). find (λ group. ends_before subtree_ends group t) chain) top) ∙ sym c.first_ending.ensures.value ∙ c.in_default-first_ending.is)
+    let up = Ascends-rising (length subtree_ends) chain c.requires in
+    let ending = sym (ap (λ (t : ℕ). find (λ group. ends_before subtree_ends group t) chain) top) ∙ sym c.first_ending.ensures.value ∙ c.in_default-first_ending.is in
+    nested_none subtree_ends chain up ending
 
 pub returns-in_default-first_past : goal.returns-in_default-first_past
 returns-in_default-first_past c =
     let subtree_ends = c.args.subtree_ends.now in
     let chain = c.args.chain.now in
     let top : c.in-Some.top.now ≡ get_or chain (length chain - 1) 0 = c.in-Some.ensures.item.4 (omega arith) 0 in
-    absurd (crossing_some subtree_ends chain (Ascends-rising (length subtree_ends) chain c.requires) c.in-Some-first_ending.first (sym (ap (λ (t : ℕ). find (λ group. ends_before subtree_ends group t) chain) top) ∙ sym c.first_ending.ensures.value ∙ c.in-Some-first_ending.is) (sym c.first_past.ensures ∙ c.in_default-first_past.is) c.in-Some.ensures.item.3.0)
+    let up = Ascends-rising (length subtree_ends) chain c.requires in
+    let ending = sym (ap (λ (t : ℕ). find (λ group. ends_before subtree_ends group t) chain) top) ∙ sym c.first_ending.ensures.value ∙ c.in-Some-first_ending.is in
+    absurd (crossing_some subtree_ends chain up c.in-Some-first_ending.first ending (sym c.first_past.ensures ∙ c.in_default-first_past.is) c.in-Some.ensures.item.3.0)
 
 pub returns : goal.returns
 returns c =
     let subtree_ends = c.args.subtree_ends.now in
     let chain = c.args.chain.now in
     let top : c.in-Some.top.now ≡ get_or chain (length chain - 1) 0 = c.in-Some.ensures.item.4 (omega arith) 0 in
-    crossing_least subtree_ends chain (Ascends-rising (length subtree_ends) chain c.requires) c.in-Some-first_ending.first c.in-Some-first_past.second (sym (ap (λ (t : ℕ). find (λ group. ends_before subtree_ends group t) chain) top) ∙ sym c.first_ending.ensures.value ∙ c.in-Some-first_ending.is) (sym c.first_past.ensures ∙ c.in-Some-first_past.is)
+    let up = Ascends-rising (length subtree_ends) chain c.requires in
+    let ending = sym (ap (λ (t : ℕ). find (λ group. ends_before subtree_ends group t) chain) top) ∙ sym c.first_ending.ensures.value ∙ c.in-Some-first_ending.is in
+    crossing_least subtree_ends chain up c.in-Some-first_ending.first c.in-Some-first_past.second ending (sym c.first_past.ensures ∙ c.in-Some-first_past.is)

@@ -6,4 +6,6 @@ use Rattle.fleet_numbers.proofs.chains.list_subtree_ends.Goals as goal
 pub returns : goal.returns
 returns c =
     let done : c.loop-number.number ≡ length c.args.paths.now = omega arith in
-    fill_by_all (λ group. last_where (λ number. has_number group (list_at c.args.paths.now number)) (length c.args.paths.now)) c.loop-number.subtree_ends.items (length c.args.paths.now) 0 c.loop-number.invariant.len (rw done at c.loop-number.invariant.marked)
+    fill_by_all
+    (λ group. last_where (λ number. has_number group (list_at c.args.paths.now number)) (length c.args.paths.now)) c.loop-number.subtree_ends.items
+    (length c.args.paths.now) 0 c.loop-number.invariant.len (rw done at c.loop-number.invariant.marked)

@@ -7,5 +7,8 @@ use Rattle.fleet_numbers.proofs.paths.list_paths.Goals as goal
 pub returns-clause-preorder : goal.returns-clause-preorder
 returns-clause-preorder c =
     let done : drop c.loop-number.number c.args.depths.now ≡ [] = drop_all c.loop-number.number c.args.depths.now (omega (arith, c.loop-number-test.false)) in
-    let all : c.loop-number.paths ≡ paths_from [] 0 c.args.depths.now = sym (append-nil c.loop-number.paths) ∙ sym (ap (λ rest. c.loop-number.paths ++ paths_from c.loop-number.path.items c.loop-number.number rest) done) ∙ c.loop-number.invariant in
+    let all : c.loop-number.paths ≡ paths_from [] 0 c.args.depths.now =
+    sym (append-nil c.loop-number.paths)
+    ∙ sym (ap (λ rest. c.loop-number.paths ++ paths_from c.loop-number.path.items c.loop-number.number rest) done)
+    ∙ c.loop-number.invariant in
     subst ArePreorderPaths (sym all) (preorder c.args.depths.now)

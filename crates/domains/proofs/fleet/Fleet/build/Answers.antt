@@ -32,7 +32,8 @@ returns-in_ok-name_breach-in-Some-clause-err g c =
     let few : length (map (string_bytes {Z = Global}) n.hosts.items) ≤ 4096 =
     omega (arith, c.if-len-gt-HOSTS_BOUND.false, c.len.ensures, length-map n.hosts.items (string_bytes {Z = Global})) in
     let found : IsFirstBreach l.subtree_ends.items l.chains l.members l.limits.items n.off.items c.in-Some.breach = rw c.as_slice.ensures.value at c.in-Some.ensures in
-    fault_of c.args.tree.now n l c.in_ok-numbers.ensures.numbered c.in_ok-numbers.ensures.within c.in_ok-lists.ensures few c.in-Some.breach c.in_ok-name_breach-in-Some.field-0 found c.in_ok-name_breach-in-Some.ensures
+    fault_of c.args.tree.now n l c.in_ok-numbers.ensures.numbered c.in_ok-numbers.ensures.within c.in_ok-lists.ensures few c.in-Some.breach
+    c.in_ok-name_breach-in-Some.field-0 found c.in_ok-name_breach-in-Some.ensures
 
 pub returns-in_ok-deal-in-None-clause-ok : goal.returns-in_ok-deal-in-None-clause-ok
 returns-in_ok-deal-in-None-clause-ok g c =

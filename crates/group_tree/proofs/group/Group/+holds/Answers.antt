@@ -11,15 +11,19 @@ returns-then-eq g t c =
 
 pub holds-requires : goal.holds-requires
 holds-requires g t c =
-    let smaller : groups_below c.child-item.result < groups_below c.args.self.now = groups_below-child c.args.self.now c.children-child-items.result.now c.children-child-items.ensures c.loop-child.child-index c.child-item.result c.loop-child-test.true c.child-item.is in
+    let smaller : groups_below c.child-item.result < groups_below c.args.self.now =
+    groups_below-child c.args.self.now c.children-child-items.result.now c.children-child-items.ensures c.loop-child.child-index c.child-item.result c.loop-child-test.true c.child-item.is in
     search rules
 
 pub returns-then-holds : goal.returns-then-holds
 returns-then-holds g t c =
     let elsewhere : same_name c.args.group.now c.args.self.now.name ≡ false = cc in
-    holds-child c.args.self.now c.children-child-items.result.now c.children-child-items.ensures c.args.group.now c.args.host.now c.loop-child.child-index c.child-item.result elsewhere c.loop-child-test.true c.child-item.is (cc)
+    holds-child c.args.self.now c.children-child-items.result.now c.children-child-items.ensures c.args.group.now c.args.host.now c.loop-child.child-index
+    c.child-item.result elsewhere c.loop-child-test.true c.child-item.is
+    (cc)
 
 pub returns : goal.returns
 returns g t c =
     let elsewhere : same_name c.args.group.now c.args.self.now.name ≡ false = cc in
-    holds-none c.args.self.now c.children-child-items.result.now c.children-child-items.ensures c.args.group.now c.args.host.now c.loop-child.child-index elsewhere c.loop-child-test.false c.loop-child.invariant
+    holds-none c.args.self.now c.children-child-items.result.now c.children-child-items.ensures c.args.group.now c.args.host.now c.loop-child.child-index
+    elsewhere c.loop-child-test.false c.loop-child.invariant
