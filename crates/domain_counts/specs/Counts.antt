@@ -83,8 +83,10 @@ member_bit fleet group host test = cond (has_number host (list_at fleet.members 
 
 -- after a host's change of place each group has lost it from one count and gained it in another, where it is a member
 pub record HasMoved (counted : Counted) (host : ℕ) (is : Place) (group : ℕ) : Type 0 where
-  pub waiting : waiting_in (moved counted host is) group + member_bit counted.fleet group host (waits (place_at counted.places host)) ≡ waiting_in counted group + member_bit counted.fleet group host (waits is)
-  pub down : down_in (moved counted host is) group + member_bit counted.fleet group host (is_down (place_at counted.places host)) ≡ down_in counted group + member_bit counted.fleet group host (is_down is)
+  pub waiting : waiting_in (moved counted host is) group + member_bit counted.fleet group host (waits (place_at counted.places host))
+      ≡ waiting_in counted group + member_bit counted.fleet group host (waits is)
+  pub down : down_in (moved counted host is) group + member_bit counted.fleet group host (is_down (place_at counted.places host))
+      ≡ down_in counted group + member_bit counted.fleet group host (is_down is)
 
 -- the trees are the limited groups where they stand, each with the counts of its members' places
 pub record IsCounted (counted : Counted) (tops : List Subtree) : Type 0 where

@@ -12,7 +12,15 @@ depth_of-requires t c =
 pub overflow_add-result : goal.overflow_add-result
 overflow_add-result t c =
     let is : get_or c.args.fleet.now.parents c.args.group.index None ≡ Some c.in-Some.parent.index = sym c.in-Some.ensures.index in
-    omega (arith, depth_more c.args.fleet.now c.requires.sound c.args.group.index c.in-Some.parent.index is, depth_small c.args.fleet.now c.args.group.index, c.depth_of.ensures, c.limit_count.ensures, c.requires.within, c.requires.sound.few_groups)
+    omega (
+      arith,
+      depth_more c.args.fleet.now c.requires.sound c.args.group.index c.in-Some.parent.index is,
+      depth_small c.args.fleet.now c.args.group.index,
+      c.depth_of.ensures,
+      c.limit_count.ensures,
+      c.requires.within,
+      c.requires.sound.few_groups,
+    )
 
 pub returns-in-Some : goal.returns-in-Some
 returns-in-Some t c =

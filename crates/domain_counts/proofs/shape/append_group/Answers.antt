@@ -8,12 +8,16 @@ use Rattle.domain_counts.proofs.shape.append_group.Goals as goal
 
 pub append-requires-clause-deep : goal.append-requires-clause-deep
 append-requires-clause-deep g c =
-    subst (λ (nodes : List Node). c.depth_of.result ≤ length (last_path nodes)) (sym c.requires.before) (omega (arith, c.depth_of.ensures, deep_enough c.args.fleet.now c.args.group.index))
+    subst (λ (nodes : List Node). c.depth_of.result ≤ length (last_path nodes)) (sym c.requires.before)
+    (omega (arith, c.depth_of.ensures, deep_enough c.args.fleet.now c.args.group.index))
 
 pub returns-in-Some : goal.returns-in-Some
 returns-in-Some g c =
     let limited : is_limited c.args.fleet.now.limits c.args.group.index ≡ true = ap (λ o. is_some o) (sym c.in-Some.ensures) in
-    on_ok c.append.result (λ grown. one_more c.args.fleet.now c.args.group.index c.depth_of.result c.new.result (side_by_side c.args.tops.now.items) (side_by_side c.append.new.trees.items) limited c.depth_of.ensures c.new.ensures c.requires.before grown) c.append.ensures
+    on_ok c.append.result
+    (λ grown. one_more c.args.fleet.now c.args.group.index c.depth_of.result c.new.result (side_by_side c.args.tops.now.items)
+    (side_by_side c.append.new.trees.items) limited c.depth_of.ensures c.new.ensures c.requires.before grown)
+    c.append.ensures
 
 pub returns-in-None : goal.returns-in-None
 returns-in-None g c =
