@@ -1,7 +1,7 @@
 -- Lists of names: beginnings, and names that stand once.
-use Rattle.std.proofs.Common.{◌≡◌, ℕ, zero, suc, ◌<◌, Bool, true, false, ◌||◌, ◌&&◌, not, List, [], ◌∷◌, ◌++◌, length, get_or, take, sym, ap, ◌∙◌, refl, subst}
+use Rattle.std.proofs.Common.{◌≡◌, ℕ, zero, suc, ◌<◌, true, false, ◌||◌, ◌&&◌, not, List, [], ◌∷◌, ◌++◌, length, get_or, take, sym, ap, ◌∙◌, refl, subst}
 use Rattle.std.proofs.Common.{arith, inl, inr, ◌⊎◌}
-use Rattle.std.proofs.lemmas.Bool.{false≢true, and_parts, or_parts, or_cases, or_left, or_right}
+use Rattle.std.proofs.lemmas.Bool.{false≢true, not-true, and_parts, or_parts, or_cases, or_left, or_right}
 use Rattle.inventory_model.specs.Names.{Name, same_name, is_among, are_distinct, begins}
 use Rattle.fleet_numbers.proofs.SortedNamesLemmas.{same_name-true, same_name-itself}
 
@@ -66,12 +66,8 @@ pub distinct_at : (names : List Name) (i j : ℕ) (d : Name) → are_distinct na
 distinct_at [] i j d e l m = absurd (omega arith)
 distinct_at (n ∷ names) zero zero d e l m = absurd (omega arith)
 distinct_at (n ∷ names) zero (suc j) d e l m =
-    apart names j (not_true (is_among n names) (and_parts (not (is_among n names)) (are_distinct names) e).0) (omega arith)
+    apart names j (not-true (is_among n names) (and_parts (not (is_among n names)) (are_distinct names) e).0) (omega arith)
   where
-    not_true : (b : Bool) → not b ≡ true → b ≡ false
-    not_true true q = absurd (false≢true q)
-    not_true false q = refl
-
     apart : (xs : List Name) (k : ℕ) → is_among n xs ≡ false → k < length xs → same_name n (get_or xs k d) ≡ false
     apart [] k q w = absurd (omega arith)
     apart (x ∷ xs) zero q w = (or_parts (same_name n x) (is_among n xs) q).0

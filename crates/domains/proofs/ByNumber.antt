@@ -37,7 +37,7 @@ paths_of inventory = paths_from [] 0 (depths_of inventory.places)
 abbrev pub is_above : List Place → ℕ → ℕ → Bool
 is_above places = on_path (depths_of places)
 
--- the last group whose path a group stands on
+-- the last group on whose path a group stands
 abbrev pub last_under : List Place → ℕ → ℕ
 last_under places group = last_where (is_above places group) (length places)
 

@@ -7,6 +7,7 @@ use Rattle.std.specs.Ordering.{ordering_reverse}
 use Rattle.std.proofs.lemmas.Bool.{cases_order, false≢true, and_parts, ltb-true, or_cases, or_right}
 use Rattle.std.proofs.lemmas.Cmp.{nat_list_cmp_total, tied_itself}
 use Rattle.std.proofs.lemmas.Map.Keys.{Less-from_sorted}
+use Rattle.std.proofs.Math.Bool.{and_comm, or_comm}
 use Rattle.inventory_model.specs.Names.{Name, same_name, is_among, begins}
 use Rattle.inventory_model.specs.Places.{Place, Row, Inventory, path_of, row_path}
 use Rattle.inventory_model.specs.Members.{holds, is_row_of}
@@ -20,7 +21,6 @@ use Rattle.domains.specs.Numbered.{host_at}
 use Rattle.domains.specs.Search.{IsFirstCrossing}
 use Rattle.domains.proofs.ByNumber.{group_name, limits_at}
 use Rattle.domains.proofs.BeginLemmas.{begins_same}
-use Rattle.domains.proofs.WhereLemmas.{and_swap}
 use Rattle.domains.proofs.KnownLists.{AreListsOf}
 
 -- a name that stands among names stands at a place
@@ -54,13 +54,7 @@ held_has_row inventory group host (row ∷ rows) e =
 module _ {inventory : Inventory} {hosts : List Name} {limits : List (Option ℕ)} {off : List Bool} {chains members : List (List ℕ)}
     {subtree_ends : List ℕ} (known : AreListsOf inventory hosts limits off chains members subtree_ends) where
   apart_back : (p q : Place) → are_apart p q ≡ are_apart q p
-  apart_back p q = or_swap (begins (path_of p) (path_of q)) (begins (path_of q) (path_of p))
-    where
-      or_swap : (a b : Bool) → not (a || b) ≡ not (b || a)
-      or_swap true true = refl
-      or_swap true false = refl
-      or_swap false true = refl
-      or_swap false false = refl
+  apart_back p q = ap not (or_comm (begins (path_of p) (path_of q)) (begins (path_of q) (path_of p)))
 
   -- the groups of a crossing are limited and hold the host, and are apart
   crossing_parts : (host : Name) (i j : ℕ) → is_crossing inventory host i j ≡ true
@@ -99,7 +93,7 @@ module _ {inventory : Inventory} {hosts : List Name} {limits : List (Option ℕ)
   crossing_back host i j =
       let one : Bool = limits_at inventory host i in
       let other : Bool = limits_at inventory host j in
-      ap (λ b. b && are_apart (place_at inventory.places i) (place_at inventory.places j)) (and_swap one other)
+      ap (λ b. b && are_apart (place_at inventory.places i) (place_at inventory.places j)) (and_comm one other)
       ∙ ap (λ b. (other && one) && b) (apart_back (place_at inventory.places i) (place_at inventory.places j))
 
   pub never_crossing : (h : ℕ) → h < length hosts → IsNestedChain subtree_ends (list_at chains h) → (i j : ℕ) → is_crossing inventory (host_at hosts h) i j ≡ false

@@ -2,22 +2,20 @@
 use Rattle.std.proofs.Common.{◌≡◌, ℕ, ◌≤◌, ◌<◌, Bool, true, false, ◌||◌, ◌&&◌, nat_eq, nat_lt, Option, Some, None, All, List, [], ◌∷◌, length, get_or}
 use Rattle.std.proofs.Common.{map, filter, is_some, sym, ap, ◌∙◌, refl, subst, arith, inl, inr, ◌⊎◌}
 use Rattle.std.specs.List.{range_with_len}
-use Rattle.std.specs.List.Sorted.{IsStrictlySortedBy}
 use Rattle.std.proofs.lemmas.Bool.{cases_lt, false≢true, and_parts, lt-ltb, ltb-true, or_cases, or_left, or_right}
 use Rattle.std.proofs.lemmas.List.{length-map, get_or-map, same_lists, get_or_default, get_or_past}
 use Rattle.std.proofs.lemmas.List.Elements.{All-head, All-tail}
+use Rattle.std.proofs.Math.Bool.{and_comm}
 use Rattle.std.proofs.Math.Nat.{zero-add}
 use Rattle.std.proofs.lemmas.List.FromFn.{length-map-range_with_len, get_or-map-range_with_len}
 use Rattle.inventory_model.specs.Names.{Name, are_distinct}
-use Rattle.inventory_model.specs.Places.{Place, Row, Inventory, is_preorder}
+use Rattle.inventory_model.specs.Places.{Place, Inventory, is_preorder}
 use Rattle.inventory_model.specs.Members.{holds}
 use Rattle.inventory_model.specs.Bounds.{group_names}
 use Rattle.inventory_model.specs.Limits.{Limit}
-use Rattle.fleet_numbers.specs.SortedNames.{name_cmp}
 use Rattle.fleet_numbers.specs.NumberLists.{has_number, list_at, numbers_where, last_where, IsRising}
 use Rattle.fleet_numbers.specs.GroupPaths.{is_member}
 use Rattle.fleet_numbers.specs.Chains.{is_limited, ends_before}
-use Rattle.fleet_numbers.proofs.SortedNamesLemmas.{is_rising-sorted_names}
 use Rattle.fleet_numbers.proofs.RisingLemmas.{has_number-numbers_where}
 use Rattle.fleet_numbers.proofs.PathLemmas.{last_where-is, on_own, on_through}
 use Rattle.domains.specs.Starts.{place_at, nowhere, member_count, allowed_of}
@@ -27,35 +25,14 @@ use Rattle.domains.specs.Numbered.{host_at, IsNumbering}
 use Rattle.domains.specs.Members.{members_of, chains_of}
 use Rattle.domains.proofs.ByNumber.{group_name, depths_of, paths_of, is_above, last_under, GroupsWithin, holds_at, held_hosts, limits_at, limited_groups}
 use Rattle.domains.proofs.ByNumber.{hosts_under, allowed_for, count_of}
+use Rattle.domains.proofs.NumberedLemmas as numbers
 use Rattle.domains.proofs.KnownLists.{AreListsOf}
-use Rattle.domains.proofs.PlaceLemmas.{among_path, apart_past}
-use Rattle.domains.proofs.NumberLemmas.{holds-numbers}
-use Rattle.domains.proofs.WhereLemmas.{filtered_names, numbers_where-same, rising-numbers_where, filter-filter, and_swap}
+use Rattle.domains.proofs.PlaceLemmas.{apart_past}
+use Rattle.domains.proofs.WhereLemmas.{filtered_names, numbers_where-same, rising-numbers_where, filter-filter}
 
 module _ (inventory : Inventory) (hosts groups : List Name) (limits : List (Option Limit)) (depths : List ℕ) (rows : List (ℕ × ℕ))
     (off : List Bool) (numbered : IsNumbering inventory hosts groups limits depths rows off)
     (distinct : are_distinct (group_names inventory.places) ≡ true) (preorder : is_preorder inventory.places ≡ true) where
-  pub hosts_rise : IsStrictlySortedBy name_cmp hosts
-  hosts_rise =
-      subst (λ (l : List Name). IsStrictlySortedBy name_cmp l) (sym numbered.all_hosts) (is_rising-sorted_names (map (λ (row : Row). row.host) inventory.rows))
-
-  own_limit_at : (g : ℕ) → get_or limits g None ≡ (place_at inventory.places g).limit
-  own_limit_at g =
-      ap (λ (l : List (Option Limit)). get_or l g None) numbered.all_limits ∙ by_case (cases_lt g (length inventory.places))
-    where
-      limit : Place → Option Limit
-      limit p = p.limit
-
-      by_case : (g < length inventory.places) ⊎ (length inventory.places ≤ g) → get_or (map limit inventory.places) g None ≡ limit (place_at inventory.places g)
-      by_case (inl l) = get_or-map limit inventory.places g nowhere None l
-      by_case (inr l) =
-          get_or_past (map limit inventory.places) g None (simp length-map l) ∙ sym (ap limit (get_or_past inventory.places g nowhere l))
-
-  pub member_at : (g h : ℕ) → g < length inventory.places → h < length hosts → is_member (paths_of inventory) rows g h ≡ holds_at inventory hosts g h
-  member_at g h l m =
-      let among = among_path inventory.places distinct preorder in
-      sym (holds-numbers inventory hosts rows among hosts_rise g h l m numbered.all_rows numbered.hosts_in numbered.groups_in)
-
   -- the groups that hold a host, by the paths and the rows
   abbrev member : ℕ → ℕ → Bool
   member host group = is_member (paths_of inventory) rows group host
@@ -70,8 +47,7 @@ module _ (inventory : Inventory) (hosts groups : List Name) (limits : List (Opti
       (members_are : members ≡ map (hosts_under held) (range_with_len 0 (length inventory.places)))
       (subtree_ends_are : subtree_ends ≡ map (last_under inventory.places) (range_with_len 0 (length inventory.places))) where
     held_len : length held ≡ length hosts
-    held_len =
-        ap length held_are ∙ length-map-range_with_len holders 0 (length hosts)
+    held_len = ap length held_are ∙ length-map-range_with_len holders 0 (length hosts)
 
     held_at : (h : ℕ) → h < length hosts → list_at held h ≡ holders h
     held_at h l =
@@ -95,7 +71,7 @@ module _ (inventory : Inventory) (hosts groups : List Name) (limits : List (Opti
         ap (λ (c : List (Option ℕ)). get_or c g None) counts_are
         ∙ get_or-map-range_with_len (count_of limits members) 0 (length limits) g g None
         (omega (arith, l, ap length numbered.all_limits, length-map inventory.places (λ (p : Place). p.limit))) (omega arith)
-        ∙ ap (allowed_for (length (list_at members g))) (own_limit_at g)
+        ∙ ap (allowed_for (length (list_at members g))) (numbers.own_limit_at numbered distinct preorder g)
 
     limited_at : (g : ℕ) → is_limited counts g ≡ is_some (place_at inventory.places g).limit
     limited_at g = by_case (cases_lt g (length inventory.places))
@@ -121,9 +97,9 @@ module _ (inventory : Inventory) (hosts groups : List Name) (limits : List (Opti
         ∙ ap (filter (is_limited counts)) (held_at h l)
         ∙ filter-filter (is_limited counts) (member h) (range_with_len 0 (length inventory.places))
         ∙ numbers_where-same (λ group. member h group && is_limited counts group) (limits_at inventory (host_at hosts h)) (length inventory.places) λ k m.
-        and_swap (member h k) (is_limited counts k)
+        and_comm (member h k) (is_limited counts k)
         ∙ ap (λ b. b && member h k) (limited_at k)
-        ∙ ap (λ b. is_some (place_at inventory.places k).limit && b) (member_at k h m l)
+        ∙ ap (λ b. is_some (place_at inventory.places k).limit && b) (numbers.member_at numbered distinct preorder k h m l)
 
     chains_rise : All (IsRising (length inventory.places)) chains
     chains_rise k d l =
@@ -138,8 +114,7 @@ module _ (inventory : Inventory) (hosts groups : List Name) (limits : List (Opti
         get_or_default chains k d [] l ∙ chain_at k inside ∙ sym (get_or-map (limited_groups inventory) hosts k [] d inside)
 
     members_len : length members ≡ length inventory.places
-    members_len =
-        ap length members_are ∙ length-map-range_with_len (hosts_under held) 0 (length inventory.places)
+    members_len = ap length members_are ∙ length-map-range_with_len (hosts_under held) 0 (length inventory.places)
 
     members_at : (g : ℕ) → g < length inventory.places → list_at members g ≡ held_hosts inventory hosts (group_name inventory.places g)
     members_at g l =
@@ -150,7 +125,7 @@ module _ (inventory : Inventory) (hosts groups : List Name) (limits : List (Opti
         ap (has_number g) (held_at h m)
         ∙ has_number-numbers_where (member h) (length inventory.places) g
         ∙ ap (λ b. b && member h g) (lt-ltb g (length inventory.places) l)
-        ∙ member_at g h l m
+        ∙ numbers.member_at numbered distinct preorder g h l m
 
     member_count_at : (g : ℕ) → g < length inventory.places → length (list_at members g) ≡ member_count inventory (group_name inventory.places g)
     member_count_at g l =
@@ -162,8 +137,7 @@ module _ (inventory : Inventory) (hosts groups : List Name) (limits : List (Opti
     limit_at g = by_case (cases_lt g (length inventory.places))
       where
         by_case : (g < length inventory.places) ⊎ (length inventory.places ≤ g) → get_or counts g None ≡ allowed_of inventory (place_at inventory.places g)
-        by_case (inl l) =
-            count_at g l ∙ ap (λ (n : ℕ). allowed_for n (place_at inventory.places g).limit) (member_count_at g l)
+        by_case (inl l) = count_at g l ∙ ap (λ (n : ℕ). allowed_for n (place_at inventory.places g).limit) (member_count_at g l)
         by_case (inr l) =
             get_or_past counts g None (omega (arith, l, counts_len)) ∙ sym (ap (allowed_of inventory) (get_or_past inventory.places g nowhere l))
 
@@ -214,8 +188,7 @@ module _ (inventory : Inventory) (hosts groups : List Name) (limits : List (Opti
       where
         by_case : (g < length inventory.places) ⊎ (length inventory.places ≤ g) → g < length inventory.places
         by_case (inl l) = l
-        by_case (inr l) =
-            absurd (false≢true (sym (ap (λ (p : Place). is_some p.limit) (get_or_past inventory.places g nowhere l)) ∙ e))
+        by_case (inr l) = absurd (false≢true (sym (ap (λ (p : Place). is_some p.limit) (get_or_past inventory.places g nowhere l)) ∙ e))
 
     last_above : (g : ℕ) → g < length inventory.places → g ≤ get_or subtree_ends g 0
     last_above g l =
@@ -232,7 +205,7 @@ module _ (inventory : Inventory) (hosts groups : List Name) (limits : List (Opti
     held_above : (g t h : ℕ) → g < length inventory.places → t < length inventory.places → h < length hosts → is_above inventory.places g t ≡ true
         → holds_at inventory hosts t h ≡ true → holds_at inventory hosts g h ≡ true
     held_above g t h l m w e f =
-        sym (member_at g h l w) ∙ through rows numbered.groups_in (member_at t h m w ∙ f)
+        sym (numbers.member_at numbered distinct preorder g h l w) ∙ through rows numbered.groups_in (numbers.member_at numbered distinct preorder t h m w ∙ f)
       where
         through : (rs : List (ℕ × ℕ)) → GroupsWithin inventory.places rs → is_member (paths_of inventory) rs t h ≡ true → is_member (paths_of inventory) rs g h ≡ true
         through [] within q = absurd (false≢true q)
@@ -256,7 +229,7 @@ module _ (inventory : Inventory) (hosts groups : List Name) (limits : List (Opti
         record {
           all_hosts = numbered.all_hosts;
           all_off = numbered.all_off;
-          hosts_rise = hosts_rise;
+          hosts_rise = numbers.hosts_rise numbered distinct preorder;
           limit_at = limit_at;
           limited_at = limited_at;
           all_counts = all_counts;

@@ -5,6 +5,8 @@ pub mod BeginLemmas
 pub mod PlaceLemmas
 pub mod ParentLemmas
 pub mod NumberLemmas
+pub mod NumberingLemmas
+pub mod NumberedLemmas
 pub mod NameLemmas
 pub mod WhereLemmas
 pub mod KnownLists

@@ -2,6 +2,7 @@
 use Rattle.std.proofs.Common.{◌≡◌, ℕ, suc, ◌+◌, ◌<◌, Bool, true, false, ◌&&◌, cond, List, [], ◌∷◌, length, filter, sym, ap, ◌∙◌, refl, arith}
 use Rattle.std.specs.List.{range_with_len}
 use Rattle.std.proofs.lemmas.Bool.{lt-ltb}
+use Rattle.std.proofs.Math.Nat.{add-zero}
 use Rattle.inventory_model.specs.Names.{Name}
 use Rattle.fleet_numbers.specs.NumberLists.{has_number, numbers_where, IsRising}
 use Rattle.fleet_numbers.proofs.RisingLemmas.{Ascends-numbers_where, rising_is, has_number-numbers_where}
@@ -36,14 +37,11 @@ filtered_names t u [] from at = refl
 filtered_names t u (name ∷ names) from at =
     by_case (u name) (filter t (range_with_len (from + 1) (length names))) here (filtered_names t u names (from + 1) (λ k l. shift k l))
   where
-    at_zero : (n : ℕ) → n ≡ n + 0
-    at_zero n = omega arith
-
     more : (n k : ℕ) → (n + 1) + k ≡ n + suc k
     more n k = omega arith
 
     here : t from ≡ u name
-    here = ap t (at_zero from) ∙ at 0 (omega arith)
+    here = ap t (sym (add-zero from)) ∙ at 0 (omega arith)
 
     shift : (k : ℕ) → k < length names → t ((from + 1) + k) ≡ u (host_at names k)
     shift k l = ap t (more from k) ∙ at (suc k) (omega arith)
@@ -52,9 +50,3 @@ filtered_names t u (name ∷ names) from at =
         → length (cond (t from) (from ∷ tail) tail) ≡ length (cond b (name ∷ filter u names) (filter u names))
     by_case true tail e rest = ap (λ b. length (cond b (from ∷ tail) tail)) e ∙ ap suc rest
     by_case false tail e rest = ap (λ b. length (cond b (from ∷ tail) tail)) e ∙ rest
-
-pub and_swap : (a b : Bool) → (a && b) ≡ (b && a)
-and_swap true true = refl
-and_swap true false = refl
-and_swap false true = refl
-and_swap false false = refl

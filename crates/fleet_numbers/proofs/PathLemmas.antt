@@ -3,7 +3,7 @@ use Rattle.std.proofs.Common.{◌≡◌, ℕ, zero, suc, ◌+◌, ◌-◌, ◌�
 use Rattle.std.proofs.Common.{get_or, take, sym, ap, ◌∙◌, refl, subst, arith, inl, inr, ◌⊎◌}
 use Rattle.std.specs.List.{list_all}
 use Rattle.std.proofs.Math.Bool.{or-false}
-use Rattle.std.proofs.Math.Nat.{zero-add}
+use Rattle.std.proofs.Math.Nat.{zero-add, add-zero}
 use Rattle.std.proofs.lemmas.Bool.{eqb-true, eq-eqb, ne_eqb, lt-ltb, le-ltb, cases_lt, cases_eq, false≢true, or_right, or_left, or_cases}
 use Rattle.std.proofs.lemmas.List.Folds.{list_any-append}
 use Rattle.fleet_numbers.specs.NumberLists.{has_number, list_at, last_where, are_below}
@@ -28,10 +28,7 @@ pub next_path : (path : List ℕ) (number : ℕ) (depths : List ℕ) (k : ℕ) �
 next_path path number [] k l = absurd (omega arith)
 next_path path number (d ∷ []) k l = absurd (omega arith)
 next_path path number (d ∷ (e ∷ depths)) zero l =
-    ap (λ (n : ℕ). take e (take d path ++ number ∷ []) ++ suc n ∷ []) (at_zero number)
-  where
-    at_zero : (n : ℕ) → n ≡ n + 0
-    at_zero n = omega arith
+    ap (λ (n : ℕ). take e (take d path ++ number ∷ []) ++ suc n ∷ []) (sym (add-zero number))
 next_path path number (d ∷ (e ∷ depths)) (suc k) l =
     let own : List ℕ = take d path ++ number ∷ [] in
     let before : List ℕ = list_at (paths_from own (suc number) (e ∷ depths)) k in
@@ -123,10 +120,7 @@ on_before depths g k l m e =
     has-take g (get_or depths (suc k) 0) (path_to depths k) (sym (on_next depths g k l m) ∙ e)
 
 pub on_run : (depths : List ℕ) (g k step : ℕ) → k + step < length depths → g ≤ k → on_path depths g (k + step) ≡ true → on_path depths g k ≡ true
-on_run depths g k zero l m e = subst (λ (n : ℕ). on_path depths g n ≡ true) (at_zero k) e
-  where
-    at_zero : (n : ℕ) → n + 0 ≡ n
-    at_zero n = omega arith
+on_run depths g k zero l m e = subst (λ (n : ℕ). on_path depths g n ≡ true) (add-zero k) e
 on_run depths g k (suc step) l m e =
     on_run depths g k step (omega arith) m (on_before depths g (k + step) (omega arith) (omega arith) (subst (λ (n : ℕ). on_path depths g n ≡ true) (shift k step) e))
   where

@@ -34,32 +34,46 @@ same_inventory : (a b : List Place) (x y : List Row) → a ≡ b → x ≡ y →
 same_inventory a b x y e f = cc
 
 module _ (group child : Subtree) (listed more : List Listed) (is : inventory_of child ≡ inventory_from listed) where
-  child_places : map (place_under group.name) (places_of child) ≡ map place_of (map (under group.name) listed)
+  -- what further groups of the document give below the group
+  abbrev places_below : List Listed → List Place
+  places_below groups = map place_of (map (under group.name) groups)
+
+  abbrev rows_below : List Listed → List Row
+  rows_below groups = flat_map rows_of (map (under group.name) groups)
+
+  child_places : map (place_under group.name) (places_of child) ≡ places_below listed
   child_places =
       ap (λ (i : Inventory). map (place_under group.name) i.places) is ∙ sym (places-under group.name listed)
 
-  child_rows : map (row_under group.name) (subtrees.rows_of child) ≡ flat_map rows_of (map (under group.name) listed)
+  child_rows : map (row_under group.name) (subtrees.rows_of child) ≡ rows_below listed
   child_rows = ap (λ (i : Inventory). map (row_under group.name) i.rows) is ∙ sym (rows-under group.name listed)
 
-  places-reach : (places_of (with_child group child)) ++ map place_of (map (under group.name) more) ≡ places_of group ++ map place_of (map (under group.name) (listed ++ more))
+  places-reach : (places_of (with_child group child)) ++ places_below more ≡ places_of group ++ places_below (listed ++ more)
   places-reach =
-      ap (λ all. (own_place group ∷ all) ++ map place_of (map (under group.name) more)) (map-append (place_under group.name) group.below.places (places_of child) ∙ ap (λ last. map (place_under group.name) group.below.places ++ last) child_places)
-      ∙ append_assoc (places_of group) (map place_of (map (under group.name) listed)) (map place_of (map (under group.name) more))
-      ∙ ap (λ last. places_of group ++ last) (sym (ap (map place_of) (map-append (under group.name) listed more) ∙ map-append place_of (map (under group.name) listed) (map (under group.name) more)))
+      let first : List Place = map (place_under group.name) group.below.places in
+      let lower = map-append (place_under group.name) group.below.places (places_of child) ∙ ap (λ last. first ++ last) child_places in
+      let both = ap (map place_of) (map-append (under group.name) listed more) ∙ map-append place_of (map (under group.name) listed) (map (under group.name) more) in
+      ap (λ all. (own_place group ∷ all) ++ places_below more) lower
+      ∙ append_assoc (places_of group) (places_below listed) (places_below more)
+      ∙ ap (λ last. places_of group ++ last) (sym both)
 
   own : List Row
   own = map (own_row group.name) group.hosts
 
-  rows-reach : subtrees.rows_of (with_child group child) ++ flat_map rows_of (map (under group.name) more) ≡ subtrees.rows_of group ++ flat_map rows_of (map (under group.name) (listed ++ more))
+  rows-reach : subtrees.rows_of (with_child group child) ++ rows_below more ≡ subtrees.rows_of group ++ rows_below (listed ++ more)
   unfolding own
   rows-reach =
-      ap (λ all. (own ++ all) ++ flat_map rows_of (map (under group.name) more)) (map-append (row_under group.name) group.below.rows (subtrees.rows_of child) ∙ ap (λ last. map (row_under group.name) group.below.rows ++ last) child_rows)
-      ∙ ap (λ all. all ++ flat_map rows_of (map (under group.name) more)) (sym (append_assoc own (map (row_under group.name) group.below.rows) (flat_map rows_of (map (under group.name) listed))))
-      ∙ append_assoc (subtrees.rows_of group) (flat_map rows_of (map (under group.name) listed)) (flat_map rows_of (map (under group.name) more))
-      ∙ ap (λ last. subtrees.rows_of group ++ last) (sym (ap (flat_map rows_of) (map-append (under group.name) listed more) ∙ flat_map-append rows_of (map (under group.name) listed) (map (under group.name) more)))
+      let first : List Row = map (row_under group.name) group.below.rows in
+      let lower = map-append (row_under group.name) group.below.rows (subtrees.rows_of child) ∙ ap (λ last. first ++ last) child_rows in
+      let both = ap (flat_map rows_of) (map-append (under group.name) listed more) ∙ flat_map-append rows_of (map (under group.name) listed) (map (under group.name) more) in
+      ap (λ all. (own ++ all) ++ rows_below more) lower
+      ∙ ap (λ all. all ++ rows_below more) (sym (append_assoc own first (rows_below listed)))
+      ∙ append_assoc (subtrees.rows_of group) (rows_below listed) (rows_below more)
+      ∙ ap (λ last. subtrees.rows_of group ++ last) (sym both)
 
 -- one child more
-pub reach-with_child : (group child after : Subtree) (listed more : List Listed) → after ≡ with_child group child → inventory_of child ≡ inventory_from listed → reach after more ≡ reach group (listed ++ more)
+pub reach-with_child : (group child after : Subtree) (listed more : List Listed) → after ≡ with_child group child
+    → inventory_of child ≡ inventory_from listed → reach after more ≡ reach group (listed ++ more)
 reach-with_child group child after listed more e is =
     ap (λ g. reach g more) e
     ∙ same_inventory _ _ _ _ (places-reach group child listed more is) (rows-reach group child listed more is)
@@ -69,7 +83,9 @@ pub reach-none : (group : Subtree) → reach group [] ≡ inventory_of group
 reach-none group = same_inventory _ _ _ _ (append-nil (places_of group)) (append-nil (subtrees.rows_of group))
 
 -- a group without children, and what is to stand below it
-pub reach-own : (group : Subtree) (name : Name) (body : Data) (below : List Listed) → group ≡ record { name = name; limit = limit_in body; variables = variables_in body; hosts = hosts_in body; below = side_by_side [] } → reach group below ≡ inventory_from (with_below name body below)
+pub reach-own : (group : Subtree) (name : Name) (body : Data) (below : List Listed)
+    → group ≡ record { name = name; limit = limit_in body; variables = variables_in body; hosts = hosts_in body; below = side_by_side [] }
+    → reach group below ≡ inventory_from (with_below name body below)
 reach-own group name body below e =
     ap (λ g. reach g below) e
     ∙ same_inventory _ _ _ _ refl (ap (λ own. own ++ flat_map rows_of (map (under name) below)) (append-nil (map (own_row name) (hosts_in body))))

@@ -55,7 +55,8 @@ unfolding are_shallow
 are_shallow-listing [] = refl
 are_shallow-listing (group ∷ listed) = rw (test_most (length group.above + 1), are_shallow-listing listed) refl
 
-pub depths-are : (groups : List Listed) (listed : List documents.Listed) → map outline_of groups ≡ listing_of listed → list_all (λ group. nat_le group.depth depth_bound) groups ≡ are_within_depth depth_bound (map place_of listed)
+pub depths-are : (groups : List Listed) (listed : List documents.Listed) → map outline_of groups ≡ listing_of listed
+    → list_all (λ group. nat_le group.depth depth_bound) groups ≡ are_within_depth depth_bound (map place_of listed)
 depths-are groups listed e = sym (are_shallow-outline_of groups) ∙ ap are_shallow e ∙ are_shallow-listing listed
 
 groups-are : (groups : List Listed) (listed : List documents.Listed) → map outline_of groups ≡ listing_of listed → length groups ≡ length (map place_of listed)
@@ -74,16 +75,19 @@ count_of-listing : (listed : List documents.Listed) → count_of (listing_of lis
 unfolding count_of
 count_of-listing [] = refl
 count_of-listing (group ∷ listed) =
-    rw (count_of-listing listed) (sym (length-append (rows_of group) (flat_map rows_of listed) ∙ ap (λ own. own + length (flat_map rows_of listed)) (length-map (hosts_in group.body) _)))
+    rw (count_of-listing listed)
+    (sym (length-append (rows_of group) (flat_map rows_of listed) ∙ ap (λ own. own + length (flat_map rows_of listed)) (length-map (hosts_in group.body) _)))
 
-rows-are : (groups : List Listed) (listed : List documents.Listed) → map outline_of groups ≡ listing_of listed → length (flat_map rows_at groups) ≡ length (flat_map rows_of listed)
+rows-are : (groups : List Listed) (listed : List documents.Listed) → map outline_of groups ≡ listing_of listed
+    → length (flat_map rows_at groups) ≡ length (flat_map rows_of listed)
 rows-are groups listed e = sym (count_of-outline_of groups) ∙ ap count_of e ∙ count_of-listing listed
 
 -- neither too many groups nor too many rows
 abbrev pub few : List documents.Listed → Bool
 few listed = nat_le (length (map place_of listed)) groups_bound && nat_le (length (flat_map rows_of listed)) rows_bound
 
-pub few-are : (groups : List Listed) (listed : List documents.Listed) → map outline_of groups ≡ listing_of listed → (nat_le (length groups) groups_bound && nat_le (length (flat_map rows_at groups)) rows_bound) ≡ few listed
+pub few-are : (groups : List Listed) (listed : List documents.Listed) → map outline_of groups ≡ listing_of listed
+    → (nat_le (length groups) groups_bound && nat_le (length (flat_map rows_at groups)) rows_bound) ≡ few listed
 few-are groups listed e = rw (groups-are groups listed e, rows-are groups listed e) refl
 
 -- which rules of the tree are broken, by its three tests

@@ -5,7 +5,8 @@ use Rattle.std.specs.Cmp.Lexicographic.{slice_cmp}
 use Rattle.serde_json.specs.Data.{Data, null, boolean, number, string, array, object, Members, no_members, member, depth, members_depth}
 use Rattle.serde_json.specs.Find.{get, get_member}
 
-member_at : (o : Ordering) (d e : Data) (here : Option Data) (deepest : ℕ) → match_ordering o here (Some d) here ≡ Some e → (here ≡ Some e → depth e ≤ deepest) → depth e ≤ max (depth d) deepest
+member_at : (o : Ordering) (d e : Data) (here : Option Data) (deepest : ℕ) → match_ordering o here (Some d) here ≡ Some e
+    → (here ≡ Some e → depth e ≤ deepest) → depth e ≤ max (depth d) deepest
 member_at Less d e here deepest is later = let below = later is in omega arith
 member_at Equal d e here deepest is later = let same : d ≡ e = cc in rw (← same) (omega arith)
 member_at Greater d e here deepest is later = let below = later is in omega arith

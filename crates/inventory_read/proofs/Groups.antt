@@ -1,5 +1,6 @@
 -- The groups below a body, by the members under `children`, and what the reader's list says of them.
-use Rattle.std.proofs.Common.{◌≡◌, ℕ, ◌+◌, ◌≤◌, min, Option, Some, List, [], ◌∷◌, ◌++◌, map, Ordering, Less, Equal, Greater, unwrap_or, nat_cmp, refl, sym, ap, ◌∙◌, append_assoc, arith}
+use Rattle.std.proofs.Common.{◌≡◌, ℕ, ◌+◌, ◌≤◌, min, Option, Some, List, [], ◌∷◌, ◌++◌, map, Ordering, Less, Equal, Greater, unwrap_or, nat_cmp, refl, sym, ap}
+use Rattle.std.proofs.Common.{◌∙◌, append_assoc, arith}
 use Rattle.std.specs.List.{filter, flat_map}
 use Rattle.std.specs.Ordering.{match_ordering}
 use Rattle.std.specs.Cmp.Lexicographic.{slice_cmp}
@@ -22,7 +23,8 @@ groups_in-is (string _) = refl
 groups_in-is (array _) = refl
 groups_in-is (object _) = refl
 
-at_key : (o : Ordering) (here : List documents.Listed) (value : Data) (found : Option Data) → here ≡ groups_among (members_in (unwrap_or found null)) → match_ordering o here (groups_in value) here ≡ groups_among (members_in (unwrap_or (match_ordering o found (Some value) found) null))
+at_key : (o : Ordering) (here : List documents.Listed) (value : Data) (found : Option Data) → here ≡ groups_among (members_in (unwrap_or found null))
+    → match_ordering o here (groups_in value) here ≡ groups_among (members_in (unwrap_or (match_ordering o found (Some value) found) null))
 at_key Less here value found e = e
 at_key Equal here value found e = groups_in-is value
 at_key Greater here value found e = e
@@ -56,22 +58,33 @@ cons_same : {X : Type 0} {x y : X} {xs ys : List X} → x ≡ y → xs ≡ ys �
 cons_same e f = cc
 
 -- a group and all below it, once those below it have been added
-pub listed_with_below : (before after : List Listed) (group : Listed) (depth : ℕ) (members : Members) (whole : List Outline) → after ≡ before ++ group ∷ [] → group.depth ≤ most → depth ≡ min (group.depth + 1) most → members ≡ members_in (part children_key (view group.body.now)) → whole ≡ map outline_of after ++ map (outline_at depth) (groups_among members) → whole ≡ map outline_of before ++ map (outline_at group.depth) (with_below group.name.now (view group.body.now) (below_body (view group.body.now)))
+pub listed_with_below : (before after : List Listed) (group : Listed) (depth : ℕ) (members : Members) (whole : List Outline)
+    → after ≡ before ++ group ∷ [] → group.depth ≤ most → depth ≡ min (group.depth + 1) most
+    → members ≡ members_in (part children_key (view group.body.now)) → whole ≡ map outline_of after ++ map (outline_at depth) (groups_among members)
+    → whole ≡ map outline_of before ++ map (outline_at group.depth) (with_below group.name.now (view group.body.now) (below_body (view group.body.now)))
 listed_with_below before after group depth members whole pushed fits deep is e =
     let own : outline_of group ≡ outline_at group.depth (record { above = []; name = group.name.now; body = view group.body.now }) =
     ap (λ d. record { name = group.name.now; body = view group.body.now; depth = d }) (omega arith) in
     let below : map (outline_at depth) (groups_among members) ≡ map (outline_at group.depth) (map (under group.name.now) (below_body (view group.body.now))) =
     sym (outline_at-under group.depth group.name.now (below_body (view group.body.now)) ∙ rw (below_body-is, ← deep, ← is) refl) in
     let added : map outline_of after ≡ map outline_of before ++ outline_of group ∷ [] = ap (map outline_of) pushed ∙ map-append outline_of before (group ∷ []) in
-    e ∙ ap (λ first. first ++ map (outline_at depth) (groups_among members)) added ∙ append_assoc (map outline_of before) (outline_of group ∷ []) _ ∙ ap (λ rest. map outline_of before ++ rest) (cons_same own below)
+    e
+    ∙ ap (λ first. first ++ map (outline_at depth) (groups_among members)) added
+    ∙ append_assoc (map outline_of before) (outline_of group ∷ []) _
+    ∙ ap (λ rest. map outline_of before ++ rest) (cons_same own below)
 
 -- `all` and all below it, once those below it have been listed
-pub listed_all : (groups : List Outline) (body : Data) (below : List documents.Listed) → groups ≡ record { name = all_key; body = body; depth = 1 } ∷ map (outline_at 2) below → groups ≡ map (outline_at 1) (with_below all_key body below)
+pub listed_all : (groups : List Outline) (body : Data) (below : List documents.Listed)
+    → groups ≡ record { name = all_key; body = body; depth = 1 } ∷ map (outline_at 2) below → groups ≡ map (outline_at 1) (with_below all_key body below)
 listed_all groups body below e =
     e ∙ ap (λ rest. record { name = all_key; body = body; depth = 1 } ∷ rest) (sym (outline_at-under 1 all_key below))
 
 -- `all` and its children, as the reader has them, are all groups of the document
-pub groups_of-is : (document all : Data) (children : List documents.Entry) → children ≡ merged (entries_in (part children_key all)) (filter is_beside_all (entries_in document)) → all ≡ part all_key document → with_below all_key all (flat_map groups_from children) ≡ groups_of document
+pub groups_of-is : (document all : Data) (children : List documents.Entry)
+    → children ≡ merged (entries_in (part children_key all)) (filter is_beside_all (entries_in document)) → all ≡ part all_key document
+    → with_below all_key all (flat_map groups_from children) ≡ groups_of document
 groups_of-is document all children listed body =
-    let children_in : Data → List documents.Entry = λ value. merged (entries_in (part children_key value)) (filter is_beside_all (entries_in document)) in
-    ap (λ list. with_below all_key all (flat_map groups_from list)) listed ∙ ap (λ value. with_below all_key value (flat_map groups_from (children_in value))) body
+    let children_in : Data → List documents.Entry =
+    λ value. merged (entries_in (part children_key value)) (filter is_beside_all (entries_in document)) in
+    ap (λ list. with_below all_key all (flat_map groups_from list)) listed
+    ∙ ap (λ value. with_below all_key value (flat_map groups_from (children_in value))) body

@@ -1,5 +1,6 @@
 -- What `parse` reads of one to three digits, and the text before a percent sign.
-use Rattle.std.proofs.Common.{◌≡◌, ◌≢◌, ℕ, ◌-◌, ◌<◌, Bool, true, false, ◌&&◌, ◌==◌, Some, None, Result, Err, List, [], ◌∷◌, ◌++◌, length, take, drop, nat_le, refl, sym, ap, ◌∙◌, suc, subst, arith, drop-cons}
+use Rattle.std.proofs.Common.{◌≡◌, ◌≢◌, ℕ, ◌-◌, ◌<◌, Bool, true, false, ◌&&◌, ◌==◌, Some, None, Result, Err, List, [], ◌∷◌, ◌++◌, length, take, drop, nat_le}
+use Rattle.std.proofs.Common.{refl, sym, ap, ◌∙◌, suc, subst, arith, drop-cons}
 use Rattle.std.specs.Prelude.{slice_index, if◌then◌else◌}
 use Rattle.std.specs.List.{list_all}
 use Rattle.std.specs.Char.{is_ascii_digit}
@@ -15,18 +16,21 @@ same_digits : (text : List ℕ) → list_all is_ascii_digit text ≡ all_ascii_d
 same_digits [] = refl
 same_digits (digit ∷ text) = ap (λ rest. is_ascii_digit digit && rest) (same_digits text)
 
-none_unless : (test : Bool) (text : List ℕ) → (test ≡ true → (0 < length text) × (digits_value 10 text < 256)) → ¬ ((0 < length text) × (digits_value 10 text < 256)) → (if test then Some (digits_value 10 text) else None) ≡ None
+none_unless : (test : Bool) (text : List ℕ) → (test ≡ true → (0 < length text) × (digits_value 10 text < 256))
+    → ¬ ((0 < length text) × (digits_value 10 text < 256)) → (if test then Some (digits_value 10 text) else None) ≡ None
 none_unless false text parts unread = refl
 none_unless true text parts unread = absurd (unread (parts refl))
 
 -- digits that `parse` does not read are none, or write a number past 255
-pub share-unread : {E : Type 0} (text : List ℕ) (read : Result ℕ E) (error : E) → read ≡ Err error → ParsesUnsigned 8 10 text read → list_all is_ascii_digit text ≡ true → None ≡ share_of_digits text
+pub share-unread : {E : Type 0} (text : List ℕ) (read : Result ℕ E) (error : E) → read ≡ Err error → ParsesUnsigned 8 10 text read
+    → list_all is_ascii_digit text ≡ true → None ≡ share_of_digits text
 share-unread text read error is parses digits =
     sym (none_unless (are_digits text && nat_le (digits_value 10 text) 100) text parts unread)
   where
     unread : ¬ ((0 < length text) × (digits_value 10 text < 256))
     unread =
-        subst (λ r. OkIff r ((0 < length text) × (digits_value 10 text < 256)) (digits_value 10 text)) is (parse_digits (numerals_by_value _ tells_all_ascii_digits) 8 text read parses (sym (same_digits text) ∙ digits))
+        subst (λ r. OkIff r ((0 < length text) × (digits_value 10 text < 256)) (digits_value 10 text)) is
+        (parse_digits (numerals_by_value _ tells_all_ascii_digits) 8 text read parses (sym (same_digits text) ∙ digits))
 
     parts : (are_digits text && nat_le (digits_value 10 text) 100) ≡ true → (0 < length text) × (digits_value 10 text < 256)
     parts both =
@@ -37,10 +41,13 @@ share-unread text read error is parses digits =
 ends_in : (text : List ℕ) (byte : ℕ) → 0 < length text → slice_index text (length text - 1) ≡ byte → text ≡ take (length text - 1) text ++ byte ∷ []
 ends_in text byte some is =
     let last : drop (length text - 1) text ≡ byte ∷ [] =
-    drop-cons text (length text - 1) 0 (omega arith) ∙ ap (λ (b : ℕ). b ∷ drop (suc (length text - 1)) text) is ∙ ap (λ (rest : List ℕ). byte ∷ rest) (drop_all (suc (length text - 1)) text (omega arith)) in
+    drop-cons text (length text - 1) 0 (omega arith)
+    ∙ ap (λ (b : ℕ). b ∷ drop (suc (length text - 1)) text) is
+    ∙ ap (λ (rest : List ℕ). byte ∷ rest) (drop_all (suc (length text - 1)) text (omega arith)) in
     sym (take-append-drop (length text - 1) text) ∙ ap (λ rest. take (length text - 1) text ++ rest) last
 
-no_share : (text : List ℕ) (test : Bool) → (slice_index text (length text - 1) == 37) ≡ test → ((front : List ℕ) → text ≢ front ++ 37 ∷ []) → (if test then share_of_digits (take (length text - 1) text) else None) ≡ None
+no_share : (text : List ℕ) (test : Bool) → (slice_index text (length text - 1) == 37) ≡ test → ((front : List ℕ) → text ≢ front ++ 37 ∷ [])
+    → (if test then share_of_digits (take (length text - 1) text) else None) ≡ None
 no_share text false is none = refl
 no_share [] true is none = absurd (omega (arith, eqb-true 0 37 is))
 no_share (first ∷ text) true is none =

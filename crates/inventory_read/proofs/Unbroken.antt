@@ -33,7 +33,8 @@ module _ (inventory : Inventory) (e : broken_by_tree inventory ≡ []) where
 
   numbers : (nat_le (length inventory.places) groups_bound && nat_le (length inventory.rows) rows_bound) ≡ true
   numbers =
-      kept (nat_le (length inventory.places) groups_bound && nat_le (length inventory.rows) rows_bound) TooMany (first_nil (too_many inventory) [] (rest_nil (too_deep inventory) _ (rest_nil (twice_placed inventory) _ e)))
+      kept (nat_le (length inventory.places) groups_bound && nat_le (length inventory.rows) rows_bound) TooMany
+      (first_nil (too_many inventory) [] (rest_nil (too_deep inventory) _ (rest_nil (twice_placed inventory) _ e)))
 
   pub keeps-groups : length inventory.places ≤ groups_bound
   keeps-groups =

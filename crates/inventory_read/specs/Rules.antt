@@ -102,7 +102,8 @@ broken_by_hosts hosts = flat_map broken_by_host hosts
 -- the rules that a group breaks by itself
 abbrev pub broken_by_group : Name → Data → List Breach
 broken_by_group name body =
-    joined (bad_name name ∷ bad_shape body ∷ unknown_key body ∷ bad_shape (part vars_key body) ∷ bad_shape (part hosts_key body) ∷ bad_shape (part children_key body) ∷ bad_limit (part vars_key body) ∷ broken_by_hosts (entries_in (part hosts_key body)) ∷ [])
+    joined (bad_name name ∷ bad_shape body ∷ unknown_key body ∷ bad_shape (part vars_key body) ∷ bad_shape (part hosts_key body)
+    ∷ bad_shape (part children_key body) ∷ bad_limit (part vars_key body) ∷ broken_by_hosts (entries_in (part hosts_key body)) ∷ [])
 
 -- how many names stand before the first that was met before it
 abbrev pub count_before_repeat : List Name → List Name → ℕ

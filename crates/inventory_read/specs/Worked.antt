@@ -18,15 +18,25 @@ limit hosts = one max_down_key (number (unsigned hosts))
 abbrev rack : ℕ → List Name → Data
 rack most hosts = object (member hosts_key (object (listed hosts)) (member vars_key (limit most) no_members))
 
--- the region eu (3 may be down), and in it the racks r1 (1 of a, b, c) and r2 (2 of d, e)
+-- the racks r1 (1 of a, b, c) and r2 (2 of d, e)
+abbrev racks : Members
+racks =
+    member (codes "r1") (rack 1 (codes "a" ∷ codes "b" ∷ codes "c" ∷ []))
+    (member (codes "r2") (rack 2 (codes "d" ∷ codes "e" ∷ [])) no_members)
+
+-- the region eu (3 may be down), and in it the racks
 abbrev pub two_racks : Data
 two_racks =
-    one all_key (one children_key (one (codes "eu") (object (member children_key (object (member (codes "r1") (rack 1 (codes "a" ∷ codes "b" ∷ codes "c" ∷ [])) (member (codes "r2") (rack 2 (codes "d" ∷ codes "e" ∷ [])) no_members))) (member vars_key (limit 3) no_members)))))
+    one all_key (one children_key (one (codes "eu") (object (member children_key (object racks) (member vars_key (limit 3) no_members)))))
 
--- the groups b and d below `all`, and a, b and c beside it; b below `all` lists the host own
+-- the groups b and d, of which b lists the host own
+abbrev b_and_d : Data
+b_and_d = object (member (codes "b") (one hosts_key (one (codes "own") null)) (member (codes "d") null no_members))
+
+-- the groups b and d below `all`, and a, b and c beside it
 abbrev pub beside_all : Data
 beside_all =
-    object (member (codes "a") null (member all_key (one children_key (object (member (codes "b") (one hosts_key (one (codes "own") null)) (member (codes "d") null no_members)))) (member (codes "b") null (member (codes "c") null no_members))))
+    object (member (codes "a") null (member all_key (one children_key b_and_d) (member (codes "b") null (member (codes "c") null no_members))))
 
 -- `all` has a limit that is too large and a key that has no meaning; web stands below itself
 abbrev pub three_faults : Data

@@ -6,7 +6,7 @@ use Rattle.inventory_model.specs.Names.{Name, are_distinct}
 use Rattle.inventory_model.specs.Limits.{Limit}
 use Rattle.group_tree.specs.Limits.{limit_of}
 use Rattle.domains.specs.Walks.{IsWalkOf}
-use Rattle.domains.proofs.NumberLemmas.{numbered_tree, walk_names}
+use Rattle.domains.proofs.NumberingLemmas.{numbered_tree, walk_names}
 use Rattle.domains.proofs.numbers.number_tree.Goals as goal
 
 pub names_of_groups-requires : goal.names_of_groups-requires

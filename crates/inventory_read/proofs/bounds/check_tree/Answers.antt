@@ -13,25 +13,35 @@ returns-in-Some c = λ listed e.
     let groups = c.args.groups.now in
     let names = group_names (map place_of listed) in
     let found : IsFirstRepeat (map name_of groups) c.in-Some.group = rw c.in-Some.is at c.in_ok-group.ensures in
-    first-twice c.in-Some.group (first_repeat names) (are_distinct names) (are_within_depth depth_bound (map place_of listed)) (few listed) (sym (ap are_distinct (names-are groups listed e)) ∙ not_distinct (map name_of groups) c.in-Some.group found) (first_repeat-is (map name_of groups) c.in-Some.group found ∙ ap first_repeat (names-are groups listed e))
+    first-twice c.in-Some.group (first_repeat names) (are_distinct names) (are_within_depth depth_bound (map place_of listed)) (few listed)
+    (sym (ap are_distinct (names-are groups listed e)) ∙ not_distinct (map name_of groups) c.in-Some.group found)
+    (first_repeat-is (map name_of groups) c.in-Some.group found ∙ ap first_repeat (names-are groups listed e))
 
 pub returns-then-not-are_within_depth : goal.returns-then-not-are_within_depth
 returns-then-not-are_within_depth c = λ listed e.
     let groups = c.args.groups.now in
     let names = group_names (map place_of listed) in
     let distinct : are_distinct (map name_of groups) ≡ true = rw c.in_default.is at c.in_ok-group.ensures in
-    first-deep (first_repeat names) (are_distinct names) (are_within_depth depth_bound (map place_of listed)) (few listed) (sym (ap are_distinct (names-are groups listed e)) ∙ distinct) (sym (depths-are groups listed e) ∙ sym c.are_within_depth.ensures ∙ c.if-not-are_within_depth.true)
+    first-deep (first_repeat names) (are_distinct names) (are_within_depth depth_bound (map place_of listed)) (few listed)
+    (sym (ap are_distinct (names-are groups listed e)) ∙ distinct)
+    (sym (depths-are groups listed e) ∙ sym c.are_within_depth.ensures ∙ c.if-not-are_within_depth.true)
 
 pub returns-then-not-are_few : goal.returns-then-not-are_few
 returns-then-not-are_few c = λ listed e.
     let groups = c.args.groups.now in
     let names = group_names (map place_of listed) in
     let distinct : are_distinct (map name_of groups) ≡ true = rw c.in_default.is at c.in_ok-group.ensures in
-    first-many (first_repeat names) (are_distinct names) (are_within_depth depth_bound (map place_of listed)) (few listed) (sym (ap are_distinct (names-are groups listed e)) ∙ distinct) (sym (depths-are groups listed e) ∙ sym c.are_within_depth.ensures ∙ c.if-not-are_within_depth.false) (sym (few-are groups listed e) ∙ sym c.are_few.ensures ∙ c.if-not-are_few.true)
+    first-many (first_repeat names) (are_distinct names) (are_within_depth depth_bound (map place_of listed)) (few listed)
+    (sym (ap are_distinct (names-are groups listed e)) ∙ distinct)
+    (sym (depths-are groups listed e) ∙ sym c.are_within_depth.ensures ∙ c.if-not-are_within_depth.false)
+    (sym (few-are groups listed e) ∙ sym c.are_few.ensures ∙ c.if-not-are_few.true)
 
 pub returns : goal.returns
 returns c = λ listed e.
     let groups = c.args.groups.now in
     let names = group_names (map place_of listed) in
     let distinct : are_distinct (map name_of groups) ≡ true = rw c.in_default.is at c.in_ok-group.ensures in
-    unbroken (first_repeat names) (are_distinct names) (are_within_depth depth_bound (map place_of listed)) (few listed) (sym (ap are_distinct (names-are groups listed e)) ∙ distinct) (sym (depths-are groups listed e) ∙ sym c.are_within_depth.ensures ∙ c.if-not-are_within_depth.false) (sym (few-are groups listed e) ∙ sym c.are_few.ensures ∙ c.if-not-are_few.false)
+    unbroken (first_repeat names) (are_distinct names) (are_within_depth depth_bound (map place_of listed)) (few listed)
+    (sym (ap are_distinct (names-are groups listed e)) ∙ distinct)
+    (sym (depths-are groups listed e) ∙ sym c.are_within_depth.ensures ∙ c.if-not-are_within_depth.false)
+    (sym (few-are groups listed e) ∙ sym c.are_few.ensures ∙ c.if-not-are_few.false)

@@ -29,5 +29,7 @@ loop-index-preserved c =
     let within = length-name_of groups l.index c.loop-index-test.true in
     record {
       kept = λ name. has-more name l.names.keys c.insert.new.self.keys item.name (map name_of groups) l.index within is c.in_ok-insert.ensures.keys (l.invariant.kept name);
-      distinct = are_distinct-more (map name_of groups) l.index within l.invariant.distinct (is_new l.names.keys item.name (map name_of groups) l.index c.in_ok-insert.field-0 is l.invariant.kept c.in_ok-insert.ensures.added c.if-not-branch.false);
+      distinct =
+          are_distinct-more (map name_of groups) l.index within l.invariant.distinct
+          (is_new l.names.keys item.name (map name_of groups) l.index c.in_ok-insert.field-0 is l.invariant.kept c.in_ok-insert.ensures.added c.if-not-branch.false);
     }

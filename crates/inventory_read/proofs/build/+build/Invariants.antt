@@ -10,7 +10,8 @@ use Rattle.inventory_read.proofs.build.+build.Given as goal
 abbrev pub invariant-loop-name : goal.invariant-loop-name
 invariant-loop-name g l = record {
   named : l.group.name ≡ l.initial.group.name;
-  built : beside (inventory_of l.group) (inventory_from (map (under l.group.name) (groups_among (members_view l.name-iterator)))) ≡ beside (inventory_of l.initial.group) (inventory_from (map (under l.initial.group.name) (groups_among (members_view l.initial.name-iterator))));
+  built : beside (inventory_of l.group) (inventory_from (map (under l.group.name) (groups_among (members_view l.name-iterator))))
+      ≡ beside (inventory_of l.initial.group) (inventory_from (map (under l.initial.group.name) (groups_among (members_view l.initial.name-iterator))));
   names : are_named (groups_among (members_view l.name-iterator)) ≡ true;
   nested : members_depth (members_view l.name-iterator) ≤ members_depth (members_view l.initial.name-iterator);
 }

@@ -29,6 +29,7 @@ loop-child-preserved g c =
     record {
       named = ap (λ (group : Subtree). group.name) c.in_ok-add_child.ensures.ok ∙ l.invariant.named;
       built =
-          reach-with_child l.group c.in_ok-build.field-0 c.add_child.new.self (groups_from (entry_of child)) more c.in_ok-add_child.ensures.ok c.in_ok-build.ensures ∙ (rw next at l.invariant.built);
+          reach-with_child l.group c.in_ok-build.field-0 c.add_child.new.self (groups_from (entry_of child)) more c.in_ok-add_child.ensures.ok
+          c.in_ok-build.ensures ∙ (rw next at l.invariant.built);
       names = (parts_named (groups_from (entry_of child)) more (rw next at l.invariant.names)).1;
     }

@@ -10,6 +10,7 @@ use Rattle.inventory_read.proofs.build.build_all.Given as goal
 abbrev pub invariant-loop-child : goal.invariant-loop-child
 invariant-loop-child g l = record {
   named : l.group.name ≡ l.initial.group.name;
-  built : beside (inventory_of l.group) (inventory_from (map (under l.group.name) (flat_map groups_from (map entry_of (drop l.child-index l.children))))) ≡ beside (inventory_of l.initial.group) (inventory_from (map (under l.initial.group.name) (flat_map groups_from (map entry_of l.children))));
+  built : beside (inventory_of l.group) (inventory_from (map (under l.group.name) (flat_map groups_from (map entry_of (drop l.child-index l.children)))))
+      ≡ beside (inventory_of l.initial.group) (inventory_from (map (under l.initial.group.name) (flat_map groups_from (map entry_of l.children))));
   names : are_named (flat_map groups_from (map entry_of (drop l.child-index l.children))) ≡ true;
 }

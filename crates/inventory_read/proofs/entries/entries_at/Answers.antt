@@ -10,4 +10,5 @@ deeper size (Some m) part whole below is = omega arith
 
 pub returns-in-Some-clause-shallower : goal.returns-in-Some-clause-shallower
 returns-in-Some-clause-shallower c =
-    deeper (λ m. members_depth (members_view m.now.entries)) c.entries_of.result _ _ (depth-get c.args.key.now (view c.args.value.now) (view c.in-Some.part.now) (sym c.in-Some.ensures)) c.entries_of.ensures.shallower
+    deeper (λ m. members_depth (members_view m.now.entries)) c.entries_of.result _ _
+    (depth-get c.args.key.now (view c.args.value.now) (view c.in-Some.part.now) (sym c.in-Some.ensures)) c.entries_of.ensures.shallower

@@ -10,4 +10,5 @@ returns-in-Err c =
     let groups = c.args.groups.now in
     let group = c.index-groups-index.result in
     let here : first_of (broken_at group) ≡ Some (breach_of_flaw c.in-Err.flaw) = c.in-Err.ensures in
-    IsFirst-group c.in_ok-fault_at.field-0 groups c.loop-index.index group (breach_of_flaw c.in-Err.flaw) c.loop-index-test.true c.index-groups-index.is c.loop-index.invariant here c.in_ok-fault_at.ensures
+    IsFirst-group c.in_ok-fault_at.field-0 groups c.loop-index.index group
+    (breach_of_flaw c.in-Err.flaw) c.loop-index-test.true c.index-groups-index.is c.loop-index.invariant here c.in_ok-fault_at.ensures
