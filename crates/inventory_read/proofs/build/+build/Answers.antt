@@ -14,7 +14,8 @@ pub returns-in_default : goal.returns-in_default
 returns-in_default g t c =
     let body = view c.args.body.now in
     let below : below_body body ≡ [] = below_body-is body ∙ ap groups_among c.in_default.ensures.entries in
-    sym (reach-none c.in_ok-group.group) ∙ reach-own c.in_ok-group.group c.args.name.now body [] c.in_ok-group.ensures ∙ ap (λ list. inventory_from (with_below c.args.name.now body list)) (sym below)
+    sym (reach-none c.in_ok-group.group) ∙ reach-own c.in_ok-group.group c.args.name.now body [] c.in_ok-group.ensures
+    ∙ ap (λ list. inventory_from (with_below c.args.name.now body list)) (sym below)
 
 pub loop-name-init : goal.loop-name-init
 loop-name-init g t c =

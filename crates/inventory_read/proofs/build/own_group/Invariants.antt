@@ -8,6 +8,7 @@ use Rattle.inventory_read.proofs.build.own_group.Given as goal
 
 abbrev pub invariant-loop-host : goal.invariant-loop-host
 invariant-loop-host g l = record {
-  built : record l.group { hosts = l.group.hosts ++ map host_of (entries (members_view l.host-iterator)) } ≡ record l.initial.group { hosts = map host_of (entries (members_view l.initial.host-iterator)) };
+  built : record l.group { hosts = l.group.hosts ++ map host_of (entries (members_view l.host-iterator)) }
+      ≡ record l.initial.group { hosts = map host_of (entries (members_view l.initial.host-iterator)) };
   names : list_all has_name (entries (members_view l.host-iterator)) ≡ true;
 }
