@@ -7,3 +7,6 @@ pub mod NamingLemmas
 pub mod CountedLemmas
 pub mod PlannedLemmas
 pub mod AnswerLemmas
+pub mod RoomLemmas
+pub mod CheckLemmas
+pub mod ExactLemmas

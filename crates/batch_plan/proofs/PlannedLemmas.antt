@@ -114,7 +114,7 @@ count_own p q (y ∷ ys) own =
     both false = refl
 
 -- a batch has no more of a group's members than hosts that are members
-among_least : (batch : List ℕ) (group : FleetGroup) → are_distinct group.members ≡ true → members_among batch group ≤ count_by (λ host. has_number host group.members) batch
+pub among_least : (batch : List ℕ) (group : FleetGroup) → are_distinct group.members ≡ true → members_among batch group ≤ count_by (λ host. has_number host group.members) batch
 among_least batch group distinct =
     let own = count_own (λ host. has_number host batch) (λ host. has_number host group.members) group.members (λ y e. e) in
     omega (arith, own, count_among (λ host. has_number host group.members) batch group.members distinct)

@@ -6,3 +6,4 @@ pub mod Answers
 pub mod Places
 pub mod Inside
 pub mod Laws
+pub mod Checks

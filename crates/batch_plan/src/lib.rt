@@ -2,15 +2,19 @@
 #![tactic(auto)]
 
 pub mod answers;
+mod checker;
 mod counting;
 mod dealing;
 mod laws;
 mod naming;
 mod needs;
 mod planner;
+mod rooms;
 
 pub use answers::{Answer, Bound};
+pub use checker::check_plan;
 pub use counting::counted;
 pub use fleet_states::Status;
 pub use laws::{a_blocked_group_has_no_plan, bounds_hold};
 pub use planner::{plan, plan_over};
+pub use rooms::{room, waiting};

@@ -1,0 +1,21 @@
+use Rattle.std.proofs.Common.{◌≡◌, ℕ, ◌-◌, Option, None, Some, option_map, sym, ap, ◌∙◌}
+use Rattle.fleet_numbers.specs.NumberLists.{list_at}
+use Rattle.fleet_states.specs.Statuses.{down_count}
+use Rattle.batch_plan.proofs.RoomLemmas.{room_is}
+use Rattle.batch_plan.proofs.rooms.room.Goals as goal
+
+pub returns-in-Some : goal.returns-in-Some
+returns-in-Some c =
+    let statuses = c.args.statuses.now in
+    let members = list_at c.args.fleet.now.members c.args.group.index in
+    let left : Option ℕ → Option ℕ = option_map (λ limit. limit - down_count statuses members) in
+    let down = c.count_down-down.ensures ∙ ap (down_count statuses) c.members.ensures.members in
+    let result : c.saturating_sub.result ≡ c.in-Some.limit - down_count statuses members = c.saturating_sub.ensures ∙ ap (λ n. n - c.count_down-down.result) c.from.ensures ∙ ap (λ n. c.in-Some.limit - n) down in
+    ap (λ n. Some n) result ∙ ap left (sym c.in-Some.is ∙ c.limit.ensures) ∙ sym (room_is c.args.fleet.now c.args.group.index c.requires statuses)
+
+pub returns-in-None : goal.returns-in-None
+returns-in-None c =
+    let statuses = c.args.statuses.now in
+    let members = list_at c.args.fleet.now.members c.args.group.index in
+    let left : Option ℕ → Option ℕ = option_map (λ limit. limit - down_count statuses members) in
+    ap left (sym c.in-None.is ∙ c.limit.ensures) ∙ sym (room_is c.args.fleet.now c.args.group.index c.requires statuses)
