@@ -1,5 +1,5 @@
 -- The counts on a host's chain have room for its leaving.
-use Rattle.std.proofs.Common.{◌≡◌, ℕ, zero, suc, ◌-◌, ◌≤◌, ◌<◌, Bool, true, ◌||◌, ◌&&◌, not, nat_eq, nat_lt, List, [], ◌∷◌, map}
+use Rattle.std.proofs.Common.{◌≡◌, ℕ, zero, suc, ◌≤◌, ◌<◌, Bool, true, ◌||◌, ◌&&◌, not, nat_eq, nat_lt, List, [], ◌∷◌, map}
 use Rattle.std.proofs.Common.{length, get_or, sym, ap, ◌∙◌, refl, arith}
 use Rattle.std.specs.List.{list_all}
 use Rattle.std.proofs.lemmas.Bool.{eq-eqb, and_parts, not-true, ltb-true, ltb-false}

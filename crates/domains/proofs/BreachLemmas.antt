@@ -10,12 +10,8 @@ use Rattle.domains.specs.Numbered.{host_at}
 use Rattle.domains.specs.Search.{IsFirstCrossing, IsFirstOverGroup}
 use Rattle.domains.proofs.ByNumber.{group_name}
 use Rattle.domains.proofs.KnownLists.{AreListsOf}
-use Rattle.domains.proofs.FleetLemmas as facts
 use Rattle.domains.proofs.CrossingLemmas as crossings
 use Rattle.domains.proofs.StartLemmas as starts
-use Rattle.domains.proofs.TogetherLemmas as deals
-use Rattle.domains.proofs.SubtreeLemmas as subtrees
-use Rattle.domains.proofs.SoundLemmas as sounds
 use Rattle.std.specs.String.{string_bytes}
 use Rattle.inventory_model.specs.Bounds.{IsWithinBounds}
 use Rattle.domains.specs.Faults.{IsFaultOf}

@@ -8,7 +8,7 @@ use Rattle.inventory_model.specs.Members.{holds}
 use Rattle.inventory_model.specs.Limits.{Limit, allowed}
 use Rattle.fleet_numbers.specs.NumberLists.{has_number, list_at, numbers_where, last_where}
 use Rattle.fleet_numbers.specs.GroupPaths.{paths_from, is_member}
-use Rattle.fleet_numbers.proofs.PathLemmas.{on_path}
+use Rattle.fleet_numbers.proofs.PathLemmas.{path_to, on_path}
 use Rattle.domains.specs.Walks.{row_at}
 use Rattle.domains.specs.Starts.{place_at}
 use Rattle.domains.specs.Nested.{is_limited_holder}
@@ -28,7 +28,7 @@ abbrev pub depths_of : List Place → List ℕ
 depths_of places = map (λ (place : Place). length place.above) places
 
 abbrev pub path_at : List Place → ℕ → List ℕ
-path_at places group = list_at (paths_from [] 0 (depths_of places)) group
+path_at places group = path_to (depths_of places) group
 
 abbrev pub paths_of : Inventory → List (List ℕ)
 paths_of inventory = paths_from [] 0 (depths_of inventory.places)

@@ -1,5 +1,5 @@
 -- Lists by numbers say what the inventory says by names.
-use Rattle.std.proofs.Common.{◌≡◌, ℕ, ◌≤◌, ◌<◌, Bool, true, false, ◌||◌, ◌&&◌, nat_eq, nat_lt, Option, Some, None, All, List, [], ◌∷◌, length, get_or}
+use Rattle.std.proofs.Common.{◌≡◌, ℕ, ◌≤◌, ◌<◌, Bool, true, ◌||◌, ◌&&◌, nat_eq, nat_lt, Option, Some, None, All, List, [], ◌∷◌, length, get_or}
 use Rattle.std.proofs.Common.{map, filter, is_some, sym, ap, ◌∙◌, refl, subst, arith, inl, inr, ◌⊎◌}
 use Rattle.std.specs.List.{range_with_len}
 use Rattle.std.proofs.lemmas.Bool.{cases_lt, false≢true, and_parts, lt-ltb, ltb-true, or_cases, or_left, or_right}

@@ -7,10 +7,8 @@ use Rattle.std.proofs.lemmas.List.Folds.{list_any_at}
 use Rattle.inventory_model.specs.Names.{Name, are_distinct, begins}
 use Rattle.inventory_model.specs.Places.{Place, is_preorder}
 use Rattle.inventory_model.specs.Bounds.{group_names}
-use Rattle.fleet_numbers.specs.NumberLists.{list_at}
-use Rattle.fleet_numbers.specs.GroupPaths.{paths_from}
 use Rattle.fleet_numbers.proofs.RisingLemmas.{Ascends, has_number-within}
-use Rattle.fleet_numbers.proofs.PathLemmas.{first_path, path_next, path_ascends}
+use Rattle.fleet_numbers.proofs.PathLemmas.{path_to, first_path, path_next, path_ascends}
 use Rattle.domains.specs.Starts.{place_at}
 use Rattle.domains.specs.Nested.{are_apart}
 use Rattle.domains.specs.FleetLists.{parent_on}
@@ -27,39 +25,36 @@ ascends_at low high (x ∷ xs) zero (suc j) up l m =
     omega (arith, r.0)
 ascends_at low high (x ∷ xs) (suc i) (suc j) up l m = ascends_at (suc x) high xs i j up.2 (omega arith) (omega arith)
 
-abbrev path_in : List ℕ → ℕ → List ℕ
-path_in depths group = list_at (paths_from [] 0 depths) group
-
 -- a group on a path has the path up to it
-pub path_on : (depths : List ℕ) (k i : ℕ) → k < length depths → i < length (path_in depths k)
-    → path_in depths (get_or (path_in depths k) i 0) ≡ take (i + 1) (path_in depths k)
+pub path_on : (depths : List ℕ) (k i : ℕ) → k < length depths → i < length (path_to depths k)
+    → path_to depths (get_or (path_to depths k) i 0) ≡ take (i + 1) (path_to depths k)
 path_on depths zero i l m =
     let first = first_path depths l in
     let only : i ≡ 0 = omega (arith, m, ap length first) in
-    let at_top = ap (λ (xs : List ℕ). path_in depths (get_or xs 0 0)) first ∙ first ∙ sym (ap (take 1) first) in
-    subst (λ (n : ℕ). path_in depths (get_or (path_in depths 0) n 0) ≡ take (n + 1) (path_in depths 0)) (sym only) at_top
+    let at_top = ap (λ (xs : List ℕ). path_to depths (get_or xs 0 0)) first ∙ first ∙ sym (ap (take 1) first) in
+    subst (λ (n : ℕ). path_to depths (get_or (path_to depths 0) n 0) ≡ take (n + 1) (path_to depths 0)) (sym only) at_top
 path_on depths (suc k) i l m = by_case (path_on depths k i (omega arith)) (cases_lt i (length kept))
   where
     here : List ℕ
-    here = path_in depths k
+    here = path_to depths k
 
     kept : List ℕ
-    kept = take (get_or depths (suc k) 0) (path_in depths k)
+    kept = take (get_or depths (suc k) 0) (path_to depths k)
 
-    next : path_in depths (suc k) ≡ kept ++ suc k ∷ []
+    next : path_to depths (suc k) ≡ kept ++ suc k ∷ []
     next = path_next depths k l
 
     kept_len : length kept ≡ min (get_or depths (suc k) 0) (length here)
     kept_len = length-take (get_or depths (suc k) 0) here
 
-    long : length (path_in depths (suc k)) ≡ length kept + 1
+    long : length (path_to depths (suc k)) ≡ length kept + 1
     long = ap length next ∙ length-append kept (suc k ∷ [])
 
-    by_case : (i < length here → path_in depths (get_or here i 0) ≡ take (i + 1) here) → (i < length kept) ⊎ (length kept ≤ i)
-        → path_in depths (get_or (path_in depths (suc k)) i 0) ≡ take (i + 1) (path_in depths (suc k))
+    by_case : (i < length here → path_to depths (get_or here i 0) ≡ take (i + 1) here) → (i < length kept) ⊎ (length kept ≤ i)
+        → path_to depths (get_or (path_to depths (suc k)) i 0) ≡ take (i + 1) (path_to depths (suc k))
     by_case before (inl q) =
-        ap (λ (xs : List ℕ). path_in depths (get_or xs i 0)) next
-        ∙ ap (path_in depths) (get_or_append_left kept (suc k ∷ []) 0 i q ∙ get_or-take (get_or depths (suc k) 0) here i 0 (omega (arith, q, kept_len)))
+        ap (λ (xs : List ℕ). path_to depths (get_or xs i 0)) next
+        ∙ ap (path_to depths) (get_or_append_left kept (suc k ∷ []) 0 i q ∙ get_or-take (get_or depths (suc k) 0) here i 0 (omega (arith, q, kept_len)))
         ∙ before (omega (arith, q, kept_len))
         ∙ sym (take-take (i + 1) (get_or depths (suc k) 0) here (omega (arith, q, kept_len)))
         ∙ sym (take-append-le (i + 1) kept (suc k ∷ []) (omega (arith, q)))
@@ -67,9 +62,9 @@ path_on depths (suc k) i l m = by_case (path_on depths k i (omega arith)) (cases
     by_case before (inr q) =
         let last : i ≡ length kept = omega (arith, q, m, long) in
         let zeroth : i - length kept ≡ 0 = omega (arith, last) in
-        let own : get_or (path_in depths (suc k)) i 0 ≡ suc k =
+        let own : get_or (path_to depths (suc k)) i 0 ≡ suc k =
         ap (λ (xs : List ℕ). get_or xs i 0) next ∙ get_or-append_right kept (suc k ∷ []) (length kept) i 0 refl q ∙ ap (λ (n : ℕ). get_or (suc k ∷ []) n 0) zeroth in
-        ap (path_in depths) own ∙ sym (take_all (i + 1) (path_in depths (suc k)) (omega (arith, q, long)))
+        ap (path_to depths) own ∙ sym (take_all (i + 1) (path_to depths (suc k)) (omega (arith, q, long)))
 
 -- where the parent stands on a path
 abbrev HasParentAt : List ℕ → Type 0

@@ -1,8 +1,8 @@
-use Rattle.std.proofs.Common.{◌≡◌, ◌∙◌, ◌++◌, ◌∷◌, [], ℕ, ◌<◌, Option, None, List, map, option_map, length, get_or, sym, ap, arith}
+use Rattle.std.proofs.Common.{◌≡◌, ◌∙◌, ◌++◌, ◌∷◌, [], ℕ, Option, None, List, map, option_map, length, get_or, sym, ap, arith}
 use Rattle.std.specs.List.{range_with_len}
-use Rattle.std.proofs.lemmas.List.{get_or-map, length-map}
+use Rattle.std.proofs.lemmas.List.{get_or-map}
 use Rattle.std.proofs.lemmas.List.FromFn.{map-range_with_len_more}
-use Rattle.inventory_model.specs.Limits.{Limit, allowed}
+use Rattle.inventory_model.specs.Limits.{Limit}
 use Rattle.group_tree.specs.Limits.{limit_of}
 use Rattle.fleet_numbers.specs.NumberLists.{list_at}
 use Rattle.domains.proofs.ByNumber.{allowed_for, count_of}

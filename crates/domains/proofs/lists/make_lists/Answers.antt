@@ -1,10 +1,9 @@
-use Rattle.std.proofs.Common.{◌≡◌, ◌∙◌, ◌≤◌, ◌<◌, ◌^◌, ℕ, List, [], Global, map, filter, option_map, length, get_or, sym, ap, subst, arith, true, Bool}
-use Rattle.std.specs.List.{list_all, range_with_len}
+use Rattle.std.proofs.Common.{◌≡◌, ◌∙◌, ◌≤◌, ℕ, List, [], Global, map, filter, option_map, length, get_or, ap, subst, arith, Bool}
 use Rattle.std.specs.String.{string_bytes}
 use Rattle.std.proofs.lemmas.List.{length-map}
 use Rattle.std.proofs.lemmas.List.FromFn.{length-map-range_with_len}
 use Rattle.group_tree.specs.Limits.{limit_of}
-use Rattle.fleet_numbers.specs.NumberLists.{are_below, IsRising, numbers_where, has_number, list_at, last_where}
+use Rattle.fleet_numbers.specs.NumberLists.{IsRising, has_number, list_at}
 use Rattle.fleet_numbers.specs.GroupPaths.{paths_from, is_member}
 use Rattle.fleet_numbers.specs.Chains.{is_limited}
 use Rattle.fleet_numbers.proofs.PathLemmas.{length-paths_from}

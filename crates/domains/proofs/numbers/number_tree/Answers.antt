@@ -1,4 +1,4 @@
-use Rattle.std.proofs.Common.{◌≡◌, ◌∙◌, ℕ, Option, List, length, map, option_map, ap, subst, arith, Global}
+use Rattle.std.proofs.Common.{◌≡◌, ◌∙◌, Option, List, length, map, option_map, ap, subst, arith, Global}
 use Rattle.std.specs.String.{string_bytes}
 use Rattle.std.proofs.lemmas.List.{length-map}
 use Rattle.inventory_model.specs.Places.{Inventory}

@@ -1,7 +1,6 @@
-use Rattle.std.proofs.Common.{◌≡◌, ◌∙◌, ◌≤◌, ℕ, List, Bool, Global, map, length, sym, ap, subst, arith}
+use Rattle.std.proofs.Common.{◌≤◌, Global, map, length, sym, subst, arith}
 use Rattle.std.specs.String.{string_bytes}
 use Rattle.std.proofs.lemmas.List.{length-map}
-use Rattle.domains.specs.FleetViews.{FleetView}
 use Rattle.domains.specs.Fleets.{IsFleetOf}
 use Rattle.domains.specs.Search.{AreChainsNested, AreStartsWithin, IsFirstBreach}
 use Rattle.domains.proofs.BreachLemmas.{fault_of}

@@ -1,8 +1,6 @@
-use Rattle.std.proofs.Common.{◌≡◌, ◌∙◌, ℕ, ◌<◌, ◌≤◌, Vec, Global, length, map, sym, ap, subst, arith}
+use Rattle.std.proofs.Common.{◌≡◌, ◌∙◌, length, ap, subst}
 use Rattle.group_tree.specs.declared.ids.HostId.{HostId}
-use Rattle.group_tree.specs.declared.ids.GroupId.{GroupId}
-use Rattle.fleet_numbers.specs.NumberLists.{list_at, IsRising}
-use Rattle.domains.specs.Ids.{host_numbers, group_numbers}
+use Rattle.domains.specs.Ids.{host_numbers}
 use Rattle.domains.specs.FleetViews.{FleetView, IsSound}
 use Rattle.domains.proofs.ReaderLemmas.{dealt_within}
 use Rattle.domains.proofs.fleet.Fleet.deal_order.Goals as goal
