@@ -18,7 +18,7 @@ pub enum ReadFault {
     #[error("a key that the format does not name: {at:?}")]
     UnknownKey { at: String },
     /// A group's `max_down` is no whole number from 0 to 65,535.
-    #[error("not a whole number from 0 to 65535: {at:?}")]
+    #[error("neither a whole number from 0 to 65535 nor a percentage: {at:?}")]
     BadLimit { at: String },
     /// A host's `down` is no truth value.
     #[error("neither true nor false: {at:?}")]

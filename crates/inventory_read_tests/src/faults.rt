@@ -90,6 +90,8 @@ const FAULTS: &str = r#"201 |  |
 204 | a/vars/max_down | {"z":{"x":1},"a":{"vars":{"max_down":-1}}}
 203 | a/children/b/x | {"b":7,"a":{"children":{"b":{"x":1}}}}
 203 | a/y | {"all":{"children":{"b":{"x":1}}},"a":{"y":1}}
+203 | b/x | {"a":{"children":{"c":{"children":{"d":null}}}},"b":{"x":1}}
+203 | a/children/f/x | {"a":{"children":{"c":{"children":{"d":null}},"f":{"x":1}}}}
 203 | all/children/a/x | {"a":{"y":1},"all":{"children":{"a":{"x":1}}}}
 203 | all/children/c/x | {"d":{"y":1},"a":null,"all":{"children":{"c":{"x":1}}}}
 101 | z z | {"a":{"children":{"a":null}},"z z":null}
@@ -133,6 +135,47 @@ fn line_of(scratch: Global, line: &str) -> Result<String, Fail> {
 fn the_first_fault_is_named(rt: HostRuntime) -> Result<(), Fail> {
     for line in FAULTS.lines() {
         assert_eq!(rt; line_of(rt.alloc(), line)?.as_str(), line);
+    }
+    Ok(())
+}
+
+/// Texts, and what their faults say of them.
+const SAID: [(&str, &str); 8] = [
+    ("{", "the text is no JSON"),
+    (
+        r#"{"all":7}"#,
+        r#"not of the shape that the format asks for: "all""#,
+    ),
+    (
+        r#"{"all":{"x":1}}"#,
+        r#"a key that the format does not name: "all/x""#,
+    ),
+    (
+        r#"{"g":{"vars":{"max_down":-1}}}"#,
+        r#"neither a whole number from 0 to 65535 nor a percentage: "g/vars/max_down""#,
+    ),
+    (
+        r#"{"g":{"hosts":{"a":{"down":1}}}}"#,
+        r#"neither true nor false: "g/hosts/a/down""#,
+    ),
+    (
+        r#"{"a b":null}"#,
+        r#"not a name of letters, digits, dots, dashes and underscores: "a b""#,
+    ),
+    (
+        r#"{"a":{"children":{"a":null}}}"#,
+        "group 3 has the name of one before it",
+    ),
+    ("[]", r#"not of the shape that the format asks for: """#),
+];
+
+#[test]
+fn a_fault_says_what_is_wrong(rt: HostRuntime) -> Result<(), Fail> {
+    for (text, said) in SAID {
+        let fault = read_inventory(rt.alloc(), rt.alloc(), text.as_bytes())
+            .err()
+            .ok_or("a fault")?;
+        assert_eq!(rt; fault.to_string(rt.alloc())?.as_str(), said);
     }
     Ok(())
 }

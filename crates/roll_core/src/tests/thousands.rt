@@ -62,7 +62,7 @@ fn work(core: &mut Core, alloc: Global, times: usize) -> Result<(), AllocError>
 #[test]
 fn thousands_of_hosts_are_opened_and_claimed(rt: HostRuntime) -> Result<(), Fail> {
     let alloc = rt.alloc();
-    let count = 4096;
+    let count = 8192;
     let hosts = numbered(alloc, count)?;
     let mut core = one_group(alloc, count)?;
     let Ok(()) = open(&mut core, alloc, hosts.as_slice()) else {
