@@ -1,0 +1,9 @@
+//! What no clause of `host_vars` says: that its calls succeed with memory. And the stated rows, on small fleets.
+#![tactic(auto)]
+
+#[cfg(test)]
+mod fleets;
+#[cfg(test)]
+mod rows;
+#[cfg(test)]
+mod slow;

@@ -1,0 +1,158 @@
+//! A slow program that looks at every group, against `layered` and `layered_all`.
+use crate::fleets::{Row, tree_of};
+use cond::{Env, Scalar, Value};
+use domains::Fleet;
+use group_tree::HostId;
+use host_vars::{Vars, layered, layered_all};
+use std::alloc::Global;
+use std::test::Fail;
+
+type Hosts = &'static [(&'static str, i64)];
+
+const NOBODY: Hosts = &[];
+
+const ONLY_A: Hosts = &[("a", -1)];
+
+const A_TWICE: Hosts = &[("a", 50), ("a", -1)];
+
+const BOTH: Hosts = &[("b", 60), ("a", 70), ("b", 80)];
+
+fn hosts_of(choice: u32) -> Hosts {
+    match choice % 4 {
+        0 => NOBODY,
+        1 => ONLY_A,
+        2 => A_TWICE,
+        _ => BOTH,
+    }
+}
+
+fn value_if(is_set: bool, value: i64) -> i64 {
+    if is_set { value } else { -1 }
+}
+
+fn row(name: &'static str, above: &'static str, value: i64, choice: u32) -> Row {
+    Row {
+        name,
+        above,
+        value,
+        hosts: hosts_of(choice),
+    }
+}
+
+/// The groups m, c and z below `all`, k below m and d below z, with values and hosts by the digits of the number.
+fn groups_of(number: u32) -> [Row; 5] {
+    [
+        row("m", "all", value_if(number % 2 == 1, 2), number),
+        row("c", "all", value_if(number / 2 % 2 == 1, 3), number / 2),
+        row("z", "all", value_if(number / 4 % 2 == 1, 4), number / 4),
+        row("k", "m", value_if(number / 8 % 2 == 1, 5), number / 3),
+        row("d", "z", value_if(number / 16 % 2 == 1, 6), number / 5),
+    ]
+}
+
+fn lists(row: &Row, host: &str) -> bool {
+    row.hosts.iter().any(|(name, _)| *name == host)
+}
+
+fn holds(rows: &[Row], group: &str, host: &str) -> bool {
+    let mut held = false;
+    for row in rows {
+        if lists(row, host) && (row.name == group || row.above == group || group == "all") {
+            held = true;
+        }
+    }
+    held
+}
+
+fn own_in(row: &Row, host: &str, before: i64) -> i64 {
+    let mut last = before;
+    for (name, value) in row.hosts {
+        if *name == host && *value >= 0 {
+            last = *value;
+        }
+    }
+    last
+}
+
+/// The host's own value, from its places in preorder.
+fn own(rows: &[Row], host: &str) -> i64 {
+    let mut last = -1;
+    for row in rows {
+        if row.above == "all" {
+            last = own_in(row, host, last);
+            for below in rows {
+                if below.above == row.name {
+                    last = own_in(below, host, last);
+                }
+            }
+        }
+    }
+    last
+}
+
+/// The value of the deepest group that has one, among those of one depth of the last by name.
+fn of_groups(all: i64, rows: &[Row], host: &str) -> i64 {
+    let mut best = (0u32, "all", all);
+    for row in rows {
+        let depth = if row.above == "all" { 1 } else { 2 };
+        if row.value >= 0 && holds(rows, row.name, host) && (depth, row.name) >= (best.0, best.1) {
+            best = (depth, row.name, row.value);
+        }
+    }
+    best.2
+}
+
+fn wanted(all: i64, rows: &[Row], host: &str) -> i64 {
+    let own = own(rows, host);
+    if own >= 0 {
+        own
+    } else {
+        of_groups(all, rows, host)
+    }
+}
+
+fn value(vars: &Vars) -> i64 {
+    match Env::value(vars, "v") {
+        Some(Value::Plain(Scalar::Int(number))) => number,
+        _ => -1,
+    }
+}
+
+/// How many hosts the two calls and the slow program agree on, and none where they differ.
+fn agreed(alloc: Global, number: u32) -> Result<Option<usize>, Fail> {
+    let all = value_if(number % 3 > 0, 1);
+    let rows = groups_of(number);
+    let tree = tree_of(alloc, all, &rows)?;
+    let fleet = Fleet::build(alloc, &tree)?;
+    let at_once = layered_all(alloc, &tree, &fleet)?;
+    for index in 0..fleet.hosts() {
+        let host = HostId { index };
+        let name = fleet.name(host);
+        let alone = layered(alloc, &tree, &fleet, host)?;
+        let number = wanted(all, &rows, name);
+        if value(&alone) != number || !is_like(at_once.as_slice(), index, number) {
+            return Ok(None);
+        }
+    }
+    Ok(Some(fleet.hosts()))
+}
+
+fn is_like(at_once: &[Vars], index: usize, number: i64) -> bool {
+    match at_once.get(index) {
+        Some(vars) => value(vars) == number,
+        None => false,
+    }
+}
+
+#[test]
+fn both_agree_with_a_slow_program(rt: HostRuntime) -> Result<(), Fail> {
+    let mut seen = 0usize;
+    for number in 0..64u32 {
+        match agreed(rt.alloc(), number)? {
+            Some(hosts) => seen = seen.saturating_add(hosts),
+            None => assert!(rt; false, "{number}"),
+        }
+    }
+    assert!(rt; seen > 60);
+    Ok(())
+}
