@@ -18,3 +18,6 @@ pub use fleet_states::Status;
 pub use laws::{a_blocked_group_has_no_plan, bounds_hold};
 pub use planner::{plan, plan_over};
 pub use rooms::{room, waiting};
+
+#[cfg(test)]
+mod tests;
