@@ -14,3 +14,4 @@ pub mod AndChains
 pub mod NestLaws
 pub mod ParseLaws
 pub mod Firsts
+pub mod Openers

@@ -84,7 +84,7 @@ only_memory (fault.BadToken at) text broken condition written short deep =
 only_memory (fault.Unexpected at) text broken condition written short deep =
     absurd (broken.3 condition (falls_once text broken.0 (tokens_of condition) broken.1 [] broken.2 written).0)
 only_memory (fault.TooDeep at) text broken condition written short deep =
-    absurd (omega (arith, deep, broken.3 condition (falls_once text broken.0 (tokens_of condition) broken.1 [] broken.2 written).0))
+    absurd (omega (arith, deep, broken.3.1 condition (falls_once text broken.0 (tokens_of condition) broken.1 [] broken.2 written).0))
 only_memory (fault.TooLong at) text broken condition written short deep = absurd (omega (arith, broken.1, short))
 only_memory fault.Memory text broken condition written short deep = refl
 

@@ -1,6 +1,6 @@
 -- A text that is a condition, and the rules that a text may break.
 use Rattle.std.specs.Prelude.{◌≡◌, ℕ, ◌<◌, ◌≤◌, List, [], length, ⊤}
-use Rattle.cond.specs.Tokens.{Token, FallsInto}
+use Rattle.cond.specs.Tokens.{Token, FallsInto, openers}
 use Rattle.cond.specs.Grammar.{Any, tokens_of, any_depth}
 use Rattle.cond.specs.Meaning.{Environment, meaning}
 use Rattle.cond.specs.Trees.{verdict_of}
@@ -41,8 +41,8 @@ abbrev pub IsBroken : CondFault → List Token → List ℕ → Type 0
 IsBroken (fault.BadToken at) tokens left = 0 < length left
 -- the tokens are no condition
 IsBroken (fault.Unexpected at) tokens left = (condition : Any) → tokens ≡ tokens_of condition → ⊥
--- as a condition they are nested deeper
-IsBroken (fault.TooDeep at) tokens left = (condition : Any) → tokens ≡ tokens_of condition → most_depth < any_depth condition
+-- there are more brackets and `not`s than may be nested, and as a condition they are nested deeper
+IsBroken (fault.TooDeep at) tokens left = (most_depth < openers tokens) × ((condition : Any) → tokens ≡ tokens_of condition → most_depth < any_depth condition)
 IsBroken (fault.TooLong at) tokens left = ⊥
 -- want of memory names no rule
 IsBroken fault.Memory tokens left = ⊤

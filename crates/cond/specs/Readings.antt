@@ -1,6 +1,6 @@
 -- What a part of a condition reads, and why it reads nothing.
 use Rattle.std.specs.Prelude.{◌≡◌, ℕ, ◌<◌, ◌≤◌, Bool, true, false, IsTrue, List, [], ◌∷◌, ⊤}
-use Rattle.cond.specs.Tokens.{Token, And, Or, Closing}
+use Rattle.cond.specs.Tokens.{Token, And, Or, Closing, openers}
 use Rattle.cond.specs.Meaning.{Environment, Verdict}
 use Rattle.cond.specs.declared.stop.Stop.{Stop}
 use Rattle.cond.specs.declared.stop.Stop.TheVariants as stop
@@ -42,3 +42,9 @@ Leaves stop.Memory room depth = ⊤
 -- What the stop says of each reading of the tokens.
 abbrev pub Refuses : {N : Type 0} → (N → List Token → List Token) → (N → ℕ) → (List Token → Bool) → ℕ → List Token → Stop → Type 0
 Refuses {N} then depth ends room tokens why = (n : N) (rest : List Token) → IsTrue (ends rest) → tokens ≡ then n rest → Leaves why room (depth n)
+
+-- After TooDeep there are more brackets and `not`s than there is room for.
+abbrev pub Crowds : Stop → ℕ → List Token → Type 0
+Crowds (stop.Unexpected at) room tokens = ⊤
+Crowds (stop.TooDeep at) room tokens = room < openers tokens
+Crowds stop.Memory room tokens = ⊤

@@ -3,7 +3,7 @@ ghost use Rattle.std.specs.Prelude.{◌≡◌, ◌<◌, Some, IfOk, IfErr, lengt
 ghost use Rattle.cond.specs.Grammar as grammar;
 ghost use Rattle.cond.specs.Meaning.{Environment, any_meaning, all_meaning, neg_meaning, primary_meaning, test_meaning, turned};
 ghost use Rattle.cond.specs.Readings as readings;
-ghost use Rattle.cond.specs.Readings.{Reads, Refuses};
+ghost use Rattle.cond.specs.Readings.{Crowds, Reads, Refuses};
 ghost use Rattle.cond.specs.Heads as heads;
 ghost use Rattle.cond.specs.Heads.{first};
 ghost use Rattle.cond.specs.Tokens as token;
@@ -28,6 +28,7 @@ pub(crate) fn any<'a, 't>(
     ensures read { IfOk result (λ read. Reads grammar.any_then grammar.any_depth readings.ends_any any_meaning verdict_of room (ahead tokens.entry) read.0 (ahead read.1)) }
     ensures shorter { IfOk result (λ read. length (ahead read.1) < length (ahead tokens.entry)) }
     ensures refused { IfErr result (λ stop. Refuses grammar.any_then grammar.any_depth readings.ends_any room (ahead tokens.entry) stop) }
+    ensures deep { IfErr result (λ stop. Crowds stop room (ahead tokens.entry)) }
 {
     let mut parts = Vec::new(alloc);
     let mut left = tokens;
@@ -55,6 +56,7 @@ fn all<'a, 't>(
     ensures read { IfOk result (λ read. Reads grammar.all_then grammar.all_depth readings.ends_all all_meaning verdict_of room (ahead tokens.entry) read.0 (ahead read.1)) }
     ensures shorter { IfOk result (λ read. length (ahead read.1) < length (ahead tokens.entry)) }
     ensures refused { IfErr result (λ stop. Refuses grammar.all_then grammar.all_depth readings.ends_all room (ahead tokens.entry) stop) }
+    ensures deep { IfErr result (λ stop. Crowds stop room (ahead tokens.entry)) }
 {
     let mut parts = Vec::new(alloc);
     let mut left = tokens;
@@ -82,6 +84,7 @@ fn neg<'a, 't>(
     ensures read { IfOk result (λ read. Reads grammar.neg_then grammar.neg_depth readings.ends_neg neg_meaning verdict_of room (ahead tokens.entry) read.0 (ahead read.1)) }
     ensures shorter { IfOk result (λ read. length (ahead read.1) < length (ahead tokens.entry)) }
     ensures refused { IfErr result (λ stop. Refuses grammar.neg_then grammar.neg_depth readings.ends_neg room (ahead tokens.entry) stop) }
+    ensures deep { IfErr result (λ stop. Crowds stop room (ahead tokens.entry)) }
 {
     if is_not(&tokens) {
         if room == 0 {
@@ -106,6 +109,7 @@ fn primary<'a, 't>(
     ensures read { IfOk result (λ read. Reads grammar.primary_then grammar.primary_depth readings.ends_neg primary_meaning verdict_of room (ahead tokens.entry) read.0 (ahead read.1)) }
     ensures shorter { IfOk result (λ read. length (ahead read.1) < length (ahead tokens.entry)) }
     ensures refused { IfErr result (λ stop. Refuses grammar.primary_then grammar.primary_depth readings.ends_neg room (ahead tokens.entry) stop) }
+    ensures deep { IfErr result (λ stop. Crowds stop room (ahead tokens.entry)) }
 {
     if is_opening(&tokens) {
         bracketed(alloc, tokens, room)
@@ -125,6 +129,7 @@ fn bracketed<'a, 't>(
     ensures read { IfOk result (λ read. Reads grammar.primary_then grammar.primary_depth readings.ends_neg primary_meaning verdict_of room (ahead tokens.entry) read.0 (ahead read.1)) }
     ensures shorter { IfOk result (λ read. length (ahead read.1) < length (ahead tokens.entry)) }
     ensures refused { IfErr result (λ stop. Refuses grammar.primary_then grammar.primary_depth readings.ends_neg room (ahead tokens.entry) stop) }
+    ensures deep { IfErr result (λ stop. Crowds stop room (ahead tokens.entry)) }
 {
     if room == 0 {
         return Err(Stop::TooDeep { at: tokens.place() });
@@ -155,6 +160,7 @@ fn leaf<'a, 't>(
     ensures read { IfOk result (λ read. Reads grammar.primary_then grammar.primary_depth readings.ends_neg primary_meaning verdict_of room (ahead tokens.entry) read.0 (ahead read.1)) }
     ensures shorter { IfOk result (λ read. length (ahead read.1) < length (ahead tokens.entry)) }
     ensures refused { IfErr result (λ stop. Refuses grammar.primary_then grammar.primary_depth readings.ends_neg room (ahead tokens.entry) stop) }
+    ensures deep { IfErr result (λ stop. Crowds stop room (ahead tokens.entry)) }
 {
     match test(alloc, tokens) {
         Ok((found, rest)) => {

@@ -1,10 +1,11 @@
 use Rattle.std.proofs.Common.{◌≡◌, ℕ, ◌<◌, List, length, sym, refl, ap, ◌∙◌, subst, arith, rules}
-use Rattle.cond.specs.Tokens.{Token}
+use Rattle.cond.specs.Tokens.{Token, Not, Opening}
 use Rattle.cond.specs.Seen.{ahead}
 use Rattle.cond.proofs.OrChains as or_chains
 use Rattle.cond.proofs.AndChains as and_chains
 use Rattle.cond.proofs.Firsts.{behind_le, first_or, first_other_or, first_and, first_other_and, first_not, first_other_not, first_opening, first_other_opening, first_closing, first_other_closing}
 use Rattle.cond.proofs.NestLaws.{not_read, not_refused, not_too_deep, plain_read_if, plain_refused_if, brackets_too_deep, brackets_refused, brackets_read, brackets_open, brackets_unended}
+use Rattle.cond.proofs.Openers.{crowds_or, crowds_and, crowds_behind, crowds_here}
 use Rattle.cond.proofs.parser.+parser.Goals as goal
 
 pub any-returns-in-Err-clause-refused : goal.any-returns-in-Err-clause-refused
@@ -78,3 +79,27 @@ bracketed-returns-else-is_closing-clause-refused t c =
 
 pub primary-leaf-requires : goal.primary-leaf-requires
 primary-leaf-requires t c = first_other_opening (ahead c.args.tokens) (sym c.is_opening.ensures ∙ c.if-is_opening.false)
+
+pub any-returns-in-Err-clause-deep : goal.any-returns-in-Err-clause-deep
+any-returns-in-Err-clause-deep t c =
+    crowds_or c.in-Err.stop c.args.room (ahead c.args.tokens) (ahead c.alternatives.left) c.alternatives.parts.items c.alternatives.invariant.0 c.in-Err.ensures.deep
+
+pub all-returns-in-Err-clause-deep : goal.all-returns-in-Err-clause-deep
+all-returns-in-Err-clause-deep t c =
+    crowds_and c.in-Err.stop c.args.room (ahead c.args.tokens) (ahead c.conjuncts.left) c.conjuncts.parts.items c.conjuncts.invariant.0 c.in-Err.ensures.deep
+
+pub neg-returns-then-room-eq0-clause-deep : goal.neg-returns-then-room-eq0-clause-deep
+neg-returns-then-room-eq0-clause-deep t c =
+    crowds_here c.place.result c.args.room Not (ahead c.args.tokens) (first_not (ahead c.args.tokens) (sym c.is_not.ensures ∙ c.if-is_not.true)) refl c.if-room-eq0.true
+
+pub neg-returns-in-Err-clause-deep : goal.neg-returns-in-Err-clause-deep
+neg-returns-in-Err-clause-deep t c =
+    crowds_behind c.in-Err.stop c.args.room Not (ahead c.args.tokens) (first_not (ahead c.args.tokens) (sym c.is_not.ensures ∙ c.if-is_not.true)) refl (omega arith) (rw c.behind.ensures at c.in-Err.ensures.deep)
+
+pub bracketed-returns-then-room-eq0-clause-deep : goal.bracketed-returns-then-room-eq0-clause-deep
+bracketed-returns-then-room-eq0-clause-deep t c =
+    crowds_here c.place.result c.args.room Opening (ahead c.args.tokens) c.requires refl c.if-room-eq0.true
+
+pub bracketed-returns-in-Err-clause-deep : goal.bracketed-returns-in-Err-clause-deep
+bracketed-returns-in-Err-clause-deep t c =
+    crowds_behind c.in-Err.stop c.args.room Opening (ahead c.args.tokens) c.requires refl (omega arith) (rw c.behind.ensures at c.in-Err.ensures.deep)

@@ -1,9 +1,11 @@
 use Rattle.std.proofs.Common.{length, sym, refl, ap, ◌∙◌, arith}
 use Rattle.cond.specs.Seen.{ahead}
+use Rattle.cond.specs.Heads.{test_head}
 use Rattle.cond.specs.Trees.{written}
 use Rattle.cond.proofs.TestLaws.{test_longer}
 use Rattle.cond.proofs.HeadLaws.{test_read_whole}
 use Rattle.cond.proofs.NestLaws.{leaf_read, leaf_refused, leaf_unended}
+use Rattle.cond.proofs.Openers.{crowds_leaf}
 use Rattle.cond.proofs.parser.leaf.Goals as goal
 
 pub returns-then-ends-clause-read : goal.returns-then-ends-clause-read
@@ -21,3 +23,7 @@ returns-else-ends-clause-refused c =
 pub returns-in-Err-clause-refused : goal.returns-in-Err-clause-refused
 returns-in-Err-clause-refused c =
     leaf_refused c.args.room (ahead c.args.tokens) c.in-Err.stop c.requires c.in-Err.ensures
+
+pub returns-in-Err-clause-deep : goal.returns-in-Err-clause-deep
+returns-in-Err-clause-deep c =
+    crowds_leaf c.in-Err.stop c.args.room (ahead c.args.tokens) (test_head (ahead c.args.tokens)) c.in-Err.ensures
