@@ -4,6 +4,8 @@
 #[cfg(test)]
 mod fleets;
 #[cfg(test)]
+mod memory;
+#[cfg(test)]
 mod rows;
 #[cfg(test)]
 mod slow;

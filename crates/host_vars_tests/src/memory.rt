@@ -1,0 +1,145 @@
+//! Want of memory is named as such and passes: this test holds whatever one request is refused, and what was lent is as it was.
+ghost use Rattle.std.specs.Prelude.{◌<◌, IfOk, length};
+ghost use Rattle.domains.specs.Fleets.{IsFleetOf};
+
+use domains::{Fleet, FleetFault};
+use group_tree::{Group, GroupFault, HostId, Scalar, Tree};
+use host_vars::{Registered, RenderFault, Vars, layered, layered_all};
+use std::alloc::{AllocError, Allocator, Global};
+use std::test::Fail;
+
+fn group<A: Allocator + Clone>(
+    alloc: A,
+    name: &str,
+    value: i64,
+    hosts: &[&str],
+) -> Result<Group<A>, GroupFault> {
+    let variables = [("v", Scalar::Int(value))];
+    let mut group = Group::new(alloc, name, None, &variables)?;
+    for host in hosts {
+        group.add_host(host, &[])?;
+    }
+    Ok(group)
+}
+
+fn with<A: Allocator + Clone>(
+    mut group: Group<A>,
+    child: Group<A>,
+) -> Result<Group<A>, GroupFault> {
+    group.add_child(child)?;
+    Ok(group)
+}
+
+/// A group k in a group m; a is in both, b in m.
+fn groups<A: Allocator + Clone>(alloc: A) -> Result<Group<A>, GroupFault> {
+    let k = group(alloc.clone()?, "k", 3, &["a"])?;
+    let m = with(group(alloc.clone()?, "m", 2, &["a", "b"])?, k)?;
+    with(group(alloc, "all", 1, &[])?, m)
+}
+
+/// A call that was refused memory is made again.
+fn groups_again(alloc: Global) -> Result<Group<Global>, GroupFault> {
+    match groups(alloc) {
+        Err(GroupFault::Memory) => groups(alloc),
+        answer => answer,
+    }
+}
+
+fn fleet_again(alloc: Global, tree: &Tree<Global>) -> Result<Fleet, FleetFault>
+    ensures { IfOk result (IsFleetOf tree.now) }
+{
+    match Fleet::build(alloc, tree) {
+        Err(FleetFault::Memory) => Fleet::build(alloc, tree),
+        answer => answer,
+    }
+}
+
+fn layered_again(
+    alloc: Global,
+    tree: &Tree<Global>,
+    fleet: &Fleet,
+    host: HostId,
+) -> Result<Vars, AllocError>
+    requires fleet { IsFleetOf tree.now fleet.now }
+    requires host { host.index < length fleet.now.hosts }
+{
+    match layered(alloc, tree, fleet, host) {
+        Err(AllocError) => layered(alloc, tree, fleet, host),
+        answer => answer,
+    }
+}
+
+fn layered_all_again(
+    alloc: Global,
+    tree: &Tree<Global>,
+    fleet: &Fleet,
+) -> Result<Vec<Vars>, AllocError>
+    requires { IsFleetOf tree.now fleet.now }
+{
+    match layered_all(alloc, tree, fleet) {
+        Err(AllocError) => layered_all(alloc, tree, fleet),
+        answer => answer,
+    }
+}
+
+fn with_result(vars: &mut Vars, alloc: Global) -> Result<(), AllocError> {
+    let registered = Registered {
+        rc: Some(7),
+        stdout: String::from_str(alloc, "up")?,
+        stderr: String::new(alloc),
+        changed: false,
+        failed: false,
+        skipped: false,
+    };
+    vars.reserve(alloc, "x")?;
+    vars.register("x", registered);
+    Ok(())
+}
+
+fn with_result_again(vars: &mut Vars, alloc: Global) -> Result<(), AllocError> {
+    match with_result(vars, alloc) {
+        Err(AllocError) => with_result(vars, alloc),
+        Ok(()) => Ok(()),
+    }
+}
+
+fn copy_again(vars: &Vars, alloc: Global) -> Result<Vars, AllocError> {
+    match vars.copy(alloc) {
+        Err(AllocError) => vars.copy(alloc),
+        answer => answer,
+    }
+}
+
+fn render_again(vars: &Vars, alloc: Global) -> Result<String, Fail> {
+    let word = "{{ inventory_hostname }}-{{ v }}-{{ x.stdout }}";
+    for _turn in 0..2usize {
+        match vars.render(alloc, word) {
+            Ok(text) => return Ok(text),
+            Err(RenderFault::Memory) => {}
+            Err(_fault) => return Err(Fail::new("a word that has its values")),
+        }
+    }
+    Err(Fail::new("refused twice"))
+}
+
+#[test]
+fn a_call_that_was_refused_memory_answers_again(rt: HostRuntime) -> Result<(), Fail> {
+    let alloc = rt.alloc();
+    let Ok(tree) = Tree::new(groups_again(alloc)?) else {
+        return Err(Fail::new("no tree"));
+    };
+    let fleet = fleet_again(alloc, &tree)?;
+    let Some(host) = fleet.host("a") else {
+        return Err(Fail::new("no host"));
+    };
+    let mut vars = layered_again(alloc, &tree, &fleet, host)?;
+    with_result_again(&mut vars, alloc)?;
+    let copy = copy_again(&vars, alloc)?;
+    assert_eq!(rt; render_again(&copy, alloc)?.as_str(), "a-3-up");
+    assert_eq!(rt; render_again(&vars, alloc)?.as_str(), "a-3-up");
+    assert_eq!(rt;
+        layered_all_again(alloc, &tree, &fleet)?.as_slice().len(),
+        2
+    );
+    Ok(())
+}
