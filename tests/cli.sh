@@ -104,8 +104,8 @@ run limits "$work"
 check 'a folder' 1 '' "rollout: 902 File name=$work$newline"
 run limits "$(printf 'caf\303\251\tx')"
 check 'a file with an unprintable name' 1 '' "rollout: 902 File name=caf???x$newline"
-run limits ' missing '
-check 'a file whose name begins and ends with a blank' 1 '' "rollout: 902 File name= missing $newline"
+run limits "$work/racks.json "
+check 'the name of a file with a blank behind it' 1 '' "rollout: 902 File name=$work/racks.json $newline"
 run limits ''
 check 'a file without a name' 1 '' "rollout: 902 File name=$newline"
 run limits "$work/racks.json" ''
