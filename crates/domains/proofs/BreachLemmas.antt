@@ -16,6 +16,7 @@ use Rattle.std.specs.String.{string_bytes}
 use Rattle.inventory_model.specs.Bounds.{IsWithinBounds}
 use Rattle.domains.specs.Faults.{IsFaultOf}
 use Rattle.domains.specs.Search.{IsFirstBreach}
+use Rattle.domains.specs.Ids.{group_lists, host_lists}
 use Rattle.domains.specs.Outcomes.{IsNamed, IsNumberingOf, AreListsFrom}
 use Rattle.domains.specs.declared.numbers.Numbers.{Numbers}
 use Rattle.domains.specs.declared.lists.FleetLists.{FleetLists}
@@ -40,10 +41,10 @@ module _ (inventory : Inventory) (n : Numbers) (l : FleetLists) (numbered : IsNu
   counts = l.limits.items
 
   abbrev chains : List (List ℕ)
-  chains = l.chains
+  chains = group_lists l.chains.items
 
   abbrev members : List (List ℕ)
-  members = l.members
+  members = host_lists l.members.items
 
   abbrev subtree_ends : List ℕ
   subtree_ends = l.subtree_ends.items
@@ -72,7 +73,7 @@ module _ (inventory : Inventory) (n : Numbers) (l : FleetLists) (numbered : IsNu
       let inside : group < length inventory.places = omega (arith, found.within, known.members_len) in
       subst (λ (n : Name). IsFirstOver inventory n down limit) (name_of group inside) (starts.first_over known group down limit found)
 
-  pub fault_of : length hosts ≤ 4096 → (breach : Breach) (fault : FleetFault) → IsFirstBreach subtree_ends chains members counts off breach
+  pub fault_of : length hosts ≤ 4096 → (breach : Breach) (fault : FleetFault) → IsFirstBreach l off breach
       → IsNamed n breach fault → IsFaultOf inventory fault
   fault_of few (Nesting crossing) (NotNested host first second) found named =
       (omega (arith, few, ap length numbered.all_hosts), rw (named.0, named.1, named.2) (crossing_fault crossing.host crossing.first crossing.second found))

@@ -34,6 +34,7 @@ use Rattle.std.specs.String.{string_bytes}
 use Rattle.inventory_model.specs.Bounds.{IsWithinBounds}
 use Rattle.group_tree.specs.Limits.{limit_of}
 use Rattle.domains.specs.Search.{AreChainsNested, AreStartsWithin}
+use Rattle.domains.specs.Ids.{group_lists, host_lists}
 use Rattle.domains.specs.Outcomes.{IsNumberingOf, AreListsFrom, dealt_fleet}
 use Rattle.domains.specs.declared.numbers.Numbers.{Numbers}
 use Rattle.domains.specs.declared.lists.FleetLists.{FleetLists}
@@ -62,10 +63,10 @@ module _ (inventory : Inventory) (n : Numbers) (l : FleetLists) (numbered : IsNu
   counts = l.limits.items
 
   abbrev chains : List (List ℕ)
-  chains = l.chains
+  chains = group_lists l.chains.items
 
   abbrev members : List (List ℕ)
-  members = l.members
+  members = host_lists l.members.items
 
   abbrev parents : List (Option ℕ)
   parents = l.parents.items

@@ -16,6 +16,7 @@ use Rattle.group_tree.specs.declared.ids.HostId.{HostId}
 use Rattle.fleet_numbers.proofs.RisingLemmas.{ascends_le}
 use Rattle.fleet_numbers.proofs.RisingLemmas.{Ascends-rising}
 use Rattle.fleet_numbers.proofs.DealLemmas.{in_range}
+use Rattle.fleet_numbers.proofs.ListLemmas.{lent_list}
 use Rattle.group_tree.specs.declared.ids.GroupId.{GroupId}
 use Rattle.domains.specs.Ids.{host_numbers, group_numbers}
 use Rattle.domains.specs.FleetViews.{FleetView, IsSound}
@@ -57,12 +58,6 @@ found_number bound hosts x r up h within = is_found bound (host_numbers hosts) x
           λ k e a b. ap (λ (n : ℕ). nat_cmp n x) (at k any e (omega (arith, b, within))) ∙ split.0 k any a b,
           λ k e a b. ap (λ (n : ℕ). nat_cmp n x) (at k any e (simp length-map at b)) ∙ split.1 k any a (simp length-map at b),
         )
-
--- a list that is lent, by its numbers
-pub lent_list : {X : Type 0} (number : X → ℕ) (lists : List (Vec X Global)) (k : ℕ) (own : Vec X Global) (lent : List X) → k < length lists
-    → own ≡ get_or lists k own → lent ≡ own.items → map number lent ≡ list_at (map (λ (list : Vec X Global). map number list.items) lists) k
-lent_list {X} number lists k own lent l is same =
-    ap (map number) same ∙ ap (λ (list : Vec X Global). map number list.items) is ∙ sym (get_or-map (λ (list : Vec X Global). map number list.items) lists k own [] l)
 
 pub at_most : (limit : Option ℕ) (count : ℕ) → ((l : ℕ) → limit ≡ Some l → count ≤ l) → IfSome limit (λ l. count ≤ l)
 at_most None count below = tt

@@ -1,11 +1,8 @@
 -- What is kept of a fleet inside its type, and how contracts show it.
-use Rattle.std.specs.Prelude.{Vec, map}
-use Rattle.std.specs.declared.alloc.Global.{Global}
+use Rattle.std.specs.Prelude.{map}
 use Rattle.std.specs.String.{string_bytes}
-use Rattle.group_tree.specs.declared.ids.HostId.{HostId}
-use Rattle.group_tree.specs.declared.ids.GroupId.{GroupId}
 use Rattle.fleet_numbers.specs.DealOrder.{ArePlacesOf}
-use Rattle.domains.specs.Ids.{host_numbers, group_numbers}
+use Rattle.domains.specs.Ids.{host_numbers, host_lists, group_lists}
 use Rattle.domains.specs.FleetViews.{FleetView, IsSound}
 use Rattle.domains.specs.declared.fleet.Fleet.TheInside.{Inside}
 
@@ -16,8 +13,8 @@ shown fleet =
       groups = map string_bytes fleet.groups.keys;
       limits = fleet.limits.items;
       parents = fleet.parents.items;
-      members = map (λ (list : Vec HostId Global). host_numbers list.items) fleet.members.items;
-      chains = map (λ (list : Vec GroupId Global). group_numbers list.items) fleet.chains.items;
+      members = host_lists fleet.members.items;
+      chains = group_lists fleet.chains.items;
       off = fleet.off.items;
       order = host_numbers fleet.order.items;
     }

@@ -2,6 +2,7 @@
 use Rattle.std.specs.Prelude.{◌≡◌, ℕ, Option, List, length, map, option_map}
 use Rattle.std.specs.String.{string_bytes}
 use Rattle.domains.specs.FleetViews.{FleetView}
+use Rattle.domains.specs.Ids.{host_lists, group_lists}
 use Rattle.inventory_model.specs.Names.{Name}
 use Rattle.inventory_model.specs.Places.{Inventory}
 use Rattle.inventory_model.specs.Limits.{Limit}
@@ -34,7 +35,7 @@ IsNumberingOf inventory numbers =
 abbrev pub AreListsFrom : Numbers → FleetLists → Type 0
 AreListsFrom numbers lists =
     AreFleetLists (length (host_names numbers)) (own_limits numbers) numbers.depths.items numbers.rows.items lists.limits.items
-    lists.chains lists.members lists.parents.items lists.subtree_ends.items
+    (group_lists lists.chains.items) (host_lists lists.members.items) lists.parents.items lists.subtree_ends.items
 
 -- the fault tells the breach by the names of its host and groups
 abbrev pub IsNamed : Numbers → Breach → FleetFault → Type 0
@@ -54,8 +55,8 @@ dealt_fleet numbers lists order =
       groups = listed_groups numbers;
       limits = lists.limits.items;
       parents = lists.parents.items;
-      members = lists.members;
-      chains = lists.chains;
+      members = host_lists lists.members.items;
+      chains = group_lists lists.chains.items;
       off = numbers.off.items;
       order = order;
     }

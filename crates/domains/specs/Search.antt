@@ -4,6 +4,8 @@ use Rattle.fleet_numbers.specs.NumberLists.{list_at}
 use Rattle.fleet_numbers.specs.Chains.{IsNestedChain, IsLeastCrossingPair}
 use Rattle.domains.specs.Starts.{exceeds}
 use Rattle.domains.specs.FleetViews.{off_count}
+use Rattle.domains.specs.Ids.{group_lists, host_lists}
+use Rattle.domains.specs.declared.lists.FleetLists.{FleetLists}
 use Rattle.domains.specs.declared.search.Breach.{Breach}
 use Rattle.domains.specs.declared.search.Breach.TheVariants.{Nesting, Start}
 
@@ -30,9 +32,15 @@ abbrev pub AreStartsWithin : List (List ℕ) → List (Option ℕ) → List Bool
 AreStartsWithin members limits off =
     (group : ℕ) → group < length members → exceeds (slice_index_or limits group None) (off_count off (list_at members group)) ≡ false
 
+-- no two groups of a chain cross, and no group has more hosts off than its limit
+abbrev pub IsUnbroken : FleetLists → List Bool → Type 0
+IsUnbroken lists off =
+    AreChainsNested lists.subtree_ends.items (group_lists lists.chains.items) × AreStartsWithin (host_lists lists.members.items) lists.limits.items off
+
 -- how limits nest goes before the start
-abbrev pub IsFirstBreach : List ℕ → List (List ℕ) → List (List ℕ) → List (Option ℕ) → List Bool → Breach → Type 0
-IsFirstBreach subtree_ends chains members limits off (Nesting crossing) =
-    IsFirstCrossing subtree_ends chains crossing.host crossing.first crossing.second
-IsFirstBreach subtree_ends chains members limits off (Start over) =
-    AreChainsNested subtree_ends chains × IsFirstOverGroup members limits off over.group over.down over.limit
+abbrev pub IsFirstBreach : FleetLists → List Bool → Breach → Type 0
+IsFirstBreach lists off (Nesting crossing) =
+    IsFirstCrossing lists.subtree_ends.items (group_lists lists.chains.items) crossing.host crossing.first crossing.second
+IsFirstBreach lists off (Start over) =
+    AreChainsNested lists.subtree_ends.items (group_lists lists.chains.items)
+    × IsFirstOverGroup (host_lists lists.members.items) lists.limits.items off over.group over.down over.limit

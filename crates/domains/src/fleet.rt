@@ -3,6 +3,7 @@ ghost use Rattle.std.specs.Prelude.{◌≡◌, ℕ, List, IfOk, IfErr, IsTrue, A
 ghost use Rattle.std.specs.List.{range_with_len};
 ghost use Rattle.fleet_numbers.specs.NumberLists.{are_below};
 ghost use Rattle.fleet_numbers.specs.DealOrder.{groups_bound, IsDealt};
+ghost use Rattle.domains.specs.Ids.{group_lists, host_numbers};
 ghost use Rattle.domains.specs.FleetViews.{IsSound};
 ghost use Rattle.domains.specs.Fleets.{IsFleetOf};
 ghost use Rattle.domains.specs.Faults.{IsFaultOf};
@@ -11,7 +12,6 @@ ghost use Rattle.domains.specs.Outcomes.{IsNamed, dealt_fleet};
 mod readers;
 
 use crate::fault::FleetFault;
-use crate::ids::{group_lists, host_ids, host_lists};
 use crate::lists::{FleetLists, make_lists};
 use crate::names::name_at;
 use crate::numbers::{Numbers, number_tree};
@@ -93,21 +93,22 @@ fn name_breach(alloc: Global, numbers: &Numbers, breach: Breach) -> Result<Fleet
 
 /// The fleet of these numbers and lists, once its hosts are dealt.
 fn deal(alloc: Global, numbers: Numbers, lists: FleetLists) -> Result<Fleet, AllocError>
-    requires below { All (λ chain. IsTrue (are_below groups_bound chain)) lists.chains }
-    requires sound { (order : List ℕ) → IsPermutation (range_with_len 0 (length lists.chains)) order → IsDealt lists.chains order
-        → IsSound (dealt_fleet numbers lists order) }
+    requires below { All (λ chain. IsTrue (are_below groups_bound chain)) (group_lists lists.chains.items) }
+    requires sound { (order : List ℕ) → IsPermutation (range_with_len 0 (length (group_lists lists.chains.items))) order
+        → IsDealt (group_lists lists.chains.items) order → IsSound (dealt_fleet numbers lists order) }
     ensures { IfOk result (λ fleet. fleet ≡ dealt_fleet numbers lists fleet.order) }
 {
-    let order = list_deal_order(alloc, &lists.chains)?;
+    let order = list_deal_order(alloc, lists.chains.as_slice())?;
+    let places = list_deal_places(alloc, order.as_slice())?;
     Ok(Fleet {
         hosts: numbers.hosts,
         groups: numbers.groups,
         limits: lists.limits,
         parents: lists.parents,
-        members: host_lists(alloc, &lists.members)?,
-        chains: group_lists(alloc, &lists.chains)?,
+        members: lists.members,
+        chains: lists.chains,
         off: numbers.off,
-        order: host_ids(alloc, order.as_slice())?,
-        places: list_deal_places(alloc, order.as_slice())?,
+        order,
+        places,
     })
 }

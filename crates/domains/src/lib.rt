@@ -3,7 +3,6 @@
 
 mod fault;
 mod fleet;
-mod ids;
 mod lists;
 mod marks;
 mod names;

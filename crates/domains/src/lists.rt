@@ -3,14 +3,16 @@ ghost use Rattle.std.specs.Prelude.{◌≡◌, ◌<◌, ◌≤◌, ◌^◌, IfOk
 ghost use Rattle.std.specs.String.{string_bytes};
 ghost use Rattle.inventory_model.specs.Limits.{allowed};
 ghost use Rattle.group_tree.specs.Limits.{limit_of};
+ghost use Rattle.fleet_numbers.specs.NumberLists.{list_at};
+ghost use Rattle.domains.specs.Ids.{group_lists, group_numbers, host_lists, host_numbers};
 ghost use Rattle.domains.specs.FleetLists.{allowed_counts, parent_on};
 ghost use Rattle.domains.specs.Outcomes.{AreListsFrom};
 
 use crate::numbers::Numbers;
 use fleet_numbers::{
-    NumberLists, list_chains, list_held, list_members, list_paths, list_subtree_ends,
+    NumberLists, list_chains, list_held, list_hosts_by_group, list_paths, list_subtree_ends,
 };
-use group_tree::Limit;
+use group_tree::{GroupId, HostId, Limit};
 use std::alloc::{AllocError, Global};
 
 /// For each group how many of its hosts may be down at once, its hosts, the group directly above it and the last one at
@@ -18,10 +20,26 @@ use std::alloc::{AllocError, Global};
 #[derive(Drop)]
 pub(crate) struct FleetLists {
     pub(crate) limits: Vec<Option<u16>>,
-    pub(crate) chains: NumberLists,
-    pub(crate) members: NumberLists,
+    pub(crate) chains: Vec<Vec<GroupId>>,
+    pub(crate) members: Vec<Vec<HostId>>,
     pub(crate) parents: Vec<Option<usize>>,
     pub(crate) subtree_ends: Vec<usize>,
+}
+
+/// The limited groups of a host.
+pub(crate) fn chain_at(chains: &[Vec<GroupId>], host: usize) -> &[GroupId]
+    requires { host < length chains.now }
+    ensures { group_numbers result.now ≡ list_at (group_lists chains.now) host }
+{
+    chains[host].as_slice()
+}
+
+/// The hosts of a group.
+pub(crate) fn members_at(members: &[Vec<HostId>], group: usize) -> &[HostId]
+    requires { group < length members.now }
+    ensures { host_numbers result.now ≡ list_at (host_lists members.now) group }
+{
+    members[group].as_slice()
 }
 
 /// The group before the last on a path.
@@ -56,15 +74,15 @@ fn allowed_count(limit: Option<Limit>, members: u16) -> Option<u16>
 fn list_allowed(
     alloc: Global,
     limits: &[Option<Limit>],
-    members: &NumberLists,
+    members: &[Vec<HostId>],
 ) -> Result<Vec<Option<u16>>, AllocError>
-    requires len { length limits.now ≡ length members.now }
-    requires few { All (λ list. length list < 2 ^ 16) members.now }
-    ensures { IfOk result (λ counts. counts.items ≡ allowed_counts (map (option_map limit_of) limits.now) members.now) }
+    requires len { length limits.now ≡ length (host_lists members.now) }
+    requires few { All (λ list. length list < 2 ^ 16) (host_lists members.now) }
+    ensures { IfOk result (λ counts. counts.items ≡ allowed_counts (map (option_map limit_of) limits.now) (host_lists members.now)) }
 {
     let mut counts = Vec::with_capacity(alloc, limits.len())?;
     for group in 0..limits.len() {
-        let held = members.at(group).len();
+        let held = members_at(members, group).len();
         counts.push(allowed_count(limits[group], held as u16))?;
     }
     Ok(counts)
@@ -82,8 +100,8 @@ pub(crate) fn make_lists(alloc: Global, numbers: &Numbers) -> Result<FleetLists,
     let rows = numbers.rows.as_slice();
     let paths = list_paths(alloc, depths)?;
     let held = list_held(alloc, hosts, rows, &paths)?;
-    let members = list_members(alloc, &held, depths.len())?;
-    let limits = list_allowed(alloc, numbers.limits.as_slice(), &members)?;
+    let members = list_hosts_by_group(alloc, &held, depths.len())?;
+    let limits = list_allowed(alloc, numbers.limits.as_slice(), members.as_slice())?;
     Ok(FleetLists {
         chains: list_chains(alloc, &held, limits.as_slice())?,
         limits,

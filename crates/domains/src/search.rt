@@ -1,13 +1,14 @@
 //! The first host at which limited groups cross, and the first group over its limit.
-ghost use Rattle.std.specs.Prelude.{◌≡◌, ℕ, ◌<◌, length, MatchOption, Some, None, All, count_by, false, slice_index_or};
-ghost use Rattle.fleet_numbers.specs.NumberLists.{list_at, IsRising};
-ghost use Rattle.fleet_numbers.specs.Chains.{IsNestedChain, IsLeastCrossingPair};
+ghost use Rattle.std.specs.Prelude.{◌≡◌, ◌<◌, length, MatchOption, Some, All, false, slice_index_or};
+ghost use Rattle.fleet_numbers.specs.NumberLists.{IsRising};
 ghost use Rattle.domains.specs.Starts.{exceeds};
+ghost use Rattle.domains.specs.Ids.{group_lists, host_lists, host_numbers};
 ghost use Rattle.domains.specs.FleetViews.{off_count};
-ghost use Rattle.domains.specs.Search.{IsFirstCrossing, IsFirstOverGroup, AreChainsNested, AreStartsWithin, IsFirstBreach};
+ghost use Rattle.domains.specs.Search.{IsFirstCrossing, IsFirstOverGroup, AreChainsNested, AreStartsWithin, IsUnbroken, IsFirstBreach};
 
-use crate::lists::FleetLists;
-use fleet_numbers::{NumberLists, first_crossing};
+use crate::lists::{FleetLists, chain_at, members_at};
+use fleet_numbers::first_crossing;
+use group_tree::{GroupId, HostId};
 
 /// Two limited groups that cross at a host, all by their numbers.
 #[derive(Clone, Copy)]
@@ -17,13 +18,13 @@ pub(crate) struct Crossing {
     pub(crate) second: usize,
 }
 
-fn find_crossing(chains: &NumberLists, subtree_ends: &[usize]) -> Option<Crossing>
-    requires { All (IsRising (length subtree_ends.now)) chains.now }
-    ensures { MatchOption result ((host : ℕ) → host < length chains.now → IsNestedChain subtree_ends.now (list_at chains.now host))
-        (λ crossing. IsFirstCrossing subtree_ends.now chains.now crossing.host crossing.first crossing.second) }
+fn find_crossing(chains: &[Vec<GroupId>], subtree_ends: &[usize]) -> Option<Crossing>
+    requires { All (IsRising (length subtree_ends.now)) (group_lists chains.now) }
+    ensures { MatchOption result (AreChainsNested subtree_ends.now (group_lists chains.now))
+        (λ crossing. IsFirstCrossing subtree_ends.now (group_lists chains.now) crossing.host crossing.first crossing.second) }
 {
     for host in 0..chains.len() {
-        if let Some((first, second)) = first_crossing(chains.at(host), subtree_ends) {
+        if let Some((first, second)) = first_crossing(chain_at(chains, host), subtree_ends) {
             return Some(Crossing {
                 host,
                 first,
@@ -35,7 +36,7 @@ fn find_crossing(chains: &NumberLists, subtree_ends: &[usize]) -> Option<Crossin
 }
 
 /// A number that no host has is up.
-pub(crate) fn is_off(off: &[bool], host: usize) -> bool
+fn is_off(off: &[bool], host: usize) -> bool
     ensures { result ≡ slice_index_or off.now host false }
 {
     match off.get(host) {
@@ -44,10 +45,17 @@ pub(crate) fn is_off(off: &[bool], host: usize) -> bool
     }
 }
 
-fn count_off(hosts: &[usize], off: &[bool]) -> usize
-    ensures { result ≡ off_count off.now hosts.now }
+/// How many of these hosts are off.
+pub(crate) fn count_off(hosts: &[HostId], off: &[bool]) -> usize
+    ensures { result ≡ off_count off.now (host_numbers hosts.now) }
 {
-    hosts.iter().filter(|host| is_off(off, **host)).count()
+    let mut count = 0;
+    for host in hosts {
+        if is_off(off, host.index) {
+            count += 1;
+        }
+    }
+    count
 }
 
 /// A group of which more hosts are off than its limit.
@@ -67,14 +75,13 @@ fn over_limit(limit: Option<u16>, down: usize) -> Option<u16>
     }
 }
 
-fn find_over(members: &NumberLists, limits: &[Option<u16>], off: &[bool]) -> Option<Over>
-    requires { length limits.now ≡ length members.now }
-    ensures { MatchOption result ((group : ℕ) → group < length members.now
-        → exceeds (slice_index_or limits.now group None) (off_count off.now (list_at members.now group)) ≡ false)
-        (λ over. IsFirstOverGroup members.now limits.now off.now over.group over.down over.limit) }
+fn find_over(members: &[Vec<HostId>], limits: &[Option<u16>], off: &[bool]) -> Option<Over>
+    requires { length limits.now ≡ length (host_lists members.now) }
+    ensures { MatchOption result (AreStartsWithin (host_lists members.now) limits.now off.now)
+        (λ over. IsFirstOverGroup (host_lists members.now) limits.now off.now over.group over.down over.limit) }
 {
     for group in 0..members.len() {
-        let down = count_off(members.at(group), off);
+        let down = count_off(members_at(members, group), off);
         if let Some(limit) = over_limit(limits[group], down) {
             return Some(Over { group, down, limit });
         }
@@ -91,16 +98,15 @@ pub(crate) enum Breach {
 
 /// The first rule that is broken: how limits nest goes before the start.
 pub(crate) fn find_breach(lists: &FleetLists, off: &[bool]) -> Option<Breach>
-    requires rising { All (IsRising (length lists.now.subtree_ends.items)) lists.now.chains }
-    requires len { length lists.now.limits.items ≡ length lists.now.members }
-    ensures { MatchOption result (AreChainsNested lists.now.subtree_ends.items lists.now.chains × AreStartsWithin lists.now.members lists.now.limits.items off.now)
-        (λ breach. IsFirstBreach lists.now.subtree_ends.items lists.now.chains lists.now.members lists.now.limits.items off.now breach) }
+    requires rising { All (IsRising (length lists.now.subtree_ends.items)) (group_lists lists.now.chains.items) }
+    requires len { length lists.now.limits.items ≡ length (host_lists lists.now.members.items) }
+    ensures { MatchOption result (IsUnbroken lists.now off.now) (IsFirstBreach lists.now off.now) }
 {
     let subtree_ends = lists.subtree_ends.as_slice();
-    if let Some(crossing) = find_crossing(&lists.chains, subtree_ends) {
+    if let Some(crossing) = find_crossing(lists.chains.as_slice(), subtree_ends) {
         return Some(Breach::Nesting(crossing));
     }
-    match find_over(&lists.members, lists.limits.as_slice(), off) {
+    match find_over(lists.members.as_slice(), lists.limits.as_slice(), off) {
         Some(over) => Some(Breach::Start(over)),
         None => None,
     }

@@ -1,11 +1,27 @@
 -- The first two groups of a chain that cross, by two searches.
-use Rattle.std.proofs.Common.{◌≡◌, ℕ, suc, ◌-◌, ◌≤◌, ◌<◌, Bool, true, false, ◌||◌, cond, nat_eq, nat_lt, Some, None, List, [], ◌∷◌, length, get_or, find, sym}
+use Rattle.std.proofs.Common.{◌≡◌, ℕ, suc, ◌-◌, ◌≤◌, ◌<◌, Bool, true, false, ◌||◌, cond, nat_eq, nat_lt, Option, Some, None, List, [], ◌∷◌, length, get_or, find, sym}
 use Rattle.std.proofs.Common.{ap, ◌∙◌, refl, subst, arith, sub-one, inl, inr, ◌⊎◌}
 use Rattle.std.proofs.lemmas.Bool.{eqb-true, eq-eqb, ltb-true, ltb-false, lt-ltb, le-ltb, cases_lt, false≢true, or_right}
+use Rattle.std.proofs.lemmas.List.{get_or-map, length-map}
 use Rattle.std.proofs.lemmas.List.Folds.{list_any_at}
+use Rattle.group_tree.specs.declared.ids.GroupId.{GroupId}
+use Rattle.fleet_numbers.specs.Ids.{group_numbers}
 use Rattle.fleet_numbers.specs.NumberLists.{has_number}
 use Rattle.fleet_numbers.specs.Chains.{ends_before, IsNestedChain, IsLeastCrossingPair}
 use Rattle.fleet_numbers.proofs.RisingLemmas.{Ascends, has_number-within}
+
+-- the search as it is made, with the chain's last group at hand
+pub ending_at_last : (subtree_ends : List ℕ) (groups : List GroupId) (top : GroupId) (answer : Option ℕ) → 0 < length groups
+    → top ≡ get_or groups (length groups - 1) (record { index = 0 }) → answer ≡ find (λ group. ends_before subtree_ends group top.index) (group_numbers groups)
+    → find (λ group. ends_before subtree_ends group (get_or (group_numbers groups) (length (group_numbers groups) - 1) 0)) (group_numbers groups) ≡ answer
+ending_at_last subtree_ends groups top answer some is found =
+    let index : GroupId → ℕ = λ group. group.index in
+    let numbers = group_numbers groups in
+    let last : get_or numbers (length numbers - 1) 0 ≡ top.index =
+    ap (λ (n : ℕ). get_or numbers (n - 1) 0) (length-map groups index)
+    ∙ get_or-map index groups (length groups - 1) (record { index = 0 }) 0 (omega arith)
+    ∙ sym (ap index is) in
+    ap (λ (t : ℕ). find (λ group. ends_before subtree_ends group t) numbers) last ∙ sym found
 
 pub found_in : (p : ℕ → Bool) (xs : List ℕ) (x : ℕ) → find p xs ≡ Some x → (has_number x xs ≡ true) × (p x ≡ true)
 found_in p [] x e = absurd (cc)

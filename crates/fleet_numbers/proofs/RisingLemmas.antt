@@ -1,8 +1,8 @@
 -- Rising numbers: what stands in them says what they are.
 use Rattle.std.proofs.Common.{◌≡◌, ℕ, zero, suc, ◌+◌, ◌≤◌, ◌<◌, Bool, true, false, ◌||◌, ◌&&◌, cond, nat_eq, nat_lt, List, [], ◌∷◌, ◌++◌, length, get_or, take}
-use Rattle.std.proofs.Common.{filter, sym, ap, ◌∙◌, refl, subst, arith, add-one, inl, inr, ◌⊎◌}
+use Rattle.std.proofs.Common.{filter, map, sym, ap, ◌∙◌, refl, subst, arith, add-one, inl, inr, ◌⊎◌}
 use Rattle.std.specs.List.{range_with_len}
-use Rattle.std.proofs.lemmas.List.{map-id}
+use Rattle.std.proofs.lemmas.List.{map-id, get_or-map, length-map}
 use Rattle.std.proofs.lemmas.List.Elements.{filter-append}
 use Rattle.std.proofs.lemmas.List.Folds.{list_any-append, list_any_at}
 use Rattle.std.proofs.lemmas.List.Recursion.{and_at}
@@ -166,6 +166,13 @@ has_number-numbers_where p (suc bound) n =
 pub below_at : (bound : ℕ) (xs : List ℕ) (i : ℕ) → are_below bound xs ≡ true → i < length xs → get_or xs i 0 < bound
 below_at bound xs i e within =
     ltb-true (get_or xs i 0) bound (and_at (are_below bound) (λ n. nat_lt n bound) refl (λ _ _. refl) xs i 0 within e)
+
+-- the same of what has the numbers
+pub number_below : {X : Type 0} (number : X → ℕ) (bound : ℕ) (xs : List X) (i : ℕ) (d : X) → are_below bound (map number xs) ≡ true → i < length xs
+    → number (get_or xs i d) < bound
+number_below number bound xs i d e within =
+    let below : get_or (map number xs) i 0 < bound = below_at bound (map number xs) i e (simp length-map within) in
+    omega (arith, below, get_or-map number xs i d 0 within)
 
 -- a number stands at one place of rising numbers alone
 pub fresh : (low high : ℕ) (xs : List ℕ) (i : ℕ) → Ascends low high xs → i < length xs → has_number (get_or xs i 0) (take i xs) ≡ false

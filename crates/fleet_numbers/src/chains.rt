@@ -2,9 +2,11 @@
 ghost use Rattle.std.specs.Prelude.{◌≡◌, ℕ, ◌<◌, length, map, filter, IfOk, IfSome, IsTrue, MatchOption, slice_index_or, find, cond, nat_lt};
 ghost use Rattle.std.specs.List.{list_all, range_with_len};
 ghost use Rattle.fleet_numbers.specs.NumberLists.{list_at, has_number, are_below, last_where, IsRising};
+ghost use Rattle.fleet_numbers.specs.Ids.{group_numbers, group_lists};
 ghost use Rattle.fleet_numbers.specs.Chains.{is_limited, ends_before, IsNestedChain, IsLeastCrossingPair};
 
 use crate::lists::NumberLists;
+use group_tree::GroupId;
 use std::alloc::{AllocError, Global};
 
 fn is_limited(limits: &[Option<u16>], group: usize) -> bool
@@ -18,13 +20,13 @@ fn limited_of(
     alloc: Global,
     groups: &[usize],
     limits: &[Option<u16>],
-) -> Result<Vec<usize>, AllocError>
-    ensures { IfOk result (λ limited. limited.items ≡ filter (is_limited limits.now) groups.now) }
+) -> Result<Vec<GroupId>, AllocError>
+    ensures { IfOk result (λ limited. group_numbers limited.items ≡ filter (is_limited limits.now) groups.now) }
 {
     let mut limited = Vec::with_capacity(alloc, groups.len())?;
     for group in groups {
         if is_limited(limits, *group) {
-            limited.push(*group)?;
+            limited.push(GroupId { index: *group })?;
         }
     }
     Ok(limited)
@@ -35,13 +37,12 @@ pub fn list_chains(
     alloc: Global,
     held: &NumberLists,
     limits: &[Option<u16>],
-) -> Result<NumberLists, AllocError>
-    ensures { IfOk result (λ chains. chains ≡ map (filter (is_limited limits.now)) held.now) }
+) -> Result<Vec<Vec<GroupId>>, AllocError>
+    ensures { IfOk result (λ chains. group_lists chains.items ≡ map (filter (is_limited limits.now)) held.now) }
 {
-    let mut chains = NumberLists::new(alloc);
+    let mut chains = Vec::with_capacity(alloc, held.len())?;
     for host in 0..held.len() {
-        let limited = limited_of(alloc, held.at(host), limits)?;
-        chains.push(limited)?;
+        chains.push(limited_of(alloc, held.at(host), limits)?)?;
     }
     Ok(chains)
 }
@@ -70,22 +71,27 @@ pub fn list_subtree_ends(alloc: Global, paths: &NumberLists) -> Result<Vec<usize
     Ok(subtree_ends)
 }
 
-/// The first number past a bound.
-fn first_past(numbers: &[usize], bound: usize) -> Option<usize>
-    ensures { result ≡ find (nat_lt bound) numbers.now }
+/// The first group past a bound.
+fn first_past(groups: &[GroupId], bound: usize) -> Option<usize>
+    ensures { result ≡ find (nat_lt bound) (group_numbers groups.now) }
 {
-    numbers.iter().copied().find(|number| bound < *number)
+    for group in groups {
+        if bound < group.index {
+            return Some(group.index);
+        }
+    }
+    None
 }
 
 /// The first group whose last one comes before `top`.
-fn first_ending(groups: &[usize], subtree_ends: &[usize], top: usize) -> Option<usize>
-    requires { IsTrue (are_below (length subtree_ends.now) groups.now) }
-    ensures value { result ≡ find (λ group. ends_before subtree_ends.now group top) groups.now }
+fn first_ending(groups: &[GroupId], subtree_ends: &[usize], top: usize) -> Option<usize>
+    requires { IsTrue (are_below (length subtree_ends.now) (group_numbers groups.now)) }
+    ensures value { result ≡ find (λ group. ends_before subtree_ends.now group top) (group_numbers groups.now) }
     ensures within { IfSome result (λ group. group < length subtree_ends.now) }
 {
     for group in groups {
-        if subtree_ends[*group] < top {
-            return Some(*group);
+        if subtree_ends[group.index] < top {
+            return Some(group.index);
         }
     }
     None
@@ -93,14 +99,15 @@ fn first_ending(groups: &[usize], subtree_ends: &[usize], top: usize) -> Option<
 
 /// The first two groups of a chain of which the second does not stand below the first; `subtree_ends` has for each group the
 /// last one at or below it.
-pub fn first_crossing(chain: &[usize], subtree_ends: &[usize]) -> Option<(usize, usize)>
-    requires { IsRising (length subtree_ends.now) chain.now }
-    ensures { MatchOption result (IsNestedChain subtree_ends.now chain.now) (λ (first, second). IsLeastCrossingPair subtree_ends.now chain.now first second) }
+pub fn first_crossing(chain: &[GroupId], subtree_ends: &[usize]) -> Option<(usize, usize)>
+    requires { IsRising (length subtree_ends.now) (group_numbers chain.now) }
+    ensures { MatchOption result (IsNestedChain subtree_ends.now (group_numbers chain.now))
+        (λ (first, second). IsLeastCrossingPair subtree_ends.now (group_numbers chain.now) first second) }
 {
     let Some(top) = chain.last() else {
         return None;
     };
-    let Some(first) = first_ending(chain, subtree_ends, *top) else {
+    let Some(first) = first_ending(chain, subtree_ends, top.index) else {
         return None;
     };
     let Some(second) = first_past(chain, subtree_ends[first]) else {

@@ -6,11 +6,12 @@ mod deal;
 mod lists;
 mod members;
 mod names;
+mod number;
 mod paths;
 
 pub use chains::{first_crossing, list_chains, list_subtree_ends};
 pub use deal::{list_deal_order, list_deal_places};
 pub use lists::NumberLists;
-pub use members::{list_held, list_members};
+pub use members::{list_held, list_hosts_by_group, list_members};
 pub use names::{find_name, find_name_near, make_distinct};
 pub use paths::list_paths;

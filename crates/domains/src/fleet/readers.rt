@@ -8,7 +8,7 @@ ghost use Rattle.domains.specs.Ids.{host_numbers, group_numbers};
 ghost use Rattle.domains.specs.FleetViews.{AreAmong, IsSound, down_at_start, off_count};
 
 use crate::fleet::Fleet;
-use crate::search::is_off;
+use crate::search::count_off;
 use fleet_numbers::find_name;
 use group_tree::{GroupId, HostId};
 
@@ -160,17 +160,4 @@ impl Fleet {
     {
         self.places[host.index]
     }
-}
-
-/// How many of these hosts are off.
-fn count_off(hosts: &[HostId], off: &[bool]) -> usize
-    ensures { result ≡ off_count off.now (host_numbers hosts.now) }
-{
-    let mut count = 0;
-    for host in hosts {
-        if is_off(off, host.index) {
-            count += 1;
-        }
-    }
-    count
 }
