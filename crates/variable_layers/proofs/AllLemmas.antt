@@ -99,4 +99,4 @@ module _ {Z Y : Type 0} (inventory : Inventory) (fleet : FleetView) (walk : List
 
       one : (host : ℕ) (variables : HostVariables) → host < length fleet.hosts → IsMadeFrom layers (list_at holders host) rows (list_at own host) (host_at fleet.hosts host) variables → IsHostOf inventory (host_at fleet.hosts host) (shown variables)
       one host variables l from =
-          host_made inventory fleet host walk order made l walked once ordered _ (layer_views variables.layers.items) (value_in variables.own) from.named (from.laid ∙ groups_of host l) (λ (variable : Name). from.own_values variable ∙ ap (value_of variable) (own_of host l))
+          host_made inventory fleet host walk order made l walked once ordered _ (layer_views (arc_value variables.layers).items) (value_in variables.own) from.named (from.laid ∙ groups_of host l) (λ (variable : Name). from.own_values variable ∙ ap (value_of variable) (own_of host l))

@@ -1,24 +1,23 @@
 -- Look-ups in layers, from the first to the last.
-use Rattle.std.proofs.Common.{◌≡◌, ℕ, ◌+◌, ◌<◌, Bool, true, false, ◌||◌, cond, Option, Some, None, List, [], ◌∷◌, ◌++◌, length, filter, get_or, drop, take, map, sym, ap, ◌∙◌, refl, option_map, append-nil}
+use Rattle.std.proofs.Common.{◌≡◌, ℕ, ◌+◌, ◌<◌, Bool, true, false, ◌||◌, cond, Option, List, [], ◌∷◌, ◌++◌, length, filter, get_or, take, map, sym, ap, ◌∙◌, refl, append-nil}
 use Rattle.std.specs.List.{list_any}
 use Rattle.std.specs.Option.{option_or}
-use Rattle.std.proofs.lemmas.List.{drop_more, map-append}
+use Rattle.std.proofs.lemmas.List.{map-append}
 use Rattle.std.proofs.lemmas.List.Elements.{filter_more}
 use Rattle.inventory_model.specs.Names.{Name}
 use Rattle.inventory_model.specs.Variables.{Scalar}
 use Rattle.variable_layers.specs.Tables.{LayerView, last_value}
-use Rattle.variable_layers.proofs.ValueLemmas.{or_assoc}
+use Rattle.variable_layers.proofs.ValueLemmas.{or_assoc, or_none}
 
-pub map_or : {X Y : Type 0} (f : X → Y) (a b : Option X) → option_map f (option_or a b) ≡ option_or (option_map f a) (option_map f b)
-map_or f (Some a) b = refl
-map_or f None b = refl
-
--- one more layer over those before it
-pub last_step : {X : Type 0} (view : X → LayerView) (name : Name) (layers : List X) (i : ℕ) (layer : X) (here found now whole : Option Scalar) → i < length layers → layer ≡ get_or layers i layer → here ≡ (view layer).value name → now ≡ option_or here found → option_or (last_value name (map view (drop i layers))) found ≡ whole → option_or (last_value name (map view (drop (i + 1) layers))) now ≡ whole
-last_step {X = X} view name layers i layer here found now whole within is at put before =
-    let next : last_value name (map view (drop i layers)) ≡ option_or (last_value name (map view (drop (i + 1) layers))) ((view layer).value name) = ap (λ (l : List X). last_value name (map view l)) (drop_more layers i layer within) ∙ ap (λ (x : X). option_or (last_value name (map view (drop (i + 1) layers))) ((view x).value name)) (sym is) in
-    let later = last_value name (map view (drop (i + 1) layers)) in
-    ap (λ (o : Option Scalar). option_or later o) (put ∙ ap (λ (o : Option Scalar). option_or o found) at) ∙ sym (or_assoc later ((view layer).value name) found) ∙ sym (ap (λ (o : Option Scalar). option_or o found) next) ∙ before
+-- the value in the last layer, or else in those before it
+pub last_before : {X : Type 0} (view : X → LayerView) (name : Name) (left earlier : List X) (layer : X) (found : Option Scalar) → left ≡ earlier ++ layer ∷ [] → found ≡ (view layer).value name → last_value name (map view left) ≡ option_or found (last_value name (map view earlier))
+last_before {X = X} view name left earlier layer found is here =
+    ap (λ (l : List X). last_value name (map view l)) is ∙ over earlier ∙ ap (λ (o : Option Scalar). option_or o (last_value name (map view earlier))) (sym here)
+  where
+    over : (xs : List X) → last_value name (map view (xs ++ layer ∷ [])) ≡ option_or ((view layer).value name) (last_value name (map view xs))
+    over [] = sym (or_none ((view layer).value name))
+    over (x ∷ xs) =
+        ap (λ (o : Option Scalar). option_or o ((view x).value name)) (over xs) ∙ or_assoc ((view layer).value name) (last_value name (map view xs)) ((view x).value name)
 
 pub list_any-map : {X Y : Type 0} (p : Y → Bool) (f : X → Y) (xs : List X) → list_any p (map f xs) ≡ list_any (λ x. p (f x)) xs
 list_any-map p f [] = refl

@@ -1,4 +1,5 @@
 pub mod ValueLemmas
+pub mod TableLemmas
 pub mod OrderLemmas
 pub mod LayerLemmas
 pub mod OwnLemmas

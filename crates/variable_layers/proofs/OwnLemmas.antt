@@ -1,23 +1,16 @@
 -- A host's own variables, list by list.
-use Rattle.std.proofs.Common.{◌≡◌, ℕ, ◌+◌, ◌<◌, Bool, true, false, cond, Option, List, [], ◌∷◌, ◌++◌, length, filter, get_or, take, map, sym, ap, ◌∙◌, append-nil}
+use Rattle.std.proofs.Common.{◌≡◌, ℕ, ◌+◌, ◌<◌, Bool, true, false, cond, List, [], ◌∷◌, ◌++◌, length, filter, get_or, take, map, sym, ap, ◌∙◌, append-nil}
 use Rattle.std.specs.List.{flat_map}
-use Rattle.std.specs.Option.{option_or}
 use Rattle.std.proofs.lemmas.Grind.{flat_map-append}
 use Rattle.std.proofs.lemmas.List.{take_more, map-append}
 use Rattle.std.proofs.lemmas.List.Elements.{filter_more}
 use Rattle.inventory_model.specs.Names.{Name, same_name}
-use Rattle.inventory_model.specs.Variables.{Scalar, Variable, value_of}
+use Rattle.inventory_model.specs.Variables.{Variable}
 use Rattle.inventory_model.specs.Subtrees.{Host, Subtree}
 use Rattle.variable_layers.specs.Own.{own_in, own_below}
-use Rattle.variable_layers.proofs.ValueLemmas.{value_of-append, or_assoc}
 
 abbrev variables : Host → List Variable
 variables host = host.variables
-
--- values over others, and more over these
-pub over_more : (name : Name) (before here after : List Variable) (initial was now : Option Scalar) → was ≡ option_or (value_of name before) initial → now ≡ option_or (value_of name here) was → after ≡ before ++ here → now ≡ option_or (value_of name after) initial
-over_more name before here after initial was now old put more =
-    put ∙ ap (λ (o : Option Scalar). option_or (value_of name here) o) old ∙ sym (or_assoc (value_of name here) (value_of name before) initial) ∙ sym (ap (λ (o : Option Scalar). option_or o initial) (ap (value_of name) more ∙ value_of-append name before here))
 
 module _ (name : Name) (hosts : List Host) (i : ℕ) (host : Host) (within : i < length hosts) (is : host ≡ get_or hosts i host) where
   next : (test : Bool) → same_name name host.name ≡ test → own_in name (take (i + 1) hosts) ≡ own_in name (take i hosts) ++ flat_map variables (cond test (host ∷ []) [])

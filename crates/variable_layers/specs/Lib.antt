@@ -1,4 +1,5 @@
 pub mod Layers
+pub mod Entries
 pub mod Tables
 pub mod Walked
 pub mod Own

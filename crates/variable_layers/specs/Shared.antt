@@ -26,8 +26,14 @@ pub record AreHostsOf (inventory : Inventory) (hosts : List Name) (views : List 
 -- the layers and rows at these places, under this name
 pub record IsMadeFrom {Z : Type 0} (layers : List (Arc Layer Z)) (holders : List ℕ) (rows : List Host) (own : List ℕ) (name : Name) (host : HostVariables) : Type 0 where
   pub named : string_bytes host.name ≡ name
-  pub laid : layer_views host.layers.items ≡ map (layer_at (layer_views layers)) holders
+  pub laid : layer_views (arc_value host.layers).items ≡ map (layer_at (layer_views layers)) holders
   pub own_values : (variable : Name) → value_in host.own variable ≡ value_of variable (variables_at rows own)
+
+-- each host has the layers at the places in the list at its number
+abbrev pub HaveLayers : {Z Y : Type 0} → List (Arc Layer Z) → List (List ℕ) → List (Arc HostVariables Y) → Type 0
+HaveLayers {Y = Y} layers holders hosts =
+    (host : ℕ) (none : Arc HostVariables Y) → host < length hosts
+    → layer_views (arc_value (arc_value (slice_index_or hosts host none)).layers).items ≡ map (layer_at (layer_views layers)) (list_at holders host)
 
 -- so many hosts, each made from the lists at its number
 pub record AreMadeFrom {Z Y : Type 0} (layers : List (Arc Layer Z)) (holders : List (List ℕ)) (rows : List Host) (own : List (List ℕ)) (names : List Name) (count : ℕ) (hosts : List (Arc HostVariables Y)) : Type 0 where

@@ -1,5 +1,6 @@
 -- What the variables of a host say.
 use Rattle.std.specs.Prelude.{map, string_bytes}
+use Rattle.std.specs.Arc.{arc_value}
 use Rattle.std.specs.Option.{option_or}
 use Rattle.variable_layers.specs.declared.host.HostVariables.{HostVariables}
 use Rattle.variable_layers.specs.Layers.{HostView}
@@ -7,4 +8,4 @@ use Rattle.variable_layers.specs.Tables.{LayerView, layer_views, last_value, val
 
 abbrev pub shown : HostVariables → HostView
 shown variables =
-    record { name = string_bytes variables.name; groups = map (λ (layer : LayerView). layer.name) (layer_views variables.layers.items); variable = λ name. option_or (value_in variables.own name) (last_value name (layer_views variables.layers.items)) }
+    record { name = string_bytes variables.name; groups = map (λ (layer : LayerView). layer.name) (layer_views (arc_value variables.layers).items); variable = λ name. option_or (value_in variables.own name) (last_value name (layer_views (arc_value variables.layers).items)) }

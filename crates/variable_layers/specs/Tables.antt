@@ -1,25 +1,18 @@
 -- What is kept of variables.
-use Rattle.std.specs.Prelude.{ℕ, Option, None, List, [], ◌∷◌, map, slice_index_or, option_map, string_bytes}
+use Rattle.std.specs.Prelude.{ℕ, Option, None, List, [], ◌∷◌, map, slice_index_or, string_bytes}
 use Rattle.std.specs.Option.{option_or}
 use Rattle.std.specs.Arc.{arc_value}
 use Rattle.std.specs.declared.sync.Arc.{Arc}
-use Rattle.std.specs.BTreeMap.{get_by_text}
 use Rattle.inventory_model.specs.Names.{Name}
 use Rattle.inventory_model.specs.Variables as model
 use Rattle.inventory_model.specs.Subtrees.{Subtree}
 use Rattle.variable_layers.specs.declared.table.Table.{Table}
-use Rattle.variable_layers.specs.declared.table.Held.{Held}
-use Rattle.variable_layers.specs.declared.table.Held.TheVariants as held
 use Rattle.variable_layers.specs.declared.layer.Layer.{Layer}
-
-abbrev pub held_scalar : Held → model.Scalar
-held_scalar (held.Text text) = model.Text (string_bytes text)
-held_scalar (held.Int number) = model.Int number
-held_scalar (held.Bool truth) = model.Truth truth
+use Rattle.variable_layers.specs.Entries.{entry_variables}
 
 -- the value that a table has for a name
 abbrev pub value_in : Table → Name → Option model.Scalar
-value_in table name = option_map held_scalar (get_by_text table.values name)
+value_in table name = model.value_of name (entry_variables table.entries.items)
 
 -- a group's name, and the values of its own variables
 pub record LayerView : Type 0 where

@@ -1,5 +1,5 @@
 //! The variables of all hosts of a fleet.
-ghost use Rattle.std.specs.Prelude.{◌≡◌, ℕ, ◌<◌, IfOk, All, length, map};
+ghost use Rattle.std.specs.Prelude.{◌≡◌, ℕ, ◌<◌, ◌≤◌, IfOk, All, length, map};
 ghost use Rattle.std.specs.List.{range_with_len};
 ghost use Rattle.fleet_numbers.specs.NumberLists.{list_at};
 ghost use Rattle.domains.specs.Fleets.{IsFleetOf};
@@ -8,14 +8,15 @@ ghost use Rattle.variable_layers.specs.Layers.{IsHostOf};
 ghost use Rattle.variable_layers.specs.Own.{hosts_shown, variables_at};
 ghost use Rattle.variable_layers.specs.Shared.{all_shown, AreHostsOf};
 ghost use Rattle.variable_layers.specs.Shown.{shown};
-ghost use Rattle.variable_layers.specs.Shared.{IsMadeFrom, AreMadeFrom};
+ghost use Rattle.variable_layers.specs.Shared.{HaveLayers, IsMadeFrom, AreMadeFrom};
 
 use crate::holders::list_members_by;
 use crate::host::HostVariables;
-use crate::layer::{Layer, list_all_layers, share_layers};
+use crate::layer::{Layer, list_all_layers};
 use crate::order::list_order;
 use crate::own::table_of_rows;
 use crate::rows::{list_rows, number_rows};
+use crate::sharing::{LastHosts, layers_at};
 use crate::walk::list_walk;
 use domains::Fleet;
 use fleet_numbers::{NumberLists, list_members};
@@ -32,11 +33,12 @@ struct Shared<'s, A: Allocator> {
     own: &'s NumberLists,
 }
 
-/// One host, from what is made for all.
+/// One host, from what is made for all. With `before` come the hosts before it, and which of them the same groups are likely to hold.
 fn share_host<A: Allocator>(
     alloc: Global,
     shared: &Shared<'_, A>,
     fleet: &Fleet,
+    before: (&[Arc<HostVariables>], Option<usize>),
     host: HostId,
 ) -> Result<HostVariables, AllocError>
     requires host { host.index < length fleet.now.hosts }
@@ -44,12 +46,15 @@ fn share_host<A: Allocator>(
     requires own { host.index < length shared.now.own.now }
     requires layers_in { All (λ place. place < length shared.now.layers.now) (list_at shared.now.holders.now host.index) }
     requires rows_in { All (λ place. place < length shared.now.rows.now) (list_at shared.now.own.now host.index) }
+    requires few { length before.0.now ≤ length shared.now.holders.now }
+    requires have { HaveLayers shared.now.layers.now shared.now.holders.now before.0.now }
     ensures { IfOk result (IsMadeFrom shared.now.layers.now (list_at shared.now.holders.now host.index)
         (hosts_shown shared.now.rows.now) (list_at shared.now.own.now host.index) (host_at fleet.now.hosts host.index)) }
 {
+    let places = shared.holders.at(host.index);
     Ok(HostVariables {
         name: String::from_str(alloc, fleet.name(host))?,
-        layers: share_layers(alloc, shared.layers, shared.holders.at(host.index))?,
+        layers: layers_at(alloc, shared.layers, shared.holders, before, places)?,
         own: table_of_rows(alloc, shared.rows, shared.own.at(host.index))?,
     })
 }
@@ -98,9 +103,13 @@ fn share_all<A: Allocator>(
         (length fleet.now.hosts) hosts.items) }
 {
     let mut hosts = Vec::with_capacity(alloc, fleet.hosts())?;
+    let mut last_hosts = LastHosts::new(alloc, shared.layers.len())?;
     for index in 0..fleet.hosts() {
-        let host = share_host(alloc, shared, fleet, HostId { index })?;
+        let places = shared.holders.at(index);
+        let before = (hosts.as_slice(), last_hosts.like(places));
+        let host = share_host(alloc, shared, fleet, before, HostId { index })?;
         hosts.push(Arc::new(alloc, host)?)?;
+        last_hosts.note(places, index);
     }
     Ok(hosts)
 }

@@ -11,22 +11,26 @@ use crate::table::Table;
 use group_tree::Scalar;
 use std::sync::Arc;
 
-/// A host with its variables. Those of a group are kept once for all hosts that it holds.
+/// A host with its variables. Those of a group are kept once for all hosts that it holds, and hosts of the same groups
+/// share the list of these.
 #[derive(Drop)]
 pub struct HostVariables {
     pub(crate) name: String,
-    pub(crate) layers: Vec<Arc<Layer>>,
+    pub(crate) layers: Arc<Vec<Arc<Layer>>>,
     pub(crate) own: Table,
 }
 
 fn last_value<'a>(layers: &'a [Arc<Layer>], name: &str) -> Option<Scalar<'a>>
     ensures { option_map lent_scalar result ≡ last_value name.now (layer_views layers.now) }
 {
-    let mut found = None;
-    for layer in layers {
-        found = layer.table.get(name).or(found);
+    let mut left = layers;
+    while let Some((layer, earlier)) = left.split_last() {
+        match layer.table.get(name) {
+            Some(value) => return Some(value),
+            None => left = earlier,
+        }
     }
-    found
+    None
 }
 
 fn names_group(layers: &[Arc<Layer>], group: &str) -> bool

@@ -5,6 +5,7 @@ ghost use Rattle.variable_layers.specs.Walked.{walked_groups, walked_at};
 ghost use Rattle.variable_layers.specs.Tables.{layer_at, layer_views, layer_view, group_layer};
 ghost use Rattle.std.specs.Arc.{arc_value};
 
+use crate::entry::add_entries;
 use crate::table::Table;
 use crate::walk::WalkedGroup;
 use domains::Fleet;
@@ -22,8 +23,9 @@ pub(crate) struct Layer {
 fn layer_of<A: Allocator>(alloc: Global, group: &Group<A>) -> Result<Layer, AllocError>
     ensures { IfOk result (λ layer. layer_view layer ≡ group_layer group.now) }
 {
-    let mut table = Table::new(alloc);
-    table.put_all(alloc, group.variables())?;
+    let mut entries = Vec::new(alloc);
+    add_entries(alloc, group.variables(), &mut entries)?;
+    let table = Table::of(entries)?;
     let name = String::from_str(alloc, group.name())?;
     Ok(Layer { name, table })
 }
@@ -35,10 +37,10 @@ pub(crate) fn list_layers<A: Allocator>(
     order: &[usize],
     fleet: &Fleet,
     host: HostId,
-) -> Result<Vec<Arc<Layer>>, AllocError>
+) -> Result<Arc<Vec<Arc<Layer>>>, AllocError>
     requires within { All (λ number. number < length groups.now) order.now }
     requires same { length fleet.now.groups ≡ length groups.now }
-    ensures { IfOk result (λ layers. layer_views layers.items
+    ensures { IfOk result (λ layers. layer_views (arc_value layers).items
         ≡ map (λ number. group_layer (walked_at (walked_groups groups.now) number).0)
         (filter (λ number. has_number host.index (list_at fleet.now.members number)) order.now)) }
 {
@@ -49,7 +51,7 @@ pub(crate) fn list_layers<A: Allocator>(
             layers.push(Arc::new(alloc, layer)?)?;
         }
     }
-    Ok(layers)
+    Ok(Arc::new(alloc, layers)?)
 }
 
 /// The groups in this order, each with its variables.
@@ -75,13 +77,13 @@ pub(crate) fn share_layers(
     alloc: Global,
     layers: &[Arc<Layer>],
     places: &[usize],
-) -> Result<Vec<Arc<Layer>>, AllocError>
+) -> Result<Arc<Vec<Arc<Layer>>>, AllocError>
     requires { All (λ place. place < length layers.now) places.now }
-    ensures { IfOk result (λ shared. layer_views shared.items ≡ map (layer_at (layer_views layers.now)) places.now) }
+    ensures { IfOk result (λ shared. layer_views (arc_value shared).items ≡ map (layer_at (layer_views layers.now)) places.now) }
 {
     let mut shared = Vec::with_capacity(alloc, places.len())?;
     for place in places {
         shared.push(Arc::try_clone(&layers[*place])?)?;
     }
-    Ok(shared)
+    Ok(Arc::new(alloc, shared)?)
 }

@@ -2,6 +2,7 @@
 #![tactic(auto)]
 
 mod all;
+mod entry;
 mod holders;
 mod host;
 mod layer;
@@ -9,6 +10,7 @@ mod layered;
 mod order;
 mod own;
 mod rows;
+mod sharing;
 mod table;
 mod walk;
 

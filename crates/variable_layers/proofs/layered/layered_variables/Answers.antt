@@ -1,4 +1,5 @@
 use Rattle.std.proofs.Common.{◌≡◌, ℕ, ◌∙◌, List, length, string_bytes, IsPermutation, ap, sym, subst}
+use Rattle.std.specs.Arc.{arc_value}
 use Rattle.std.specs.List.{range_with_len}
 use Rattle.std.proofs.lemmas.List.{length-map}
 use Rattle.inventory_model.specs.Names.{Name}
@@ -34,4 +35,4 @@ returns g c =
     let v : IsWalkOf c.args.tree.now 0 (walked_groups groups) = subst (λ (l : List (Subtree × ℕ)). IsWalkOf c.args.tree.now 0 l) (sym all) w in
     let once : IsPermutation (range_with_len 0 (length (walked_groups groups))) order = subst (λ (n : ℕ). IsPermutation (range_with_len 0 n) order) (sym (length-map groups walked_group)) (subst (λ (l : List ℕ). IsPermutation (range_with_len 0 (length groups)) l) (sym c.as_slice.ensures.value) c.in_ok-order.ensures.each_once) in
     let ordered : IsInOrder (walked_groups groups) order = subst (λ (l : List ℕ). IsInOrder (walked_groups groups) l) (sym c.as_slice.ensures.value) c.in_ok-order.ensures.ordered in
-    host_made c.args.tree.now c.args.fleet.now c.args.host.index (walked_groups groups) order c.requires.fleet c.requires.host v once ordered (string_bytes c.in_ok-from_str.field-0) (layer_views c.in_ok-list_layers.field-0.items) (value_in c.in_ok-own_table.field-0) (c.in_ok-from_str.ensures.ok ∙ c.name-name.ensures) c.in_ok-list_layers.ensures (λ (variable : Name). c.in_ok-own_table.ensures variable ∙ ap (λ (n : Name). value_of variable (own_below n (walked_groups groups))) c.name-name.ensures)
+    host_made c.args.tree.now c.args.fleet.now c.args.host.index (walked_groups groups) order c.requires.fleet c.requires.host v once ordered (string_bytes c.in_ok-from_str.field-0) (layer_views (arc_value c.in_ok-list_layers.field-0).items) (value_in c.in_ok-own_table.field-0) (c.in_ok-from_str.ensures.ok ∙ c.name-name.ensures) c.in_ok-list_layers.ensures (λ (variable : Name). c.in_ok-own_table.ensures variable ∙ ap (λ (n : Name). value_of variable (own_below n (walked_groups groups))) c.name-name.ensures)
