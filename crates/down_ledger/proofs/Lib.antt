@@ -1,0 +1,2 @@
+pub mod RunningCounts
+pub mod LedgerLemmas

@@ -1,0 +1,19 @@
+use Rattle.std.proofs.Common.{◌≡◌, ◌<◌, length, None, ℕ, leb, sym, ap, ◌∙◌, subst, arith}
+use Rattle.std.proofs.lemmas.Bool.{leb-false}
+use Rattle.down_ledger.specs.Ledgers.{LedgerView, down_in, is_full}
+use Rattle.down_ledger.proofs.LedgerLemmas.{length-counts, count_read, full_read}
+use Rattle.down_ledger.proofs.ledger.DownLedger.is_full.Goals as goal
+
+pub index-requires : goal.index-requires
+index-requires c =
+    let ledger : LedgerView = record { fleet = c.self.inside.fleet.now; down = c.self.inside.marks.items } in
+    let inside : c.args.group.index < length ledger.fleet.groups = subst (λ (v : LedgerView). c.args.group.index < length v.fleet.groups) (sym c.self.view_is) c.requires in
+    omega (arith, inside, length-counts ledger c.self.inside.counts.items c.self.invariant, c.self.inside.counts.ok)
+
+pub returns-in-Some : goal.returns-in-Some
+returns-in-Some c =
+    let ledger : LedgerView = record { fleet = c.self.inside.fleet.now; down = c.self.inside.marks.items } in
+    let inside : c.args.group.index < length ledger.fleet.groups = subst (λ (v : LedgerView). c.args.group.index < length v.fleet.groups) (sym c.self.view_is) c.requires in
+    let limited = sym c.limit.ensures ∙ c.in-Some.is in
+    let read = full_read ledger c.self.inside.counts.items c.self.invariant c.args.group.index c.in-Some.limit c.index.result.now inside limited c.index.ensures in
+    ap (λ (n : ℕ). leb n c.index.result.now) c.from.ensures ∙ read ∙ ap (λ (v : LedgerView). is_full v c.args.group.index) c.self.view_is

@@ -1,0 +1,154 @@
+//! The ledger of the hosts that are down.
+ghost use Rattle.std.specs.Prelude.{◌≡◌, ℕ, ◌<◌, ◌≤◌, true, false, length, slice_index_or, None, IfOk, IfErr, IfSome, OnOk, OnErr, MatchOption};
+ghost use Rattle.fleet_states.specs.Groups.{IsSafe, groups_of};
+ghost use Rattle.down_ledger.specs.Ledgers.{is_marked, down_in, is_full, ledger_of, with_mark, HasRoom, IsFirstFull, IsWithinLimits};
+
+use crate::counting::{count_marked, is_marked, list_counts, mark_down};
+use crate::counts::{lower, raise};
+use crate::share::{Full, Share};
+use domains::Fleet;
+use fleet_states::Status;
+use group_tree::{GroupId, HostId};
+use std::alloc::{AllocError, Global};
+use std::marker::Model;
+
+/// Which hosts of a fleet are down. A clause sees the fleet and, for each host, whether it is down; no limited group
+/// ever has more of its members down than its limit.
+#[derive(Drop)]
+pub struct DownLedger<'f> {
+    fleet: &'f Fleet,
+    marks: Vec<bool>,
+    /// How many members of each group that has a limit are down, and 0 for each other group.
+    counts: Vec<usize>,
+}
+
+impl<'f> Model for DownLedger<'f> {
+    ghost use Rattle.down_ledger.specs.Ledgers.{LedgerView};
+    ghost use Rattle.down_ledger.specs.Inside.{IsCounted};
+
+    ghost Value = { LedgerView };
+
+    ghost view = { λ l. record { fleet = l.fleet.now; down = l.marks.items } };
+
+    ghost invariant = { λ l. IsCounted (record { fleet = l.fleet.now; down = l.marks.items }) l.counts.items };
+}
+
+impl<'f> DownLedger<'f> {
+    /// The ledger of a fleet whose hosts have these statuses.
+    pub fn new(
+        alloc: Global,
+        fleet: &'f Fleet,
+        statuses: &[Status],
+    ) -> Result<DownLedger<'f>, AllocError>
+        requires all { length statuses.now ≡ length fleet.now.hosts }
+        requires safe { IsSafe (groups_of fleet.now) statuses.now }
+        ensures { IfOk result (λ ledger. ledger ≡ ledger_of fleet.now statuses.now) }
+    {
+        let marks = mark_down(alloc, statuses)?;
+        let counts = list_counts(alloc, fleet, marks.as_slice())?;
+        Ok(DownLedger {
+            fleet,
+            marks,
+            counts,
+        })
+    }
+
+    /// The fleet, of which each host is marked, and no limited group over its limit.
+    pub fn fleet(&self) -> &'f Fleet
+        ensures fleet { result.now ≡ self.now.fleet }
+        ensures all { length self.now.down ≡ length self.now.fleet.hosts }
+        ensures within { IsWithinLimits self.now }
+    {
+        self.fleet
+    }
+
+    /// Whether the host is down; a number that no host has is not.
+    pub fn is_down(&self, host: HostId) -> bool
+        ensures { result ≡ is_marked self.now.down host.index }
+    {
+        is_marked(self.marks.as_slice(), host)
+    }
+
+    /// Takes a host down, unless a limited group that holds it is at its limit: then the outermost such group is told, and
+    /// nothing has changed.
+    pub fn take(&mut self, host: HostId) -> Result<Share, Full>
+        requires within { host.index < length self.old.fleet.hosts }
+        requires up { is_marked self.old.down host.index ≡ false }
+        ensures share { IfOk result (λ share. share.host ≡ host) }
+        ensures ok { OnOk result (self.new ≡ with_mark self.old host.index true) }
+        ensures room { OnOk result (HasRoom self.old host.index) }
+        ensures full { IfErr result (λ full. IsFirstFull self.old host.index full.group.index) }
+        ensures unchanged { OnErr result (self.new ≡ self.old) }
+    {
+        match self.first_full(host) {
+            Some(group) => return Err(Full { group }),
+            None => {}
+        }
+        raise(&mut self.counts, self.fleet.chain(host));
+        self.marks[host.index] = true;
+        Ok(Share { host })
+    }
+
+    /// The host is up from now on.
+    pub fn give_back(&mut self, share: Share)
+        requires { is_marked self.old.down share.host.index ≡ true }
+        ensures { self.new ≡ with_mark self.old share.host.index false }
+    {
+        lower(&mut self.counts, self.fleet.chain(share.host));
+        self.marks[share.host.index] = false;
+    }
+
+    /// The host stays down, and nobody can bring it up any more.
+    pub fn keep_down(&mut self, share: Share)
+        requires { is_marked self.old.down share.host.index ≡ true }
+        ensures { self.new ≡ self.old }
+    {
+        let _kept = share;
+    }
+
+    /// How many of the group's members are down. Near-constant time for a group that has a limit; the members of another
+    /// are counted.
+    pub fn down(&self, group: GroupId) -> u32
+        ensures count { result ≡ down_in self.now group.index }
+        ensures within { IfSome (slice_index_or self.now.fleet.limits group.index None) (λ limit. result ≤ limit) }
+    {
+        if self.fleet.groups() <= group.index {
+            return 0;
+        }
+        self.count(group) as u32
+    }
+
+    /// The outermost limited group that holds the host and is at its limit.
+    pub fn first_full(&self, host: HostId) -> Option<GroupId>
+        requires { host.index < length self.now.fleet.hosts }
+        ensures { MatchOption result (HasRoom self.now host.index) (λ group. IsFirstFull self.now host.index group.index) }
+    {
+        for group in self.fleet.chain(host) {
+            if self.is_full(*group) {
+                return Some(*group);
+            }
+        }
+        None
+    }
+
+    /// Whether the group is at its limit.
+    fn is_full(&self, group: GroupId) -> bool
+        requires { group.index < length self.now.fleet.groups }
+        ensures { result ≡ is_full self.now group.index }
+    {
+        match self.fleet.limit(group) {
+            Some(limit) => usize::from(limit) <= self.counts[group.index],
+            None => false,
+        }
+    }
+
+    fn count(&self, group: GroupId) -> usize
+        requires { group.index < length self.now.fleet.groups }
+        ensures { result ≡ down_in self.now group.index }
+    {
+        match self.fleet.limit(group) {
+            Some(_limit) => self.counts[group.index],
+            None => count_marked(self.marks.as_slice(), self.fleet.members(group)),
+        }
+    }
+}

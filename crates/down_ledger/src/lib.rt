@@ -1,0 +1,13 @@
+//! Which hosts of a fleet are down, and who holds the leave to work on each.
+#![tactic(auto)]
+
+mod counting;
+mod counts;
+mod ledger;
+mod share;
+
+pub use ledger::DownLedger;
+pub use share::{Full, Share};
+
+#[cfg(test)]
+mod tests;

@@ -1,0 +1,34 @@
+//! The leave to work on a host.
+ghost use Rattle.std.specs.Prelude.{◌≡◌};
+
+use group_tree::{GroupId, HostId};
+
+/// The leave to work on one host while it is down. There is one for each host that a ledger took down, so it can't be
+/// copied, and only the ledger makes it. Whoever drops it leaves its host down: nobody is left to bring it up.
+#[derive(Debug, Drop)]
+pub struct Share {
+    pub(crate) host: HostId,
+}
+
+impl Share {
+    pub fn host(&self) -> HostId
+        ensures { result ≡ self.now.host }
+    {
+        self.host
+    }
+}
+
+/// A group is at its limit: no more of its hosts may go down.
+#[derive(Clone, Copy, Debug, PartialEq, Eq)]
+pub struct Full {
+    pub group: GroupId,
+}
+
+impl Full {
+    /// The number of the rule that is broken.
+    pub fn number(&self) -> u16
+        ensures { result ≡ 401 }
+    {
+        401
+    }
+}

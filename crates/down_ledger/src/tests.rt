@@ -1,0 +1,4 @@
+//! Ledgers that are worked by hand, and want of memory.
+mod memory;
+mod text;
+mod worked;
