@@ -1,5 +1,5 @@
 -- How much of an input was read.
-use Rattle.std.specs.Prelude.{◌≡◌, ℕ, ◌+◌, ◌≤◌, List, length, Option}
+use Rattle.std.specs.Prelude.{◌≡◌, ℕ, ◌+◌, ◌≤◌, Bool, false, List, length, Option, ⊤}
 use Rattle.std.specs.Io.KnownBytes.{Consumes, IsAtEnd}
 use Rattle.bounded_io.specs.declared.input_fault.InputFault.{InputFault}
 use Rattle.bounded_io.specs.declared.input_fault.InputFault.TheVariants.{File, TooLarge, Memory}
@@ -21,8 +21,15 @@ ComesAfter TooLarge count = count ≡ max_input + 1
 ComesAfter File count = count ≤ max_input
 ComesAfter Memory count = count ≤ max_input
 
+-- a failed read is told only of a reader whose reads may fail
+abbrev pub MayCome : Bool → InputFault → Type 0
+MayCome is_reliable File = is_reliable ≡ false
+MayCome is_reliable TooLarge = ⊤
+MayCome is_reliable Memory = ⊤
+
 -- the reader had given some bytes when the fault came
-pub record BreaksInput (old new : Option (List ℕ)) (fault : InputFault) : Type 0 where
+pub record BreaksInput (is_reliable : Bool) (old new : Option (List ℕ)) (fault : InputFault) : Type 0 where
   pub bytes : List ℕ
   pub consumed : Consumes old new bytes
   pub comes : ComesAfter fault (length bytes)
+  pub may_come : MayCome is_reliable fault

@@ -9,10 +9,13 @@ use Rattle.std.specs.Prelude.{Result, Ok, Err, IfOk, IfErr}
 use Rattle.command_line.specs.declared.command.Line.{Line}
 use Rattle.command_line.specs.declared.command.Line.TheVariants.{Limits, Print}
 use Rattle.command_line.specs.declared.fault.LineFault.{LineFault}
-use Rattle.command_line.specs.declared.fault.LineFault.TheVariants.{BadLine, Memory}
+use Rattle.command_line.specs.declared.fault.LineFault.TheVariants.{BadLine, Unexplained, Memory}
 use Rattle.command_line.specs.Answers.{AnswersFor, Disagrees}
+use Rattle.command_line.specs.Messages as messages
+use Rattle.command_line.specs.Messages.{IsAskedFor}
+use Rattle.command_line.specs.declared.message.Message.{Message}
 use Rattle.command_line.specs.Syntax.{rollout, inventory_in}
-use Rattle.command_line.specs.Words.{Word, is_empty, is_command, limits_file, IsNoneOf, requests, AskForText, Refuses, Says}
+use Rattle.command_line.specs.Words.{Word, is_empty, is_command, limits_file, IsNoneOf, requests, IsTextFor, Explains, Refuses, Says}
 use Rattle.command_line.proofs.AcceptedLemmas.{accepted}
 
 -- clap answers a request with its text
@@ -78,22 +81,39 @@ help_is_other same = cc
 version_is_other : DisplayVersion ≢ OutOfMemory
 version_is_other same = cc
 
+-- no kind of a text that is asked for is another
+asked_kind : (kind : ErrorKind) → (kind ≢ DisplayHelp) → (kind ≢ DisplayVersion) → IsAskedFor kind → ⊥
+asked_kind kind help version asked = ⊎_elim help version asked
+
+-- what is told of the error's kind holds of the text that was made of it
+of_error : (words : List Word) (e : Error) (message : Message) → messages.kind_of message ≡ kind_of e → kind_of e ≢ OutOfMemory → HasKind (fault_of rollout words) e → IsTextFor words message
+of_error words e message is other has = kind_among words e (messages.kind_of message) (λ memory. other (sym is ∙ memory)) has (sym is)
+
+explains : (words : List Word) (e : Error) (message : Message) → messages.kind_of message ≡ kind_of e → kind_of e ≢ OutOfMemory → (kind_of e ≢ DisplayHelp) → (kind_of e ≢ DisplayVersion)
+    → HasKind (fault_of rollout words) e → Explains words message
+explains words e message is other help version has = record {
+  unasked = asked_kind (messages.kind_of message) (λ asked. help (sym is ∙ asked)) (λ asked. version (sym is ∙ asked));
+  text = of_error words e message is other has;
+}
+
 -- words that clap refused
 pub refused : (words : List Word) (e : Error) (answer : Result Line LineFault) → is_empty words ≡ false → (takes rollout words ≡ true → kind_of e ≡ OutOfMemory) → HasKind (fault_of rollout words) e
     → AnswersFor (kind_of e) answer → IfErr answer (Refuses words)
 refused words e (Err Memory) some taken has answers = some
-refused words e (Err (BadLine text)) some taken has answers = (
-  no_line words (limits_file words) refl some (λ file wanted. answers.0 (taken (accepted words file wanted).taken)),
-  no_request words (λ request kind faults which is.
-      let at : HasKind (kind ∷ []) e = subst (λ kinds. HasKind kinds e) (ap (fault_of rollout) is ∙ faults) has in
-      ⊎_elim answers.0 (⊎_elim (λ k. ⊎_elim (λ help. answers.1 (k ∙ help)) (λ version. answers.2 (k ∙ version)) which) (λ none. none)) at),
-)
+refused words e (Err Unexplained) some taken has answers = absurd answers
+refused words e (Err (BadLine message)) some taken has answers =
+    let memory = answers.1 in
+    let help = answers.2 in
+    let version = answers.3 in (
+      no_line words (limits_file words) refl some (λ file wanted. memory (taken (accepted words file wanted).taken)),
+      no_request words (λ request kind faults which is.
+          let at : HasKind (kind ∷ []) e = subst (λ kinds. HasKind kinds e) (ap (fault_of rollout) is ∙ faults) has in
+          ⊎_elim memory (⊎_elim (λ k. ⊎_elim (λ asked. help (k ∙ asked)) (λ asked. version (k ∙ asked)) which) (λ none. none)) at),
+      explains words e message answers.0 memory help version has,
+    )
 refused words e (Ok line) some taken has answers = tt
 
-asks : (words : List Word) (e : Error) → HasKind (fault_of rollout words) e → (kind_of e ≡ DisplayHelp) ⊎ (kind_of e ≡ DisplayVersion) → AskForText words
-asks words e has = ⊎_elim (λ is. inl (kind_among words e DisplayHelp help_is_other has is)) (λ is. inr (kind_among words e DisplayVersion version_is_other has is))
-
-is_no_memory : (e : Error) → (kind_of e ≡ DisplayHelp) ⊎ (kind_of e ≡ DisplayVersion) → kind_of e ≢ OutOfMemory
+is_no_memory : (e : Error) → IsAskedFor (kind_of e) → kind_of e ≢ OutOfMemory
 is_no_memory e which memory = ⊎_elim (λ is. help_is_other (sym is ∙ memory)) (λ is. version_is_other (sym is ∙ memory)) which
 
 -- words that clap answered with a text
@@ -101,18 +121,21 @@ pub requested : (words : List Word) (e : Error) (answer : Result Line LineFault)
     → AnswersFor (kind_of e) answer → IfOk answer (Says words)
 requested words e (Err fault) some taken has answers = tt
 requested words e (Ok (Limits inventory)) some taken has answers = absurd answers
-requested words e (Ok (Print text)) some taken has answers = (
-  no_line words (limits_file words) refl some (λ file wanted. is_no_memory e answers (taken (accepted words file wanted).taken)),
-  asks words e has answers,
+requested words e (Ok (Print message)) some taken has answers = (
+  no_line words (limits_file words) refl some (λ file wanted. is_no_memory e answers.1 (taken (accepted words file wanted).taken)),
+  subst IsAskedFor (sym answers.0) answers.1,
+  of_error words e message answers.0 (is_no_memory e answers.1) has,
 )
 
 -- words that clap took
 pub mismatched : (words : List Word) (fault : LineFault) → is_empty words ≡ false → fault_of rollout words ≡ []
     → Disagrees words (inventory_in (subcommand_of rollout words)) fault → Refuses words fault
 mismatched words Memory some taken disagrees = some
-mismatched words (BadLine text) some taken disagrees = (
+mismatched words (BadLine message) some taken disagrees = absurd disagrees
+mismatched words Unexplained some taken disagrees = (
   no_line words (limits_file words) refl some (λ file wanted. disagrees file wanted (accepted words file wanted).read),
   no_request words (λ request kind faults which is. let none : [] ≡ kind ∷ [] = sym taken ∙ ap (fault_of rollout) is ∙ faults in cc),
+  taken,
 )
 
 pub some_words : {X : Type 0} (word : X → Word) (xs : List X) → eqb (length xs) 0 ≡ false → is_empty (map word xs) ≡ false

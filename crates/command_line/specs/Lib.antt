@@ -1,4 +1,5 @@
 pub mod Answers
 pub mod Faults
+pub mod Messages
 pub mod Syntax
 pub mod Words

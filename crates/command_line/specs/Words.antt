@@ -3,12 +3,14 @@ use Rattle.std.specs.Prelude.{◌≡◌, ◌≢◌, ◌⊎◌, ℕ, Bool, true, 
 use Rattle.std.specs.Prelude.{Option, Some, None, is_some, codes, string_bytes, ⊤}
 use Rattle.std.specs.Str.{bytes_eq}
 use Rattle.clap.specs.Words.{IsAmong, fault_of}
-use Rattle.clap.specs.declared.error.kind.ErrorKind.TheVariants.{DisplayHelp, DisplayVersion}
+use Rattle.command_line.specs.Messages as messages
+use Rattle.command_line.specs.Messages.{IsAskedFor}
 use Rattle.command_line.specs.Syntax.{rollout}
 use Rattle.command_line.specs.declared.command.Line.{Line}
 use Rattle.command_line.specs.declared.command.Line.TheVariants.{Limits, Print}
 use Rattle.command_line.specs.declared.fault.LineFault.{LineFault}
-use Rattle.command_line.specs.declared.fault.LineFault.TheVariants.{BadLine, Memory}
+use Rattle.command_line.specs.declared.message.Message.{Message}
+use Rattle.command_line.specs.declared.fault.LineFault.TheVariants.{BadLine, Unexplained, Memory}
 use Rattle.command_line.specs.declared.command.Source.TheVariants.{StandardInput, File}
 
 abbrev pub Word : Type 0
@@ -44,15 +46,15 @@ limits_file (command ∷ words) = if bytes_eq command (codes "limits") then lone
 abbrev pub is_command : List Word → Bool
 is_command words = is_empty words || is_some (limits_file words)
 
--- the words ask for the help or the version, by the program's syntax
-abbrev pub AskForText : List Word → Type 0
-AskForText words = IsAmong DisplayHelp (fault_of rollout words) ⊎ IsAmong DisplayVersion (fault_of rollout words)
+-- the text is one that clap has for the words, by the program's syntax
+abbrev pub IsTextFor : List Word → Message → Type 0
+IsTextFor words message = IsAmong (messages.kind_of message) (fault_of rollout words)
 
 -- the words say this line; no command prints a text in place of what it does
 abbrev pub Says : List Word → Line → Type 0
 Says words (Limits StandardInput) = words ≡ []
 Says words (Limits (File file)) = limits_file words ≡ Some (string_bytes file)
-Says words (Print text) = (is_command words ≡ false) × AskForText words
+Says words (Print message) = (is_command words ≡ false) × IsAskedFor (messages.kind_of message) × IsTextFor words message
 
 -- lines that ask for the help or the version
 abbrev pub requests : List (List Word)
@@ -65,8 +67,14 @@ abbrev pub IsNoneOf : List Word → List (List Word) → Type 0
 IsNoneOf words [] = ⊤
 IsNoneOf words (line ∷ lines) = (words ≢ line) × IsNoneOf words lines
 
+-- the words are a bad line that a text of clap's explains, which is none that is asked for
+pub record Explains (words : List Word) (message : Message) : Type 0 where
+  pub unasked : IsAskedFor (messages.kind_of message) → ⊥
+  pub text : IsTextFor words message
+
 -- the words may be refused so: no command but for want of memory, which no line without words takes, and no request for a
--- text as a bad line
+-- text as a bad line. A bad line is explained by clap, but for one that clap would take.
 abbrev pub Refuses : List Word → LineFault → Type 0
 Refuses words Memory = is_empty words ≡ false
-Refuses words (BadLine text) = (is_command words ≡ false) × IsNoneOf words requests
+Refuses words (BadLine message) = (is_command words ≡ false) × IsNoneOf words requests × Explains words message
+Refuses words Unexplained = (is_command words ≡ false) × IsNoneOf words requests × (fault_of rollout words ≡ [])

@@ -1,12 +1,14 @@
 //! What a line of words asks for.
 
+use crate::message::Message;
+
 /// What the program is asked to do, with the files that it reads.
 #[derive(Debug, Drop)]
 pub enum Line {
     /// Prints the groups that limit how many of their hosts may be down.
     Limits { inventory: Source },
     /// Prints this text: the help or the version.
-    Print(String),
+    Print(Message),
 }
 
 /// Where an input comes from.

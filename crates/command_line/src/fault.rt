@@ -2,13 +2,16 @@
 ghost use Rattle.std.specs.Prelude.{◌≡◌};
 ghost use Rattle.command_line.specs.Faults.{number_of};
 
+use crate::message::Message;
 use std::fmt;
 
 /// Why the words are no line.
 #[derive(Debug, Drop)]
 pub enum LineFault {
-    /// The words are no line of the program; the text says what is wrong with them.
-    BadLine(String),
+    /// The words are no line of the program; clap says what is wrong with them.
+    BadLine(Message),
+    /// The words are no line, and clap has nothing to say of them: they are no text, or it reads them in another way.
+    Unexplained,
     Memory,
 }
 
@@ -18,7 +21,7 @@ impl LineFault {
         ensures { result ≡ number_of self.now }
     {
         match self {
-            LineFault::BadLine(_) => Some(901),
+            LineFault::BadLine(_) | LineFault::Unexplained => Some(901),
             LineFault::Memory => None,
         }
     }
@@ -32,7 +35,8 @@ impl fmt::Display for LineFault {
 
     fn fmt<W: fmt::Write>(&self, f: &mut fmt::Formatter<W>) -> fmt::Result {
         match self {
-            LineFault::BadLine(text) => f.write_str(text.as_str()),
+            LineFault::BadLine(message) => f.write_str(message.as_str()),
+            LineFault::Unexplained => f.write_str("no line of the program"),
             LineFault::Memory => f.write_str("want of memory"),
         }
     }

@@ -3,10 +3,12 @@
 
 pub mod command;
 mod fault;
+mod message;
 mod reading;
 mod syntax;
 mod words;
 
 pub use command::Source;
 pub use fault::LineFault;
+pub use message::Message;
 pub use reading::line;

@@ -7,6 +7,7 @@ ghost use Rattle.command_line.specs.Words.{Refuses, Says};
 
 use crate::command::{Line, Source};
 use crate::fault::LineFault;
+use crate::message::Message;
 use crate::syntax;
 use crate::words::limits_file;
 use clap::Error;
@@ -37,13 +38,13 @@ pub fn line(alloc: Global, words: &[String]) -> Result<Line, LineFault>
 fn answer(alloc: Global, error: &Error) -> Result<Line, LineFault>
     ensures { AnswersFor (kind_of error.now) result }
 {
-    let Ok(text) = error.to_string(alloc) else {
+    let Ok(message) = Message::of(alloc, error) else {
         return Err(LineFault::Memory);
     };
     match error.kind() {
-        ErrorKind::DisplayHelp | ErrorKind::DisplayVersion => Ok(Line::Print(text)),
+        ErrorKind::DisplayHelp | ErrorKind::DisplayVersion => Ok(Line::Print(message)),
         ErrorKind::OutOfMemory => Err(LineFault::Memory),
-        _ => Err(LineFault::BadLine(text)),
+        _ => Err(LineFault::BadLine(message)),
     }
 }
 
@@ -54,10 +55,10 @@ fn limits_line(alloc: Global, words: &[String], read: Option<&str>) -> Result<Li
         (Disagrees (map string_bytes words.now) (option_map (λ s. s.now) read.entry)) }
 {
     let (Some(wanted), Some(read)) = (limits_file(words), read) else {
-        return Err(LineFault::BadLine(String::new(alloc)));
+        return Err(LineFault::Unexplained);
     };
     if wanted != read {
-        return Err(LineFault::BadLine(String::new(alloc)));
+        return Err(LineFault::Unexplained);
     }
     match String::from_str(alloc, wanted) {
         Ok(file) => Ok(Line::Limits {

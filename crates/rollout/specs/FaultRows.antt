@@ -4,6 +4,7 @@ use Rattle.bounded_io.specs.Faults as input
 use Rattle.bounded_io.specs.declared.input_fault.InputFault.{InputFault}
 use Rattle.bounded_io.specs.declared.input_fault.InputFault.TheVariants as input_fault
 use Rattle.command_line.specs.Faults as line
+use Rattle.command_line.specs.Messages as messages
 use Rattle.command_line.specs.declared.command.Source.{Source}
 use Rattle.command_line.specs.declared.command.Source.TheVariants.{StandardInput, File}
 use Rattle.command_line.specs.declared.fault.LineFault.{LineFault}
@@ -37,6 +38,7 @@ name_of (File name) = string_bytes name
 
 abbrev pub line_row : LineFault → Row
 line_row (line_fault.BadLine explanation) = row (codes "BadLine") []
+line_row line_fault.Unexplained = row (codes "BadLine") []
 line_row line_fault.Memory = no_row
 
 abbrev pub input_row : Source → InputFault → Row
@@ -88,7 +90,8 @@ row_of Memory = no_row
 
 -- what is said of a bad line behind its own
 abbrev pub explanation_of : Fault → List ℕ
-explanation_of (Line (line_fault.BadLine explanation)) = string_bytes explanation
+explanation_of (Line (line_fault.BadLine explanation)) = messages.text_of explanation
+explanation_of (Line line_fault.Unexplained) = []
 explanation_of (Line line_fault.Memory) = []
 explanation_of (Input source fault) = []
 explanation_of (Read fault) = []

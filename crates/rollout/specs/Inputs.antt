@@ -1,29 +1,63 @@
 -- The inputs that a line names.
-use Rattle.std.specs.Prelude.{◌≡◌, ℕ, ◌≤◌, List, length, Option}
+use Rattle.std.specs.Prelude.{◌≡◌, ◌≢◌, ◌⊎◌, ℕ, Bool, List, Option, string_bytes}
+use Rattle.std.specs.declared.io.ErrorKind.{ErrorKind}
+use Rattle.std.specs.declared.io.ErrorKind.TheVariants.{OutOfMemory}
 use Rattle.std.specs.Io.KnownBytes.{Keeps}
-use Rattle.bounded_io.specs.Reading.{IsWholeInput, BreaksInput, max_input}
+use Rattle.bounded_io.specs.Reading.{IsWholeInput, BreaksInput}
 use Rattle.bounded_io.specs.declared.input_fault.InputFault.{InputFault}
+use Rattle.bounded_io.specs.declared.input_fault.InputFault.TheVariants as input_fault
 use Rattle.command_line.specs.declared.command.Source.{Source}
 use Rattle.command_line.specs.declared.command.Source.TheVariants.{StandardInput, File}
+use Rattle.rollout.specs.Systems.{Fails, Sources, Known, Opens}
 use Rattle.rollout.specs.declared.fault.Fault.{Fault}
 use Rattle.rollout.specs.declared.fault.Fault.TheVariants.{Line, Input, Read, Fleet, Write, Memory}
 
--- the text is that of the source: all that standard input had, or what the file of that name gave, of which no clause can
--- say more than its length
-abbrev pub IsTextOf : Source → Option (List ℕ) → Option (List ℕ) → List ℕ → Type 0
-IsTextOf StandardInput old new text = IsWholeInput old new text
-IsTextOf (File name) old new text = (length text ≤ max_input) × Keeps old new
+-- a file that was opened was read whole
+pub record IsTextOfFile (known : Known (List ℕ)) (text : List ℕ) : Type 0 where
+  pub opened : Option (List ℕ)
+  pub left : Option (List ℕ)
+  pub is_reliable : Bool
+  pub opens : Opens known opened is_reliable
+  pub whole : IsWholeInput opened left text
 
--- how much of standard input was read when the source was found unreadable
-abbrev pub BreaksSource : Source → Option (List ℕ) → Option (List ℕ) → InputFault → Type 0
-BreaksSource StandardInput old new fault = BreaksInput old new fault
-BreaksSource (File name) old new fault = Keeps old new
+-- the text is that of the source: all that standard input had, or all that the file of that name has
+abbrev pub IsTextOf : Sources → Source → Option (List ℕ) → Option (List ℕ) → List ℕ → Type 0
+IsTextOf sources StandardInput old new text = IsWholeInput old new text
+IsTextOf sources (File name) old new text = IsTextOfFile (sources.files (string_bytes name)) text × Keeps old new
+
+-- what an error of this kind makes of a file that can't be opened
+abbrev pub IsFaultOfKind : ErrorKind → InputFault → Type 0
+IsFaultOfKind kind input_fault.File = kind ≢ OutOfMemory
+IsFaultOfKind kind input_fault.Memory = kind ≡ OutOfMemory
+IsFaultOfKind kind input_fault.TooLarge = ⊥
+
+-- a file could not be opened
+pub record IsClosed (known : Known (List ℕ)) (fault : InputFault) : Type 0 where
+  pub kind : ErrorKind
+  pub fails : Fails known kind
+  pub tells : IsFaultOfKind kind fault
+
+-- a file that was opened could not be read whole
+pub record BreaksFile (known : Known (List ℕ)) (fault : InputFault) : Type 0 where
+  pub opened : Option (List ℕ)
+  pub left : Option (List ℕ)
+  pub is_reliable : Bool
+  pub opens : Opens known opened is_reliable
+  pub breaks : BreaksInput is_reliable opened left fault
+
+abbrev pub IsFaultOfFile : Known (List ℕ) → InputFault → Type 0
+IsFaultOfFile known fault = IsClosed known fault ⊎ BreaksFile known fault
+
+-- how much of the source was read when it was found unreadable
+abbrev pub BreaksSource : Sources → Source → Option (List ℕ) → Option (List ℕ) → InputFault → Type 0
+BreaksSource sources StandardInput old new fault = BreaksInput sources.is_reliable old new fault
+BreaksSource sources (File name) old new fault = IsFaultOfFile (sources.files (string_bytes name)) fault × Keeps old new
 
 -- the source could not be read whole, and the fault names it
-abbrev pub IsUnreadable : Source → Option (List ℕ) → Option (List ℕ) → Fault → Type 0
-IsUnreadable source old new (Input named fault) = (named ≡ source) × BreaksSource source old new fault
-IsUnreadable source old new (Line fault) = ⊥
-IsUnreadable source old new (Read fault) = ⊥
-IsUnreadable source old new (Fleet fault) = ⊥
-IsUnreadable source old new (Write fault) = ⊥
-IsUnreadable source old new Memory = ⊥
+abbrev pub IsUnreadable : Sources → Source → Option (List ℕ) → Option (List ℕ) → Fault → Type 0
+IsUnreadable sources source old new (Input named fault) = (named ≡ source) × BreaksSource sources source old new fault
+IsUnreadable sources source old new (Line fault) = ⊥
+IsUnreadable sources source old new (Read fault) = ⊥
+IsUnreadable sources source old new (Fleet fault) = ⊥
+IsUnreadable sources source old new (Write fault) = ⊥
+IsUnreadable sources source old new Memory = ⊥

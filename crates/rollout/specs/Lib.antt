@@ -1,4 +1,5 @@
 pub mod Status
+pub mod Systems
 pub mod FaultLines
 pub mod Details
 pub mod FaultRows

@@ -1,6 +1,9 @@
--- What a run of the program does, from its words to its status.
-use Rattle.std.specs.Prelude.{◌≡◌, ◌⊎◌, ℕ, Bool, true, false, List, [], Option, Result, Err, string_bytes}
+-- What a run of the program does, from the words that the system gives to the exit status.
+use Rattle.std.specs.Prelude.{◌≡◌, ◌≢◌, ◌⊎◌, ℕ, List, Option, Result, Err, drop, string_bytes}
+use Rattle.std.specs.declared.io.ErrorKind.{ErrorKind}
+use Rattle.std.specs.declared.io.ErrorKind.TheVariants.{OutOfMemory}
 use Rattle.std.specs.Io.KnownBytes.{Keeps}
+use Rattle.command_line.specs.Messages as messages
 use Rattle.command_line.specs.Words as words
 use Rattle.command_line.specs.declared.command.Line as declared_line
 use Rattle.command_line.specs.declared.command.Line.TheVariants.{Limits, Print}
@@ -8,22 +11,24 @@ use Rattle.command_line.specs.declared.fault.LineFault.{LineFault}
 use Rattle.command_line.specs.declared.fault.LineFault.TheVariants as line_fault
 use Rattle.rollout.specs.Commands.{TabulatesLimits, Prints}
 use Rattle.rollout.specs.Endings.{Reports, status_of}
+use Rattle.rollout.specs.Status.{code_of}
+use Rattle.rollout.specs.Systems.{Fails, Sources, Gives, Known}
 use Rattle.rollout.specs.declared.fault.Fault.{Fault}
 use Rattle.rollout.specs.declared.fault.Fault.TheVariants.{Line, Memory}
 use Rattle.rollout.specs.declared.status.Status.{Status}
 
 -- what a line asks for was done, or its fault is true
-abbrev pub Does : declared_line.Line → Option (List ℕ) → Option (List ℕ) → Option (List ℕ) → Option (List ℕ) → Result Status Fault → Type 0
-Does (Limits inventory) input_old input_new out_old out_new result =
-    TabulatesLimits inventory input_old input_new out_old out_new result
-Does (Print text) input_old input_new out_old out_new result =
-    Keeps input_old input_new × Prints (string_bytes text) out_old out_new result
+abbrev pub Does : Sources → declared_line.Line → Option (List ℕ) → Option (List ℕ) → Option (List ℕ) → Option (List ℕ) → Result Status Fault → Type 0
+Does sources (Limits inventory) input_old input_new out_old out_new result =
+    TabulatesLimits sources inventory input_old input_new out_old out_new result
+Does sources (Print message) input_old input_new out_old out_new result =
+    Keeps input_old input_new × Prints (messages.text_of message) out_old out_new result
 
 -- the words are a line, and what it asks for was done
-pub record FollowsLine (words_given : List words.Word) (input_old input_new out_old out_new : Option (List ℕ)) (result : Result Status Fault) : Type 0 where
+pub record FollowsLine (sources : Sources) (words_given : List words.Word) (input_old input_new out_old out_new : Option (List ℕ)) (result : Result Status Fault) : Type 0 where
   pub line : declared_line.Line
   pub says : words.Says words_given line
-  pub does : Does line input_old input_new out_old out_new result
+  pub does : Does sources line input_old input_new out_old out_new result
 
 -- the words are no line, and nothing was read or written
 pub record RefusesWords (words_given : List words.Word) (input_old input_new out_old out_new : Option (List ℕ)) (result : Result Status Fault) : Type 0 where
@@ -33,28 +38,42 @@ pub record RefusesWords (words_given : List words.Word) (input_old input_new out
   pub unread : Keeps input_old input_new
   pub unwritten : Keeps out_old out_new
 
-abbrev pub Attempts : List words.Word → Option (List ℕ) → Option (List ℕ) → Option (List ℕ) → Option (List ℕ) → Result Status Fault → Type 0
-Attempts words_given input_old input_new out_old out_new result =
-    FollowsLine words_given input_old input_new out_old out_new result ⊎ RefusesWords words_given input_old input_new out_old out_new result
+abbrev pub Attempts : Sources → List words.Word → Option (List ℕ) → Option (List ℕ) → Option (List ℕ) → Option (List ℕ) → Result Status Fault → Type 0
+Attempts sources words_given input_old input_new out_old out_new result =
+    FollowsLine sources words_given input_old input_new out_old out_new result ⊎ RefusesWords words_given input_old input_new out_old out_new result
 
--- a whole run: what was done, what was reported, and the status
-pub record Runs (words_given : List words.Word) (input_old input_new out_old out_new errors_old errors_new : Option (List ℕ)) (status : Status) : Type 0 where
+-- the system gave the words; the first is the program's name
+pub record TakesWords (given : Known (List words.Word)) (sources : Sources) (input_old input_new out_old out_new : Option (List ℕ)) (result : Result Status Fault) : Type 0 where
+  pub args : List words.Word
+  pub gives : Gives given args
+  pub words_given : List words.Word
+  pub behind_name : words_given ≡ drop 1 args
+  pub attempts : Attempts sources words_given input_old input_new out_old out_new result
+
+-- what an error of this kind makes of words that the system doesn't give: words that are no text make the line a bad one
+abbrev pub IsFaultOfWords : ErrorKind → Fault → Type 0
+IsFaultOfWords kind Memory = kind ≡ OutOfMemory
+IsFaultOfWords kind (Line line_fault.Unexplained) = kind ≢ OutOfMemory
+IsFaultOfWords kind (Line line_fault.Memory) = ⊥
+IsFaultOfWords kind fault = ⊥
+
+-- the system gave no words, and nothing was read or written
+pub record LacksWords (given : Known (List words.Word)) (input_old input_new out_old out_new : Option (List ℕ)) (result : Result Status Fault) : Type 0 where
+  pub kind : ErrorKind
+  pub fails : Fails given kind
+  pub fault : Fault
+  pub tells : IsFaultOfWords kind fault
+  pub is : result ≡ Err fault
+  pub unread : Keeps input_old input_new
+  pub unwritten : Keeps out_old out_new
+
+abbrev pub Performs : Known (List words.Word) → Sources → Option (List ℕ) → Option (List ℕ) → Option (List ℕ) → Option (List ℕ) → Result Status Fault → Type 0
+Performs given sources input_old input_new out_old out_new result =
+    TakesWords given sources input_old input_new out_old out_new result ⊎ LacksWords given input_old input_new out_old out_new result
+
+-- a whole run: what was done, what was reported, and the exit status
+pub record Runs (given : Known (List words.Word)) (sources : Sources) (input_old input_new out_old out_new errors_old errors_new : Option (List ℕ)) (status : ℕ) : Type 0 where
   pub outcome : Result Status Fault
-  pub attempts : Attempts words_given input_old input_new out_old out_new outcome
+  pub performs : Performs given sources input_old input_new out_old out_new outcome
   pub reports : Reports outcome errors_old errors_new
-  pub ends : status ≡ status_of outcome
-
--- a bad line of which nothing more is to be said
-abbrev pub IsBareBadLine : Fault → Type 0
-IsBareBadLine (Line (line_fault.BadLine explanation)) = string_bytes explanation ≡ []
-IsBareBadLine (Line line_fault.Memory) = ⊥
-IsBareBadLine fault = ⊥
-
--- why the words can't be had: for want of memory, or since they are no text, which makes the line a bad one
-abbrev pub IsFaultOfWords : Bool → Fault → Type 0
-IsFaultOfWords true fault = fault ≡ Memory
-IsFaultOfWords false fault = IsBareBadLine fault
-
--- the words can't be had for one of the two reasons
-abbrev pub LacksWords : Fault → Type 0
-LacksWords fault = (is_memory : Bool) × IsFaultOfWords is_memory fault
+  pub ends : status ≡ code_of (status_of outcome)

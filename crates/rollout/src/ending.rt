@@ -1,13 +1,16 @@
 //! The end of the program: its exit status, and the line of the fault that it ends with.
 ghost use Rattle.std.specs.Prelude.{◌≡◌};
+ghost use Rattle.std.specs.Process.{exit_status};
 ghost use Rattle.bounded_io.specs.Sending.{SendsText};
 ghost use Rattle.rollout.specs.Endings.{Reports, fault_text, status_of, status_of_fault};
+ghost use Rattle.rollout.specs.Status.{code_of};
 
 use crate::fault::Fault;
 use crate::fault_line::write_fault;
 use crate::status::Status;
 use bounded_io::{TextWriter, WriteFault};
 use std::io::Write;
+use std::process::ExitCode;
 
 /// The status that the program ends with. Of what was done nothing is reported; a fault is, by its line, on `errors`.
 pub fn conclude<E: Write>(outcome: Result<Status, Fault>, errors: &mut E) -> Status
@@ -40,4 +43,11 @@ fn fault_status(fault: &Fault) -> Status
         Some(_) => Status::Refused,
         None => Status::Memory,
     }
+}
+
+/// The exit status that tells of the end.
+pub fn exit_code(status: Status) -> ExitCode
+    ensures { exit_status result ≡ code_of status }
+{
+    ExitCode::from(status.code())
 }

@@ -68,7 +68,7 @@ fn write_line_row<W: Write>(text: &mut TextWriter<'_, W>, fault: &LineFault)
     ensures { Writes W.contents text.old text.new (row_text (rows.line_row fault.now)) }
 {
     match fault {
-        LineFault::BadLine(_) => row(text, "BadLine", &[]),
+        LineFault::BadLine(_) | LineFault::Unexplained => row(text, "BadLine", &[]),
         LineFault::Memory => {}
     }
 }

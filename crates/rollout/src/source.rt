@@ -1,52 +1,66 @@
 //! Reading the inputs that a line names.
-ghost use Rattle.std.specs.Prelude.{◌≡◌, ◌≤◌, cond, length, IfOk, IfErr};
-ghost use Rattle.bounded_io.specs.Reading.{max_input};
-ghost use Rattle.rollout.specs.Inputs.{IsTextOf, IsUnreadable};
+ghost use Rattle.std.specs.Prelude.{◌≡◌, ◌↔◌, IsTrue, IfOk, IfErr};
+ghost use Rattle.std.specs.IoError.{error_kind};
+ghost use Rattle.rollout.specs.Inputs.{IsFaultOfFile, IsFaultOfKind, IsTextOf, IsTextOfFile, IsUnreadable};
+ghost use Rattle.rollout.specs.Systems.{sources_of};
 
 use crate::fault::Fault;
-use bounded_io::{InputFault, read_input};
+use crate::system::System;
+use bounded_io::{Input, InputFault, read_input};
 use command_line::Source;
-use std::fs;
-use std::fs::Files;
-use std::io::{ErrorKind, Read};
+use std::alloc::Global;
+use std::io;
+use std::io::ErrorKind;
 
 /// Reads a file, or standard input, whole.
-pub fn read_source<R: Files + AllocGlobal, I: Read>(
-    rt: &R,
+pub fn read_source<S: System, I: Input>(
+    system: &S,
+    alloc: Global,
     source: Source,
     input: &mut I,
 ) -> Result<Vec<u8>, Fault>
-    ensures ok { IfOk result (λ text. IsTextOf source (I.remaining input.old) (I.remaining input.new) text.items) }
-    ensures err { IfErr result (IsUnreadable source (I.remaining input.old) (I.remaining input.new)) }
+    ensures ok { IfOk result (λ text.
+        IsTextOf (sources_of (S.files system.now) (I.is_reliable input.old)) source (I.remaining input.old) (I.remaining input.new) text.items) }
+    ensures err { IfErr result
+        (IsUnreadable (sources_of (S.files system.now) (I.is_reliable input.old)) source (I.remaining input.old) (I.remaining input.new)) }
 {
     match &source {
-        Source::StandardInput => match read_input(rt.alloc(), input) {
+        Source::StandardInput => match read_input(alloc, input) {
             Ok(text) => Ok(text),
             Err(fault) => Err(Fault::Input { source, fault }),
         },
-        Source::File(name) => match read_file(rt, name.as_str()) {
+        Source::File(name) => match read_file(system, alloc, name.as_str()) {
             Ok(text) => Ok(text),
             Err(fault) => Err(Fault::Input { source, fault }),
         },
     }
 }
 
-fn read_file<R: Files + AllocGlobal>(rt: &R, name: &str) -> Result<Vec<u8>, InputFault>
-    ensures { IfOk result (λ text. length text.items ≤ max_input) }
+/// Reads the file of this name, whatever the name is.
+fn read_file<S: System>(system: &S, alloc: Global, name: &str) -> Result<Vec<u8>, InputFault>
+    ensures ok { IfOk result (λ text. IsTextOfFile (S.files system.now name.now) text.items) }
+    ensures err { IfErr result (IsFaultOfFile (S.files system.now name.now)) }
 {
-    match fs::open(rt, name) {
-        Ok(mut file) => read_input(rt.alloc(), &mut file),
-        Err(error) => Err(open_fault(error.kind() == ErrorKind::OutOfMemory)),
+    match system.open(name) {
+        Ok(mut file) => read_input(alloc, &mut file),
+        Err(error) => Err(open_fault(&error)),
     }
 }
 
 /// Why a file can't be opened: for want of memory, or for another reason.
-fn open_fault(is_memory: bool) -> InputFault
-    ensures { result ≡ cond is_memory InputFault.Memory InputFault.File }
+fn open_fault(error: &io::Error) -> InputFault
+    ensures { IsFaultOfKind (error_kind error.now) result }
 {
-    if is_memory {
+    if is_memory(error) {
         InputFault::Memory
     } else {
         InputFault::File
     }
+}
+
+/// Whether the system wants memory.
+pub fn is_memory(error: &io::Error) -> bool
+    ensures { IsTrue result ↔ (error_kind error.now ≡ ErrorKind.OutOfMemory) }
+{
+    matches!(error.kind(), ErrorKind::OutOfMemory)
 }

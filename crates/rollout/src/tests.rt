@@ -1,11 +1,18 @@
 //! Whole runs of the program: what is read, what goes out on each output, and the status.
-use super::*;
+use crate::commands::print;
+use crate::ending::conclude;
+use crate::fault::Fault;
 use crate::fault_line::write_fault;
-use bounded_io::{InputFault, TextWriter, WriteFault};
+use crate::run::run;
+use crate::system::System;
+use bounded_io::{Fallible, InputFault, TextWriter, WriteFault};
 use command_line::{LineFault, Source};
 use domains::FleetFault;
 use inventory_read::ReadFault;
 use std::alloc::{AllocError, Global};
+use std::io;
+use std::io::{ErrorKind, Write};
+use std::process::ExitCode;
 use std::test::Fail;
 
 mod faults;
@@ -113,41 +120,64 @@ const INVENTORIES: [(&str, &str, &str); 21] = [
     ("", "", "rollout: 201 NotJson\n"),
 ];
 
-fn owned(alloc: Global, texts: &[&str]) -> Result<Vec<String>, AllocError> {
-    let mut words = Vec::new(alloc);
-    for text in texts {
-        words.push(String::from_str(alloc, text)?)?;
+/// A system that gives these words behind the program's name, and has these files.
+#[derive(Clone, Copy)]
+struct Given<'a> {
+    alloc: Global,
+    words: &'a [&'a str],
+    files: &'a [(&'a str, &'a str)],
+}
+
+impl<'a> System for Given<'a> {
+    type File = Fallible<&'a [u8]>;
+
+    fn args(&self) -> io::Result<Vec<String>> {
+        let mut args = Vec::new(self.alloc);
+        args.push(String::from_str(self.alloc, "rollout")?)?;
+        for word in self.words {
+            args.push(String::from_str(self.alloc, word)?)?;
+        }
+        Ok(args)
     }
-    Ok(words)
+
+    fn open(&self, name: &str) -> io::Result<Fallible<&'a [u8]>> {
+        for (file, text) in self.files {
+            if *file == name {
+                return Ok(Fallible(text.as_bytes()));
+            }
+        }
+        Err(io::Error::from(ErrorKind::NotFound))
+    }
 }
 
 /// What a run printed, what it reported, and its exit status.
-type Ended = (Vec<u8>, Vec<u8>, u8);
+type Ended = (Vec<u8>, Vec<u8>, ExitCode);
 
-fn ended(
-    rt: &(impl Files + AllocGlobal),
-    texts: &[&str],
-    input: &str,
-) -> Result<Ended, AllocError> {
-    let words = owned(rt.alloc(), texts)?;
-    let mut out = Vec::new(rt.alloc());
-    let mut errors = Vec::new(rt.alloc());
-    let mut input = input.as_bytes();
-    let status = run(rt, words.as_slice(), &mut input, &mut out, &mut errors);
-    Ok((out, errors, status.code()))
+fn ended<S: System>(alloc: Global, system: &S, input: &[u8]) -> Ended {
+    let mut out = Vec::new(alloc);
+    let mut errors = Vec::new(alloc);
+    let mut input = Fallible(input);
+    let code = run(system, alloc, &mut input, &mut out, &mut errors);
+    (out, errors, code)
+}
+
+fn without_files<'a>(alloc: Global, words: &'a [&'a str]) -> Given<'a> {
+    Given {
+        alloc,
+        words,
+        files: &[],
+    }
 }
 
 #[test]
 fn an_inventory_is_printed_or_its_fault_is_reported(rt: HostRuntime) -> Result<(), Fail> {
     for (inventory, printed, reported) in INVENTORIES {
-        let (out, errors, code) = ended(&rt, &[], inventory)?;
+        let system = without_files(rt.alloc(), &[]);
+        let (out, errors, code) = ended(rt.alloc(), &system, inventory.as_bytes());
         assert_eq!(rt; out.as_slice(), printed.as_bytes(), "{inventory}");
         assert_eq!(rt; errors.as_slice(), reported.as_bytes(), "{inventory}");
-        assert_eq!(rt;
-            code,
-            if reported.is_empty() { 0 } else { 1 },
-            "{inventory}"
-        );
+        let status = if reported.is_empty() { 0 } else { 1 };
+        assert_eq!(rt; code, ExitCode::from(status), "{inventory}");
     }
     Ok(())
 }
@@ -158,10 +188,12 @@ fn a_text_that_is_asked_for_is_printed(rt: HostRuntime) -> Result<(), Fail> {
         ("--version", "rollout 0.1.0\n"),
         ("--help", "Updates a fleet batch by batch"),
     ] {
-        let (out, errors, code) = ended(&rt, &[word], "")?;
+        let words = [word];
+        let system = without_files(rt.alloc(), &words);
+        let (out, errors, code) = ended(rt.alloc(), &system, b"");
         assert!(rt; out.as_slice().starts_with(beginning.as_bytes()), "{word}");
         assert_eq!(rt; errors.len(), 0, "{word}");
-        assert_eq!(rt; code, 0, "{word}");
+        assert_eq!(rt; code, ExitCode::SUCCESS, "{word}");
     }
     Ok(())
 }
@@ -179,13 +211,45 @@ fn a_bad_line_and_a_missing_file_are_reported(rt: HostRuntime) -> Result<(), Fai
             "rollout: 902 File name=no such?file\n",
         ),
     ] {
-        let (out, errors, code) = ended(&rt, texts, "")?;
+        let system = without_files(rt.alloc(), texts);
+        let (out, errors, code) = ended(rt.alloc(), &system, b"");
         assert!(rt;
             errors.as_slice().starts_with(reported.as_bytes()),
             "{texts:?}"
         );
         assert_eq!(rt; out.len(), 0, "{texts:?}");
-        assert_eq!(rt; code, 1, "{texts:?}");
+        assert_eq!(rt; code, ExitCode::FAILURE, "{texts:?}");
+    }
+    Ok(())
+}
+
+#[test]
+fn the_file_that_is_named_is_read_whole(rt: HostRuntime) -> Result<(), Fail> {
+    let files = [
+        ("racks", TWO_RACKS),
+        ("-", "{}"),
+        (" racks ", "["),
+        ("none", ""),
+    ];
+    for (name, printed, reported) in [
+        ("racks", TABLE, ""),
+        ("-", "hosts=0 limited=0\n", ""),
+        (" racks ", "", "rollout: 201 NotJson\n"),
+        ("none", "", "rollout: 201 NotJson\n"),
+        (" none", "", "rollout: 902 File name= none\n"),
+        ("", "", "rollout: 902 File name=\n"),
+    ] {
+        let words = ["limits", name];
+        let system = Given {
+            alloc: rt.alloc(),
+            words: &words,
+            files: &files,
+        };
+        let (out, errors, code) = ended(rt.alloc(), &system, b"unread");
+        assert_eq!(rt; out.as_slice(), printed.as_bytes(), "{name}");
+        assert_eq!(rt; errors.as_slice(), reported.as_bytes(), "{name}");
+        let status = if reported.is_empty() { 0 } else { 1 };
+        assert_eq!(rt; code, ExitCode::from(status), "{name}");
     }
     Ok(())
 }
@@ -216,17 +280,17 @@ fn a_narrow_output_breaks_off(rt: HostRuntime) -> Result<(), Fail> {
         ([].as_slice(), TABLE),
         (["-V"].as_slice(), "rollout 0.1.0\n"),
     ] {
-        let words = owned(rt.alloc(), texts)?;
+        let system = without_files(rt.alloc(), texts);
         for room in 0..whole.len() {
             let taken = Vec::new(rt.alloc());
             let mut out = Narrow { taken, room };
             let mut errors = Vec::new(rt.alloc());
-            let mut input = TWO_RACKS.as_bytes();
-            let status = run(&rt, words.as_slice(), &mut input, &mut out, &mut errors);
+            let mut input = Fallible(TWO_RACKS.as_bytes());
+            let code = run(&system, rt.alloc(), &mut input, &mut out, &mut errors);
             let reported = format!(in rt.alloc(); "rollout: 904 Write written={room}\n")?;
             assert_eq!(rt; out.taken.as_slice(), &whole.as_bytes()[..room]);
             assert_eq!(rt; errors.as_slice(), reported.as_bytes());
-            assert_eq!(rt; status.code(), 1);
+            assert_eq!(rt; code, ExitCode::FAILURE);
         }
     }
     Ok(())
@@ -239,11 +303,12 @@ fn a_fault_that_can_not_be_reported_changes_no_status(rt: HostRuntime) -> Result
         let taken = Vec::new(rt.alloc());
         let mut errors = Narrow { taken, room };
         let mut out = Vec::new(rt.alloc());
-        let mut input = "[".as_bytes();
-        let status = run(&rt, &[], &mut input, &mut out, &mut errors);
+        let mut input = Fallible("[".as_bytes());
+        let system = without_files(rt.alloc(), &[]);
+        let code = run(&system, rt.alloc(), &mut input, &mut out, &mut errors);
         assert_eq!(rt; errors.taken.as_slice(), &reported.as_bytes()[..room]);
         assert_eq!(rt; out.len(), 0);
-        assert_eq!(rt; status.code(), 1);
+        assert_eq!(rt; code, ExitCode::FAILURE);
     }
     Ok(())
 }

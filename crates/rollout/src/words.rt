@@ -1,31 +1,30 @@
 //! The words of the line.
-ghost use Rattle.std.specs.Prelude.{IfErr};
-ghost use Rattle.rollout.specs.Runs.{LacksWords, IsFaultOfWords};
+ghost use Rattle.std.specs.Prelude.{◌≡◌, drop, map, string_bytes};
+ghost use Rattle.std.specs.IoError.{error_kind};
+ghost use Rattle.rollout.specs.Runs.{IsFaultOfWords};
 
 use crate::fault::Fault;
+use crate::source::is_memory;
 use command_line::LineFault;
-use std::alloc::Global;
-use std::env;
-use std::env::Env;
-use std::io::ErrorKind;
+use std::io;
 
-/// The words of the line, the program's name left out. Words that are no text make the line a bad one.
-pub fn words<R: Env + AllocGlobal>(rt: &R) -> Result<Vec<String>, Fault>
-    ensures { IfErr result LacksWords }
+/// The words behind the program's name.
+pub fn words_of(args: &[String]) -> &[String]
+    ensures { map string_bytes result.now ≡ drop 1 (map string_bytes args.now) }
 {
-    match env::args(rt) {
-        Ok(words) => Ok(words.skip(1).collect(rt.alloc())?),
-        Err(error) => Err(fault_of(rt.alloc(), error.kind() == ErrorKind::OutOfMemory)),
+    match args {
+        [_program, words @ ..] => words,
+        [] => args,
     }
 }
 
-/// What it means that the words can't be had, for want of memory or since they are no text.
-fn fault_of(alloc: Global, is_memory: bool) -> Fault
-    ensures { IsFaultOfWords is_memory result }
+/// What it means that the system gives no words: memory is wanting, or they are no text.
+pub fn words_fault(error: &io::Error) -> Fault
+    ensures { IsFaultOfWords (error_kind error.now) result }
 {
-    if is_memory {
+    if is_memory(error) {
         Fault::Memory
     } else {
-        Fault::Line(LineFault::BadLine(String::new(alloc)))
+        Fault::Line(LineFault::Unexplained)
     }
 }

@@ -1,8 +1,9 @@
 //! Inputs at the bound, and readers that fail.
 
 use super::*;
+use crate::reader::Fallible;
 use std::io;
-use std::io::ErrorKind;
+use std::io::{ErrorKind, Read};
 use std::test::Fail;
 
 /// Gives `left` zeros, at most `most` in a read; then it ends, or fails once, and would go on with three more. It keeps the
@@ -57,16 +58,16 @@ fn inputs_are_read_to_their_end_or_refused(rt: HostRuntime) -> Result<(), Fail> 
             Err(InputFault::File),
         ),
     ] {
-        let mut reader = Zeros {
+        let mut reader = Fallible(Zeros {
             left,
             most,
             then,
             given: 0,
             asked: 0,
-        };
+        });
         let outcome = read_input(rt.alloc(), &mut reader);
         assert_eq!(rt; outcome.map(|input| input.len()), wanted, "of {left} bytes");
-        assert!(rt; reader.asked <= bound + 1, "of {left} bytes");
+        assert!(rt; reader.0.asked <= bound + 1, "of {left} bytes");
     }
     Ok(())
 }
@@ -74,13 +75,13 @@ fn inputs_are_read_to_their_end_or_refused(rt: HostRuntime) -> Result<(), Fail> 
 /// Run with the allocations refused one after another, it sees no answer but these two.
 #[test]
 fn a_refused_growth_is_want_of_memory(rt: HostRuntime) -> Result<(), Fail> {
-    let mut reader = Zeros {
+    let mut reader = Fallible(Zeros {
         left: 1_000_000,
         most: 10_000,
         then: None,
         given: 0,
         asked: 0,
-    };
+    });
     match read_input(rt.alloc(), &mut reader) {
         Ok(input) => assert_eq!(rt; input.len(), 1_000_000),
         Err(fault) => assert_eq!(rt; fault, InputFault::Memory),

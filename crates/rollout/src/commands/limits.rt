@@ -2,31 +2,34 @@
 ghost use Rattle.std.specs.Prelude.{◌≡◌, IfOk, IfErr, OnOk};
 ghost use Rattle.rollout.specs.Commands.{TabulatesLimits};
 ghost use Rattle.rollout.specs.LimitsText.{IsFleetIn, IsUnread, WritesTable, IsTrueFault};
+ghost use Rattle.rollout.specs.Systems.{sources_of};
 
 use crate::fault::Fault;
 use crate::source::read_source;
 use crate::status::Status;
+use crate::system::System;
+use bounded_io::Input;
 use bumpalo::Bump;
 use command_line::Source;
 use domains::Fleet;
 use inventory_read::read_inventory;
 use recap::write_limits;
 use std::alloc::Global;
-use std::fs::Files;
-use std::io::{Read, Write};
+use std::io::Write;
 
 /// Reads the inventory, and writes the table of its limits.
-pub fn limits<R: Files + AllocGlobal, I: Read, W: Write>(
-    rt: &R,
+pub fn limits<S: System, I: Input, W: Write>(
+    system: &S,
+    alloc: Global,
     inventory: Source,
     input: &mut I,
     out: &mut W,
 ) -> Result<Status, Fault>
-    ensures { TabulatesLimits inventory (I.remaining input.old) (I.remaining input.new)
+    ensures { TabulatesLimits (sources_of (S.files system.now) (I.is_reliable input.old)) inventory (I.remaining input.old) (I.remaining input.new)
         (W.contents out.old) (W.contents out.new) result }
 {
-    let text = read_source(rt, inventory, input)?;
-    limits_text(rt.alloc(), text.as_slice(), out)
+    let text = read_source(system, alloc, inventory, input)?;
+    limits_text(alloc, text.as_slice(), out)
 }
 
 /// The fleet of an inventory. The inventory's tree lives in an arena that is given up here: the fleet owns its names.

@@ -15,29 +15,25 @@ fn inventory_of(alloc: Global, len: usize) -> Result<Vec<u8>, AllocError> {
 #[test]
 fn a_large_inventory_is_printed(rt: HostRuntime) -> Result<(), Fail> {
     let inventory = inventory_of(rt.alloc(), 1_500_000)?;
-    let mut out = Vec::new(rt.alloc());
-    let mut errors = Vec::new(rt.alloc());
-    let mut input = inventory.as_slice();
-    let status = run(&rt, &[], &mut input, &mut out, &mut errors);
+    let system = without_files(rt.alloc(), &[]);
+    let (out, errors, code) = ended(rt.alloc(), &system, inventory.as_slice());
     assert_eq!(rt; out.as_slice(), b"hosts=1 limited=0\n".as_slice());
     assert_eq!(rt; errors.len(), 0);
-    assert_eq!(rt; status.code(), 0);
+    assert_eq!(rt; code, ExitCode::SUCCESS);
     Ok(())
 }
 
 #[test]
 fn an_input_past_the_bound_is_reported(rt: HostRuntime) -> Result<(), Fail> {
     let inventory = inventory_of(rt.alloc(), 16_777_216)?;
-    let mut out = Vec::new(rt.alloc());
-    let mut errors = Vec::new(rt.alloc());
-    let mut input = inventory.as_slice();
-    let status = run(&rt, &[], &mut input, &mut out, &mut errors);
+    let system = without_files(rt.alloc(), &[]);
+    let (out, errors, code) = ended(rt.alloc(), &system, inventory.as_slice());
     assert_eq!(rt; out.len(), 0);
     assert_eq!(rt;
         errors.as_slice(),
         b"rollout: 903 InputTooLarge\n".as_slice()
     );
-    assert_eq!(rt; status.code(), 1);
+    assert_eq!(rt; code, ExitCode::FAILURE);
     Ok(())
 }
 

@@ -5,16 +5,18 @@ use Rattle.bounded_io.proofs.input.read_input.Goals as goal
 
 pub returns-then-count-left-clause-err : goal.returns-then-count-left-clause-err
 returns-then-count-left-clause-err g c =
-    let read = take c.in_ok-count.count c.read_some.new.room in record {
-      bytes = vec_items c.loop-input.input ++ read;
-      consumed = Consumes-trans _ _ _ _ _ c.loop-input.invariant.0 c.in_ok-count.ensures.read;
-      comes = omega (arith, length-append {A = ℕ}, length-take {A = ℕ}, c.in_ok-count.ensures.bound);
+    let read = take c.in-Some.count c.read_some.new.room in record {
+      bytes = vec_items c.loop-count.input ++ read;
+      consumed = Consumes-trans _ _ _ _ _ c.loop-count.invariant.0 c.in-Some.ensures.read;
+      comes = omega (arith, length-append {A = ℕ}, length-take {A = ℕ}, c.in-Some.ensures.bound);
+      may_come = tt;
     }
 
-pub returns-in_default-clause-err : goal.returns-in_default-clause-err
-returns-in_default-clause-err g c =
-    let read = take c.in_ok-count.count c.read_some.new.room in record {
-      bytes = vec_items c.loop-input.input ++ read;
-      consumed = Consumes-trans _ _ _ _ _ c.loop-input.invariant.0 c.in_ok-count.ensures.read;
-      comes = omega (arith, length-append {A = ℕ}, length-take {A = ℕ}, c.in_ok-count.ensures.bound);
+pub returns-in_default-extend_from_slice-clause-err : goal.returns-in_default-extend_from_slice-clause-err
+returns-in_default-extend_from_slice-clause-err g c =
+    let read = take c.in-Some.count c.read_some.new.room in record {
+      bytes = vec_items c.loop-count.input ++ read;
+      consumed = Consumes-trans _ _ _ _ _ c.loop-count.invariant.0 c.in-Some.ensures.read;
+      comes = omega (arith, length-append {A = ℕ}, length-take {A = ℕ}, c.in-Some.ensures.bound);
+      may_come = tt;
     }

@@ -1,0 +1,51 @@
+//! What the system gives the program: the words of its line, and files.
+ghost use Rattle.std.specs.Prelude.{List, ℕ, Option, None, IfOk, IfErr, map, string_bytes};
+ghost use Rattle.std.specs.IoError.{error_kind};
+ghost use Rattle.rollout.specs.Systems.{Fails, Files, Gives, Known, Opens};
+
+use bounded_io::{Fallible, Input};
+use std::env::Env;
+use std::{env, fs, io};
+
+/// A system, by the words and the files that it gives. What holds of each system that says what it gives holds of the real
+/// one, of which nothing is known beforehand.
+pub trait System {
+    type File: Input + Drop;
+
+    ghost words: { Self → Known (List (List ℕ)) } = { λ _. None };
+
+    ghost files: { Self → Files } = { λ _ _. None };
+
+    /// The words of the line, the program's name first.
+    fn args(&self) -> io::Result<Vec<String>>
+        ensures ok { IfOk result (λ args. Gives (words self.now) (map string_bytes args.items)) }
+        ensures err { IfErr result (λ error. Fails (words self.now) (error_kind error)) };
+
+    fn open(&self, name: &str) -> io::Result<Self::File>
+        ensures ok { IfOk result (λ file. Opens (files self.now name.now) (Self.File.remaining file) (Self.File.is_reliable file)) }
+        ensures err { IfErr result (λ error. Fails (files self.now name.now) (error_kind error)) };
+}
+
+/// The system that runs the program.
+#[derive(Drop)]
+pub struct Host<'a, R> {
+    rt: &'a R,
+}
+
+impl<'a, R> Host<'a, R> {
+    pub fn new(rt: &'a R) -> Host<'a, R> {
+        Host { rt }
+    }
+}
+
+impl<R: Env + fs::Files + AllocGlobal> System for Host<'_, R> {
+    type File = Fallible<R::File>;
+
+    fn args(&self) -> io::Result<Vec<String>> {
+        Ok(env::args(self.rt)?.collect(self.rt.alloc())?)
+    }
+
+    fn open(&self, name: &str) -> io::Result<Fallible<R::File>> {
+        Ok(Fallible(fs::open(self.rt, name)?))
+    }
+}
