@@ -1,10 +1,9 @@
 -- Quotients rounded up.
-use Rattle.std.proofs.Common.{◌≡◌, ℕ, ◌+◌, ◌-◌, ◌*◌, ◌≤◌, ◌<◌, true, nat_lt, cond, None, Some, Option, ap, ◌∙◌, sym, arith, inl, inr, ◌⊎◌}
+use Rattle.std.proofs.Common.{◌≡◌, ℕ, ◌+◌, ◌-◌, ◌*◌, ◌≤◌, ◌<◌, cond, Some, ap, arith, inl, inr, ◌⊎◌}
 use Rattle.std.specs.Int.{div_ceil}
 use Rattle.std.proofs.lemmas.Grind.{div_ceil_times}
 use Rattle.std.proofs.lemmas.Bool.{cases_lt, lt-ltb}
 use Rattle.std.proofs.Math.Nat.{mul-le-mul_right}
-use Rattle.batch_plan.specs.declared.needs.Need.{Need}
 use Rattle.batch_plan.specs.Needs.{fewest}
 
 pub ceil_enough : (w r : ℕ) → 0 < r → w ≤ div_ceil w r * r

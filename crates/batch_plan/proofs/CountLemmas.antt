@@ -1,11 +1,11 @@
 -- Sums over hosts and over batches.
-use Rattle.std.proofs.Common.{◌≡◌, ℕ, ◌+◌, ◌*◌, ◌≤◌, ◌<◌, Bool, true, false, ◌&&◌, ◌||◌, not, cond, nat_eq, List, [], ◌∷◌, filter, length, map, sym, ap, ◌∙◌, refl, arith, inl, inr, ◌⊎◌}
+use Rattle.std.proofs.Common.{◌≡◌, ℕ, ◌+◌, ◌≤◌, ◌<◌, Bool, true, false, ◌&&◌, ◌||◌, not, nat_eq, List, [], ◌∷◌, length, map, sym, ap, ◌∙◌, refl, arith, inl, inr, ◌⊎◌}
 use Rattle.std.specs.List.{sum_by, count_by, range_with_len}
 use Rattle.std.proofs.lemmas.List.FromFn.{fill_by_all}
 use Rattle.fleet_states.specs.declared.status.Status.{Status}
 use Rattle.fleet_states.specs.declared.status.Status.TheVariants.{Idle}
 use Rattle.std.proofs.lemmas.List.Sums.{sum_by-cons}
-use Rattle.std.proofs.lemmas.Bool.{and_parts, not-true, both_ways, eq-eqb, eqb-true, ne_eqb, or_cases, or_left, or_right, or_parts, cases_eq, cases_Bool}
+use Rattle.std.proofs.lemmas.Bool.{and_parts, not-true, both_ways, eq-eqb, ne_eqb, or_parts, cases_eq, cases_Bool}
 use Rattle.fleet_numbers.specs.NumberLists.{has_number}
 use Rattle.fleet_states.specs.Statuses.{are_distinct, is_waiting, status_at, waiting_count}
 use Rattle.fleet_states.proofs.CountLemmas.{bit, count_by-cons, count_le}

@@ -1,8 +1,8 @@
 -- Needs and waiting hosts by the counts, and by the statuses that these are counts of.
-use Rattle.std.proofs.Common.{◌≡◌, ℕ, ◌+◌, ◌-◌, ◌≤◌, ◌<◌, Bool, true, false, None, Some, Option, List, [], ◌∷◌, ◌++◌, cond, take, map, filter, length, get_or, option_map, set, sym, ap, ◌∙◌, refl, subst, arith, inl, inr, ◌⊎◌, IsPermutation}
-use Rattle.std.specs.List.{count_by, range_with_len}
+use Rattle.std.proofs.Common.{◌≡◌, ℕ, ◌+◌, ◌-◌, ◌≤◌, ◌<◌, Bool, None, Some, Option, List, [], ◌∷◌, ◌++◌, cond, take, map, filter, length, get_or, option_map, set, sym, ap, ◌∙◌, refl, arith, inl, inr, ◌⊎◌}
+use Rattle.std.specs.List.{range_with_len}
 use Rattle.std.proofs.lemmas.Bool.{cases_lt, cases_eq}
-use Rattle.std.proofs.lemmas.List.{ext_get_or, get_or-map, get_or_past, get_or-set_same, get_or-set_other, length-map, length-set}
+use Rattle.std.proofs.lemmas.List.{ext_get_or, get_or-map, get_or_past, get_or-set_same, get_or-set_other, length-map}
 use Rattle.std.proofs.lemmas.List.Elements.{filter_agree, filter_more}
 use Rattle.std.proofs.lemmas.List.Sums.{length-filter}
 use Rattle.std.proofs.lemmas.List.Sorted.{sum_by-IsPermutation}

@@ -1,15 +1,13 @@
 -- The tests of a plan pass exactly for a plan.
-use Rattle.std.proofs.Common.{◌≡◌, ℕ, ◌+◌, ◌≤◌, ◌<◌, Bool, true, false, ◌&&◌, not, nat_eq, nat_lt, cond, All, None, Some, Option, List, [], ◌∷◌, length, get_or, sym, ap, ◌∙◌, refl, subst, arith, inl, inr, ◌⊎◌}
-use Rattle.std.specs.List.{count_by, sum_by, list_all}
-use Rattle.std.proofs.lemmas.Bool.{and_parts, and_from, cases_lt, cases_Bool, lt-ltb, ltb-true, not-true, not_from_false, both_ways, false_from_ne_true, eq-eqb, or_left, or_right}
-use Rattle.std.proofs.lemmas.List.{get_or_default}
+use Rattle.std.proofs.Common.{◌≡◌, ℕ, ◌≤◌, ◌<◌, Bool, true, false, ◌&&◌, not, nat_eq, nat_lt, cond, None, Option, List, [], ◌∷◌, length, get_or, sym, ap, ◌∙◌, refl, arith, inl, inr, ◌⊎◌}
+use Rattle.std.specs.List.{count_by, list_all}
+use Rattle.std.proofs.lemmas.Bool.{and_parts, and_from, cases_lt, lt-ltb, ltb-true, not-true, not_from_false, both_ways, false_from_ne_true, eq-eqb}
 use Rattle.std.proofs.lemmas.List.Folds.{list_any_at}
 use Rattle.std.proofs.lemmas.List.Sums.{AllPass-from_list_all, list_all-from_AllPass, get_or-le-sum_by, sum_by-cons}
 use Rattle.fleet_numbers.specs.NumberLists.{has_number}
 use Rattle.domains.specs.FleetViews.{FleetView, IsSound}
 use Rattle.domains.specs.Starts.{exceeds}
 use Rattle.fleet_states.specs.declared.status.Status.{Status}
-use Rattle.fleet_states.specs.declared.status.Status.TheVariants.{Idle}
 use Rattle.fleet_states.specs.Statuses.{are_distinct, is_waiting, status_at}
 use Rattle.fleet_states.specs.Groups.{FleetGroup, groups_of, members_among, room}
 use Rattle.fleet_states.proofs.CountLemmas.{bit, count_by-cons, count_some}

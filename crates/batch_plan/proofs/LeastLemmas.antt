@@ -1,24 +1,22 @@
 -- A bound that forces a number: no plan has fewer batches.
-use Rattle.std.proofs.Common.{◌≡◌, ℕ, ◌+◌, ◌*◌, ◌≤◌, ◌<◌, Bool, true, false, ◌&&◌, nat_lt, All, Option, None, Some, List, [], ◌∷◌, map, length, get_or, option_map, sym, ap, ◌∙◌, refl, subst, arith, inl, inr, ◌⊎◌}
+use Rattle.std.proofs.Common.{◌≡◌, ℕ, ◌*◌, ◌≤◌, ◌<◌, true, false, nat_lt, Option, None, Some, List, [], ◌∷◌, map, length, get_or, option_map, sym, ap, ◌∙◌, refl, subst, arith, inl, inr, ◌⊎◌}
 use Rattle.std.specs.List.{sum_by, count_by, range_with_len}
 use Rattle.std.proofs.lemmas.Bool.{and_parts, cases_lt, cases_Bool, ltb-true, ltb-false}
 use Rattle.std.proofs.lemmas.List.{get_or-map, get_or_past, length-map}
-use Rattle.std.proofs.lemmas.List.Sums.{sum_by-le, sum_by-cons}
-use Rattle.group_tree.specs.declared.ids.GroupId.{GroupId}
+use Rattle.std.proofs.lemmas.List.Sums.{sum_by-le}
 use Rattle.fleet_numbers.specs.NumberLists.{has_number}
 use Rattle.domains.specs.Starts.{exceeds}
 use Rattle.fleet_states.specs.declared.status.Status.{Status}
-use Rattle.fleet_states.specs.declared.status.Status.TheVariants.{Idle}
 use Rattle.fleet_states.specs.Statuses.{are_distinct, is_waiting, status_at, waiting_count}
-use Rattle.fleet_states.specs.Groups.{FleetGroup, Fits, group_at, members_among, no_group, room}
+use Rattle.fleet_states.specs.Groups.{FleetGroup, group_at, members_among, no_group, room}
 use Rattle.fleet_states.proofs.CountLemmas.{bit}
 use Rattle.fleet_states.proofs.NumberLemmas.{distinct_rising, rising_range}
 use Rattle.batch_plan.specs.declared.needs.Need.{Need}
 use Rattle.batch_plan.specs.declared.answers.Bound.{Bound}
 use Rattle.batch_plan.specs.declared.answers.Bound.TheVariants.{Group, Serial, OneHost, Nothing}
 use Rattle.batch_plan.specs.Needs.{need_at, need_of, needs_of, serial_need, is_blocked, total_waiting}
-use Rattle.batch_plan.specs.Plans.{IsPlan, times_in}
-use Rattle.batch_plan.specs.Bounds.{Forces, IsForced}
+use Rattle.batch_plan.specs.Plans.{IsPlan}
+use Rattle.batch_plan.specs.Bounds.{Forces}
 use Rattle.batch_plan.proofs.CountLemmas.{count_within, stands_somewhere, sum_le, sum_of_sums, total_is}
 use Rattle.batch_plan.proofs.CeilLemmas.{ceil_least}
 

@@ -7,6 +7,8 @@ pub mod NamingLemmas
 pub mod CountedLemmas
 pub mod PlannedLemmas
 pub mod AnswerLemmas
+pub mod BeginningLemmas
+pub mod HoldingLemmas
 pub mod RoomLemmas
 pub mod CheckLemmas
 pub mod ExactLemmas

@@ -1,22 +1,20 @@
 -- The plan that is dealt is a plan, and the least one.
-use Rattle.std.proofs.Common.{◌≡◌, ℕ, zero, suc, ◌+◌, ◌-◌, ◌*◌, ◌%◌, ◌≤◌, ◌<◌, Bool, true, false, ◌&&◌, nat_eq, nat_lt, cond, All, is_some, option_map, None, Some, Option, List, [], ◌∷◌, map, filter, length, get_or, sym, ap, ◌∙◌, refl, subst, arith, inl, inr, ◌⊎◌, IfSome}
-use Rattle.std.specs.List.{count_by, sum_by, range_with_len}
-use Rattle.std.proofs.lemmas.Bool.{and_parts, cases_lt, cases_eq, cases_Bool, le-ltb, lt-ltb, ltb-true, ltb-false, eq-eqb, ne_eqb, eqb-true, both_ways, not_from_true, or_left, or_right, and_from}
-use Rattle.std.proofs.lemmas.List.Sorted.{sum_by-IsPermutation, list_any-IsPermutation}
-use Rattle.std.proofs.lemmas.List.Sums.{length-filter, count_by-le-length}
+use Rattle.std.proofs.Common.{◌≡◌, ℕ, ◌+◌, ◌-◌, ◌*◌, ◌%◌, ◌≤◌, ◌<◌, Bool, true, false, ◌&&◌, nat_eq, nat_lt, cond, is_some, option_map, None, Some, Option, List, [], ◌∷◌, map, filter, length, get_or, sym, ap, ◌∙◌, refl, subst, arith, inl, inr, ◌⊎◌, IfSome}
+use Rattle.std.specs.List.{count_by, range_with_len}
+use Rattle.std.proofs.lemmas.Bool.{cases_lt, cases_eq, le-ltb, lt-ltb, eq-eqb, ne_eqb, both_ways, or_left, or_right, and_from}
+use Rattle.std.proofs.lemmas.List.Sorted.{sum_by-IsPermutation}
+use Rattle.std.proofs.lemmas.List.Sums.{count_by-le-length}
 use Rattle.std.proofs.Math.Nat.{le-mul_of_pos_right, mod-eq_of_lt}
 use Rattle.std.proofs.lemmas.List.{get_or_default}
 use Rattle.std.specs.Int.{div_ceil}
 use Rattle.std.proofs.lemmas.List.FromFn.{get_or-range_with_len, length-range_with_len}
-use Rattle.group_tree.specs.declared.ids.GroupId.{GroupId}
 use Rattle.fleet_numbers.specs.NumberLists.{has_number, list_at}
 use Rattle.fleet_numbers.specs.Chains.{is_limited}
 use Rattle.domains.specs.FleetViews.{FleetView, IsSound}
 use Rattle.domains.specs.Starts.{exceeds}
 use Rattle.fleet_states.specs.declared.status.Status.{Status}
-use Rattle.fleet_states.specs.declared.status.Status.TheVariants.{Idle}
 use Rattle.fleet_states.specs.Statuses.{are_distinct, down_count, is_waiting, status_at, waiting_count}
-use Rattle.fleet_states.specs.Groups.{FleetGroup, Fits, IsGroup, group_at, groups_of, is_full_for, members_among, no_group, room}
+use Rattle.fleet_states.specs.Groups.{FleetGroup, group_at, groups_of, is_full_for, members_among, no_group, room}
 use Rattle.fleet_states.proofs.CountLemmas.{bit, count_by-cons, count_le}
 use Rattle.fleet_states.proofs.GroupLemmas.{group_of, get_or-groups_of, groups_of_hosts, length-groups_of}
 use Rattle.fleet_states.proofs.NumberLemmas.{distinct_rising, number_at, rising_range}

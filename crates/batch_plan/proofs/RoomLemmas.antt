@@ -1,9 +1,9 @@
 -- What a fleet's group needs, by its lists.
-use Rattle.std.proofs.Common.{◌≡◌, ℕ, ◌-◌, ◌<◌, None, Option, List, length, get_or, option_map, ap}
+use Rattle.std.proofs.Common.{◌≡◌, ℕ, ◌-◌, ◌<◌, None, List, length, get_or, option_map, ap}
 use Rattle.fleet_numbers.specs.NumberLists.{list_at}
 use Rattle.domains.specs.FleetViews.{FleetView}
 use Rattle.fleet_states.specs.declared.status.Status.{Status}
-use Rattle.fleet_states.specs.Statuses.{down_count, waiting_count}
+use Rattle.fleet_states.specs.Statuses.{down_count}
 use Rattle.fleet_states.specs.Groups.{FleetGroup, group_at, groups_of, no_group, room}
 use Rattle.fleet_states.proofs.GroupLemmas.{get_or-groups_of}
 

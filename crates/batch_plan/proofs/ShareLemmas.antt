@@ -1,7 +1,7 @@
 -- A run of hosts that are dealt: each batch takes at most its share.
 use Rattle.std.proofs.Common.{◌≡◌, ℕ, zero, suc, ◌+◌, ◌-◌, ◌*◌, ◌/◌, ◌%◌, ◌≤◌, ◌<◌, Bool, true, false, ◌&&◌, not, cond, nat_eq, List, [], ◌∷◌, filter, length, get_or, sym, ap, ◌∙◌, refl, subst, arith, inl, inr, ◌⊎◌}
 use Rattle.std.specs.List.{count_by, list_any}
-use Rattle.std.proofs.lemmas.Bool.{and_parts, not-true, not_from_false, both_ways, eq-eqb, eqb-true, ne_eqb, or_parts, or_from, cases_eq, cases_lt, cases_Bool, false_from_ne_true}
+use Rattle.std.proofs.lemmas.Bool.{not-true, not_from_false, both_ways, eq-eqb, ne_eqb, or_parts, or_from, cases_lt, false_from_ne_true}
 use Rattle.std.proofs.Math.Nat.{add-mod_right, div-add-mod, mul-le-mul_left}
 use Rattle.fleet_states.proofs.CountLemmas.{bit, count_by-cons}
 use Rattle.batch_plan.specs.Deals.{dealt_to}

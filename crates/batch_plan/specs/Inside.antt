@@ -1,11 +1,13 @@
--- Words of the proofs' steps: the needs of groups as their counts tell them, and the best bound so far.
-use Rattle.std.specs.Prelude.{◌≡◌, ℕ, ◌<◌, ◌≤◌, ◌-◌, None, Option, Some, List, filter, length, option_map, slice_index_or}
+-- Words of the proofs' steps: the needs of groups as their counts tell them, the best bound so far, a play's hosts.
+use Rattle.std.specs.Prelude.{◌≡◌, ℕ, ◌<◌, ◌≤◌, ◌-◌, Bool, false, nat_eq, None, Option, Some, List, filter, option_map, slice_index_or}
 use Rattle.domain_counts.specs.Counts.{Counted, down_in, place_at, waiting_in}
 use Rattle.domain_counts.specs.Places.{waits}
+use Rattle.fleet_states.specs.declared.status.Status.{Status}
+use Rattle.fleet_states.specs.declared.status.Status.TheVariants.{Idle, Waiting, Running, Updated, Failed, Halted, Off, Held}
 use Rattle.batch_plan.specs.declared.answers.Bound.{Bound}
 use Rattle.batch_plan.specs.declared.answers.Bound.TheVariants.{Nothing}
 use Rattle.batch_plan.specs.declared.needs.Need.{Need}
-use Rattle.batch_plan.specs.Needs.{Needs, need_at}
+use Rattle.batch_plan.specs.Needs.{Needs}
 use Rattle.batch_plan.specs.Bounds.{Forces, rank}
 
 -- what a group needs by its counts
@@ -29,3 +31,19 @@ pub record IsCandidate (needs : Needs) (place count : ℕ) (bound : Bound) : Typ
   pub there : rank needs bound ≡ place
   pub forces : 0 < count → Forces needs count bound
   pub only : (other : Bound) (number : ℕ) → rank needs other ≡ place → Forces needs number other → number ≡ count
+
+-- the group is limited, and nobody of it may go down
+abbrev pub is_full : Option Need → Bool
+is_full None = false
+is_full (Some need) = nat_eq need.room 0
+
+-- what a host becomes that a play is for
+abbrev pub awaited : Status → Status
+awaited Idle = Waiting
+awaited Waiting = Waiting
+awaited Running = Running
+awaited Updated = Updated
+awaited Failed = Failed
+awaited Halted = Halted
+awaited Off = Off
+awaited Held = Held

@@ -4,6 +4,8 @@ pub mod Bounds
 pub mod Deals
 pub mod Answers
 pub mod Places
+pub mod Beginnings
+pub mod Holding
 pub mod Inside
 pub mod Laws
 pub mod Checks

@@ -1,5 +1,5 @@
 -- Plans: the batches in which all waiting hosts go.
-use Rattle.std.specs.Prelude.{◌≡◌, ℕ, ◌<◌, ◌≤◌, false, cond, nat_eq, Option, List, All, map, sum_by, count_by, length}
+use Rattle.std.specs.Prelude.{◌≡◌, ℕ, ◌<◌, false, cond, nat_eq, Option, List, All, map, sum_by, count_by, length}
 use Rattle.std.specs.declared.alloc.Global.{Global}
 use Rattle.std.specs.declared.vec.Vec.{Vec}
 use Rattle.group_tree.specs.declared.ids.HostId.{HostId}

@@ -2,9 +2,11 @@
 #![tactic(auto)]
 
 pub mod answers;
+mod beginnings;
 mod checker;
 mod counting;
 mod dealing;
+mod holding;
 mod laws;
 mod naming;
 mod needs;
@@ -12,12 +14,11 @@ mod planner;
 mod rooms;
 
 pub use answers::{Answer, Bound};
+pub use beginnings::{restart, start};
 pub use checker::check_plan;
 pub use counting::counted;
 pub use fleet_states::Status;
+pub use holding::{held, set_aside};
 pub use laws::{a_blocked_group_has_no_plan, bounds_hold};
 pub use planner::{plan, plan_over};
 pub use rooms::{room, waiting};
-
-#[cfg(test)]
-mod tests;

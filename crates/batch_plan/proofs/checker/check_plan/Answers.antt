@@ -1,4 +1,4 @@
-use Rattle.std.proofs.Common.{◌≡◌, true, false, List, Vec, Global, length, sym, ap, ◌∙◌, subst}
+use Rattle.std.proofs.Common.{List, Vec, Global, length, sym, ap, ◌∙◌, subst}
 use Rattle.std.specs.List.{list_all}
 use Rattle.std.proofs.lemmas.Bool.{both_ways}
 use Rattle.group_tree.specs.declared.ids.HostId.{HostId}

@@ -1,4 +1,4 @@
-use Rattle.std.proofs.Common.{◌≡◌, ℕ, Some, not, nat_lt, sym, ap, ◌∙◌}
+use Rattle.std.proofs.Common.{ℕ, Some, not, nat_lt, sym, ap, ◌∙◌}
 use Rattle.std.proofs.lemmas.Bool.{le-ltb, lt-ltb}
 use Rattle.fleet_numbers.specs.NumberLists.{list_at}
 use Rattle.batch_plan.specs.Checks.{keeps_room}

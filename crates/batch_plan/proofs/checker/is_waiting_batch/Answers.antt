@@ -1,4 +1,4 @@
-use Rattle.std.proofs.Common.{◌≡◌, ℕ, sym, ◌∙◌}
+use Rattle.std.proofs.Common.{ℕ, sym, ◌∙◌}
 use Rattle.std.proofs.lemmas.List.Folds.{list_all-map}
 use Rattle.group_tree.specs.declared.ids.HostId.{HostId}
 use Rattle.fleet_states.specs.Statuses.{is_waiting, status_at}

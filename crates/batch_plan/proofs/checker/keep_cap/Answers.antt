@@ -1,4 +1,4 @@
-use Rattle.std.proofs.Common.{◌≡◌, sym, ◌∙◌}
+use Rattle.std.proofs.Common.{sym, ◌∙◌}
 use Rattle.batch_plan.specs.Checks.{keeps_cap}
 use Rattle.batch_plan.proofs.CheckLemmas.{batch_fails, batch_passes}
 use Rattle.batch_plan.proofs.checker.keep_cap.Goals as goal

@@ -1,4 +1,4 @@
-use Rattle.std.proofs.Common.{◌≡◌, ℕ, None, Some, Option, List, sym, ap, ◌∙◌}
+use Rattle.std.proofs.Common.{ℕ, Some, Option, List, sym, ap, ◌∙◌}
 use Rattle.std.specs.List.{list_all}
 use Rattle.fleet_states.specs.Groups.{FleetGroup, group_at, groups_of}
 use Rattle.batch_plan.specs.Plans.{batch_numbers}

@@ -1,4 +1,4 @@
-use Rattle.std.proofs.Common.{◌≡◌, None, map, sym, ◌∙◌, arith}
+use Rattle.std.proofs.Common.{None, map, sym, ◌∙◌, arith}
 use Rattle.std.proofs.lemmas.List.{get_or_past, length-map}
 use Rattle.fleet_states.specs.Groups.{groups_of}
 use Rattle.fleet_states.proofs.GroupLemmas.{length-groups_of}

@@ -1,4 +1,4 @@
-use Rattle.std.proofs.Common.{◌≡◌, ℕ, ◌<◌, length, get_or}
+use Rattle.std.proofs.Common.{◌≡◌, ℕ, ◌<◌, length}
 use Rattle.fleet_states.specs.Statuses.{status_at}
 use Rattle.domain_counts.specs.Counts.{place_at}
 use Rattle.batch_plan.specs.Places.{place_of}

@@ -1,4 +1,4 @@
-use Rattle.std.proofs.Common.{◌≡◌, length, subst, arith}
+use Rattle.std.proofs.Common.{subst, arith}
 use Rattle.batch_plan.specs.Inside.{IsBestBefore}
 use Rattle.batch_plan.proofs.naming.best_of_groups.Goals as goal
 

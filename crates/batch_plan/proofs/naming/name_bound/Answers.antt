@@ -1,4 +1,4 @@
-use Rattle.std.proofs.Common.{◌≡◌, ◌+◌, length, refl, subst, arith}
+use Rattle.std.proofs.Common.{◌+◌, length, refl, subst, arith}
 use Rattle.batch_plan.specs.Needs.{Needs, serial_need}
 use Rattle.batch_plan.specs.Inside.{IsBestBefore}
 use Rattle.batch_plan.proofs.NamingLemmas.{named_bound, one_host}

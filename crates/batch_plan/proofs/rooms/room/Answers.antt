@@ -1,4 +1,4 @@
-use Rattle.std.proofs.Common.{◌≡◌, ℕ, ◌-◌, Option, None, Some, option_map, sym, ap, ◌∙◌}
+use Rattle.std.proofs.Common.{◌≡◌, ℕ, ◌-◌, Option, Some, option_map, sym, ap, ◌∙◌}
 use Rattle.fleet_numbers.specs.NumberLists.{list_at}
 use Rattle.fleet_states.specs.Statuses.{down_count}
 use Rattle.batch_plan.proofs.RoomLemmas.{room_is}

@@ -1,4 +1,4 @@
-use Rattle.std.proofs.Common.{◌≡◌, sym, ap, ◌∙◌}
+use Rattle.std.proofs.Common.{sym, ap, ◌∙◌}
 use Rattle.fleet_states.specs.Statuses.{waiting_count}
 use Rattle.batch_plan.proofs.RoomLemmas.{members_is}
 use Rattle.batch_plan.proofs.rooms.waiting.Goals as goal

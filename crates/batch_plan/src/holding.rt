@@ -1,0 +1,103 @@
+//! Hosts that are set aside, so that nothing blocks the others.
+ghost use Rattle.std.specs.Prelude.{◌≡◌, ◌<◌, ◌∷◌, ◌++◌, IfOk, OnOk, [], cond, length, map};
+ghost use Rattle.std.specs.List.{list_any};
+ghost use Rattle.domains.specs.Ids.{host_numbers};
+ghost use Rattle.fleet_states.specs.Groups.{groups_of};
+ghost use Rattle.batch_plan.specs.Needs.{need_at, need_of};
+ghost use Rattle.batch_plan.specs.Holding as model;
+ghost use Rattle.batch_plan.specs.Holding.{HoldingUnblocks, held_hosts};
+ghost use Rattle.batch_plan.specs.Inside as inside;
+
+use crate::counting::{counted, list_needs};
+use crate::needs::Need;
+use domains::Fleet;
+use fleet_states::{Status, status_of};
+use group_tree::{GroupId, HostId};
+use std::alloc::{AllocError, Global};
+
+fn is_full(need: Option<Need>) -> bool
+    ensures { result ≡ inside.is_full need }
+{
+    match need {
+        Some(need) => need.room == 0,
+        None => false,
+    }
+}
+
+fn is_full_at(needs: &[Option<Need>], group: GroupId) -> bool
+    ensures { result ≡ inside.is_full (need_at needs.now group.index) }
+{
+    match needs.get(group.index) {
+        Some(need) => is_full(*need),
+        None => false,
+    }
+}
+
+/// Whether nobody of one of these groups may go down.
+fn has_full(needs: &[Option<Need>], chain: &[GroupId]) -> bool
+    ensures { result ≡ list_any (λ group. inside.is_full (need_at needs.now group.index)) chain.now }
+{
+    chain.iter().any(|group| is_full_at(needs, *group))
+}
+
+/// Whether the host waits and a group of its chain has no room.
+fn is_held_back(fleet: &Fleet, statuses: &[Status], needs: &[Option<Need>], host: HostId) -> bool
+    requires within { host.index < length fleet.now.hosts }
+    requires needs { needs.now ≡ map (need_of statuses.now) (groups_of fleet.now) }
+    ensures { result ≡ model.is_held_back (groups_of fleet.now) statuses.now host.index }
+{
+    status_of(statuses, host).is_waiting() && has_full(needs, fleet.chain(host))
+}
+
+/// Adds the host where it is held back.
+fn push_where(hosts: &mut Vec<HostId>, host: HostId, held: bool) -> Result<(), AllocError>
+    ensures { OnOk result (host_numbers hosts.new.items ≡ host_numbers hosts.old.items ++ cond held (host.index ∷ []) []) }
+{
+    if held {
+        hosts.push(host)?;
+    }
+    Ok(())
+}
+
+fn list_held(
+    alloc: Global,
+    fleet: &Fleet,
+    statuses: &[Status],
+    needs: &[Option<Need>],
+) -> Result<Vec<HostId>, AllocError>
+    requires all { length statuses.now ≡ length fleet.now.hosts }
+    requires needs { needs.now ≡ map (need_of statuses.now) (groups_of fleet.now) }
+    ensures hosts { IfOk result (λ hosts. host_numbers hosts.items ≡ held_hosts fleet.now statuses.now) }
+    ensures unblocks { IfOk result (λ _. HoldingUnblocks fleet.now statuses.now) }
+{
+    let mut hosts = Vec::new(alloc);
+    for index in 0..fleet.hosts() {
+        let host = HostId { index };
+        let held = is_held_back(fleet, statuses, needs, host);
+        push_where(&mut hosts, host, held)?;
+    }
+    Ok(hosts)
+}
+
+/// The waiting hosts that a limited group without room holds, by name. Once they are set aside, no plan is blocked. Only
+/// want of memory refuses it.
+pub fn held(alloc: Global, fleet: &Fleet, statuses: &[Status]) -> Result<Vec<HostId>, AllocError>
+    requires { length statuses.now ≡ length fleet.now.hosts }
+    ensures hosts { IfOk result (λ hosts. host_numbers hosts.items ≡ held_hosts fleet.now statuses.now) }
+    ensures unblocks { IfOk result (λ _. HoldingUnblocks fleet.now statuses.now) }
+{
+    let domains = counted(alloc, fleet, statuses)?;
+    let needs = list_needs(alloc, &domains)?;
+    list_held(alloc, fleet, statuses, needs.as_slice())
+}
+
+/// Sets these hosts aside; a number that no host has is passed over.
+pub fn set_aside(statuses: &mut [Status], hosts: &[HostId])
+    ensures { statuses.new ≡ model.set_aside (host_numbers hosts.now) statuses.old }
+{
+    for host in hosts {
+        if host.index < statuses.len() {
+            statuses[host.index] = Status::Held;
+        }
+    }
+}
