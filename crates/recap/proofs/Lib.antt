@@ -1,1 +1,2 @@
 pub mod LimitsLemmas
+pub mod PlanLemmas

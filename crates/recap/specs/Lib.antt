@@ -1,2 +1,3 @@
 pub mod LimitsText
 pub mod LimitsTable
+pub mod PlanText

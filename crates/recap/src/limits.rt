@@ -3,20 +3,13 @@ ghost use Rattle.std.specs.Prelude.{◌≡◌, ◌<◌, length, is_some, if◌th
 ghost use Rattle.bounded_io.specs.Writing.{Writes};
 ghost use Rattle.bounded_io.specs.Sending.{SendsText};
 ghost use Rattle.recap.specs.LimitsTable.{fleet_line, fleet_table, limit_line, lines_text};
-ghost use Rattle.recap.specs.LimitsText.{field_text, line_text, totals_text};
+ghost use Rattle.recap.specs.LimitsText.{line_text, totals_text};
 
+use crate::fields::write_field;
 use bounded_io::{TextWriter, WriteFault};
 use domains::Fleet;
 use group_tree::GroupId;
 use std::io::Write;
-
-#[tactic(auto, using(bounded_io::proofs::Pieces::pieces_of_text))]
-fn write_field<W: Write>(text: &mut TextWriter<'_, W>, word: &str, number: u64)
-    ensures { Writes W.contents text.old text.new (field_text word.now number) }
-{
-    text.write_str(word);
-    text.write_number(number);
-}
 
 #[tactic(auto, using(bounded_io::proofs::Pieces::pieces_of_text))]
 fn write_line<W: Write>(
