@@ -86,15 +86,23 @@ impl<'f, A: Allocator> Domains<'f, A> {
         self.tops.as_slice()
     }
 
+    /// How many hosts of a limited group wait, and how many are down.
+    fn counts(&self, group: GroupId) -> (usize, usize)
+        requires { is_limited self.now.fleet.limits group.index ≡ true }
+        ensures { result ≡ (waiting_in self.now group.index, down_in self.now group.index) }
+    {
+        match find(self.tops.as_slice(), group) {
+            Some(tree) => (tree.waiting(), tree.down()),
+            None => (0, 0),
+        }
+    }
+
     /// How many hosts of a limited group wait.
     pub fn waiting(&self, group: GroupId) -> usize
         requires { is_limited self.now.fleet.limits group.index ≡ true }
         ensures { result ≡ waiting_in self.now group.index }
     {
-        match find(self.tops.as_slice(), group) {
-            Some(tree) => tree.waiting(),
-            None => 0,
-        }
+        self.counts(group).0
     }
 
     /// How many hosts of a limited group are down.
@@ -102,9 +110,6 @@ impl<'f, A: Allocator> Domains<'f, A> {
         requires { is_limited self.now.fleet.limits group.index ≡ true }
         ensures { result ≡ down_in self.now group.index }
     {
-        match find(self.tops.as_slice(), group) {
-            Some(tree) => tree.down(),
-            None => 0,
-        }
+        self.counts(group).1
     }
 }

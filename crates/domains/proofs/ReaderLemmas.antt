@@ -9,7 +9,7 @@ use Rattle.std.proofs.lemmas.List.{get_or_default, get_or-map, length-map}
 use Rattle.std.proofs.lemmas.List.Folds.{list_any_at}
 use Rattle.std.proofs.lemmas.List.FromFn.{length-range_with_len, get_or-range_with_len}
 use Rattle.std.proofs.lemmas.List.Recursion.{or_from_places}
-use Rattle.std.proofs.lemmas.List.Sorted.{searched, Contains-permutation}
+use Rattle.std.proofs.lemmas.List.Sorted.{searched, Contains-permutation, length_permutation}
 use Rattle.fleet_numbers.specs.NumberLists.{list_at, has_number, IsRising}
 use Rattle.fleet_numbers.specs.DealOrder.{ArePlacesOf}
 use Rattle.group_tree.specs.declared.ids.HostId.{HostId}
@@ -18,9 +18,10 @@ use Rattle.fleet_numbers.proofs.RisingLemmas.{Ascends-rising}
 use Rattle.fleet_numbers.proofs.DealLemmas.{in_range}
 use Rattle.fleet_numbers.proofs.ListLemmas.{lent_list}
 use Rattle.group_tree.specs.declared.ids.GroupId.{GroupId}
+use Rattle.fleet_numbers.specs.Ids.{lists_by}
 use Rattle.domains.specs.Ids.{host_numbers, group_numbers}
 use Rattle.domains.specs.FleetViews.{FleetView, IsSound}
-use Rattle.domains.specs.Inside.{shown}
+use Rattle.domains.specs.Inside.{shown, IsConsistent}
 use Rattle.domains.specs.declared.fleet.Fleet.TheInside.{Inside}
 use Rattle.domains.proofs.MarkLemmas.{rising_below}
 use Rattle.std.proofs.Math.Nat.{zero-add}
@@ -85,28 +86,48 @@ placed n order places h once at l =
     let place : get_or places h 0 ≡ stands.0 = ap (λ (k : ℕ). get_or places k 0) (sym here) ∙ at.at stands.0 stands.1 in
     (omega (arith, place, stands.1), ap (λ (k : ℕ). get_or order k 0) place ∙ here)
 
+-- one of the lists of a fleet as it is lent
+lent_at : {X : Type 0} (number : X → ℕ) (lists : List (Vec X Global)) (shown_lists : List (List ℕ)) (bound k : ℕ) (own : Vec X Global) (lent : List X)
+    → lists_by number lists ≡ shown_lists → k < length shown_lists → own ≡ get_or lists k own → lent ≡ own.items → All (IsRising bound) shown_lists
+    → (map number lent ≡ list_at shown_lists k) × IsRising bound (map number lent)
+lent_at {X} number lists shown_lists bound k own lent is within own_is lent_is rises =
+    let inside : k < length lists = omega (arith, within, ap length is, length-map lists (λ (list : Vec X Global). map number list.items)) in
+    let here = lent_list number lists k own lent inside own_is lent_is ∙ ap (λ (l : List (List ℕ)). list_at l k) is in
+    (here, subst (IsRising bound) (sym here) (rises k [] within))
+
 -- the members of a group as they are lent
 pub members_lent : (fleet : Inside) (now : FleetView) (g : ℕ) (own : Vec HostId Global) (lent : List HostId) → shown fleet ≡ now
     → IsSound (shown fleet) → g < length now.groups → own ≡ get_or fleet.members.items g own → lent ≡ own.items
     → (host_numbers lent ≡ list_at now.members g) × IsRising (length now.hosts) (host_numbers lent)
 members_lent fleet now g own lent is kept l own_is lent_is =
-    let numbers : Vec HostId Global → List ℕ = λ (list : Vec HostId Global). host_numbers list.items in
     let sound : IsSound now = subst IsSound is kept in
-    let groups : length (shown fleet).groups ≡ length now.groups = ap (λ (f : FleetView). length f.groups) is in
-    let within : g < length fleet.members.items = omega (arith, l, kept.all_members, length-map fleet.members.items numbers, groups) in
-    let same : host_numbers lent ≡ list_at (shown fleet).members g = lent_list (λ (host : HostId). host.index) fleet.members.items g own lent within own_is lent_is in
-    let here : host_numbers lent ≡ list_at now.members g = same ∙ ap (λ (f : FleetView). list_at f.members g) is in
-    (here, subst (IsRising (length now.hosts)) (sym here) (sound.members_rise g [] (omega (arith, l, sound.all_members))))
+    lent_at (λ (host : HostId). host.index) fleet.members.items now.members (length now.hosts) g own lent
+    (ap (λ (f : FleetView). f.members) is) (omega (arith, l, sound.all_members)) own_is lent_is sound.members_rise
 
 -- the chain of a host as it is lent
 pub chain_lent : (fleet : Inside) (now : FleetView) (h : ℕ) (own : Vec GroupId Global) (lent : List GroupId) → shown fleet ≡ now
     → IsSound (shown fleet) → h < length now.hosts → own ≡ get_or fleet.chains.items h own → lent ≡ own.items
     → (group_numbers lent ≡ list_at now.chains h) × IsRising (length now.groups) (group_numbers lent)
 chain_lent fleet now h own lent is kept l own_is lent_is =
-    let numbers : Vec GroupId Global → List ℕ = λ (list : Vec GroupId Global). group_numbers list.items in
     let sound : IsSound now = subst IsSound is kept in
+    lent_at (λ (group : GroupId). group.index) fleet.chains.items now.chains (length now.groups) h own lent
+    (ap (λ (f : FleetView). f.chains) is) (omega (arith, l, sound.all_chains)) own_is lent_is sound.chains_rise
+
+-- each host has a place in the deal order
+pub all_places : (fleet : Inside) (now : FleetView) → shown fleet ≡ now → IsConsistent fleet → length fleet.places.items ≡ length now.hosts
+all_places fleet now is kept =
+    kept.places.len
+    ∙ length_permutation _ _ kept.sound.dealt_once
+    ∙ length-range_with_len 0 (length (shown fleet).hosts)
+    ∙ ap (λ (f : FleetView). length f.hosts) is
+
+pub place_lent : (fleet : Inside) (now : FleetView) (h place : ℕ) → shown fleet ≡ now → IsConsistent fleet → h < length now.hosts
+    → place ≡ get_or fleet.places.items h place → (place < length now.order) × (get_or now.order place 0 ≡ h)
+place_lent fleet now h place is kept l place_is =
+    let within : h < length fleet.places.items = omega (arith, l, all_places fleet now is kept) in
     let hosts : length (shown fleet).hosts ≡ length now.hosts = ap (λ (f : FleetView). length f.hosts) is in
-    let within : h < length fleet.chains.items = omega (arith, l, kept.all_chains, length-map fleet.chains.items numbers, hosts) in
-    let same : group_numbers lent ≡ list_at (shown fleet).chains h = lent_list (λ (group : GroupId). group.index) fleet.chains.items h own lent within own_is lent_is in
-    let here : group_numbers lent ≡ list_at now.chains h = same ∙ ap (λ (f : FleetView). list_at f.chains h) is in
-    (here, subst (IsRising (length now.groups)) (sym here) (sound.chains_rise h [] (omega (arith, l, sound.all_chains))))
+    let read : place ≡ get_or fleet.places.items h 0 = place_is ∙ get_or_default fleet.places.items h place 0 within in
+    let at = placed (length (shown fleet).hosts) (shown fleet).order fleet.places.items h kept.sound.dealt_once kept.places (omega (arith, l, hosts)) in (
+      omega (arith, at.0, read, ap (λ (f : FleetView). length f.order) is),
+      ap (λ (f : FleetView). get_or f.order place 0) (sym is) ∙ ap (λ (k : ℕ). get_or (shown fleet).order k 0) read ∙ at.1,
+    )

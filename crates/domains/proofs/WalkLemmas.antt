@@ -1,12 +1,13 @@
 -- The preorder walk of a group is the group and the walks of its children.
-use Rattle.std.proofs.Common.{◌≡◌, ℕ, zero, suc, ◌+◌, ◌<◌, List, [], ◌∷◌, ◌++◌, length, get_or, take, drop, map, sym, ap, ◌∙◌, refl, subst, arith, length-append, append_assoc}
+use Rattle.std.proofs.Common.{◌≡◌, ℕ, zero, suc, ◌+◌, ◌≤◌, ◌<◌, List, [], ◌∷◌, ◌++◌, length, get_or, take, drop, map, sym, ap, ◌∙◌, refl, subst, arith, length-append, append_assoc}
 use Rattle.std.specs.List.{flat_map}
-use Rattle.std.proofs.lemmas.List.{map-append, length-map, take_more, drop_more, append-nil}
+use Rattle.std.proofs.lemmas.List.{map-append, map-id, length-map, take_more, drop_all, drop_more, append-nil}
+use Rattle.std.proofs.lemmas.Simd.{map-map}
 use Rattle.std.proofs.lemmas.Grind.{flat_map-append}
 use Rattle.inventory_model.specs.Names.{Name}
 use Rattle.inventory_model.specs.Places.{Place, Row, Inventory}
 use Rattle.inventory_model.specs.Subtrees.{Host, Subtree, own_place, own_row, place_under, row_under, places_of, rows_of, inventory_of, side_by_side}
-use Rattle.domains.specs.Walks.{PlacedGroup, place_of, row_at, own_rows, with_depth, IsWalkOf, rows_from}
+use Rattle.domains.specs.Walks.{PlacedGroup, place_of, row_at, own_rows, with_depth, IsWalkOf, listed_hosts, rows_from}
 use Rattle.domains.proofs.ByNumber.{listed_by}
 
 pub walk_none : (depth : ℕ) → IsWalkOf (side_by_side []) depth []
@@ -138,3 +139,22 @@ rows_more {X = X} group placed_groups i placed old new all within is grown befor
     ∙ append_assoc old own (later (i + 1))
     ∙ ap (λ (l : List (Host × ℕ)). old ++ l) (sym rest)
     ∙ before
+
+-- all rows are listed where no group is left
+pub all_rows : {X : Type 0} (group : X → Subtree) (placed_groups : List X) (i : ℕ) (rows : List (Host × ℕ)) → length placed_groups ≤ i
+    → rows ++ rows_from i (map group (drop i placed_groups)) ≡ rows_from 0 (map group placed_groups) → rows ≡ rows_from 0 (map group placed_groups)
+all_rows {X} group placed_groups i rows past is =
+    sym (append-nil rows) ∙ ap (λ (left : List X). rows ++ rows_from i (map group left)) (sym (drop_all i placed_groups past)) ∙ is
+
+-- rows without the numbers of their groups are the hosts
+pub rows_hosts : {X : Type 0} (group : X → Subtree) (depth : X → ℕ) (number : ℕ) (placed_groups : List X)
+    → map (λ (row : Host × ℕ). row.0) (rows_from number (map group placed_groups)) ≡ listed_hosts (map (λ placed. (group placed, depth placed)) placed_groups)
+rows_hosts group depth number [] = refl
+rows_hosts {X} group depth number (placed ∷ placed_groups) =
+    let host_of : Host × ℕ → Host = λ row. row.0 in
+    let hosts = (group placed).hosts in
+    let rest = rows_from (suc number) (map group placed_groups) in
+    let own : map host_of (map (listed_by number) hosts) ≡ hosts = map-map host_of (listed_by number) hosts ∙ map-id hosts in
+    map-append host_of (map (listed_by number) hosts) rest
+    ∙ ap (λ (l : List Host). l ++ map host_of rest) own
+    ∙ ap (λ (l : List Host). hosts ++ l) (rows_hosts group depth (suc number) placed_groups)

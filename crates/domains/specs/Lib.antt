@@ -8,6 +8,7 @@ pub mod Fleets
 pub mod Faults
 pub mod Patterns
 pub mod Walks
+pub mod Walked
 pub mod Numbered
 pub mod FleetLists
 pub mod Search

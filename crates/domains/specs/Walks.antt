@@ -37,3 +37,7 @@ pub record IsWalkOf (inventory : Inventory) (depth : ℕ) (walk : List (Subtree 
 abbrev pub rows_from : ℕ → List Subtree → List (Host × ℕ)
 rows_from number [] = []
 rows_from number (group ∷ groups) = map (λ host. (host, number)) group.hosts ++ rows_from (suc number) groups
+
+-- the hosts of all groups as these list them
+abbrev pub listed_hosts : List (Subtree × ℕ) → List Host
+listed_hosts walk = flat_map (λ (walked : Subtree × ℕ). walked.0.hosts) walk

@@ -17,3 +17,5 @@ mod walk;
 pub use fault::FleetFault;
 pub use fleet::{Fleet, HOSTS_BOUND};
 pub use pattern_fault::PatternFault;
+pub use rows::{HostRow, list_rows};
+pub use walk::{WalkedGroup, list_walk};

@@ -1,7 +1,7 @@
 //! The hosts of a tree as its groups list them.
-ghost use Rattle.std.specs.Prelude.{◌≡◌, ℕ, ◌++◌, IfOk, OnOk, map};
-ghost use Rattle.inventory_model.specs.Subtrees as model;
-ghost use Rattle.domains.specs.Walks.{rows_from};
+ghost use Rattle.std.specs.Prelude.{◌≡◌, ◌++◌, IfOk, OnOk, map};
+ghost use Rattle.domains.specs.Walks.{listed_hosts, rows_from};
+ghost use Rattle.domains.specs.Walked.{host_rows, walked_groups};
 
 use crate::walk::WalkedGroup;
 use group_tree::Host;
@@ -9,9 +9,9 @@ use std::alloc::{AllocError, Allocator, Global};
 
 /// A host as a group lists it, with the group's number.
 #[derive(Drop)]
-pub(crate) struct HostRow<'a, A: Allocator> {
-    pub(crate) host: &'a Host<A>,
-    pub(crate) group: usize,
+pub struct HostRow<'a, A: Allocator> {
+    pub host: &'a Host<A>,
+    pub group: usize,
 }
 
 fn add_rows<'a, A: Allocator>(
@@ -19,8 +19,7 @@ fn add_rows<'a, A: Allocator>(
     group: usize,
     rows: &mut Vec<HostRow<'a, A>>,
 ) -> Result<(), AllocError>
-    ensures { OnOk result (map {B = model.Host × ℕ} (λ row. (row.host.now, row.group)) rows.new.items
-        ≡ map {B = model.Host × ℕ} (λ row. (row.host.now, row.group)) rows.old.items ++ map {B = model.Host × ℕ} (λ host. (host, group)) hosts.now) }
+    ensures { OnOk result (host_rows rows.new.items ≡ host_rows rows.old.items ++ map (λ host. (host, group)) hosts.now) }
 {
     for host in hosts {
         rows.push(HostRow { host, group })?;
@@ -28,13 +27,13 @@ fn add_rows<'a, A: Allocator>(
     Ok(())
 }
 
-/// The host rows of groups in preorder.
-pub(crate) fn list_rows<'a, A: Allocator>(
+/// The hosts as the groups list them, from the first group on, which has the number 0. It fails for want of memory alone.
+pub fn list_rows<'a, A: Allocator>(
     alloc: Global,
     groups: &[WalkedGroup<'a, A>],
 ) -> Result<Vec<HostRow<'a, A>>, AllocError>
-    ensures { IfOk result (λ rows. map {B = model.Host × ℕ} (λ row. (row.host.now, row.group)) rows.items
-        ≡ rows_from 0 (map (λ walked. walked.group.now) groups.now)) }
+    ensures rows { IfOk result (λ rows. host_rows rows.items ≡ rows_from 0 (map (λ walked. walked.group.now) groups.now)) }
+    ensures hosts { IfOk result (λ rows. map (λ row. row.host.now) rows.items ≡ listed_hosts (walked_groups groups.now)) }
 {
     let mut rows = Vec::new(alloc);
     for (number, walked) in groups.iter().enumerate() {

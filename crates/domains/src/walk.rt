@@ -1,27 +1,29 @@
 //! The groups of a tree in preorder.
-ghost use Rattle.std.specs.Prelude.{◌≡◌, ℕ, ◌+◌, ◌<◌, ◌^◌, ◌++◌, OnOk, List, map, length};
+ghost use Rattle.std.specs.Prelude.{◌≡◌, ℕ, ◌+◌, ◌<◌, ◌^◌, ◌++◌, OnOk, List, length};
 ghost use Rattle.inventory_model.specs.Subtrees.{Subtree, inventory_of};
 ghost use Rattle.domains.specs.Walks.{IsWalkOf};
+ghost use Rattle.domains.specs.Walked.{walked_groups};
 
 use group_tree::Group;
 use std::alloc::{AllocError, Allocator};
 
 /// A group, with how many groups stand above it.
 #[derive(Drop)]
-pub(crate) struct WalkedGroup<'a, A: Allocator> {
-    pub(crate) group: &'a Group<A>,
-    pub(crate) depth: usize,
+pub struct WalkedGroup<'a, A: Allocator> {
+    pub group: &'a Group<A>,
+    pub depth: usize,
 }
 
-/// Adds a group and all below it to a list, in preorder.
-pub(crate) fn list_walk<'a, A: Allocator>(
+/// Adds a group, above which `depth` groups stand, and all groups below it to a list, in preorder. It fails for want of
+/// memory alone, and then has added some of them.
+pub fn list_walk<'a, A: Allocator>(
     group: &'a Group<A>,
     depth: usize,
     groups: &mut Vec<WalkedGroup<'a, A>>,
 ) -> Result<(), AllocError>
     requires { depth + length group.now.below.places < 2 ^ 64 }
     ensures { OnOk result ((walk : List (Subtree × ℕ))
-        × (map (λ walked. (walked.group.now, walked.depth)) groups.new.items ≡ map (λ walked. (walked.group.now, walked.depth)) groups.old.items ++ walk)
+        × (walked_groups groups.new.items ≡ walked_groups groups.old.items ++ walk)
         × IsWalkOf (inventory_of group.now) depth walk) }
 {
     groups.push(WalkedGroup { group, depth })?;

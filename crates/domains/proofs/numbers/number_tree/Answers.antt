@@ -30,7 +30,7 @@ returns-clause-numbered g c =
     numbered_tree (λ walked. walked.group.now) (λ walked. walked.depth) (λ row. row.host.now) (λ row. row.group) c.args.tree.now walk
     c.as_slice-groups.result.now c.as_slice-listed.result.now hosts groups limits c.in_ok-depths_of.field-0.items c.in_ok-rows.rows.items c.in_ok-off.off.items
     w (rw c.as_slice-groups.ensures.value (rw c.new-walk.ensures.items at c.in_ok-list_walk.ensures.1))
-    (rw c.as_slice-listed.ensures.value c.in_ok-list.ensures) c.in_ok-hosts.ensures c.in_ok-names_of_groups.ensures c.in_ok-limits_of.ensures
+    (rw c.as_slice-listed.ensures.value c.in_ok-list.ensures.rows) c.in_ok-hosts.ensures c.in_ok-names_of_groups.ensures c.in_ok-limits_of.ensures
     c.in_ok-depths_of.ensures (rw c.as_slice.ensures.value at c.in_ok-rows.ensures.named)
     (λ k d l. simp length-map (rw c.as_slice.ensures.value at (c.in_ok-rows.ensures.hosts_in k d l))) (omega (arith, c.in_ok-off.ensures.len, long))
     (λ h l. rw c.as_slice-2.ensures.value at (c.in_ok-off.ensures.off h (omega (arith, l, long))))

@@ -1,12 +1,13 @@
-use Rattle.std.proofs.Common.{◌≡◌, ℕ, ◌+◌, ◌++◌, List, map, take, length}
+use Rattle.std.proofs.Common.{◌≡◌, ℕ, ◌+◌, ◌++◌, List, take, length}
 use Rattle.inventory_model.specs.Subtrees.{Subtree, side_by_side}
 use Rattle.domains.specs.Walks.{IsWalkOf}
+use Rattle.domains.specs.Walked.{walked_groups}
 use Rattle.domains.proofs.walk.+list_walk.Given as goal
 
 abbrev pub invariant-loop-child : goal.invariant-loop-child
 invariant-loop-child g l =
     (walk : List (Subtree × ℕ))
-    × (map (λ walked. (walked.group.now, walked.depth)) l.groups.items ≡ map (λ walked. (walked.group.now, walked.depth)) l.initial.groups.items ++ walk)
+    × (walked_groups l.groups.items ≡ walked_groups l.initial.groups.items ++ walk)
     × IsWalkOf (side_by_side (take l.child-index l.child-items)) (l.depth + 1) walk
 
 abbrev pub decreases-list_walk : goal.decreases-list_walk

@@ -1,10 +1,10 @@
-use Rattle.std.proofs.Common.{◌≡◌, true, List, sym, ap, ◌∙◌, subst}
+use Rattle.std.proofs.Common.{◌≡◌, ℕ, true, List, sym, ap, ◌∙◌, subst}
 use Rattle.fleet_numbers.specs.Chains.{is_limited}
 use Rattle.domain_counts.specs.Nodes.{Subtree, side_by_side, groups_in, RiseFrom}
-use Rattle.domain_counts.specs.Counts.{Counted, down_in, nodes_at}
+use Rattle.domain_counts.specs.Counts.{Counted, waiting_in, down_in, nodes_at}
 use Rattle.domain_counts.proofs.FleetLemmas.{tops_rising}
 use Rattle.domain_counts.proofs.FoundLemmas.{counts_found, never_missing}
-use Rattle.domain_counts.proofs.counts.Domains.down.Goals as goal
+use Rattle.domain_counts.proofs.counts.Domains.counts.Goals as goal
 
 pub find-requires : goal.find-requires
 find-requires g c =
@@ -15,7 +15,11 @@ returns-in-Some g c =
     let counted : Counted = record { fleet = c.self.inside.fleet.now; places = c.self.inside.places.items } in
     let nodes : side_by_side c.as_slice.result.now ≡ nodes_at counted = ap side_by_side c.as_slice.ensures.value ∙ c.self.invariant.nodes in
     let found = counts_found counted (side_by_side c.as_slice.result.now) c.args.group.index c.in-Some.tree.now nodes c.in-Some.ensures in
-    c.down.ensures ∙ sym found.1 ∙ ap (λ (k : Counted). down_in k c.args.group.index) c.self.view_is
+    let waiting : c.waiting.result ≡ waiting_in counted c.args.group.index = c.waiting.ensures ∙ sym found.0 in
+    let down : c.down.result ≡ down_in counted c.args.group.index = c.down.ensures ∙ sym found.1 in
+    ap (λ (n : ℕ). (n, c.down.result)) waiting
+    ∙ ap (λ (n : ℕ). (waiting_in counted c.args.group.index, n)) down
+    ∙ ap (λ (k : Counted). (waiting_in k c.args.group.index, down_in k c.args.group.index)) c.self.view_is
 
 pub returns-in-None : goal.returns-in-None
 returns-in-None g c =

@@ -1,0 +1,13 @@
+-- A walk over a tree's groups and their hosts, as it is listed.
+use Rattle.std.specs.Prelude.{ℕ, List, map}
+use Rattle.inventory_model.specs.Subtrees.{Host, Subtree}
+use Rattle.domains.specs.declared.rows.HostRow.{HostRow}
+use Rattle.domains.specs.declared.walk.WalkedGroup.{WalkedGroup}
+
+-- the groups, with how many groups stand above each
+abbrev pub walked_groups : {A : Type 0} → List (WalkedGroup A) → List (Subtree × ℕ)
+walked_groups {A} groups = map (λ (walked : WalkedGroup A). (walked.group.now, walked.depth)) groups
+
+-- the hosts, with the number of the group that lists each
+abbrev pub host_rows : {A : Type 0} → List (HostRow A) → List (Host × ℕ)
+host_rows {A} rows = map (λ (row : HostRow A). (row.host.now, row.group)) rows
