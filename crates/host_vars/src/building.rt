@@ -1,9 +1,11 @@
 //! The hosts of a fleet with their variables, before any result is registered.
 ghost use Rattle.std.specs.Prelude.{◌≡◌, ◌<◌, All, IfOk, length, map};
+ghost use Rattle.std.specs.Arc.{arc_value};
 ghost use Rattle.domains.specs.Fleets.{IsFleetOf};
 ghost use Rattle.domains.specs.Numbered.{host_at};
 ghost use Rattle.variable_layers.specs.Layers.{IsHostOf};
 ghost use Rattle.variable_layers.specs.Shared.{all_shown, AreHostsOf};
+ghost use Rattle.variable_layers.specs.Shown.{shown};
 ghost use Rattle.host_vars.specs.HostVars.{variables_of, HasNoResult};
 
 use crate::vars::Vars;
@@ -56,10 +58,18 @@ fn without_results(alloc: Global, hosts: &[Arc<HostVariables>]) -> Result<Vec<Va
 {
     let mut all = Vec::with_capacity(alloc, hosts.len())?;
     for host in hosts {
-        all.push(Vars {
-            variables: Arc::try_clone(host)?,
-            results: Results::new(alloc),
-        })?;
+        all.push(without_result(alloc, host)?)?;
     }
     Ok(all)
+}
+
+/// The host with its variables, which are shared, and no result.
+fn without_result(alloc: Global, host: &Arc<HostVariables>) -> Result<Vars, AllocError>
+    ensures variables { IfOk result (λ vars. variables_of vars ≡ shown (arc_value host.now)) }
+    ensures results { IfOk result HasNoResult }
+{
+    Ok(Vars {
+        variables: Arc::try_clone(host)?,
+        results: Results::new(alloc),
+    })
 }
