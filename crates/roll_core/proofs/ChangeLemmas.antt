@@ -14,6 +14,12 @@ use Rattle.fleet_states.proofs.HostLemmas.{length-host_numbers, number_of_host}
 use Rattle.fleet_states.proofs.StatusLemmas.{status_at-changed}
 use Rattle.roll_core.specs.declared.stage.Progress.{Progress}
 use Rattle.roll_core.specs.declared.stage.Progress.TheVariants.{Due}
+use Rattle.std.proofs.lemmas.Bool.{cases_lt}
+use Rattle.fleet_states.specs.Statuses.{down_count}
+use Rattle.fleet_states.specs.Groups.{FleetGroup, IsSafe}
+use Rattle.fleet_states.proofs.CountLemmas.{count_le}
+use Rattle.fleet_states.proofs.SafetyLemmas.{exceeds_less}
+use Rattle.fleet_states.proofs.StatusLemmas.{status_at-changed_past}
 use Rattle.roll_core.specs.States.{after_batch, progress_at}
 
 module _ (hosts : List ℕ) (i : ℕ) (within : i < length hosts) where
@@ -82,3 +88,26 @@ down_after_batch Failed = omega arith
 down_after_batch Halted = omega arith
 down_after_batch Off = omega arith
 down_after_batch Held = omega arith
+
+-- hosts that are set aside are up
+pub safe_held : (groups : List FleetGroup) (hosts : List ℕ) (statuses : List Status) → IsSafe groups statuses → IsSafe groups (changed (λ _. Held) hosts statuses)
+safe_held groups hosts statuses safe k d within =
+    let group : FleetGroup = get_or groups k d in
+    let fewer = count_le (λ h. is_down (status_at held h)) (λ h. is_down (status_at statuses h)) (λ h. at h (cases_lt h (length statuses))) group.members in
+    exceeds_less group.limit (down_count statuses group.members) (down_count held group.members) (safe k d within) fewer
+  where
+    held : List Status
+    held = changed (λ _. Held) hosts statuses
+
+    either : (s : Status) (b : Bool) → bit (is_down (cond b Held s)) ≤ bit (is_down s)
+    either s true = omega arith
+    either s false = omega arith
+
+    none : (s : Status) → bit (is_down Idle) ≤ bit (is_down s)
+    none s = omega arith
+
+    at : (h : ℕ) → (h < length statuses) ⊎ (length statuses ≤ h) → bit (is_down (status_at held h)) ≤ bit (is_down (status_at statuses h))
+    at h (inl within) =
+        subst (λ s. bit (is_down s) ≤ bit (is_down (status_at statuses h))) (sym (status_at-changed (λ _. Held) hosts statuses h within)) (either (status_at statuses h) (has_number h hosts))
+    at h (inr past) =
+        subst (λ s. bit (is_down s) ≤ bit (is_down (status_at statuses h))) (sym (status_at-changed_past (λ _. Held) hosts statuses h past)) (none (status_at statuses h))

@@ -7,7 +7,7 @@ use Rattle.fleet_states.specs.declared.status.Status.{Status}
 use Rattle.fleet_states.specs.declared.status.Status.TheVariants.{Idle, Waiting, Running, Updated, Failed, Halted, Off, Held}
 use Rattle.roll_core.specs.declared.stage.Stage.TheVariants.{Boundary}
 use Rattle.roll_core.specs.declared.event.Event.{Event}
-use Rattle.roll_core.specs.declared.event.Event.TheVariants.{Open, Claim, Report, Barrier, Close}
+use Rattle.roll_core.specs.declared.event.Event.TheVariants.{Hold, Open, Claim, Report, Barrier, Close}
 use Rattle.roll_core.specs.States.{after_batch, State, Allowed, next, start_state}
 use Rattle.fleet_states.specs.Statuses.{status_at, changed, is_running, NobodyRuns}
 use Rattle.fleet_states.specs.Groups.{FleetGroup}
@@ -54,6 +54,25 @@ closed state host true e runs is = both_ways true (sym is ∙ after_runs (status
 closed state host false e runs is = both_ways true (sym (runs.inside host is) ∙ e) refl
 
 next_in_batch : (groups : List FleetGroup) (state : State) (event : Event) → Allowed groups state event → RunsInBatch state → RunsInBatch (next state event)
+next_in_batch groups state (Hold hosts) may runs =
+    record {
+      inside = λ host is. runs.inside host (by_case host is (has_number host hosts) refl (cases_lt host (length state.statuses)));
+      bare = runs.bare;
+    }
+  where
+    held : List Status
+    held = changed (λ _. Held) hosts state.statuses
+
+    by_case : (host : ℕ) → is_running (status_at held host) ≡ true → (b : Bool) → has_number host hosts ≡ b → (host < length state.statuses) ⊎ (length state.statuses ≤ host) → is_running (status_at state.statuses host) ≡ true
+    by_case host is b e (inl within) =
+        let now : status_at held host ≡ cond b Held (status_at state.statuses host) = status_at-changed (λ _. Held) hosts state.statuses host within ∙ ap (λ b. cond b Held (status_at state.statuses host)) e in
+        either b (sym (ap is_running now) ∙ is)
+      where
+        either : (b : Bool) → is_running (cond b Held (status_at state.statuses host)) ≡ true → is_running (status_at state.statuses host) ≡ true
+        either true is = absurd (both_ways true (sym is) refl)
+        either false is = is
+    by_case host is b e (inr past) =
+        absurd (both_ways true (sym is ∙ ap is_running (status_at-changed_past (λ _. Held) hosts state.statuses host past)) refl)
 next_in_batch groups state (Open batch) may runs =
     record {
       inside = λ host is. opened state batch host (has_number host batch) refl (runs.bare may.boundary) runs is;

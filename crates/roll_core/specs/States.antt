@@ -1,6 +1,6 @@
 -- The state of a roll: the statuses, and the open batch.
-use Rattle.std.specs.Prelude.{◌≡◌, ℕ, ◌<◌, Bool, true, false, cond, List, [], length, replicate, slice_set, slice_index_or}
-use Rattle.std.specs.List.{list_all}
+use Rattle.std.specs.Prelude.{◌≡◌, ℕ, ◌<◌, Bool, true, false, cond, List, [], ◌∷◌, length, replicate, slice_set, slice_index_or}
+use Rattle.std.specs.List.{list_all, list_any}
 use Rattle.fleet_numbers.specs.NumberLists.{has_number}
 use Rattle.fleet_states.specs.declared.status.Status.{Status}
 use Rattle.fleet_states.specs.declared.status.Status.TheVariants.{Idle, Waiting, Running, Updated, Failed, Halted, Off, Held}
@@ -9,9 +9,9 @@ use Rattle.roll_core.specs.declared.stage.Stage.TheVariants.{Boundary, Working, 
 use Rattle.roll_core.specs.declared.stage.Progress.{Progress}
 use Rattle.roll_core.specs.declared.stage.Progress.TheVariants.{Due, Claimed, Reported}
 use Rattle.roll_core.specs.declared.event.Event.{Event}
-use Rattle.roll_core.specs.declared.event.Event.TheVariants.{Open, Claim, Report, Barrier, Close}
+use Rattle.roll_core.specs.declared.event.Event.TheVariants.{Hold, Open, Claim, Report, Barrier, Close}
 use Rattle.fleet_states.specs.Statuses.{are_ready, changed}
-use Rattle.fleet_states.specs.Groups.{FleetGroup, Fits}
+use Rattle.fleet_states.specs.Groups.{FleetGroup, Fits, is_full_for}
 
 -- the batch is empty at a boundary; progress is by the hosts' numbers, and each host is due until it is claimed
 pub record State : Type 0 where
@@ -44,6 +44,17 @@ after_batch Halted = Halted
 after_batch Off = Off
 after_batch Held = Held
 
+-- some group that holds the host has no room for it
+abbrev pub is_stuck : List FleetGroup → List Status → ℕ → Bool
+is_stuck groups statuses host = list_any (is_full_for statuses (host ∷ [])) groups
+
+-- waiting hosts may be set aside at a boundary where each is held by a group without room
+pub record MayHold (groups : List FleetGroup) (state : State) (hosts : List ℕ) : Type 0 where
+  pub boundary : state.stage ≡ Boundary
+  pub some : 0 < length hosts
+  pub ready : are_ready state.statuses hosts ≡ true
+  pub stuck : list_all (is_stuck groups state.statuses) hosts ≡ true
+
 -- a batch of waiting hosts, within the room of each group, may be opened at a boundary
 pub record MayOpen (groups : List FleetGroup) (state : State) (batch : List ℕ) : Type 0 where
   pub boundary : state.stage ≡ Boundary
@@ -70,6 +81,7 @@ pub record MayEnd (state : State) : Type 0 where
 
 -- which events may come next
 abbrev pub Allowed : List FleetGroup → State → Event → Type 0
+Allowed groups state (Hold hosts) = MayHold groups state hosts
 Allowed groups state (Open batch) = MayOpen groups state batch
 Allowed groups state (Claim host) = MayClaim state host.index
 Allowed groups state (Report host failed) = MayReport state host.index
@@ -78,6 +90,7 @@ Allowed groups state Close = state.stage ≡ Ended
 
 -- the state after an event
 abbrev pub next : State → Event → State
+next state (Hold hosts) = record state { statuses = changed (λ _. Held) hosts state.statuses }
 next state (Open batch) =
     record state { statuses = changed (λ _. Running) batch state.statuses; stage = Working; batch = batch }
 next state (Claim host) = record state { progress = slice_set state.progress host.index Claimed }

@@ -5,6 +5,8 @@ use group_tree::HostId;
 /// One moment of a roll.
 #[derive(Debug, Drop)]
 pub enum Event {
+    /// These waiting hosts are set aside: a group without room holds each of them.
+    Hold(Batch),
     /// A batch begins: its hosts are down from now on.
     Open(Batch),
     /// A worker takes the host.

@@ -1,6 +1,7 @@
 //! Why a batch is not opened or not ended.
 ghost use Rattle.std.specs.Prelude.{◌≡◌};
 ghost use Rattle.roll_core.specs.Refusals.{number_of};
+ghost use Rattle.roll_core.specs.HoldRefusals.{hold_number_of};
 
 use group_tree::{GroupId, HostId};
 use std::alloc::AllocError;
@@ -40,6 +41,33 @@ impl From<AllocError> for OpenFault {
 
     fn from(_refused: AllocError) -> OpenFault {
         OpenFault::Memory
+    }
+}
+
+/// Why hosts are not set aside: the first rule that is broken, in this order.
+#[derive(Clone, Copy, Debug, PartialEq, Eq)]
+pub enum HoldFault {
+    /// A batch is open.
+    NotBoundary,
+    /// The first host of the list that is not waiting, or stood in the list before. A number that no host has is not
+    /// waiting.
+    NotWaiting { host: HostId },
+    /// The first host of the list for which each group that holds it has room.
+    HasRoom { host: HostId },
+    Memory,
+}
+
+impl HoldFault {
+    /// The number of the rule that is broken; want of memory breaks none.
+    pub fn number(&self) -> Option<u16>
+        ensures { result ≡ hold_number_of self.now }
+    {
+        match self {
+            HoldFault::NotBoundary => Some(811),
+            HoldFault::NotWaiting { .. } => Some(812),
+            HoldFault::HasRoom { .. } => Some(815),
+            HoldFault::Memory => None,
+        }
     }
 }
 

@@ -15,7 +15,7 @@ mod trial;
 
 pub use batch::Batch;
 pub use event::Event;
-pub use fault::{Busy, Next, OpenFault};
+pub use fault::{Busy, HoldFault, Next, OpenFault};
 pub use fleet_states::Status;
 pub use laws::{legal_logs_are_safe, legal_logs_rest_between_batches};
 pub use rolling::Core;

@@ -105,6 +105,7 @@ fn roll(core: &mut Core, alloc: Global) -> Result<Option<Answers>, OpenFault> {
 /// An event as a letter and a number.
 fn letter_of(event: &Event) -> (char, usize) {
     match event {
+        Event::Hold(batch) => ('h', batch.hosts().len()),
         Event::Open(batch) => ('o', batch.hosts().len()),
         Event::Claim(host) => ('c', host.index),
         Event::Report(host, true) => ('f', host.index),
