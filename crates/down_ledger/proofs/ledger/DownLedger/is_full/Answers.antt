@@ -1,7 +1,6 @@
-use Rattle.std.proofs.Common.{◌≡◌, ◌<◌, length, None, ℕ, leb, sym, ap, ◌∙◌, subst, arith}
-use Rattle.std.proofs.lemmas.Bool.{leb-false}
-use Rattle.down_ledger.specs.Ledgers.{LedgerView, down_in, is_full}
-use Rattle.down_ledger.proofs.LedgerLemmas.{length-counts, count_read, full_read}
+use Rattle.std.proofs.Common.{◌<◌, length, ℕ, leb, sym, ap, ◌∙◌, subst, arith}
+use Rattle.down_ledger.specs.Ledgers.{LedgerView, is_full}
+use Rattle.down_ledger.proofs.LedgerLemmas.{length-counts, full_read}
 use Rattle.down_ledger.proofs.ledger.DownLedger.is_full.Goals as goal
 
 pub index-requires : goal.index-requires
