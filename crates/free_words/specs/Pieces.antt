@@ -1,8 +1,8 @@
 -- The first piece of a text.
-use Rattle.std.specs.Prelude.{ℕ, suc, zero, Option, Some, None, List, [], ◌∷◌, map, if◌then◌else◌}
+use Rattle.std.specs.Prelude.{◌≡◌, ℕ, suc, zero, ◌+◌, ◌<◌, Option, Some, None, List, [], ◌∷◌, length, drop, map, if◌then◌else◌}
 use Rattle.std.specs.Borrow.{Bor}
 use Rattle.word_parts.specs.Words.{is_blank}
-use Rattle.play_rules.specs.Commands.{Word, hole_behind, pieces}
+use Rattle.play_rules.specs.Commands.{Word, hole_behind, before_closing, pieces}
 
 -- how many bytes it has, where so many at the start belong to a hole
 abbrev pub piece_length : ℕ → List ℕ → ℕ
@@ -14,6 +14,10 @@ piece_length zero (byte ∷ bytes) = if is_blank byte then 0 else suc (piece_len
 abbrev pub pieces_left : Option (Bor (List ℕ)) → List Word
 pieces_left None = []
 pieces_left (Some rest) = pieces 0 [] rest.now
+
+-- in fewer bytes than these at the end there is no `}}`
+abbrev pub IsOpenBelow : ℕ → List ℕ → Type 0
+IsOpenBelow tail bytes = (place : ℕ) → length bytes < tail + place → before_closing (drop place bytes) ≡ None
 
 abbrev pub lent_texts : List (Bor (List ℕ)) → List Word
 lent_texts texts = map (λ text. text.now) texts

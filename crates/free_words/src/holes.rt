@@ -2,12 +2,19 @@
 ghost use Rattle.std.specs.Prelude.{◌≡◌, ◌+◌, ◌<◌, ◌≤◌, length, option_map, unwrap_or, IfSome, true};
 ghost use Rattle.word_parts.specs.Words.{starts};
 ghost use Rattle.play_rules.specs.Commands as spec;
+ghost use Rattle.free_words.specs.Pieces.{IsOpenBelow};
 
-/// How many bytes more belong to a hole that the bytes begin with; 0 where they begin with none.
-pub(crate) fn hole_behind(bytes: &[u8]) -> usize
+/// How many bytes more belong to a hole that the bytes begin with; 0 where they begin with none. In fewer bytes than `tail`
+/// at their end no hole is closed.
+pub(crate) fn hole_behind(bytes: &[u8], tail: usize) -> usize
+    requires { IsOpenBelow tail bytes.now }
     ensures { result ≡ spec.hole_behind bytes.now }
 {
     if !starts_with_pair(bytes, b'{', b'{') {
+        return 0;
+    }
+    // Each opening behind the last `}}` would else be searched for one up to the end of the text.
+    if bytes.len() < tail {
         return 0;
     }
     match before_closing(&bytes[2..]) {
@@ -27,6 +34,19 @@ fn before_closing(bytes: &[u8]) -> Option<usize>
         }
     }
     None
+}
+
+/// How many bytes the text has from its last `}}` on; more than it has where there is none.
+pub(crate) fn tail_of_last_closing(bytes: &[u8]) -> usize
+    ensures { IsOpenBelow result bytes.now }
+{
+    for behind in 0..bytes.len() {
+        let start = bytes.len() - 1 - behind;
+        if starts_with_pair(&bytes[start..], b'}', b'}') {
+            return behind + 1;
+        }
+    }
+    usize::MAX
 }
 
 fn starts_with_pair(bytes: &[u8], first: u8, second: u8) -> bool

@@ -2,16 +2,18 @@
 ghost use Rattle.std.specs.Prelude.{◌≡◌, ◌+◌, ◌<◌, ◌≤◌, [], ◌∷◌, length, take, drop, IfSome};
 ghost use Rattle.word_parts.specs.Words as words;
 ghost use Rattle.play_rules.specs.Commands as spec;
-ghost use Rattle.free_words.specs.Pieces.{piece_length, pieces_left};
+ghost use Rattle.free_words.specs.Pieces.{piece_length, pieces_left, IsOpenBelow};
 
 use crate::holes::hole_behind;
 
-/// The first piece, and the text behind the blank that ends it.
-pub(crate) fn cut_piece(text: &str) -> (&str, Option<&str>)
+/// The first piece, and the text behind the blank that ends it. In fewer bytes than `tail` at its end no hole is closed.
+pub(crate) fn cut_piece(text: &str, tail: usize) -> (&str, Option<&str>)
+    requires { IsOpenBelow tail text.now }
     ensures pieces { spec.pieces 0 [] text.now ≡ result.0.now ∷ pieces_left result.1 }
     ensures shorter { IfSome result.1 (λ rest. length rest.now < length text.now) }
+    ensures still { IfSome result.1 (λ rest. IsOpenBelow tail rest.now) }
 {
-    let length = count_piece(text.as_bytes());
+    let length = count_piece(text.as_bytes(), tail);
     let piece = text.split_at(length).0;
     if length == text.len() {
         return (piece, None);
@@ -20,7 +22,8 @@ pub(crate) fn cut_piece(text: &str) -> (&str, Option<&str>)
 }
 
 /// How many bytes stand before the first blank outside holes.
-fn count_piece(bytes: &[u8]) -> usize
+fn count_piece(bytes: &[u8], tail: usize) -> usize
+    requires { IsOpenBelow tail bytes.now }
     ensures number { result ≡ piece_length 0 bytes.now }
     ensures within { result ≤ length bytes.now }
 {
@@ -31,7 +34,7 @@ fn count_piece(bytes: &[u8]) -> usize
         } else if is_blank(bytes[index]) {
             return index;
         } else {
-            inside = hole_behind(&bytes[index..]);
+            inside = hole_behind(&bytes[index..], tail);
         }
     }
     bytes.len()
