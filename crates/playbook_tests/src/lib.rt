@@ -5,6 +5,10 @@
 #[cfg(test)]
 mod conditions;
 #[cfg(test)]
+mod nobody;
+#[cfg(test)]
 mod settings;
+#[cfg(test)]
+mod steps;
 #[cfg(test)]
 mod words;

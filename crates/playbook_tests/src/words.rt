@@ -62,3 +62,17 @@ fn words_are_those_that_the_step_writes(rt: HostRuntime) -> Result<(), Fail> {
     }
     Ok(())
 }
+
+/// A search to the end of the text at each of them would take many minutes.
+#[test]
+fn openings_without_an_end_are_words_at_once(rt: HostRuntime) -> Result<(), Fail> {
+    let mut text = String::from_str(rt.alloc(), r#"{"command":""#)?;
+    for _ in 0..1000000 {
+        text.push_str("{{ ")?;
+    }
+    text.push_str(r#""}"#)?;
+    let step = Value::from_slice(rt.alloc(), text.as_bytes())?;
+    let words = words_in(rt.alloc(), &step)?;
+    assert_eq!(rt; words.map(|words| words.len()), Some(1000000));
+    Ok(())
+}
