@@ -1,0 +1,25 @@
+-- Where a name stands among names that are lent.
+use Rattle.std.proofs.Common.{◌≡◌, Bool, ℕ, ◌+◌, Some, None, List, [], ◌∷◌, not, cond, nat_lt, length, map, ap, ◌∙◌, refl}
+use Rattle.std.specs.Borrow.{Bor}
+use Rattle.std.specs.List.{position, position_or_len, list_any}
+use Rattle.std.proofs.lemmas.List.{length-map}
+use Rattle.inventory_model.specs.Names.{Name, same_name, is_among}
+use Rattle.group_tree.proofs.MemberLemmas.{list_any-map}
+use Rattle.play_settings.specs.Verdicts.{lent_texts}
+
+first_place : {X Y : Type 0} (test : Y → Bool) (f : X → Y) (xs : List X) → position_or_len test (map f xs) ≡ position_or_len (λ x. test (f x)) xs
+first_place test f [] = refl
+first_place test f (x ∷ xs) = ap (λ (n : ℕ). cond (not (test (f x))) (1 + n) 0) (first_place test f xs)
+
+-- the first place where a test holds of the images
+position-map : {X Y : Type 0} (test : Y → Bool) (f : X → Y) (xs : List X) → position test (map f xs) ≡ position (λ x. test (f x)) xs
+position-map test f xs =
+    ap (λ (n : ℕ). cond (nat_lt n (length (map f xs))) (Some n) None) (first_place test f xs)
+    ∙ ap (λ (n : ℕ). cond (nat_lt (position_or_len (λ x. test (f x)) xs) n) (Some (position_or_len (λ x. test (f x)) xs)) None) (length-map xs f)
+
+module _ (name : Name) (names : List (Bor Name)) where
+  pub place_lent : position (same_name name) (lent_texts names) ≡ position (λ own. same_name name own.now) names
+  place_lent = position-map (same_name name) (λ (own : Bor Name). own.now) names
+
+  pub among_lent : is_among name (lent_texts names) ≡ list_any (λ own. same_name name own.now) names
+  among_lent = list_any-map (same_name name) (λ (own : Bor Name). own.now) names

@@ -1,0 +1,49 @@
+-- What reading a playbook promises.
+use Rattle.std.specs.Prelude.{◌≡◌, ℕ, ◌⊎◌, ◌++◌, Some, None, List, length, string_bytes, IsUtf8, ⊤, MatchOption}
+use Rattle.std.specs.List.{AllZip}
+use Rattle.serde_json.specs.Data.{Data}
+use Rattle.serde_json.specs.Read.{read}
+use Rattle.play_model.specs.declared.play.Play.{Play}
+use Rattle.play_model.specs.declared.step.Step.{Step}
+use Rattle.play_rules.specs.Breaches.{NotJson}
+use Rattle.play_rules.specs.Plays.{WrittenPlay, checks, plays_of}
+use Rattle.play_rules.specs.Steps.{WrittenStep}
+use Rattle.play_faults.specs.Checks.{Named, rule, AllKept, IsFirst}
+use Rattle.play_faults.specs.Faults.{named_of}
+use Rattle.play_faults.specs.declared.fault.PlayFault.{PlayFault}
+use Rattle.play_steps.specs.Readings.{IsStep}
+
+-- a step for each that is written, in the order in which they are written
+abbrev pub AreSteps : List WrittenStep → List Step → Type 0
+AreSteps written steps = AllZip IsStep written steps
+
+-- the play is the written one; its steps are the tasks and then the handlers
+pub record IsPlay (written : WrittenPlay) (play : Play) : Type 0 where
+  pub pattern : string_bytes play.pattern ≡ written.pattern
+  pub sizes : play.sizes.items ≡ written.sizes
+  pub max_fail : play.max_fail ≡ written.max_fail
+  pub on_blocked : play.on_blocked ≡ written.on_blocked
+  pub tasks : play.tasks ≡ length written.tasks
+  pub steps : AreSteps (written.tasks ++ written.handlers) play.steps.items
+
+-- the text is UTF-8 JSON, all that its value has to keep is kept, and the plays are those that the value says; it may say
+-- so many
+pub record IsReadAs (most : ℕ) (text : List ℕ) (plays : List Play) : Type 0 where
+  pub utf8 : IsUtf8 text
+  pub document : Data
+  pub reads : read text ≡ Some document
+  pub keeps_all : AllKept (checks most document)
+  pub says : AllZip IsPlay (plays_of document) plays
+
+-- 701: the text is no UTF-8 or no JSON
+abbrev pub IsNoJson : List ℕ → Type 0
+IsNoJson text = IsUtf8 text → read text ≡ None
+
+-- the first check of the text that is not kept
+abbrev pub BreaksFirst : ℕ → List ℕ → Named → Type 0
+BreaksFirst most text named =
+    ((named ≡ rule NotJson) × IsNoJson text) ⊎ ((document : Data) × IsUtf8 text × (read text ≡ Some document) × IsFirst named (checks most document))
+
+-- the fault names the first check of the text that is not kept, or want of memory
+abbrev pub IsTrueOf : ℕ → List ℕ → PlayFault → Type 0
+IsTrueOf most text fault = MatchOption (named_of fault) ⊤ (BreaksFirst most text)

@@ -1,0 +1,86 @@
+//! From what is wrong with a play or a step to the fault that tells it.
+ghost use Rattle.std.specs.Prelude.{◌≡◌, Some, IfOk};
+ghost use Rattle.play_rules.specs.Plays.{spot_at};
+ghost use Rattle.play_faults.specs.Checks.{rule};
+ghost use Rattle.play_faults.specs.Faults.{key_name, named_by, named_of};
+ghost use Rattle.play_settings.specs.Verdicts.{breach_at};
+ghost use Rattle.play_steps.specs.Readings.{named_in};
+
+use crate::path::{path_below, path_of_play, path_of_step};
+use crate::place::{PlayPlace, StepPlace};
+use cond::CondFault;
+use play_faults::{ConditionKey, PlayFault};
+use play_settings::{Below, Flaw};
+use play_steps::StepFlaw;
+use std::alloc::{AllocError, Global};
+
+/// The flaw of the play or step of this path; `step` is the step's number.
+fn rule_fault(
+    alloc: Global,
+    path: &str,
+    play: Option<usize>,
+    step: usize,
+    flaw: Flaw<'_>,
+) -> Result<PlayFault, AllocError>
+    ensures { IfOk result (λ fault. named_of fault ≡ Some (rule (breach_at (spot_at play step) flaw.entry))) }
+{
+    match flaw {
+        Flaw::BadShape(below) => Ok(PlayFault::BadShape {
+            at: path_below(alloc, path, below)?,
+        }),
+        Flaw::UnknownKey(key) => Ok(PlayFault::UnknownKey {
+            at: path_below(alloc, path, Below::Key(key))?,
+        }),
+        Flaw::BadSerial(below) => Ok(PlayFault::BadSerial {
+            at: path_below(alloc, path, below)?,
+        }),
+        Flaw::BadPercent => Ok(PlayFault::BadPercent {
+            at: path_below(alloc, path, Below::Key("max_fail_percentage"))?,
+        }),
+        Flaw::TooManySteps => Ok(PlayFault::TooManySteps),
+        Flaw::BadBraces => Ok(PlayFault::BadBraces { play, step }),
+    }
+}
+
+/// The flaw of a play apart from its steps. It names no step.
+pub(crate) fn fault_of_play(
+    alloc: Global,
+    place: PlayPlace,
+    flaw: Flaw<'_>,
+) -> Result<PlayFault, AllocError>
+    ensures { IfOk result (λ fault. named_of fault ≡ Some (rule (breach_at (spot_at place.told 0) flaw.entry))) }
+{
+    let path = path_of_play(alloc, place)?;
+    rule_fault(alloc, path.as_str(), place.told, 0, flaw)
+}
+
+pub(crate) fn fault_of_step(
+    alloc: Global,
+    place: StepPlace,
+    flaw: StepFlaw<'_>,
+) -> Result<PlayFault, AllocError>
+    ensures { IfOk result (λ fault. named_of fault ≡ named_in (spot_at place.play.told place.number) flaw.entry) }
+{
+    match flaw {
+        StepFlaw::Rule(flaw) => {
+            let path = path_of_step(alloc, place)?;
+            rule_fault(alloc, path.as_str(), place.play.told, place.number, flaw)
+        }
+        StepFlaw::Condition(key, fault) => Ok(fault_of_condition(place, key, fault)),
+        StepFlaw::Memory => Ok(PlayFault::Memory),
+    }
+}
+
+fn fault_of_condition(place: StepPlace, key: ConditionKey, fault: CondFault) -> PlayFault
+    ensures { named_of result ≡ named_by (spot_at place.play.told place.number) (key_name key) fault }
+{
+    match fault {
+        CondFault::Memory => PlayFault::Memory,
+        fault => PlayFault::BadCondition {
+            play: place.play.told,
+            step: place.number,
+            key,
+            fault,
+        },
+    }
+}

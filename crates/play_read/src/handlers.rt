@@ -1,0 +1,105 @@
+//! The handlers of a play.
+ghost use Rattle.std.specs.Prelude.{◌≡◌, ◌∷◌, ◌+◌, ◌++◌, ◌≤◌, [], All, IfOk, IfErr, OnOk, length, map};
+ghost use Rattle.std.specs.List.{filter_map};
+ghost use Rattle.serde_json.specs.View.{view};
+ghost use Rattle.play_model.specs.Plays.{HasPlainWords, NotifiesNobody};
+ghost use Rattle.play_rules.specs.Breaches.{Broken};
+ghost use Rattle.play_rules.specs.Plays.{spot_at, checks_of_handlers};
+ghost use Rattle.play_rules.specs.Steps as spec;
+ghost use Rattle.play_faults.specs.Checks.{AllKept};
+ghost use Rattle.play_faults.specs.Faults.{IsRefusal};
+ghost use Rattle.play_steps.specs.Readings.{IsStep};
+ghost use Rattle.play_read.specs.Known.{known};
+ghost use Rattle.play_read.specs.Reads.{AreSteps};
+
+use crate::faults::fault_of_step;
+use crate::names::HandlerNames;
+use crate::place::{PlayPlace, StepList, StepPlace};
+use play_faults::PlayFault;
+use play_model::Step;
+use play_steps::read_handler;
+use serde_json::Value;
+use std::alloc::Global;
+use step_settings::name_in;
+
+/// Whether no handler before this one has its name, which is known from then on.
+fn check_name<'a>(
+    alloc: Global,
+    handler: &'a Value,
+    names: &mut HandlerNames<'a>,
+) -> Result<(), PlayFault>
+    ensures ok { IfOk result (λ _. spec.twice_named (known names.old) (view handler.now) ≡ []) }
+    ensures names { OnOk result (known names.new ≡ known names.old ++ filter_map spec.name_in (view handler.now ∷ [])) }
+    ensures err { IfErr result (λ fault. IsRefusal fault (map Broken (spec.twice_named (known names.old) (view handler.now)))) }
+{
+    let Some(name) = name_in(handler) else {
+        return Ok(());
+    };
+    if names.add(name)? {
+        Ok(())
+    } else {
+        Err(PlayFault::TwiceHandler {
+            name: String::from_str(alloc, name)?,
+        })
+    }
+}
+
+/// The handler, and then whether its name stood before.
+fn read_one<'a>(
+    alloc: Global,
+    place: StepPlace,
+    handler: &'a Value,
+    names: &mut HandlerNames<'a>,
+) -> Result<Step, PlayFault>
+    ensures kept { IfOk result (λ _. AllKept (spec.checks_of_handler (spot_at place.play.told place.number) (view handler.now))) }
+    ensures once { IfOk result (λ _. spec.twice_named (known names.old) (view handler.now) ≡ []) }
+    ensures names { OnOk result (known names.new ≡ known names.old ++ filter_map spec.name_in (view handler.now ∷ [])) }
+    ensures says { IfOk result (IsStep (spec.handler_of (view handler.now))) }
+    ensures plain { IfOk result HasPlainWords }
+    ensures err { IfErr result (λ fault. IsRefusal fault (spec.checks_of_handler (spot_at place.play.told place.number) (view handler.now)
+        ++ map Broken (spec.twice_named (known names.old) (view handler.now)))) }
+{
+    match read_handler(alloc, handler) {
+        Ok(step) => match check_name(alloc, handler, names) {
+            Ok(()) => Ok(step),
+            Err(fault) => {
+                drop(step);
+                Err(fault)
+            }
+        },
+        Err(flaw) => Err(fault_of_step(alloc, place, flaw)?),
+    }
+}
+
+/// The handlers of a play with so many tasks, and their names. Of several faults the first is told; after each handler
+/// comes whether its name stood before.
+pub(crate) fn read_handlers<'a>(
+    alloc: Global,
+    play: PlayPlace,
+    tasks: usize,
+    handlers: &'a [Value],
+    names: &mut HandlerNames<'a>,
+) -> Result<Vec<Step>, PlayFault>
+    requires few { tasks + length handlers.now ≤ 256 }
+    requires none { known names.old ≡ [] }
+    ensures kept { IfOk result (λ _. AllKept (checks_of_handlers play.told (tasks + 1) [] (map view handlers.now))) }
+    ensures names { OnOk result (known names.new ≡ filter_map spec.name_in (map view handlers.now)) }
+    ensures says { IfOk result (λ steps. AreSteps (map spec.handler_of (map view handlers.now)) steps.items) }
+    ensures plain { IfOk result (λ steps. All HasPlainWords steps.items) }
+    ensures err { IfErr result (λ fault. IsRefusal fault (checks_of_handlers play.told (tasks + 1) [] (map view handlers.now))) }
+{
+    let mut steps = Vec::new(alloc);
+    for index in 0..handlers.len() {
+        let place = StepPlace {
+            play,
+            list: StepList::Handlers,
+            index,
+            number: tasks + 1 + index,
+        };
+        match read_one(alloc, place, &handlers[index], names) {
+            Ok(step) => steps.push(step)?,
+            Err(fault) => return Err(fault),
+        }
+    }
+    Ok(steps)
+}

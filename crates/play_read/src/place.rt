@@ -1,0 +1,33 @@
+//! Where in the text a play or a step stands.
+
+/// A play by its place in the file, from 0, and its number, from 1, where the file has several.
+#[derive(Clone, Copy, Debug)]
+pub(crate) struct PlayPlace {
+    pub index: usize,
+    pub told: Option<usize>,
+}
+
+/// Which of a play's lists a step stands in.
+#[derive(Clone, Copy, Debug)]
+pub(crate) enum StepList {
+    Tasks,
+    Handlers,
+}
+
+impl StepList {
+    pub(crate) fn key(self) -> &'static str {
+        match self {
+            StepList::Tasks => "tasks",
+            StepList::Handlers => "handlers",
+        }
+    }
+}
+
+/// A step by its place in its list, from 0, and its number in the play, from 1, tasks first.
+#[derive(Clone, Copy, Debug)]
+pub(crate) struct StepPlace {
+    pub play: PlayPlace,
+    pub list: StepList,
+    pub index: usize,
+    pub number: usize,
+}
