@@ -1,0 +1,8 @@
+//! The plan with which a play begins.
+#![tactic(auto)]
+
+mod patterns;
+mod play_plan;
+
+pub use patterns::look_up_all;
+pub use play_plan::{PlayPlan, plan_play};
