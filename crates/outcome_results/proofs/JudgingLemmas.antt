@@ -1,0 +1,20 @@
+-- What the conditions of a step make of its row.
+use Rattle.std.proofs.Common.{◌≡◌, ℕ, Option, List, sym, ap, ◌∙◌}
+use Rattle.std.specs.Prelude.{ℤ}
+use Rattle.inventory_model.specs.Names.{Name}
+use Rattle.play_model.specs.declared.step.Step.{Step}
+use Rattle.outcome_results.specs.Hosts.{Known, known_of, with_result, environment_in}
+use Rattle.outcome_results.specs.Endings.{Ending, ran, ending_of, table_row}
+use Rattle.outcome_results.specs.Judging.{register_of, flags_of_run, flags_of}
+use Rattle.outcome_results.specs.Trials.{name_of, row_of_trial, environment_of_trial}
+use Rattle.outcome_results.specs.declared.flags.Flags.{Flags}
+use Rattle.outcome_results.specs.declared.trial.Trial.{Trial}
+
+abbrev flags_with : Known → Step → Option Name → Ending → Flags
+flags_with known step name ending =
+    flags_of_run (environment_in (with_result name (table_row ending) known)) step (table_row ending)
+
+-- a program's end that stands under the step's name
+pub flags_in_trial : (trial : Trial) (step : Step) (rc : ℤ) (stdout stderr : List ℕ) → name_of trial ≡ register_of step → ending_of trial.outcome.now ≡ ran rc stdout stderr → flags_of_run (environment_of_trial trial) step (row_of_trial trial) ≡ flags_of (known_of trial.vars.now) step (ending_of trial.outcome.now)
+flags_in_trial trial step rc stdout stderr named is =
+    ap (λ (n : Option Name). flags_with (known_of trial.vars.now) step n (ending_of trial.outcome.now)) named ∙ ap (flags_with (known_of trial.vars.now) step (register_of step)) is ∙ sym (ap (flags_of (known_of trial.vars.now) step) is)

@@ -1,0 +1,5 @@
+pub mod Hosts
+pub mod Endings
+pub mod Judging
+pub mod Trials
+pub mod Counting
