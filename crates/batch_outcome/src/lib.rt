@@ -1,0 +1,11 @@
+//! When a batch halts, and what becomes of its hosts.
+#![tactic(auto)]
+
+mod fate;
+mod halting;
+mod laws;
+mod worked;
+
+pub use fate::status_after;
+pub use halting::is_past;
+pub use laws::{a_halt_is_the_least, hosts_of_other_batches_stay};
