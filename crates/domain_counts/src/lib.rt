@@ -11,6 +11,3 @@ mod shape;
 pub use counts::Domains;
 pub use node::DomTree;
 pub use place::Place;
-
-#[cfg(test)]
-mod tests;

@@ -1,59 +1,14 @@
 //! The largest inputs, with ample memory: no contract says that memory is enough.
-use crate::text::{fleet_of, with};
 use domains::Fleet;
-use group_tree::{Group, GroupFault, GroupId, HostId, Limit, Percentage};
+use group_tree::{Group, GroupFault, GroupId, HostId, Limit};
+use sample_fleets::{deepest, fleet_of, with};
 use std::alloc::{AllocError, Allocator, Global};
 use std::test::Fail;
 
 const HOSTS: usize = 4096;
 
-/// So many groups lie inside each other, `all` outside them and the racks in the innermost.
+/// So many limited groups lie inside each other.
 const REGIONS: usize = 18;
-
-const RACKS: usize = 1005;
-
-/// Adds hosts of these numbers, whose names are in the order of their numbers.
-fn add_hosts<A: Allocator + Clone>(
-    group: &mut Group<A>,
-    alloc: A,
-    first: usize,
-    count: usize,
-) -> Result<(), Fail> {
-    for number in 0..count {
-        let host = first.wrapping_add(number).wrapping_add(1000);
-        let name = format!(in alloc.clone()?; "h{host}")?;
-        group.add_host(name.as_str(), &[])?;
-    }
-    Ok(())
-}
-
-/// Racks of sixteen hosts of which the next one has twelve, so that most hosts are in four.
-fn racks<A: Allocator + Clone + Drop>(alloc: A) -> Result<Group<A>, Fail> {
-    let mut region = Group::new(alloc.clone()?, "region", Some(Limit::Count(4000)), &[])?;
-    for number in 0..RACKS {
-        let name = format!(in alloc.clone()?; "rack{number}")?;
-        let mut rack = Group::new(alloc.clone()?, name.as_str(), None, &[])?;
-        add_hosts(&mut rack, alloc.clone()?, number.wrapping_mul(4), 16)?;
-        region = with(region, rack)?;
-    }
-    Ok(region)
-}
-
-/// Twenty levels with 1,024 groups, 4,096 hosts and 16,384 rows.
-fn largest<A: Allocator + Clone + Drop>(alloc: A) -> Result<Group<A>, Fail> {
-    let mut inner = racks(alloc.clone()?)?;
-    for number in 1..REGIONS {
-        let name = format!(in alloc.clone()?; "region{number}")?;
-        let limit = Percentage::new(50).map(Limit::Percent);
-        inner = with(
-            Group::new(alloc.clone()?, name.as_str(), limit, &[])?,
-            inner,
-        )?;
-    }
-    let mut all = Group::new(alloc.clone()?, "all", None, &[])?;
-    add_hosts(&mut all, alloc, 3792, 304)?;
-    Ok(with(all, inner)?)
-}
 
 /// A pattern with a part for each host and each group.
 fn pattern(alloc: Global, fleet: &Fleet) -> Result<String, AllocError> {
@@ -71,7 +26,7 @@ fn pattern(alloc: Global, fleet: &Fleet) -> Result<String, AllocError> {
 
 #[test]
 fn the_largest_inventory_is_a_fleet(rt: HostRuntime) -> Result<(), Fail> {
-    let fleet = fleet_of(rt.alloc(), largest(rt.alloc())?)?;
+    let fleet = fleet_of(rt.alloc(), deepest(rt.alloc())?)?;
     assert_eq!(rt; fleet.hosts(), HOSTS);
     assert_eq!(rt; fleet.groups(), 1024);
     assert_eq!(rt; fleet.deal_order().len(), HOSTS);
@@ -91,7 +46,7 @@ fn the_largest_inventory_is_a_fleet(rt: HostRuntime) -> Result<(), Fail> {
 
 #[test]
 fn a_pattern_of_thousands_of_parts_names_each_host_once(rt: HostRuntime) -> Result<(), Fail> {
-    let fleet = fleet_of(rt.alloc(), largest(rt.alloc())?)?;
+    let fleet = fleet_of(rt.alloc(), deepest(rt.alloc())?)?;
     let pattern = pattern(rt.alloc(), &fleet)?;
     let hosts = fleet.target(rt.alloc(), pattern.as_str())?;
     assert_eq!(rt; hosts.as_slice().len(), HOSTS);

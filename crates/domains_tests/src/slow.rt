@@ -1,6 +1,7 @@
 //! The definitions read off paths and rows, one pair after the other, beside `build`.
-use crate::text::{fleet_text, group, with};
+use crate::text::fleet_text;
 use group_tree::{Group, GroupFault, Limit, Scalar};
+use sample_fleets::{group, with};
 use std::alloc::{AllocError, Allocator, Global};
 use std::test::Fail;
 

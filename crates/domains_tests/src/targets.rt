@@ -1,7 +1,8 @@
 //! Patterns of hosts whose answers are worked by hand.
-use crate::text::{fleet_of, group, region, with};
+use crate::text::region;
 use domains::Fleet;
 use group_tree::{Group, GroupFault};
+use sample_fleets::{fleet_of, group, with};
 use std::alloc::{AllocError, Allocator, Global};
 use std::test::Fail;
 

@@ -1,7 +1,8 @@
 //! Inventories whose answers are worked by hand.
-use crate::text::{fleet_of, fleet_text, group, region, with};
+use crate::text::{fleet_text, region};
 use domains::Fleet;
 use group_tree::{Group, GroupFault, Limit, Percentage, Scalar};
+use sample_fleets::{fleet_of, group, with};
 use std::alloc::Allocator;
 use std::test::Fail;
 

@@ -1,4 +1,4 @@
-use Rattle.std.proofs.Common.{rules, ◌<◌, length, get_or}
+use Rattle.std.proofs.Common.{rules, length}
 use Rattle.group_tree.specs.declared.ids.GroupId.{GroupId}
 use Rattle.fleet_numbers.proofs.RisingLemmas.{number_below}
 use Rattle.fleet_numbers.proofs.chains.first_ending.Goals as goal

@@ -1,4 +1,4 @@
-use Rattle.std.proofs.Common.{◌∙◌, sym, ap, ◌+◌, ℕ, arith}
+use Rattle.std.proofs.Common.{◌∙◌, sym, ap, ◌+◌, arith}
 use Rattle.group_tree.specs.declared.ids.GroupId.{GroupId}
 use Rattle.fleet_numbers.proofs.DealLemmas.{key_of}
 use Rattle.fleet_numbers.proofs.deal.deal_key.Goals as goal

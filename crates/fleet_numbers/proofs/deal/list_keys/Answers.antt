@@ -1,8 +1,8 @@
-use Rattle.std.proofs.Common.{ap, ◌∙◌, ◌≡◌, [], true, sym, subst, List, ℕ, length}
+use Rattle.std.proofs.Common.{ap, ◌∙◌, ◌≡◌, [], true, sym, subst, List, ℕ}
 use Rattle.std.proofs.lemmas.List.{length-map}
 use Rattle.group_tree.specs.declared.ids.GroupId.{GroupId}
-use Rattle.fleet_numbers.specs.NumberLists.{are_below, list_at}
-use Rattle.fleet_numbers.specs.Ids.{group_lists, group_numbers}
+use Rattle.fleet_numbers.specs.NumberLists.{are_below}
+use Rattle.fleet_numbers.specs.Ids.{group_lists}
 use Rattle.fleet_numbers.specs.DealOrder.{deal_key, groups_bound}
 use Rattle.fleet_numbers.proofs.ListLemmas.{lent_list}
 use Rattle.fleet_numbers.proofs.DealLemmas.{keys_more}

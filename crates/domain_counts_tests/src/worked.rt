@@ -1,19 +1,23 @@
 //! Counts that are worked by hand.
-use super::text::{counts, fleet_of, group, push_trees, set, with};
-use crate::{Domains, Place};
+use crate::text::{counts, push_trees, set};
+use domain_counts::{Domains, Place};
 use group_tree::{Group, GroupFault};
+use sample_fleets::{fleet_of, group, with};
 use std::alloc::Allocator;
 use std::test::Fail;
 
 /// A region of two racks, one below a row without a limit, and a rack without hosts. The groups are `all`, `eu`, `r1`,
 /// `row`, `r2`, `r3`.
 fn region<A: Allocator + Clone>(alloc: A) -> Result<Group<A>, GroupFault> {
-    let r1 = group(alloc.clone()?, "r1", true, &["a", "b"])?;
-    let r2 = group(alloc.clone()?, "r2", true, &["c"])?;
-    let row = with(group(alloc.clone()?, "row", false, &[])?, r2)?;
-    let r3 = group(alloc.clone()?, "r3", true, &[])?;
-    let eu = with(with(group(alloc.clone()?, "eu", true, &["d"])?, r1)?, row)?;
-    with(with(group(alloc, "all", false, &[])?, eu)?, r3)
+    let r1 = group(alloc.clone()?, "r1", Some(9), &["a", "b"])?;
+    let r2 = group(alloc.clone()?, "r2", Some(9), &["c"])?;
+    let row = with(group(alloc.clone()?, "row", None, &[])?, r2)?;
+    let r3 = group(alloc.clone()?, "r3", Some(9), &[])?;
+    let eu = with(
+        with(group(alloc.clone()?, "eu", Some(9), &["d"])?, r1)?,
+        row,
+    )?;
+    with(with(group(alloc, "all", None, &[])?, eu)?, r3)
 }
 
 #[test]

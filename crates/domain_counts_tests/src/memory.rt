@@ -1,15 +1,16 @@
 //! Want of memory is named as such and passes: this test holds whatever one request `rt try --test --fail-alloc N` refuses.
-use super::text::{counts, group, set, with};
-use crate::{Domains, Place};
+use crate::text::{counts, set};
+use domain_counts::{Domains, Place};
 use domains::{Fleet, FleetFault};
 use group_tree::{Group, GroupFault, Tree};
+use sample_fleets::{group, with};
 use std::alloc::{AllocError, Allocator, Global};
 use std::test::Fail;
 
 /// A limited `all` with a limited group in it.
 fn two_deep<A: Allocator + Clone>(alloc: A) -> Result<Group<A>, GroupFault> {
-    let rack = group(alloc.clone()?, "g", true, &["a", "b"])?;
-    with(group(alloc, "all", true, &["c"])?, rack)
+    let rack = group(alloc.clone()?, "g", Some(9), &["a", "b"])?;
+    with(group(alloc, "all", Some(9), &["c"])?, rack)
 }
 
 /// A call that was refused memory is made again.

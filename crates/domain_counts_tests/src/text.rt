@@ -1,45 +1,6 @@
-//! Groups, and the counts of a fleet as a text.
-use crate::{DomTree, Domains, Place};
-use domains::Fleet;
-use group_tree::{Group, GroupFault, Limit, Tree};
+//! The counts of a fleet as a text.
+use domain_counts::{DomTree, Domains, Place};
 use std::alloc::{AllocError, Allocator, Global};
-use std::test::Fail;
-
-/// A group with these hosts, and with a limit that nothing reaches where it is limited.
-pub fn group<A: Allocator + Clone>(
-    alloc: A,
-    name: &str,
-    limited: bool,
-    hosts: &[&str],
-) -> Result<Group<A>, GroupFault> {
-    let limit = if limited {
-        Some(Limit::Count(u16::MAX))
-    } else {
-        None
-    };
-    let mut group = Group::new(alloc, name, limit, &[])?;
-    for host in hosts {
-        group.add_host(host, &[])?;
-    }
-    Ok(group)
-}
-
-/// The group with one more child.
-pub fn with<A: Allocator + Clone>(
-    mut group: Group<A>,
-    child: Group<A>,
-) -> Result<Group<A>, GroupFault> {
-    group.add_child(child)?;
-    Ok(group)
-}
-
-/// The fleet of a group that is accepted.
-pub fn fleet_of<A: Allocator + Drop>(alloc: Global, root: Group<A>) -> Result<Fleet, Fail> {
-    let Ok(tree) = Tree::new(root) else {
-        return Err(Fail::new("no tree"));
-    };
-    Ok(Fleet::build(alloc, &tree)?)
-}
 
 /// Sets the host of this name, where there is one.
 pub fn set<A: Allocator>(domains: &mut Domains<'_, A>, name: &str, place: Place) {

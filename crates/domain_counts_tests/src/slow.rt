@@ -1,7 +1,8 @@
 //! Each group's hosts counted anew by their paths, beside the counts that are kept.
-use super::text::{counts, fleet_of, group, set, with};
-use crate::{Domains, Place};
+use crate::text::{counts, set};
+use domain_counts::{Domains, Place};
 use group_tree::{Group, GroupFault};
+use sample_fleets::{fleet_of, group, with};
 use std::alloc::{Allocator, Global};
 use std::test::Fail;
 
@@ -29,6 +30,15 @@ struct Case {
 impl Case {
     fn is_limited(self, group: u32) -> bool {
         self.limited.wrapping_shr(group) % 2 == 1
+    }
+
+    /// A limit that nothing reaches, where the group is limited.
+    fn limit(self, group: u32) -> Option<u16> {
+        if self.is_limited(group) {
+            Some(9)
+        } else {
+            None
+        }
     }
 
     fn lists(self, group: u32, host: u32) -> bool {
@@ -97,7 +107,7 @@ fn listed<A: Allocator + Clone>(
     number: u32,
     name: &str,
 ) -> Result<Group<A>, GroupFault> {
-    let mut listed = group(alloc, name, case.is_limited(number), &[])?;
+    let mut listed = group(alloc, name, case.limit(number), &[])?;
     for (place, host) in (0..3u32).zip(HOSTS) {
         if case.lists(number, place) {
             listed.add_host(host, &[])?;

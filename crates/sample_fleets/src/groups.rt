@@ -1,0 +1,36 @@
+//! Groups, and the fleet of a group.
+use domains::Fleet;
+use group_tree::{Group, GroupFault, Limit, Tree};
+use std::alloc::{Allocator, Global};
+use std::test::Fail;
+
+/// A group with these hosts, which have no variables, and a limit of so many hosts.
+pub fn group<A: Allocator + Clone>(
+    alloc: A,
+    name: &str,
+    limit: Option<u16>,
+    hosts: &[&str],
+) -> Result<Group<A>, GroupFault> {
+    let mut group = Group::new(alloc, name, limit.map(Limit::Count), &[])?;
+    for host in hosts {
+        group.add_host(host, &[])?;
+    }
+    Ok(group)
+}
+
+/// The group with one more child.
+pub fn with<A: Allocator + Clone>(
+    mut group: Group<A>,
+    child: Group<A>,
+) -> Result<Group<A>, GroupFault> {
+    group.add_child(child)?;
+    Ok(group)
+}
+
+/// The fleet of a group that is accepted.
+pub fn fleet_of<A: Allocator + Drop>(alloc: Global, root: Group<A>) -> Result<Fleet, Fail> {
+    let Ok(tree) = Tree::new(root) else {
+        return Err(Fail::new("no tree"));
+    };
+    Ok(Fleet::build(alloc, &tree)?)
+}
