@@ -1,0 +1,3 @@
+pub mod RosterLemmas
+pub mod MarkLemmas
+pub mod OpeningLemmas
