@@ -1,0 +1,2 @@
+pub mod TrackLaws
+pub mod SummaryLemmas

@@ -1,0 +1,53 @@
+-- Laws of tracks.
+use Rattle.std.specs.Prelude.{◌≡◌, ℕ, suc, ◌+◌, ◌-◌, ◌<◌, ◌≤◌, IsTrue, IsFalse, Some, List, [], ◌∷◌, ◌++◌, All, AllPairs}
+use Rattle.play_model.specs.declared.play.Play.{Play}
+use Rattle.outcome_results.specs.Hosts.{Known}
+use Rattle.outcome_results.specs.Counting.{is_failed}
+use Rattle.play_model.specs.declared.step.Step.{Step}
+use Rattle.host_jobs.specs.Asking.{asks, end_of}
+use Rattle.host_track.specs.Tracks.{Entry, Column, track, is_due, is_notified, known_after, step_at, entry_of}
+
+-- what is known of the host before a step
+abbrev pub known_before : Play → Known → Column → ℕ → Known
+known_before play known column step = known_after play known (track play known column step)
+
+-- a step that is due adds its row: as it settles itself, or as the column says
+abbrev pub DueStepAddsItsRow : Type 0
+DueStepAddsItsRow =
+    (play : Play) (known : Known) (column : Column) (place : ℕ) (step : Step) → IsTrue (is_due play (track play known column place) place) → step_at play place ≡ Some step → track play known column (suc place) ≡ track play known column place ++ entry_of (known_before play known column place) step place (end_of (asks (known_before play known column place) step) (column place)) ∷ []
+
+abbrev pub OtherStepAddsNone : Type 0
+OtherStepAddsNone =
+    (play : Play) (known : Known) (column : Column) (place : ℕ) → IsFalse (is_due play (track play known column place) place) → track play known column (suc place) ≡ track play known column place
+
+-- the rows of the first steps stay, and those of the steps behind them come after
+abbrev pub GrowsByAppending : Type 0
+GrowsByAppending =
+    (play : Play) (known : Known) (column : Column) (steps more : ℕ) → (rest : List Entry) × (track play known column (steps + more) ≡ track play known column steps ++ rest)
+
+-- two columns are alike up to a step in what they say of the steps that are due by the first of them
+abbrev pub AgreeWhereDue : Play → Known → Column → Column → ℕ → Type 0
+AgreeWhereDue play known column other steps =
+    (place : ℕ) → place < steps → IsTrue (is_due play (track play known column place) place) → column place ≡ other place
+
+abbrev pub AgreeingColumnsGiveOneTrack : Type 0
+AgreeingColumnsGiveOneTrack =
+    (play : Play) (known : Known) (column other : Column) (steps : ℕ) → AgreeWhereDue play known column other steps → track play known column steps ≡ track play known other steps
+
+-- a later row is of a later step, and each is of a step before this one
+abbrev pub StepsRise : Type 0
+StepsRise =
+    (play : Play) (known : Known) (column : Column) (steps : ℕ) → AllPairs (λ (a b : Entry). a.step < b.step) (track play known column steps) × All (λ (entry : Entry). entry.step < steps) (track play known column steps)
+
+-- wherever a track is cut at a row, the row's step is due by the rows before it
+abbrev pub EachRowIsDue : Type 0
+EachRowIsDue =
+    (play : Play) (known : Known) (column : Column) (steps : ℕ) (before after : List Entry) (entry : Entry) → track play known column steps ≡ before ++ entry ∷ after → IsTrue (is_due play before entry.step)
+
+abbrev pub FailedRowIsTheLast : Type 0
+FailedRowIsTheLast =
+    (play : Play) (known : Known) (column : Column) (steps : ℕ) (before after : List Entry) (entry : Entry) → track play known column steps ≡ before ++ entry ∷ after → IsTrue (is_failed entry.finding.judged) → after ≡ []
+
+abbrev pub HandlersRunWhereNotified : Type 0
+HandlersRunWhereNotified =
+    (play : Play) (known : Known) (column : Column) (steps : ℕ) (before after : List Entry) (entry : Entry) → track play known column steps ≡ before ++ entry ∷ after → play.tasks ≤ entry.step → IsTrue (is_notified play before (entry.step - play.tasks))

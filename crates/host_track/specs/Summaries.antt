@@ -1,0 +1,36 @@
+-- What a summary of a host's rows says of them.
+use Rattle.std.specs.Prelude.{◌≡◌, ℕ, ◌-◌, ◌<◌, Bool, false, IsTrue, Option, Some, None, List, length, slice_index_or}
+use Rattle.registered_results.specs.Results.{row_of}
+use Rattle.registered_results.specs.declared.registered.Registered.{Registered}
+use Rattle.host_vars.specs.HostVars.{has_place_in}
+use Rattle.host_vars.specs.declared.vars.Vars.{Vars}
+use Rattle.inventory_model.specs.Names.{Name}
+use Rattle.play_model.specs.declared.step.Step.{Step}
+use Rattle.play_model.specs.declared.play.Play.{Play}
+use Rattle.outcome_results.specs.Hosts.{Known, known_of}
+use Rattle.outcome_results.specs.Endings.{Ending, table_row}
+use Rattle.outcome_results.specs.Judging.{register_of}
+use Rattle.host_track.specs.Tracks.{Entry, step_at, known_after, has_failed, is_notified, counts_in}
+use Rattle.host_track.specs.declared.summary.Summary.{Summary}
+
+abbrev pub mark_at : List Bool → ℕ → Bool
+mark_at marks handler = slice_index_or marks handler false
+
+-- the summary is that of these rows of a host that began so; the counts are exact for up to 2^32 - 1 rows
+pub record Shows (play : Play) (start : Known) (entries : List Entry) (summary : Summary) : Type 0 where
+  pub known : known_of summary.vars ≡ known_after play start entries
+  pub failed : summary.failed ≡ has_failed entries
+  pub handlers : length summary.notified.items ≡ length play.steps.items - play.tasks
+  pub notified : (handler : ℕ) → handler < length summary.notified.items → mark_at summary.notified.items handler ≡ is_notified play entries handler
+  pub counts : length entries < 4294967296 → summary.counts ≡ counts_in entries
+
+-- a place is kept for the step's result, where it has a name
+abbrev pub HasPlaceFor : Vars → Option Name → Type 0
+HasPlaceFor vars None = Unit {0}
+HasPlaceFor vars (Some name) = IsTrue (has_place_in vars name)
+
+-- a copy of the row of the table, where the step registers its result
+abbrev pub IsCopyFor : Option Name → Ending → Option Registered → Type 0
+IsCopyFor None ending copy = Unit {0}
+IsCopyFor (Some name) ending None = ⊥
+IsCopyFor (Some name) ending (Some copy) = row_of copy ≡ table_row ending

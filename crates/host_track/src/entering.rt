@@ -1,0 +1,79 @@
+//! What a row changes on its host.
+ghost use Rattle.std.specs.Prelude.{◌≡◌, ℕ, ◌<◌, ◌&&◌, ◌||◌, OnOk, length};
+ghost use Rattle.fleet_numbers.specs.NumberLists.{has_number};
+ghost use Rattle.registered_results.specs.Results.{row_of};
+ghost use Rattle.outcome_results.specs.Hosts.{known_of, with_result};
+ghost use Rattle.outcome_results.specs.Endings.{Ending};
+ghost use Rattle.outcome_results.specs.Judging.{register_of, registered_row};
+ghost use Rattle.host_track.specs.Summaries.{HasPlaceFor, IsCopyFor, mark_at};
+
+use host_vars::Vars;
+use outcome_results::Finding;
+use play_model::Step;
+use registered_results::Registered;
+use std::alloc::{AllocError, Global};
+
+/// Makes a place for the step's result, where it has a name. No result is changed, also where memory is refused.
+pub(crate) fn reserve(vars: &mut Vars, alloc: Global, step: &Step) -> Result<(), AllocError>
+    ensures known { known_of vars.new ≡ known_of vars.old }
+    ensures place { OnOk result (HasPlaceFor vars.new (register_of step.now)) }
+{
+    match &step.register {
+        Some(name) => vars.reserve(alloc, name.as_str()),
+        None => Ok(()),
+    }
+}
+
+/// Registers the row with what was found of it, where the step has a name for it.
+pub(crate) fn register(vars: &mut Vars, step: &Step, finding: Finding, copy: Option<Registered>)
+    requires { HasPlaceFor vars.old (register_of step.now) }
+    ensures { (ending : Ending) → IsCopyFor (register_of step.now) ending copy
+        → known_of vars.new ≡ with_result (register_of step.now) (registered_row ending finding) (known_of vars.old) }
+{
+    let Some(name) = &step.register else {
+        return;
+    };
+    if let Some(row) = copy {
+        vars.register(name.as_str(), found_row(row, finding));
+    }
+}
+
+fn found_row(row: Registered, finding: Finding) -> Registered
+    ensures { row_of result ≡ record (row_of row) { changed = finding.changed; failed = finding.failed } }
+{
+    Registered {
+        rc: row.rc,
+        stdout: row.stdout,
+        stderr: row.stderr,
+        changed: finding.changed,
+        failed: finding.failed,
+        skipped: row.skipped,
+    }
+}
+
+/// Marks the handlers, where the row notifies them.
+pub(crate) fn notify(marks: &mut [bool], notifies: bool, handlers: &[usize])
+    ensures { (handler : ℕ) → handler < length marks.old
+        → mark_at marks.new handler ≡ (mark_at marks.old handler || (notifies && has_number handler handlers.now)) }
+{
+    if notifies {
+        mark(marks, handlers);
+    }
+}
+
+fn mark(marks: &mut [bool], handlers: &[usize])
+    ensures { (handler : ℕ) → handler < length marks.old
+        → mark_at marks.new handler ≡ (mark_at marks.old handler || has_number handler handlers.now) }
+{
+    for handler in handlers {
+        if *handler < marks.len() {
+            marks[*handler] = true;
+        }
+    }
+}
+
+pub(crate) fn either(one: bool, other: bool) -> bool
+    ensures { result ≡ (one || other) }
+{
+    one || other
+}

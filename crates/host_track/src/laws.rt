@@ -1,0 +1,49 @@
+//! Laws of tracks.
+ghost use Rattle.host_track.specs.Laws.{DueStepAddsItsRow, OtherStepAddsNone, GrowsByAppending, AgreeingColumnsGiveOneTrack, StepsRise, EachRowIsDue, FailedRowIsTheLast, HandlersRunWhereNotified};
+
+/// A step that is due adds its row: as it settles itself, or as the column says.
+#[tactic(auto, using(crate::proofs::TrackLaws::adds_row))]
+pub fn a_due_step_adds_its_row()
+    ensures { DueStepAddsItsRow }
+{}
+
+/// A step that is not due adds none.
+#[tactic(auto, using(crate::proofs::TrackLaws::adds_none))]
+pub fn another_step_adds_none()
+    ensures { OtherStepAddsNone }
+{}
+
+/// The rows of the first steps stay, and those of later steps come after them.
+#[tactic(auto, using(crate::proofs::TrackLaws::grows))]
+pub fn a_track_grows_by_appending()
+    ensures { GrowsByAppending }
+{}
+
+/// What a column says of steps that are not due plays no part.
+#[tactic(auto, using(crate::proofs::TrackLaws::agree))]
+pub fn columns_that_agree_where_due_give_one_track()
+    ensures { AgreeingColumnsGiveOneTrack }
+{}
+
+/// No step has two rows, and the rows come in the order of the steps.
+pub fn at_most_one_row_a_step()
+    ensures { StepsRise }
+{}
+
+/// Each row's step is due by the rows before it.
+#[tactic(auto, using(crate::proofs::TrackLaws::each_due))]
+pub fn each_row_is_due()
+    ensures { EachRowIsDue }
+{}
+
+/// Behind a failure that is not ignored stands no row.
+#[tactic(auto, using(crate::proofs::TrackLaws::failed_last))]
+pub fn a_failed_row_is_the_last()
+    ensures { FailedRowIsTheLast }
+{}
+
+/// A handler runs only where an earlier row notified it.
+#[tactic(auto, using(crate::proofs::TrackLaws::notified))]
+pub fn a_handler_runs_where_it_was_notified()
+    ensures { HandlersRunWhereNotified }
+{}
