@@ -57,7 +57,7 @@ fn agrees(outcome: &Result<Line, LineFault>, wanted: &Wanted) -> bool {
         Ok(Line::Print(text)) => matches!(wanted, Text(part) if text.as_str().contains(*part)),
         Err(LineFault::BadLine(text)) => matches!(wanted, Refusal)
             && text.as_str().contains("Usage: "),
-        Err(LineFault::Memory) => false,
+        Err(LineFault::Unexplained | LineFault::Memory) => false,
     }
 }
 
@@ -107,7 +107,7 @@ fn long_words_are_read_whole_or_refused(rt: HostRuntime) -> Result<(), Fail> {
     assert!(rt; agrees_with_file(&outcome, long.as_str()));
     let words = owned(rt.alloc(), &[long.as_str()])?;
     let outcome = line(rt.alloc(), words.as_slice());
-    assert!(rt; matches!(&outcome, Err(LineFault::BadLine(text)) if text.len() > LONG));
+    assert!(rt; matches!(&outcome, Err(LineFault::BadLine(text)) if text.as_str().len() > LONG));
     Ok(())
 }
 
