@@ -45,6 +45,19 @@ def build(folder, crates, name, needs, source, words, proofs={}):
     return program
 
 
+def crates_below(name):
+    """The crate and all crates of the repository that it stands on."""
+    with open(os.path.join(TOP, "crates.txt")) as table:
+        needs = dict(line.split(":", 1) for line in table if ":" in line and not line.startswith("#"))
+    found, open_ends = [], [name]
+    while open_ends:
+        crate = open_ends.pop()
+        if crate in needs and crate not in found:
+            found.append(crate)
+            open_ends += needs[crate].split()
+    return found
+
+
 def members(count, member):
     return ",".join(member(number) for number in range(count))
 
