@@ -117,5 +117,6 @@ roll_core tests::one_batch::a_failed_host_keeps_its_place_in_the_limit
 cond_tests memory::a_condition_is_read_or_memory_is_wanting
 domain_counts_tests memory::a_call_that_was_refused_memory_answers_again
 host_vars_tests memory::a_call_that_was_refused_memory_answers_again
+playbook_tests memory::a_playbook_is_read_or_memory_is_wanting
 TESTS
 finish
