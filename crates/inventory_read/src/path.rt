@@ -1,33 +1,45 @@
 //! Where in the text a group's flaw stands.
-ghost use Rattle.std.specs.Prelude.{◌≡◌, ◌<◌, length, IfOk, Some};
+ghost use Rattle.std.specs.Prelude.{◌≡◌, ◌<◌, ◌++◌, length, map, reverse, string_bytes, IfOk, OnOk, Some};
+ghost use Rattle.std.specs.Option.{option_map};
 ghost use Rattle.inventory_read.specs.Faults.{breach_of, breach_of_flaw};
+ghost use Rattle.inventory_read.specs.Listings.{most};
+ghost use Rattle.inventory_read.specs.Paths.{further, keys_of, path_in, path_of, way_up};
 
 use crate::fault::ReadFault;
 use crate::flaw::Flaw;
-use crate::keys::{DOWN, HOSTS, MAX_DOWN, VARS};
+use crate::keys::{CHILDREN, DOWN, HOSTS, MAX_DOWN, VARS};
 use crate::listing::Listed;
 use std::alloc::{AllocError, Global};
 
-/// The names on the way to a group, the innermost first, from the first that is an entry of the top value.
-fn names_up<'a>(
-    scratch: Global,
-    groups: &[Listed<'a>],
-    index: usize,
-) -> Result<Vec<&'a str>, AllocError>
-    requires { index < length groups.now }
+/// The keys on the way up from the last of the groups, to one that is an entry of the top value.
+fn keys_up<'a>(scratch: Global, groups: &[Listed<'a>]) -> Result<Vec<&'a str>, AllocError>
+    ensures { IfOk result (λ keys. map (λ key. key.now) keys.items ≡ way_up most (reverse groups.now)) }
 {
-    let mut names = Vec::new(scratch);
+    let mut keys = Vec::new(scratch);
     let mut depth = usize::MAX;
-    for group in groups[..index + 1].iter().rev() {
+    for index in (0..groups.len()).rev() {
+        let group = groups[index];
         if group.depth < depth {
-            names.push(group.name)?;
+            keys.push(group.name)?;
             if group.at_top {
-                break;
+                return Ok(keys);
             }
+            keys.push(CHILDREN)?;
             depth = group.depth;
         }
     }
-    Ok(names)
+    Ok(keys)
+}
+
+/// Goes on with the keys, each after `/`.
+fn push_keys(path: &mut String, keys: &[&str]) -> Result<(), AllocError>
+    ensures { OnOk result (string_bytes path.new ≡ string_bytes path.old ++ further (map (λ key. key.now) keys.now)) }
+{
+    for key in keys {
+        path.push_str("/")?;
+        path.push_str(*key)?;
+    }
+    Ok(())
 }
 
 /// The keys from the top value to a group, and from there these keys, joined by `/`.
@@ -38,19 +50,12 @@ fn path_to(
     keys: &[&str],
 ) -> Result<String, AllocError>
     requires { index < length groups.now }
+    ensures { IfOk result (λ path. string_bytes path ≡ path_of groups.now index (map (λ key. key.now) keys.now)) }
 {
-    let names = names_up(scratch, groups, index)?;
-    let mut path = String::new(scratch);
-    for name in names.iter().rev() {
-        if !path.is_empty() {
-            path.push_str("/children/")?;
-        }
-        path.push_str(name)?;
-    }
-    for key in keys {
-        path.push('/')?;
-        path.push_str(key)?;
-    }
+    let mut way = keys_up(scratch, &groups[..index + 1])?;
+    way.reverse();
+    let mut path = way.as_slice().join(scratch, "/")?;
+    push_keys(&mut path, keys)?;
     Ok(path)
 }
 
@@ -62,7 +67,8 @@ pub(crate) fn fault_at(
     flaw: Flaw<'_>,
 ) -> Result<ReadFault, AllocError>
     requires { index < length groups.now }
-    ensures { IfOk result (λ fault. breach_of fault ≡ Some (breach_of_flaw flaw.entry)) }
+    ensures rule { IfOk result (λ fault. breach_of fault ≡ Some (breach_of_flaw flaw.entry)) }
+    ensures place { IfOk result (λ fault. path_in fault ≡ option_map (path_of groups.now index) (keys_of flaw.entry)) }
 {
     match flaw {
         Flaw::BadName(name) => Ok(ReadFault::BadName {
