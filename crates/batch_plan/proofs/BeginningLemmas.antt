@@ -28,7 +28,8 @@ pub changed_again : (change : Status → Status) → ((s : Status) → change (c
     → status ≡ change (status_at (changed change (take i hosts) statuses) (get_or hosts i 0))
     → set (changed change (take i hosts) statuses) (get_or hosts i 0) status ≡ changed change (take (i + 1) hosts) statuses
 changed_again change again hosts i within statuses status inside is =
-    changed_more hosts i within change statuses status inside (is ∙ ap change (status_at-changed change (take i hosts) statuses (get_or hosts i 0) inside) ∙ either (has_number (get_or hosts i 0) (take i hosts)))
+    changed_more hosts i within change statuses status inside (is ∙ ap change (status_at-changed change (take i hosts) statuses (get_or hosts i 0) inside)
+    ∙ either (has_number (get_or hosts i 0) (take i hosts)))
   where
     was : Status
     was = status_at statuses (get_or hosts i 0)
@@ -65,9 +66,11 @@ module _ (change : Status → Status) (again : (s : Status) → change (change s
   inside : i < length (host_numbers hosts)
   inside = omega (arith, within, length-host_numbers hosts)
 
-  pub named_here : (status : Status) → (get_or hosts i d).index < length (after i) → status ≡ change (status_at (after i) (get_or hosts i d).index) → set (after i) (get_or hosts i d).index status ≡ after (i + 1)
+  pub named_here : (status : Status) → (get_or hosts i d).index < length (after i) → status ≡ change (status_at (after i) (get_or hosts i d).index)
+      → set (after i) (get_or hosts i d).index status ≡ after (i + 1)
   named_here status there is =
-      subst Step (number_of_host hosts i d within) (λ l. changed_again change again (host_numbers hosts) i inside statuses status (omega (arith, l, length-changed change (take i (host_numbers hosts)) statuses))) there is
+      subst Step (number_of_host hosts i d within)
+      (λ l. changed_again change again (host_numbers hosts) i inside statuses status (omega (arith, l, length-changed change (take i (host_numbers hosts)) statuses))) there is
     where
       Step : ℕ → Type 0
       Step n = n < length (after i) → status ≡ change (status_at (after i) n) → set (after i) n status ≡ after (i + 1)
@@ -78,7 +81,8 @@ module _ (change : Status → Status) (again : (s : Status) → change (change s
 
 -- a status for each number by whether it was named
 module _ (f : ℕ → Bool → Status) (n : ℕ) (target : List ℕ) where
-  pub aimed : ((host : ℕ) → awaited (f host false) ≡ f host true) → changed awaited target (map (λ host. f host false) (range_with_len 0 n)) ≡ map (λ host. f host (has_number host target)) (range_with_len 0 n)
+  pub aimed : ((host : ℕ) → awaited (f host false) ≡ f host true)
+      → changed awaited target (map (λ host. f host false) (range_with_len 0 n)) ≡ map (λ host. f host (has_number host target)) (range_with_len 0 n)
   aimed aims = ext_get_or Idle (changed awaited target before) (map by_name (range_with_len 0 n)) (first ∙ sym second) (λ k l. same k (omega (arith, l, first)))
     where
       before : List Status
@@ -106,7 +110,8 @@ module _ (f : ℕ → Bool → Status) (n : ℕ) (target : List ℕ) where
       same : (k : ℕ) → k < n → status_at (changed awaited target before) k ≡ status_at (map by_name (range_with_len 0 n)) k
       same k l =
           let was : status_at before k ≡ f k false = get_or-map-range_with_len (λ host. f host false) 0 n k k Idle l (omega arith) in
-          status_at-changed awaited target before k (omega (arith, l, long)) ∙ ap (choice (has_number k target)) was ∙ either k (has_number k target) ∙ sym (get_or-map-range_with_len by_name 0 n k k Idle l (omega arith))
+          status_at-changed awaited target before k (omega (arith, l, long)) ∙ ap (choice (has_number k target)) was ∙ either k (has_number k target)
+          ∙ sym (get_or-map-range_with_len by_name 0 n k k Idle l (omega arith))
 
 pub awaited_again : (s : Status) → awaited (awaited s) ≡ awaited s
 awaited_again Idle = refl

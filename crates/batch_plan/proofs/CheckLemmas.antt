@@ -15,7 +15,8 @@ pub all_more : {X : Type 0} (p : X → Bool) (xs : List X) (i : ℕ) (d : X) →
 all_more p xs i d within before here =
     list_all_more p xs i d within ∙ and_from (list_all p (take i xs)) (p (get_or xs i d)) before here
 
-module _ (batches : List (Vec HostId Global)) (i : ℕ) (within : i < length batches) (item : Vec HostId Global) (is : item ≡ get_or batches i item) (slice : List HostId) (lent : slice ≡ item.items) where
+module _ (batches : List (Vec HostId Global)) (i : ℕ) (within : i < length batches) (item : Vec HostId Global) (is : item ≡ get_or batches i item) (slice : List HostId)
+    (lent : slice ≡ item.items) where
   pub batch_inside : i < length (batch_numbers batches)
   batch_inside = omega (arith, within, length-map batches numbers_of)
 

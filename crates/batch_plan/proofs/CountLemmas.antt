@@ -46,7 +46,8 @@ sum_of_map g f (x ∷ xs) =
 -- the waiting hosts of all, and those among all numbers
 pub total_is : (statuses : List Status) → count_by is_waiting statuses ≡ waiting_count statuses (range_with_len 0 (length statuses))
 total_is statuses =
-    ap (count_by is_waiting) (fill_by_all (status_at statuses) statuses (length statuses) Idle refl (λ k l. refl)) ∙ sum_of_map (λ status. bit (is_waiting status)) (status_at statuses) (range_with_len 0 (length statuses))
+    ap (count_by is_waiting) (fill_by_all (status_at statuses) statuses (length statuses) Idle refl (λ k l. refl))
+    ∙ sum_of_map (λ status. bit (is_waiting status)) (status_at statuses) (range_with_len 0 (length statuses))
 
 -- a number that does not stand in the list is counted 0 times
 pub count_absent : (n : ℕ) (xs : List ℕ) → has_number n xs ≡ false → count_by (nat_eq n) xs ≡ 0
@@ -68,7 +69,8 @@ stands_somewhere host (batch ∷ batches) times =
     all : times_in (batch ∷ batches) host ≡ count_by (nat_eq host) batch + times_in batches host
     all = sum_by-cons (λ batch. count_by (nat_eq host) batch) batch batches
 
-    by_case : (0 < times_in batches host → 1 ≤ sum_by (λ batch. bit (has_number host batch)) batches) → (has_number host batch ≡ true) ⊎ (has_number host batch ≡ false) → 1 ≤ sum_by (λ batch. bit (has_number host batch)) (batch ∷ batches)
+    by_case : (0 < times_in batches host → 1 ≤ sum_by (λ batch. bit (has_number host batch)) batches) → (has_number host batch ≡ true) ⊎ (has_number host batch ≡ false)
+        → 1 ≤ sum_by (λ batch. bit (has_number host batch)) (batch ∷ batches)
     by_case later (inl e) =
         let one : bit (has_number host batch) ≡ 1 = ap bit e in
         omega (arith, first)

@@ -1,5 +1,6 @@
 -- Needs and waiting hosts by the counts, and by the statuses that these are counts of.
-use Rattle.std.proofs.Common.{◌≡◌, ℕ, ◌+◌, ◌-◌, ◌≤◌, ◌<◌, Bool, None, Some, Option, List, [], ◌∷◌, ◌++◌, cond, take, map, filter, length, get_or, option_map, set, sym, ap, ◌∙◌, refl, arith, inl, inr, ◌⊎◌}
+use Rattle.std.proofs.Common.{◌≡◌, ℕ, ◌+◌, ◌-◌, ◌≤◌, ◌<◌, Bool, None, Some, Option, List, [], ◌∷◌, ◌++◌, cond}
+use Rattle.std.proofs.Common.{take, map, filter, length, get_or, option_map, set, sym, ap, ◌∙◌, refl, arith, inl, inr, ◌⊎◌}
 use Rattle.std.specs.List.{range_with_len}
 use Rattle.std.proofs.lemmas.Bool.{cases_lt, cases_eq}
 use Rattle.std.proofs.lemmas.List.{ext_get_or, get_or-map, get_or_past, get_or-set_same, get_or-set_other, length-map}
@@ -56,12 +57,15 @@ place_of_status statuses host = by_case (cases_lt host (length statuses))
     by_case (inr past) =
         get_or_past (map place_of statuses) host Up (omega (arith, past, length-map statuses place_of)) ∙ ap place_of (sym (get_or_past statuses host Idle past))
 
-pub all_places : (places : List Place) (statuses : List Status) → length places ≡ length statuses → ((host : ℕ) → host < length statuses → place_at places host ≡ place_of (status_at statuses host)) → places ≡ map place_of statuses
+pub all_places : (places : List Place) (statuses : List Status) → length places ≡ length statuses
+    → ((host : ℕ) → host < length statuses → place_at places host ≡ place_of (status_at statuses host)) → places ≡ map place_of statuses
 all_places places statuses long at =
     ext_get_or Up places (map place_of statuses) (long ∙ sym (length-map statuses place_of)) (λ k l. at k (omega (arith, l, long)) ∙ sym (place_of_status statuses k))
 
 -- one more host's place is set
-pub set_more : (places : List Place) (statuses : List Status) (host : ℕ) (place : Place) → length places ≡ length statuses → host < length statuses → place ≡ place_of (status_at statuses host) → ((earlier : ℕ) → earlier < host → place_at places earlier ≡ place_of (status_at statuses earlier)) → (earlier : ℕ) → earlier < host + 1 → place_at (set places host place) earlier ≡ place_of (status_at statuses earlier)
+pub set_more : (places : List Place) (statuses : List Status) (host : ℕ) (place : Place) → length places ≡ length statuses → host < length statuses
+    → place ≡ place_of (status_at statuses host) → ((earlier : ℕ) → earlier < host → place_at places earlier ≡ place_of (status_at statuses earlier)) → (earlier : ℕ)
+    → earlier < host + 1 → place_at (set places host place) earlier ≡ place_of (status_at statuses earlier)
 set_more places statuses host place long within is before earlier less = by_case (cases_eq earlier host)
   where
     by_case : (earlier ≡ host) ⊎ (earlier ≡ host → ⊥) → place_at (set places host place) earlier ≡ place_of (status_at statuses earlier)
@@ -80,7 +84,8 @@ module _ (statuses : List Status) (counted : Counted) (are : AreCountsOf statuse
 
   need_is : (group : ℕ) → counted_need counted group ≡ need_of statuses (group_of counted.fleet group)
   need_is group =
-      by_limit (get_or counted.fleet.limits group None) (count_agree (λ h. counts.waits (place_at counted.places h)) (λ h. is_waiting (status_at statuses h)) waits_at members) (count_agree (λ h. counts.is_down (place_at counted.places h)) (λ h. is_down (status_at statuses h)) down_at members)
+      by_limit (get_or counted.fleet.limits group None) (count_agree (λ h. counts.waits (place_at counted.places h)) (λ h. is_waiting (status_at statuses h)) waits_at members)
+      (count_agree (λ h. counts.is_down (place_at counted.places h)) (λ h. is_down (status_at statuses h)) down_at members)
     where
       members : List ℕ
       members = list_at counted.fleet.members group
@@ -88,7 +93,10 @@ module _ (statuses : List Status) (counted : Counted) (are : AreCountsOf statuse
       need : ℕ → ℕ → Need
       need w r = record { waiting = w; room = r }
 
-      by_limit : (limit : Option ℕ) → waiting_in counted group ≡ waiting_count statuses (list_at counted.fleet.members group) → down_in counted group ≡ down_count statuses (list_at counted.fleet.members group) → option_map (λ limit. need (waiting_in counted group) (limit - down_in counted group)) limit ≡ option_map (λ room. need (waiting_count statuses (list_at counted.fleet.members group)) room) (option_map (λ limit. limit - down_count statuses (list_at counted.fleet.members group)) limit)
+      by_limit : (limit : Option ℕ) → waiting_in counted group ≡ waiting_count statuses (list_at counted.fleet.members group)
+          → down_in counted group ≡ down_count statuses (list_at counted.fleet.members group)
+          → option_map (λ limit. need (waiting_in counted group) (limit - down_in counted group)) limit ≡ option_map
+          (λ room. need (waiting_count statuses (list_at counted.fleet.members group)) room) (option_map (λ limit. limit - down_count statuses (list_at counted.fleet.members group)) limit)
       by_limit None w d = refl
       by_limit (Some limit) w d = ap (λ n. Some (need n (limit - down_in counted group))) w ∙ ap (λ n. Some (need (waiting_count statuses (list_at counted.fleet.members group)) (limit - n))) d
 
@@ -119,7 +127,9 @@ same_counted a fleet places first second =
     ap with_fleet first ∙ ap with_places second
 
 -- one more host that waits or not
-pub waiting_more : (places : List Place) (order : List ℕ) (items : List HostId) (i : ℕ) (d : HostId) (old new : List ℕ) (place : Place) → host_numbers items ≡ order → i < length items → old ≡ filter (λ host. counts.waits (place_at places host)) (take i order) → place ≡ place_at places (get_or items i d).index → new ≡ old ++ cond (counts.waits place) ((get_or items i d).index ∷ []) [] → new ≡ filter (λ host. counts.waits (place_at places host)) (take (i + 1) order)
+pub waiting_more : (places : List Place) (order : List ℕ) (items : List HostId) (i : ℕ) (d : HostId) (old new : List ℕ) (place : Place) → host_numbers items ≡ order
+    → i < length items → old ≡ filter (λ host. counts.waits (place_at places host)) (take i order) → place ≡ place_at places (get_or items i d).index
+    → new ≡ old ++ cond (counts.waits place) ((get_or items i d).index ∷ []) [] → new ≡ filter (λ host. counts.waits (place_at places host)) (take (i + 1) order)
 waiting_more places order items i d old new place lent within before is more =
     let host : ℕ = (get_or items i d).index in
     let p : ℕ → Bool = λ host. counts.waits (place_at places host) in

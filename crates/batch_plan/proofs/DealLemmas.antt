@@ -12,7 +12,8 @@ use Rattle.batch_plan.specs.Deals.{dealt, dealt_to}
 use Rattle.batch_plan.proofs.CountLemmas.{sum_of_map, sum_same}
 
 -- one more host
-pub dealt_to-push : (count batch place : ℕ) (hosts : List ℕ) (host : ℕ) → dealt_to count batch place (hosts ++ host ∷ []) ≡ dealt_to count batch place hosts ++ cond (nat_eq ((place + length hosts) % count) batch) (host ∷ []) []
+pub dealt_to-push : (count batch place : ℕ) (hosts : List ℕ) (host : ℕ)
+    → dealt_to count batch place (hosts ++ host ∷ []) ≡ dealt_to count batch place hosts ++ cond (nat_eq ((place + length hosts) % count) batch) (host ∷ []) []
 dealt_to-push count batch place [] host =
     ap (λ n. cond (nat_eq (n % count) batch) (host ∷ []) []) (omega arith)
 dealt_to-push count batch place (first ∷ hosts) host =
@@ -25,7 +26,8 @@ dealt_to-push count batch place (first ∷ hosts) host =
     by_bool more false = more
 
 -- what passes of a batch
-pub count_dealt : (p : ℕ → Bool) (count batch place host : ℕ) (hosts : List ℕ) → count_by p (dealt_to count batch place (host ∷ hosts)) ≡ bit (nat_eq (place % count) batch && p host) + count_by p (dealt_to count batch (place + 1) hosts)
+pub count_dealt : (p : ℕ → Bool) (count batch place host : ℕ) (hosts : List ℕ)
+    → count_by p (dealt_to count batch place (host ∷ hosts)) ≡ bit (nat_eq (place % count) batch && p host) + count_by p (dealt_to count batch (place + 1) hosts)
 count_dealt p count batch place host hosts = by_bool (nat_eq (place % count) batch)
   where
     by_bool : (b : Bool) → count_by p (cond b (host ∷ dealt_to count batch (place + 1) hosts) (dealt_to count batch (place + 1) hosts)) ≡ bit (b && p host) + count_by p (dealt_to count batch (place + 1) hosts)
@@ -94,7 +96,8 @@ get_or-dealt hosts count batch d within =
     get_or-map-range_with_len (λ batch. dealt_to count batch 0 hosts) 0 count batch batch d within (omega arith)
 
 -- one more host is dealt
-pub dealt_more : (hosts : List ℕ) (host count at : ℕ) → at < count → at ≡ length hosts % count → set (dealt hosts count) at (get_or (dealt hosts count) at [] ++ host ∷ []) ≡ dealt (hosts ++ host ∷ []) count
+pub dealt_more : (hosts : List ℕ) (host count at : ℕ) → at < count → at ≡ length hosts % count
+    → set (dealt hosts count) at (get_or (dealt hosts count) at [] ++ host ∷ []) ≡ dealt (hosts ++ host ∷ []) count
 dealt_more hosts host count at within is =
     ext_get_or [] changed later (long ∙ sym (length-dealt (hosts ++ host ∷ []) count)) (λ k l. by_case k (omega (arith, l, long)) (cases_eq k at))
   where
@@ -116,7 +119,8 @@ dealt_more hosts host count at within is =
         let wrote = get_or-set_same (dealt hosts count) at (get_or (dealt hosts count) at [] ++ host ∷ []) [] (omega (arith, within, length-dealt hosts count)) in
         let old = get_or-dealt hosts count at [] within in
         let new = get_or-dealt (hosts ++ host ∷ []) count k [] l in
-        ap (λ n. get_or (set (dealt hosts count) at (get_or (dealt hosts count) at [] ++ host ∷ [])) n []) e ∙ wrote ∙ ap (λ (l : List ℕ). l ++ host ∷ []) old ∙ ap (λ n. dealt_to count n 0 hosts ++ host ∷ []) (sym e) ∙ ap (λ b. dealt_to count k 0 hosts ++ cond b (host ∷ []) []) (sym here) ∙ sym (dealt_to-push count k 0 hosts host) ∙ sym new
+        ap (λ n. get_or (set (dealt hosts count) at (get_or (dealt hosts count) at [] ++ host ∷ [])) n []) e ∙ wrote ∙ ap (λ (l : List ℕ). l ++ host ∷ []) old
+        ∙ ap (λ n. dealt_to count n 0 hosts ++ host ∷ []) (sym e) ∙ ap (λ b. dealt_to count k 0 hosts ++ cond b (host ∷ []) []) (sym here) ∙ sym (dealt_to-push count k 0 hosts host) ∙ sym new
     by_case k l (inr d) =
         let other : nat_eq ((0 + length hosts) % count) k ≡ false = ne_eqb ((0 + length hosts) % count) k (λ e. d (sym e ∙ ap (λ n. n % count) (omega arith) ∙ sym is)) in
         let kept = get_or-set_other (dealt hosts count) at k (get_or (dealt hosts count) at [] ++ host ∷ []) [] d in

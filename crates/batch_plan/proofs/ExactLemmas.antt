@@ -28,7 +28,8 @@ unlimited_keeps members (batch ∷ batches) = unlimited_keeps members batches
 distinct_once : (xs : List ℕ) → ((n : ℕ) → count_by (nat_eq n) xs ≤ 1) → are_distinct xs ≡ true
 distinct_once [] once = refl
 distinct_once (x ∷ xs) once =
-    and_from (not (has_number x xs)) (are_distinct xs) (not_from_false (has_number x xs) (false_from_ne_true (has_number x xs) again)) (distinct_once xs (λ n. omega (arith, once n, count_by-cons (nat_eq n) x xs)))
+    and_from (not (has_number x xs)) (are_distinct xs) (not_from_false (has_number x xs) (false_from_ne_true (has_number x xs) again))
+    (distinct_once xs (λ n. omega (arith, once n, count_by-cons (nat_eq n) x xs)))
   where
     again : has_number x xs ≡ true → ⊥
     again here =
@@ -67,9 +68,11 @@ module _ (fleet : FleetView) (sound : IsSound fleet) (statuses : List Status) (c
         each k d l =
             let batch = get_or batches k d in
             let waits : ℕ → Bool = λ host. is_waiting (status_at statuses host) in
-            let all = list_all-from_AllPass waits batch (λ j e m. batch_waits k d l (get_or batch j e) (list_any_at (nat_eq (get_or batch j e)) batch j e m (eq-eqb (get_or batch j e) (get_or batch j e) refl))) in
+            let all = list_all-from_AllPass waits batch
+            (λ j e m. batch_waits k d l (get_or batch j e) (list_any_at (nat_eq (get_or batch j e)) batch j e m (eq-eqb (get_or batch j e) (get_or batch j e) refl))) in
             let within = not_from_false (exceeds cap (length batch)) (plan.within_cap k d l) in
-            and_from (nat_lt 0 (length batch)) (not (exceeds cap (length batch)) && list_all waits batch) (lt-ltb 0 (length batch) (plan.none_empty k d l)) (and_from (not (exceeds cap (length batch))) (list_all waits batch) within all)
+            and_from (nat_lt 0 (length batch)) (not (exceeds cap (length batch)) && list_all waits batch) (lt-ltb 0 (length batch) (plan.none_empty k d l))
+            (and_from (not (exceeds cap (length batch))) (list_all waits batch) within all)
 
     pub plan_keeps_room : list_all (keep_room statuses batches) (groups_of fleet) ≡ true
     plan_keeps_room = list_all-from_AllPass (keep_room statuses batches) (groups_of fleet) each
@@ -86,7 +89,8 @@ module _ (fleet : FleetView) (sound : IsSound fleet) (statuses : List Status) (c
                 let batch = get_or batches k d in
                 let own : FleetGroup = record { limit = None; members = batch } in
                 let few = among_least here.members own (batch_distinct k d l) in
-                not_from_false (exceeds (room statuses here) (count_by (λ host. has_number host here.members) batch)) (exceeds_less (room statuses here) (members_among batch here) (count_by (λ host. has_number host here.members) batch) (plan.fits k d l g e inside) few)
+                not_from_false (exceeds (room statuses here) (count_by (λ host. has_number host here.members) batch))
+                (exceeds_less (room statuses here) (members_among batch here) (count_by (λ host. has_number host here.members) batch) (plan.fits k d l g e inside) few)
 
   absent_times : (bs : List (List ℕ)) (host : ℕ) → list_all (keeps_cap statuses cap) bs ≡ true → is_waiting (status_at statuses host) ≡ false → times_in bs host ≡ 0
   absent_times [] host keep idle = refl
@@ -94,21 +98,27 @@ module _ (fleet : FleetView) (sound : IsSound fleet) (statuses : List Status) (c
       let parts = and_parts (keeps_cap statuses cap batch) (list_all (keeps_cap statuses cap) bs) keep in
       let inner = and_parts (nat_lt 0 (length batch)) (not (exceeds cap (length batch)) && list_all (λ host. is_waiting (status_at statuses host)) batch) parts.0 in
       let wait = and_parts (not (exceeds cap (length batch))) (list_all (λ host. is_waiting (status_at statuses host)) batch) inner.1 in
-      let gone = false_from_ne_true (has_number host batch) (λ here. both_ways (is_waiting (status_at statuses host)) idle (list_all_number (λ host. is_waiting (status_at statuses host)) batch host wait.1 here)) in
+      let gone = false_from_ne_true (has_number host batch)
+      (λ here. both_ways (is_waiting (status_at statuses host)) idle (list_all_number (λ host. is_waiting (status_at statuses host)) batch host wait.1 here)) in
       omega (arith, sum_by-cons (λ batch. count_by (nat_eq host) batch) batch bs, count_absent host batch gone, absent_times bs host parts.1 idle)
 
-  pub plan_from : StandOnce statuses batches → list_all (keeps_cap statuses cap) batches ≡ true → list_all (keep_room statuses batches) (groups_of fleet) ≡ true → IsPlan (groups_of fleet) statuses cap batches
+  pub plan_from : StandOnce statuses batches → list_all (keeps_cap statuses cap) batches ≡ true → list_all (keep_room statuses batches) (groups_of fleet) ≡ true
+      → IsPlan (groups_of fleet) statuses cap batches
   plan_from stand keep rooms =
       record {
         once = λ host. by_case host (cases_lt host (length statuses));
         none_empty = λ k d l. ltb-true 0 (length (get_or batches k d)) (parts k d l).0;
         fits = λ k d l g e inside. fits k d l g e inside;
-        within_cap = λ k d l. not-true (exceeds cap (length (get_or batches k d))) (and_parts (not (exceeds cap (length (get_or batches k d)))) (list_all (λ host. is_waiting (status_at statuses host)) (get_or batches k d)) (parts k d l).1).0;
+        within_cap = λ k d l. not-true (exceeds cap (length (get_or batches k d)))
+            (and_parts (not (exceeds cap (length (get_or batches k d)))) (list_all (λ host. is_waiting (status_at statuses host)) (get_or batches k d)) (parts k d l).1).0;
       }
     where
-      parts : (k : ℕ) (d : List ℕ) → k < length batches → (nat_lt 0 (length (get_or batches k d)) ≡ true) × ((not (exceeds cap (length (get_or batches k d))) && list_all (λ host. is_waiting (status_at statuses host)) (get_or batches k d)) ≡ true)
+      parts : (k : ℕ) (d : List ℕ) → k < length batches
+          → (nat_lt 0 (length (get_or batches k d)) ≡ true) × ((not (exceeds cap (length (get_or batches k d))) && list_all (λ host. is_waiting (status_at statuses host)) (get_or batches k d)) ≡ true)
       parts k d l =
-          and_parts (nat_lt 0 (length (get_or batches k d))) (not (exceeds cap (length (get_or batches k d))) && list_all (λ host. is_waiting (status_at statuses host)) (get_or batches k d)) (AllPass-from_list_all (keeps_cap statuses cap) batches keep k d l)
+          and_parts (nat_lt 0 (length (get_or batches k d)))
+          (not (exceeds cap (length (get_or batches k d))) && list_all (λ host. is_waiting (status_at statuses host)) (get_or batches k d))
+          (AllPass-from_list_all (keeps_cap statuses cap) batches keep k d l)
 
       by_case : (host : ℕ) → (host < length statuses) ⊎ (length statuses ≤ host) → times_in batches host ≡ cond (is_waiting (status_at statuses host)) 1 0
       by_case host (inl within) = stand host within
@@ -116,11 +126,13 @@ module _ (fleet : FleetView) (sound : IsSound fleet) (statuses : List Status) (c
           let idle = ap is_waiting (status_at-past statuses host past) in
           absent_times batches host keep idle ∙ sym (ap (λ b. cond b 1 0) idle)
 
-      fits : (k : ℕ) (d : List ℕ) → k < length batches → (g : ℕ) (e : FleetGroup) → g < length (groups_of fleet) → exceeds (room statuses (get_or (groups_of fleet) g e)) (members_among (get_or batches k d) (get_or (groups_of fleet) g e)) ≡ false
+      fits : (k : ℕ) (d : List ℕ) → k < length batches → (g : ℕ) (e : FleetGroup) → g < length (groups_of fleet)
+          → exceeds (room statuses (get_or (groups_of fleet) g e)) (members_among (get_or batches k d) (get_or (groups_of fleet) g e)) ≡ false
       fits k d l g e inside =
           let group : FleetGroup = get_or (groups_of fleet) g e in
           let batch = get_or batches k d in
           let all = AllPass-from_list_all (keep_room statuses batches) (groups_of fleet) rooms g e inside in
           let kept = AllPass-from_list_all (keeps_room (room statuses group) group.members) batches all k d l in
           let enough = not-true (exceeds (room statuses group) (count_by (λ host. has_number host group.members) batch)) kept in
-          exceeds_less (room statuses group) (count_by (λ host. has_number host group.members) batch) (members_among batch group) enough (among_least batch group (groups_of_hosts fleet sound g e inside).distinct)
+          exceeds_less (room statuses group) (count_by (λ host. has_number host group.members) batch) (members_among batch group) enough
+          (among_least batch group (groups_of_hosts fleet sound g e inside).distinct)

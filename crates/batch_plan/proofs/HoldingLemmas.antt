@@ -1,5 +1,6 @@
 -- Hosts that are held back, and what is left of a fleet once they are set aside.
-use Rattle.std.proofs.Common.{◌≡◌, ℕ, ◌-◌, ◌≤◌, ◌<◌, Bool, true, false, ◌&&◌, cond, map, nat_eq, nat_lt, None, Some, Option, List, length, get_or, option_map, is_some, sym, ap, ◌∙◌, refl, subst, arith, inl, inr, ◌⊎◌}
+use Rattle.std.proofs.Common.{◌≡◌, ℕ, ◌-◌, ◌≤◌, ◌<◌, Bool, true, false, ◌&&◌, cond, map, nat_eq, nat_lt, None, Some}
+use Rattle.std.proofs.Common.{Option, List, length, get_or, option_map, is_some, sym, ap, ◌∙◌, refl, subst, arith, inl, inr, ◌⊎◌}
 use Rattle.std.specs.List.{Any, list_any}
 use Rattle.std.proofs.lemmas.Bool.{and_from, and_parts, both_ways, cases_eq, cases_lt, eq-eqb, eqb-true, le-ltb, lt-ltb, false_from_ne_true}
 use Rattle.std.proofs.lemmas.List.{get_or_default, get_or_past, length-map}
@@ -45,7 +46,8 @@ module _ (statuses : List Status) where
       by_room None = refl
       by_room (Some r) = refl
 
-  module _ (fleet : FleetView) (needs : List (Option Need)) (are : needs ≡ map (need_of statuses) (groups_of fleet)) (host : ℕ) (chain : List ℕ) (exact : (group : ℕ) → has_number group chain ≡ (is_limited fleet.limits group && has_number host (list_at fleet.members group))) where
+  module _ (fleet : FleetView) (needs : List (Option Need)) (are : needs ≡ map (need_of statuses) (groups_of fleet)) (host : ℕ) (chain : List ℕ) (exact : (group : ℕ)
+      → has_number group chain ≡ (is_limited fleet.limits group && has_number host (list_at fleet.members group))) where
     need_here : (group : ℕ) → group < length fleet.groups → is_full (need_at needs group) ≡ is_no_room (room statuses (group_of fleet group))
     need_here group within =
         let inside : group < length (groups_of fleet) = omega (arith, within, length-groups_of fleet) in
@@ -81,7 +83,8 @@ module _ (statuses : List Status) where
             let parts = and_parts (is_limited fleet.limits group) (has_number host (list_at fleet.members group)) (sym (exact group) ∙ chained) in
             let full = sym (need_here group within) ∙ found.4 in
             let holds = and_from (has_number host (list_at fleet.members group)) (is_no_room (room statuses (group_of fleet group))) parts.1 full in
-            list_any_at (holds_back statuses host) (groups_of fleet) group no_group (omega (arith, within, length-groups_of fleet)) (ap (holds_back statuses host) (get_or-groups_of fleet group no_group within) ∙ holds)
+            list_any_at (holds_back statuses host) (groups_of fleet) group no_group (omega (arith, within, length-groups_of fleet))
+            (ap (holds_back statuses host) (get_or-groups_of fleet group no_group within) ∙ holds)
 
     from_groups : list_any (holds_back statuses host) (groups_of fleet) ≡ true → list_any (λ group. is_full (need_at needs group)) chain ≡ true
     from_groups e = by_place (Any-from_list_any (holds_back statuses host) (groups_of fleet) e)
@@ -152,7 +155,8 @@ module _ (fleet : FleetView) (statuses : List Status) (all : length statuses ≡
       back : (host : ℕ) → has_number host (list_at fleet.members group) ≡ true → list_any (holds_back statuses host) (groups_of fleet) ≡ true
       back host here =
           let holds = and_from (has_number host (list_at fleet.members group)) (is_no_room (room statuses (group_of fleet group))) here full in
-          list_any_at (holds_back statuses host) (groups_of fleet) group no_group (omega (arith, within, length-groups_of fleet)) (ap (holds_back statuses host) (get_or-groups_of fleet group no_group within) ∙ holds)
+          list_any_at (holds_back statuses host) (groups_of fleet) group no_group (omega (arith, within, length-groups_of fleet))
+          (ap (holds_back statuses host) (get_or-groups_of fleet group no_group within) ∙ holds)
 
       by_case : (host : ℕ) → has_number host (list_at fleet.members group) ≡ true → (b : Bool) → held host ≡ b → is_waiting (cond b Held (status_at statuses host)) ≡ false
       by_case host here true is = refl
@@ -164,7 +168,8 @@ module _ (fleet : FleetView) (statuses : List Status) (all : length statuses ≡
 
   free : (group : ℕ) → group < length (groups_of fleet) → is_blocked (need_of aside (group_at (groups_of fleet) group)) ≡ false
   free group inside =
-      ap (λ (g : FleetGroup). is_blocked (need_of aside g)) (get_or-groups_of fleet group no_group within) ∙ ap (λ (o : Option ℕ). is_blocked (option_map need o)) (rooms_aside here) ∙ by_room (room statuses here) (λ e. none_waits group within e)
+      ap (λ (g : FleetGroup). is_blocked (need_of aside g)) (get_or-groups_of fleet group no_group within)
+      ∙ ap (λ (o : Option ℕ). is_blocked (option_map need o)) (rooms_aside here) ∙ by_room (room statuses here) (λ e. none_waits group within e)
     where
       within : group < length fleet.groups
       within = omega (arith, inside, length-groups_of fleet)

@@ -40,7 +40,8 @@ module _ (statuses : List Status) (group : FleetGroup) (need : Need) (is : need_
   pub waiting_of_need : waiting_count statuses group.members ≡ need.waiting
   waiting_of_need = by_case (room statuses group) room_of_need ∙ ap waiting_told is
     where
-      by_case : (o : Option ℕ) → o ≡ Some need.room → waiting_count statuses group.members ≡ waiting_told (option_map (λ room. record { waiting = waiting_count statuses group.members; room = room }) o)
+      by_case : (o : Option ℕ) → o ≡ Some need.room
+          → waiting_count statuses group.members ≡ waiting_told (option_map (λ room. record { waiting = waiting_count statuses group.members; room = room }) o)
       by_case None e = absurd (cc)
       by_case (Some r) e = refl
 
@@ -65,12 +66,14 @@ module _ (groups : List FleetGroup) (statuses : List Status) (cap : Option ℕ) 
   -- those of some hosts that wait stand in the batches
   pub waiting_placed : (members : List ℕ) → waiting_count statuses members ≤ sum_by (λ batch. count_by (λ host. has_number host batch) members) batches
   waiting_placed members =
-      subst (λ n. waiting_count statuses members ≤ n) (sum_of_sums (λ host batch. bit (has_number host batch)) members batches) (sum_le (λ host. bit (is_waiting (status_at statuses host))) (λ host. sum_by (λ batch. bit (has_number host batch)) batches) members placed)
+      subst (λ n. waiting_count statuses members ≤ n) (sum_of_sums (λ host batch. bit (has_number host batch)) members batches)
+      (sum_le (λ host. bit (is_waiting (status_at statuses host))) (λ host. sum_by (λ batch. bit (has_number host batch)) batches) members placed)
     where
       placed : (host : ℕ) → bit (is_waiting (status_at statuses host)) ≤ sum_by (λ batch. bit (has_number host batch)) batches
       placed host = by_case (cases_Bool (is_waiting (status_at statuses host)))
         where
-          by_case : (is_waiting (status_at statuses host) ≡ true) ⊎ (is_waiting (status_at statuses host) ≡ false) → bit (is_waiting (status_at statuses host)) ≤ sum_by (λ batch. bit (has_number host batch)) batches
+          by_case : (is_waiting (status_at statuses host) ≡ true) ⊎ (is_waiting (status_at statuses host) ≡ false)
+              → bit (is_waiting (status_at statuses host)) ≤ sum_by (λ batch. bit (has_number host batch)) batches
           by_case (inl e) =
               let one : bit (is_waiting (status_at statuses host)) ≡ 1 = ap bit e in
               omega (arith, stands_somewhere host batches (omega (arith, plan.once host)))

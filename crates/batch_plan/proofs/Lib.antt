@@ -12,3 +12,4 @@ pub mod HoldingLemmas
 pub mod RoomLemmas
 pub mod CheckLemmas
 pub mod ExactLemmas
+pub mod UniqueLemmas

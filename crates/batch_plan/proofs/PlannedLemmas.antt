@@ -1,5 +1,6 @@
 -- The plan that is dealt is a plan, and the least one.
-use Rattle.std.proofs.Common.{◌≡◌, ℕ, ◌+◌, ◌-◌, ◌*◌, ◌%◌, ◌≤◌, ◌<◌, Bool, true, false, ◌&&◌, nat_eq, nat_lt, cond, is_some, option_map, None, Some, Option, List, [], ◌∷◌, map, filter, length, get_or, sym, ap, ◌∙◌, refl, subst, arith, inl, inr, ◌⊎◌, IfSome}
+use Rattle.std.proofs.Common.{◌≡◌, ℕ, ◌+◌, ◌-◌, ◌*◌, ◌%◌, ◌≤◌, ◌<◌, Bool, true, false, ◌&&◌, nat_eq, nat_lt, cond, is_some, option_map, None}
+use Rattle.std.proofs.Common.{Some, Option, List, [], ◌∷◌, map, filter, length, get_or, sym, ap, ◌∙◌, refl, subst, arith, inl, inr, ◌⊎◌, IfSome}
 use Rattle.std.specs.List.{count_by, range_with_len}
 use Rattle.std.proofs.lemmas.Bool.{cases_lt, cases_eq, le-ltb, lt-ltb, eq-eqb, ne_eqb, both_ways, or_left, or_right, and_from}
 use Rattle.std.proofs.lemmas.List.Sorted.{sum_by-IsPermutation}
@@ -49,7 +50,8 @@ count_kept q n (x ∷ xs) = by_case (count_kept q n xs) (q x) refl (cases_eq n x
     kept : count_by (nat_eq n) (x ∷ filter q xs) ≡ bit (nat_eq n x) + count_by (nat_eq n) (filter q xs)
     kept = count_by-cons (nat_eq n) x (filter q xs)
 
-    by_case : count_by (nat_eq n) (filter q xs) ≡ cond (q n) (count_by (nat_eq n) xs) 0 → (b : Bool) → q x ≡ b → (n ≡ x) ⊎ (n ≡ x → ⊥) → count_by (nat_eq n) (cond b (x ∷ filter q xs) (filter q xs)) ≡ cond (q n) (count_by (nat_eq n) (x ∷ xs)) 0
+    by_case : count_by (nat_eq n) (filter q xs) ≡ cond (q n) (count_by (nat_eq n) xs) 0 → (b : Bool) → q x ≡ b → (n ≡ x) ⊎ (n ≡ x → ⊥)
+        → count_by (nat_eq n) (cond b (x ∷ filter q xs) (filter q xs)) ≡ cond (q n) (count_by (nat_eq n) (x ∷ xs)) 0
     by_case rest true is (inl e) =
         let here : q n ≡ true = ap q e ∙ is in
         let old : count_by (nat_eq n) (filter q xs) ≡ count_by (nat_eq n) xs = rest ∙ ap (λ b. cond b (count_by (nat_eq n) xs) 0) here in
@@ -171,7 +173,8 @@ module _ (fleet : FleetView) (sound : IsSound fleet) (statuses : List Status) (a
           by_case true is =
               let less : host < length fleet.hosts = omega (arith, all, waiting_within statuses host is) in
               let at : get_or (range_with_len 0 (length fleet.hosts)) host 0 ≡ host = get_or-range_with_len 0 (length fleet.hosts) host 0 less ∙ omega arith in
-              let here : has_number host (range_with_len 0 (length fleet.hosts)) ≡ true = subst (λ n. has_number n (range_with_len 0 (length fleet.hosts)) ≡ true) at (number_at (range_with_len 0 (length fleet.hosts)) host (omega (arith, less, length-range_with_len 0 (length fleet.hosts)))) in
+              let here : has_number host (range_with_len 0 (length fleet.hosts)) ≡ true = subst (λ n. has_number n (range_with_len 0 (length fleet.hosts)) ≡ true) at
+              (number_at (range_with_len 0 (length fleet.hosts)) host (omega (arith, less, length-range_with_len 0 (length fleet.hosts)))) in
               let same : bit (has_number host (range_with_len 0 (length fleet.hosts)) && true) ≡ 1 = ap (λ b. bit (b && true)) here in
               omega (arith, same)
           by_case false is = omega arith
@@ -183,7 +186,8 @@ module _ (fleet : FleetView) (sound : IsSound fleet) (statuses : List Status) (a
       let moved = sum_by-IsPermutation (λ host. bit (member host && waits host)) numbers fleet.order sound.dealt_once in
       omega (arith, count_of_kept member waits fleet.order, moved, count_among waits group.members numbers numbers_distinct)
 
-  module _ (cap : Option ℕ) (capped : IfSome cap (λ size. 0 < size)) (count : ℕ) (bound : Bound) (free : (group : ℕ) → group < length (groups_of fleet) → is_blocked (need_of statuses (group_at (groups_of fleet) group)) ≡ false) (named : IsNamedBound (needs_of (groups_of fleet) statuses cap) count bound) where
+  module _ (cap : Option ℕ) (capped : IfSome cap (λ size. 0 < size)) (count : ℕ) (bound : Bound) (free : (group : ℕ) → group < length (groups_of fleet)
+      → is_blocked (need_of statuses (group_at (groups_of fleet) group)) ≡ false) (named : IsNamedBound (needs_of (groups_of fleet) statuses cap) count bound) where
     count_some : 0 < length hosts → 0 < count
     count_some some =
         omega (arith, named.greatest OneHost 1 (omega (arith, some, order_total fleet statuses sound all), refl))
@@ -218,7 +222,8 @@ module _ (fleet : FleetView) (sound : IsSound fleet) (statuses : List Status) (a
     few_batches Nothing forced = omega (arith, forced.1)
 
     -- so many batches have room for those of a group that wait
-    group_enough : (group r : ℕ) → group < length (groups_of fleet) → room statuses (group_at (groups_of fleet) group) ≡ Some r → waiting_count statuses (group_at (groups_of fleet) group).members ≤ count * r
+    group_enough : (group r : ℕ) → group < length (groups_of fleet) → room statuses (group_at (groups_of fleet) group) ≡ Some r
+        → waiting_count statuses (group_at (groups_of fleet) group).members ≤ count * r
     group_enough group r inside is = by_case (cases_lt 0 w)
       where
         w : ℕ
@@ -233,19 +238,23 @@ module _ (fleet : FleetView) (sound : IsSound fleet) (statuses : List Status) (a
         somewhere : 0 < waiting_count statuses (group_at (groups_of fleet) group).members → (0 < r) ⊎ (r ≤ 0) → 0 < r
         somewhere some (inl more) = more
         somewhere some (inr none) =
-            let full = and_from (nat_lt 0 (waiting_count statuses (group_at (groups_of fleet) group).members)) (nat_lt r 1) (lt-ltb 0 (waiting_count statuses (group_at (groups_of fleet) group).members) some) (lt-ltb r 1 (omega (arith, none))) in
+            let full = and_from (nat_lt 0 (waiting_count statuses (group_at (groups_of fleet) group).members)) (nat_lt r 1)
+            (lt-ltb 0 (waiting_count statuses (group_at (groups_of fleet) group).members) some) (lt-ltb r 1 (omega (arith, none))) in
             absurd (both_ways (is_blocked (need_of statuses (group_at (groups_of fleet) group))) (free group inside) (ap is_blocked need_here ∙ full))
 
-        by_case : (0 < waiting_count statuses (group_at (groups_of fleet) group).members) ⊎ (waiting_count statuses (group_at (groups_of fleet) group).members ≤ 0) → waiting_count statuses (group_at (groups_of fleet) group).members ≤ count * r
+        by_case : (0 < waiting_count statuses (group_at (groups_of fleet) group).members) ⊎ (waiting_count statuses (group_at (groups_of fleet) group).members ≤ 0)
+            → waiting_count statuses (group_at (groups_of fleet) group).members ≤ count * r
         by_case (inl some) =
             let v : ℕ = waiting_count statuses (group_at (groups_of fleet) group).members in
             let more = somewhere some (cases_lt 0 r) in
-            let forced : IsForced (need_at (map (need_of statuses) (groups_of fleet)) group) v r (div_ceil v r) = record { need_is = need_of_group (groups_of fleet) statuses group inside ∙ need_here; somebody = some; somewhere = more; count_is = refl } in
+            let forced : IsForced (need_at (map (need_of statuses) (groups_of fleet)) group) v r (div_ceil v r) = record
+            { need_is = need_of_group (groups_of fleet) statuses group inside ∙ need_here; somebody = some; somewhere = more; count_is = refl } in
             ceil_within v r count more (named.greatest (Group (record { index = group }) v r) (div_ceil v r) forced)
         by_case (inr none) = omega (arith, none)
 
     -- the hosts of a limited group stand together where they are dealt
-    group_together : (group r : ℕ) → group < length (groups_of fleet) → room statuses (group_at (groups_of fleet) group) ≡ Some r → stand_together (λ host. has_number host (group_at (groups_of fleet) group).members) hosts ≡ true
+    group_together : (group r : ℕ) → group < length (groups_of fleet) → room statuses (group_at (groups_of fleet) group) ≡ Some r
+        → stand_together (λ host. has_number host (group_at (groups_of fleet) group).members) hosts ≡ true
     group_together group r inside is =
         subst Together (sym here) (together_kept member waits fleet.order (together_from member fleet.order (λ first later last. sound.together group first later last limited)))
       where
@@ -269,7 +278,8 @@ module _ (fleet : FleetView) (sound : IsSound fleet) (statuses : List Status) (a
     batch_fits : (batch : ℕ) → batch < count → (group : ℕ) → group < length (groups_of fleet) → is_full_for statuses (dealt_to count batch 0 hosts) (group_at (groups_of fleet) group) ≡ false
     batch_fits batch within group inside = by_room (room statuses (group_at (groups_of fleet) group)) refl
       where
-        by_room : (o : Option ℕ) → room statuses (group_at (groups_of fleet) group) ≡ o → exceeds o (members_among (dealt_to count batch 0 (waiting_in_order statuses fleet.order)) (group_at (groups_of fleet) group)) ≡ false
+        by_room : (o : Option ℕ) → room statuses (group_at (groups_of fleet) group) ≡ o
+            → exceeds o (members_among (dealt_to count batch 0 (waiting_in_order statuses fleet.order)) (group_at (groups_of fleet) group)) ≡ false
         by_room None is = refl
         by_room (Some r) is =
             let here : FleetGroup = group_at (groups_of fleet) group in
@@ -308,15 +318,18 @@ module _ (fleet : FleetView) (sound : IsSound fleet) (statuses : List Status) (a
     planned =
         record {
           once = λ host. dealt_times host ∙ in_order_once host;
-          none_empty = λ k d l. subst (λ (b : List ℕ). 0 < length b) (sym (here k d l)) (share_some count k 0 k hosts (at_start count k (below k l)) (omega (arith, below k l, few_batches bound named.forces)));
-          fits = λ k d l group g inside. subst (λ (b : List ℕ). is_full_for statuses b (get_or (groups_of fleet) group g) ≡ false) (sym (here k d l)) (ap (is_full_for statuses (dealt_to count k 0 hosts)) (get_or_default (groups_of fleet) group g no_group inside) ∙ batch_fits k (below k l) group inside);
+          none_empty = λ k d l. subst (λ (b : List ℕ). 0 < length b) (sym (here k d l))
+              (share_some count k 0 k hosts (at_start count k (below k l)) (omega (arith, below k l, few_batches bound named.forces)));
+          fits = λ k d l group g inside. subst (λ (b : List ℕ). is_full_for statuses b (get_or (groups_of fleet) group g) ≡ false) (sym (here k d l))
+              (ap (is_full_for statuses (dealt_to count k 0 hosts)) (get_or_default (groups_of fleet) group g no_group inside) ∙ batch_fits k (below k l) group inside);
           within_cap = λ k d l. subst (λ (b : List ℕ). exceeds cap (length b) ≡ false) (sym (here k d l)) (batch_capped k (below k l));
         }
       where
         below : (k : ℕ) → k < length (dealt (waiting_in_order statuses fleet.order) count) → k < count
         below k l = omega (arith, l, length-dealt (waiting_in_order statuses fleet.order) count)
 
-        here : (k : ℕ) (d : List ℕ) → k < length (dealt (waiting_in_order statuses fleet.order) count) → get_or (dealt (waiting_in_order statuses fleet.order) count) k d ≡ dealt_to count k 0 (waiting_in_order statuses fleet.order)
+        here : (k : ℕ) (d : List ℕ) → k < length (dealt (waiting_in_order statuses fleet.order) count)
+            → get_or (dealt (waiting_in_order statuses fleet.order) count) k d ≡ dealt_to count k 0 (waiting_in_order statuses fleet.order)
         here k d l = get_or-dealt (waiting_in_order statuses fleet.order) count k d (below k l)
 
     pub least_plan : IsLeastPlan (groups_of fleet) statuses cap (dealt hosts count) bound

@@ -11,5 +11,6 @@ module _ (fleet : FleetView) (group : ℕ) (within : group < length fleet.groups
   pub members_is : (group_at (groups_of fleet) group).members ≡ list_at fleet.members group
   members_is = ap (λ (g : FleetGroup). g.members) (get_or-groups_of fleet group no_group within)
 
-  pub room_is : (statuses : List Status) → room statuses (group_at (groups_of fleet) group) ≡ option_map (λ limit. limit - down_count statuses (list_at fleet.members group)) (get_or fleet.limits group None)
+  pub room_is : (statuses : List Status)
+      → room statuses (group_at (groups_of fleet) group) ≡ option_map (λ limit. limit - down_count statuses (list_at fleet.members group)) (get_or fleet.limits group None)
   room_is statuses = ap (room statuses) (get_or-groups_of fleet group no_group within)

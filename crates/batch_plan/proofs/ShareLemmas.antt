@@ -1,5 +1,6 @@
 -- A run of hosts that are dealt: each batch takes at most its share.
-use Rattle.std.proofs.Common.{◌≡◌, ℕ, zero, suc, ◌+◌, ◌-◌, ◌*◌, ◌/◌, ◌%◌, ◌≤◌, ◌<◌, Bool, true, false, ◌&&◌, not, cond, nat_eq, List, [], ◌∷◌, filter, length, get_or, sym, ap, ◌∙◌, refl, subst, arith, inl, inr, ◌⊎◌}
+use Rattle.std.proofs.Common.{◌≡◌, ℕ, zero, suc, ◌+◌, ◌-◌, ◌*◌, ◌/◌, ◌%◌, ◌≤◌, ◌<◌, Bool, true, false, ◌&&◌, not}
+use Rattle.std.proofs.Common.{cond, nat_eq, List, [], ◌∷◌, filter, length, get_or, sym, ap, ◌∙◌, refl, subst, arith, inl, inr, ◌⊎◌}
 use Rattle.std.specs.List.{count_by, list_any}
 use Rattle.std.proofs.lemmas.Bool.{not-true, not_from_false, both_ways, eq-eqb, ne_eqb, or_parts, or_from, cases_lt, false_from_ne_true}
 use Rattle.std.proofs.Math.Nat.{add-mod_right, div-add-mod, mul-le-mul_left}
@@ -95,7 +96,8 @@ module _ (p : ℕ → Bool) (count batch : ℕ) where
       all : count_by p (host ∷ hosts) ≡ bit (p host) + count_by p hosts
       all = count_by-cons p host hosts
 
-      by_ahead : SharesFirst (place + 1) hosts → p host ≡ true → (ahead : ℕ) → IsAhead count batch place ahead → stand_first p hosts ≡ true → share place (host ∷ hosts) * count + ahead ≤ count_by p (host ∷ hosts) + (count - 1)
+      by_ahead : SharesFirst (place + 1) hosts → p host ≡ true → (ahead : ℕ) → IsAhead count batch place ahead → stand_first p hosts ≡ true
+          → share place (host ∷ hosts) * count + ahead ≤ count_by p (host ∷ hosts) + (count - 1)
       by_ahead rest passes zero is first =
           let next = taken count batch place is in
           let one : bit (nat_eq (place % count) batch && p host) ≡ 1 = ap (λ b. bit (b && p host)) next.0 ∙ ap bit passes in
@@ -112,7 +114,8 @@ module _ (p : ℕ → Bool) (count batch : ℕ) where
           let total : share place (host ∷ hosts) * count ≡ share (place + 1) hosts * count = ap (λ n. n * count) same in
           omega (arith, later, total, own, all, is.near)
 
-      by_case : SharesFirst (place + 1) hosts → (b : Bool) → p host ≡ b → cond b (stand_first p hosts) (not (list_any p hosts)) ≡ true → share place (host ∷ hosts) * count + ahead ≤ count_by p (host ∷ hosts) + (count - 1)
+      by_case : SharesFirst (place + 1) hosts → (b : Bool) → p host ≡ b → cond b (stand_first p hosts) (not (list_any p hosts)) ≡ true
+          → share place (host ∷ hosts) * count + ahead ≤ count_by p (host ∷ hosts) + (count - 1)
       by_case rest true passes first = by_ahead rest passes ahead is first
       by_case rest false passes first =
           let none = none_dealt place (host ∷ hosts) (or_from (p host) (list_any p hosts) passes (not-true (list_any p hosts) first)) in
@@ -138,7 +141,8 @@ module _ (p : ℕ → Bool) (count batch : ℕ) where
       later rest zero is together = rest (count - 1) (taken count batch place is).1 together
       later rest (suc ahead) is together = rest ahead (passed count batch place ahead is).1 together
 
-      by_case : SharesTogether (place + 1) hosts → (b : Bool) → p host ≡ b → cond b (stand_first p hosts) (stand_together p hosts) ≡ true → share place (host ∷ hosts) * count ≤ count_by p (host ∷ hosts) + (count - 1)
+      by_case : SharesTogether (place + 1) hosts → (b : Bool) → p host ≡ b → cond b (stand_first p hosts) (stand_together p hosts) ≡ true
+          → share place (host ∷ hosts) * count ≤ count_by p (host ∷ hosts) + (count - 1)
       by_case rest true passes first =
           let whole : stand_first p (host ∷ hosts) ≡ true = ap (λ b. cond b (stand_first p hosts) (not (list_any p hosts))) passes ∙ first in
           omega (arith, share_first place ahead (host ∷ hosts) is whole)
@@ -156,7 +160,8 @@ share_some count batch place zero (host ∷ hosts) is more =
     subst (λ b. 0 < length (cond b (host ∷ dealt_to count batch (place + 1) hosts) (dealt_to count batch (place + 1) hosts))) (sym (taken count batch place is).0) (omega arith)
 share_some count batch place (suc ahead) (host ∷ hosts) is more =
     let next = passed count batch place ahead is in
-    subst (λ b. 0 < length (cond b (host ∷ dealt_to count batch (place + 1) hosts) (dealt_to count batch (place + 1) hosts))) (sym next.0) (share_some count batch (place + 1) ahead hosts next.1 (omega (arith, more)))
+    subst (λ b. 0 < length (cond b (host ∷ dealt_to count batch (place + 1) hosts) (dealt_to count batch (place + 1) hosts))) (sym next.0)
+    (share_some count batch (place + 1) ahead hosts next.1 (omega (arith, more)))
 
 -- hosts between two that pass pass
 abbrev pub PassBetween : (ℕ → Bool) → List ℕ → Type 0
@@ -212,7 +217,8 @@ module _ (p q : ℕ → Bool) where
   first_together [] first = refl
   first_together (host ∷ hosts) first = by_case (first_together hosts) (p host) first
     where
-      by_case : (stand_first p hosts ≡ true → stand_together p hosts ≡ true) → (b : Bool) → cond b (stand_first p hosts) (not (list_any p hosts)) ≡ true → cond b (stand_first p hosts) (stand_together p hosts) ≡ true
+      by_case : (stand_first p hosts ≡ true → stand_together p hosts ≡ true) → (b : Bool) → cond b (stand_first p hosts) (not (list_any p hosts)) ≡ true
+          → cond b (stand_first p hosts) (stand_together p hosts) ≡ true
       by_case rest true first = first
       by_case rest false first = rest (first_none hosts (not-true (list_any p hosts) first))
 
@@ -220,10 +226,12 @@ module _ (p q : ℕ → Bool) where
   first_kept [] first = refl
   first_kept (host ∷ hosts) first = by_case (first_kept hosts) (p host) refl first (q host)
     where
-      by_case : (stand_first p hosts ≡ true → stand_first p (filter q hosts) ≡ true) → (b : Bool) → p host ≡ b → cond b (stand_first p hosts) (not (list_any p hosts)) ≡ true → (c : Bool) → stand_first p (cond c (host ∷ filter q hosts) (filter q hosts)) ≡ true
+      by_case : (stand_first p hosts ≡ true → stand_first p (filter q hosts) ≡ true) → (b : Bool) → p host ≡ b → cond b (stand_first p hosts) (not (list_any p hosts)) ≡ true
+          → (c : Bool) → stand_first p (cond c (host ∷ filter q hosts) (filter q hosts)) ≡ true
       by_case rest true passes first true = ap (λ b. cond b (stand_first p (filter q hosts)) (not (list_any p (filter q hosts)))) passes ∙ rest first
       by_case rest true passes first false = rest first
-      by_case rest false passes first true = ap (λ b. cond b (stand_first p (filter q hosts)) (not (list_any p (filter q hosts)))) passes ∙ not_from_false (list_any p (filter q hosts)) (any_kept hosts (not-true (list_any p hosts) first))
+      by_case rest false passes first true = ap (λ b. cond b (stand_first p (filter q hosts)) (not (list_any p (filter q hosts)))) passes
+          ∙ not_from_false (list_any p (filter q hosts)) (any_kept hosts (not-true (list_any p hosts) first))
       by_case rest false passes first false = first_none (filter q hosts) (any_kept hosts (not-true (list_any p hosts) first))
 
   -- those that pass stand together in what a filter keeps
@@ -231,7 +239,8 @@ module _ (p q : ℕ → Bool) where
   together_kept [] together = refl
   together_kept (host ∷ hosts) together = by_case (together_kept hosts) (p host) refl together (q host)
     where
-      by_case : (stand_together p hosts ≡ true → stand_together p (filter q hosts) ≡ true) → (b : Bool) → p host ≡ b → cond b (stand_first p hosts) (stand_together p hosts) ≡ true → (c : Bool) → stand_together p (cond c (host ∷ filter q hosts) (filter q hosts)) ≡ true
+      by_case : (stand_together p hosts ≡ true → stand_together p (filter q hosts) ≡ true) → (b : Bool) → p host ≡ b
+          → cond b (stand_first p hosts) (stand_together p hosts) ≡ true → (c : Bool) → stand_together p (cond c (host ∷ filter q hosts) (filter q hosts)) ≡ true
       by_case rest true passes first true = ap (λ b. cond b (stand_first p (filter q hosts)) (stand_together p (filter q hosts))) passes ∙ first_kept hosts first
       by_case rest true passes first false = first_together (filter q hosts) (first_kept hosts first)
       by_case rest false passes first true = ap (λ b. cond b (stand_first p (filter q hosts)) (stand_together p (filter q hosts))) passes ∙ rest first

@@ -43,3 +43,11 @@ IsDealtAnswer fleet statuses cap (Planned plan) =
     IsDealtPlan fleet statuses cap (batch_numbers plan.batches.items) plan.bound
 IsDealtAnswer fleet statuses cap (Blocked group waiting) =
     IsFirstBlocked (groups_of fleet) statuses cap group.index waiting
+
+-- the same batches and the same bound, or the same group with as many hosts that wait
+abbrev pub IsSameAnswer : Answer → Answer → Type 0
+IsSameAnswer (Planned plan) (Planned other) =
+    (batch_numbers plan.batches.items ≡ batch_numbers other.batches.items) × (plan.bound ≡ other.bound)
+IsSameAnswer (Planned plan) (Blocked group waiting) = ⊥
+IsSameAnswer (Blocked group waiting) (Planned plan) = ⊥
+IsSameAnswer (Blocked group waiting) (Blocked other number) = (group ≡ other) × (waiting ≡ number)

@@ -19,6 +19,6 @@ pub use checker::check_plan;
 pub use counting::counted;
 pub use fleet_states::Status;
 pub use holding::{held, set_aside};
-pub use laws::{a_blocked_group_has_no_plan, bounds_hold};
+pub use laws::{a_blocked_group_has_no_plan, bounds_hold, one_answer};
 pub use planner::{plan, plan_over};
 pub use rooms::{room, waiting};

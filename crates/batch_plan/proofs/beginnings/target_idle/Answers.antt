@@ -27,7 +27,8 @@ loop-host-preserved c =
       | then-host-len w ↦
           let inside : at < length c.loop-host.statuses.items = omega (arith, c.len.ensures, w.if-host-len.true) in
           let now = w.await_turn.ensures ∙ ap awaited (w.index.ensures ∙ get_or_default c.loop-host.statuses.items at _ Idle inside) ∙ ap (λ (l : List Status). awaited (status_at l at)) was in
-          ap items_of w.statuses-is ∙ ap (λ (l : List Status). set l at w.await_turn.result) was ∙ named_here awaited awaited_again hosts i none within statuses w.await_turn.result (subst (λ (l : List Status). at < length l) was inside) now
+          ap items_of w.statuses-is ∙ ap (λ (l : List Status). set l at w.await_turn.result) was
+          ∙ named_here awaited awaited_again hosts i none within statuses w.await_turn.result (subst (λ (l : List Status). at < length l) was inside) now
       | else-host-len w ↦
           let past : length c.loop-host.statuses.items ≤ at = omega (arith, c.len.ensures, w.if-host-len.false) in
           ap items_of w.statuses-is ∙ was ∙ named_past awaited awaited_again hosts i none within statuses (subst (λ (l : List Status). length l ≤ at) was past)

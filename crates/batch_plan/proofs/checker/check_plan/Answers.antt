@@ -16,8 +16,11 @@ returns-then-not-keep_cap c =
     let statuses = c.args.statuses.now in
     let cap = c.args.cap in
     let items = c.args.plan.now.batches.items in
-    let told = ap (λ (l : List (Vec HostId Global)). list_all (keeps_cap statuses cap) (batch_numbers l)) (sym c.as_slice-batches.ensures.value) ∙ sym c.keep_cap.ensures ∙ c.if-not-keep_cap.true in
-    (λ e. absurd (cc), λ both. absurd (both_ways (list_all (keeps_cap statuses cap) (batch_numbers items)) told (plan_keeps_cap fleet c.groups-groups.ensures.sound statuses cap (batch_numbers items) both.0)))
+    let told = ap (λ (l : List (Vec HostId Global)). list_all (keeps_cap statuses cap) (batch_numbers l)) (sym c.as_slice-batches.ensures.value) ∙ sym c.keep_cap.ensures ∙ c.if-not-keep_cap.true in (
+      λ e. absurd (cc),
+      λ both. absurd
+          (both_ways (list_all (keeps_cap statuses cap) (batch_numbers items)) told (plan_keeps_cap fleet c.groups-groups.ensures.sound statuses cap (batch_numbers items) both.0)),
+    )
 
 pub returns-then-not-keep_room : goal.returns-then-not-keep_room
 returns-then-not-keep_room c =
@@ -25,8 +28,12 @@ returns-then-not-keep_room c =
     let statuses = c.args.statuses.now in
     let cap = c.args.cap in
     let items = c.args.plan.now.batches.items in
-    let told = ap (λ (l : List (Vec HostId Global)). list_all (keep_room statuses (batch_numbers l)) (groups_of fleet)) (sym c.as_slice-batches.ensures.value) ∙ sym c.keep_room.ensures ∙ c.if-not-keep_room.true in
-    (λ e. absurd (cc), λ both. absurd (both_ways (list_all (keep_room statuses (batch_numbers items)) (groups_of fleet)) told (plan_keeps_room fleet c.groups-groups.ensures.sound statuses cap (batch_numbers items) both.0)))
+    let told = ap (λ (l : List (Vec HostId Global)). list_all (keep_room statuses (batch_numbers l)) (groups_of fleet)) (sym c.as_slice-batches.ensures.value)
+    ∙ sym c.keep_room.ensures ∙ c.if-not-keep_room.true in (
+      λ e. absurd (cc),
+      λ both. absurd
+          (both_ways (list_all (keep_room statuses (batch_numbers items)) (groups_of fleet)) told (plan_keeps_room fleet c.groups-groups.ensures.sound statuses cap (batch_numbers items) both.0)),
+    )
 
 pub returns : goal.returns
 returns c =
@@ -40,5 +47,8 @@ returns c =
     let Forced : List (Vec HostId Global) → Type 0 = λ l. Forces (needs_of (groups_of fleet) statuses cap) (length l) bound in
     let stand = subst Stand value (c.stand_once.ensures.0 c.if-not-stand_once.false) in
     let keep = ap (λ (l : List (Vec HostId Global)). list_all (keeps_cap statuses cap) (batch_numbers l)) (sym value) ∙ sym c.keep_cap.ensures ∙ c.if-not-keep_cap.false in
-    let rooms = ap (λ (l : List (Vec HostId Global)). list_all (keep_room statuses (batch_numbers l)) (groups_of fleet)) (sym value) ∙ sym c.keep_room.ensures ∙ c.if-not-keep_room.false in
-    (λ e. (plan_from fleet c.groups-groups.ensures.sound statuses cap (batch_numbers items) stand keep rooms, subst Forced value (c.forces.ensures.0 e)), λ both. c.forces.ensures.1 (subst Forced (sym value) both.1))
+    let rooms = ap (λ (l : List (Vec HostId Global)). list_all (keep_room statuses (batch_numbers l)) (groups_of fleet)) (sym value) ∙ sym c.keep_room.ensures ∙ c.if-not-keep_room.false in (
+      λ e. (plan_from fleet c.groups-groups.ensures.sound statuses cap (batch_numbers items) stand keep rooms, subst Forced value (c.forces.ensures.0 e)),
+      λ both.
+          c.forces.ensures.1 (subst Forced (sym value) both.1),
+    )

@@ -12,7 +12,8 @@ returns-in-Some c =
     let batches : List (List ℕ) = batch_numbers c.args.batches.now in
     let here : FleetGroup = group_at (groups_of c.args.fleet.now) c.args.group.index in
     let members = sym (members_is c.args.fleet.now c.args.group.index c.requires) in
-    c.has_room.ensures ∙ ap (λ (m : List ℕ). list_all (model.keeps_room (Some c.in-Some.room) m) batches) members ∙ ap (λ (o : Option ℕ). list_all (model.keeps_room o here.members) batches) (sym c.in-Some.is ∙ c.room.ensures)
+    c.has_room.ensures ∙ ap (λ (m : List ℕ). list_all (model.keeps_room (Some c.in-Some.room) m) batches) members
+    ∙ ap (λ (o : Option ℕ). list_all (model.keeps_room o here.members) batches) (sym c.in-Some.is ∙ c.room.ensures)
 
 pub returns-in-None : goal.returns-in-None
 returns-in-None c =

@@ -12,4 +12,5 @@ returns-then-group-groups c =
 
 pub returns-else-group-groups : goal.returns-else-group-groups
 returns-else-group-groups c =
-    sym (get_or_past (map (need_of c.args.statuses.now) (groups_of c.args.fleet.now)) c.args.group.index None (omega (arith, length-groups_of c.args.fleet.now, length-map (groups_of c.args.fleet.now) (need_of c.args.statuses.now))))
+    sym (get_or_past (map (need_of c.args.statuses.now) (groups_of c.args.fleet.now)) c.args.group.index None
+    (omega (arith, length-groups_of c.args.fleet.now, length-map (groups_of c.args.fleet.now) (need_of c.args.statuses.now))))

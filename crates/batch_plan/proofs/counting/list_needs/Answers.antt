@@ -10,4 +10,5 @@ loop-index-preserved g c =
     let i = c.loop-index.index in
     let need = counted_need c.args.domains.now in
     let more = map-range_with_len_more need 0 i i (omega arith) in
-    c.in_ok-push.ensures.items ∙ ap (λ (l : List (Option Need)). l ++ c.need_at.result ∷ []) c.loop-index.invariant ∙ ap (λ (n : Option Need). map need (range_with_len 0 i) ++ n ∷ []) c.need_at.ensures ∙ sym more
+    c.in_ok-push.ensures.items ∙ ap (λ (l : List (Option Need)). l ++ c.need_at.result ∷ []) c.loop-index.invariant
+    ∙ ap (λ (n : Option Need). map need (range_with_len 0 i) ++ n ∷ []) c.need_at.ensures ∙ sym more

@@ -11,4 +11,5 @@ loop-host-preserved g c =
     let items = c.deal_order-host-items.result.now in
     let none : HostId = record { index = 0 } in
     let lent = c.deal_order-host-items.ensures.order ∙ ap (λ (f : FleetView). f.order) c.fleet.ensures in
-    waiting_more counted.places counted.fleet.order items c.loop-host.host-index none (host_numbers c.loop-host.hosts.items) (host_numbers c.push_waiting.new.hosts.items) c.place.result lent c.loop-host-test.true c.loop-host.invariant c.place.ensures c.in_ok-push_waiting.ensures
+    waiting_more counted.places counted.fleet.order items c.loop-host.host-index none (host_numbers c.loop-host.hosts.items) (host_numbers c.push_waiting.new.hosts.items)
+    c.place.result lent c.loop-host-test.true c.loop-host.invariant c.place.ensures c.in_ok-push_waiting.ensures

@@ -30,10 +30,14 @@ loop-place-preserved c =
     let within : at < count = mod_below i count (c.requires (omega arith)) in
     let short : length (take i hosts) ≡ i = length-take-le i hosts (omega (arith, length-host_numbers c.args.hosts.now)) in
     let long : length batches ≡ count = sym (length-map batches numbers) ∙ ap length c.loop-place.invariant ∙ length-dealt (take i hosts) count in
-    let read : get_or (batch_numbers batches) at [] ≡ numbers c.index_mut.result.now = get_or-map numbers batches at c.index_mut.result.now [] (omega arith) ∙ ap numbers (sym c.index_mut.ensures.value) in
+    let read : get_or (batch_numbers batches) at [] ≡ numbers c.index_mut.result.now = get_or-map numbers batches at c.index_mut.result.now [] (omega arith)
+    ∙ ap numbers (sym c.index_mut.ensures.value) in
     let was : numbers c.index_mut.result.now ≡ get_or (dealt (take i hosts) count) at [] = sym read ∙ ap (λ (l : List (List ℕ)). get_or l at []) c.loop-place.invariant in
-    let pushed : numbers c.push.new.self ≡ get_or (dealt (take i hosts) count) at [] ++ host ∷ [] = ap host_numbers c.in_ok-push.ensures.items ∙ map-append (λ (h : HostId). h.index) c.index_mut.result.now.items (get_or c.args.hosts.now i none ∷ []) ∙ ap (λ (l : List ℕ). l ++ host ∷ []) was in
-    let wrote : batch_numbers (set batches at c.push.new.self) ≡ set (dealt (take i hosts) count) at (get_or (dealt (take i hosts) count) at [] ++ host ∷ []) = map-set numbers batches at c.push.new.self ∙ ap (λ (l : List (List ℕ)). set l at (numbers c.push.new.self)) c.loop-place.invariant ∙ ap (set (dealt (take i hosts) count) at) pushed in
+    let pushed : numbers c.push.new.self ≡ get_or (dealt (take i hosts) count) at [] ++ host ∷ [] = ap host_numbers c.in_ok-push.ensures.items
+    ∙ map-append (λ (h : HostId). h.index) c.index_mut.result.now.items (get_or c.args.hosts.now i none ∷ []) ∙ ap (λ (l : List ℕ). l ++ host ∷ []) was in
+    let wrote : batch_numbers (set batches at c.push.new.self) ≡ set (dealt (take i hosts) count) at (get_or (dealt (take i hosts) count) at [] ++ host ∷ []) = map-set numbers
+    batches at c.push.new.self ∙ ap (λ (l : List (List ℕ)). set l at (numbers c.push.new.self)) c.loop-place.invariant ∙ ap (set (dealt (take i hosts) count) at) pushed in
     let next = dealt_more (take i hosts) host count at within (ap (λ n. n % count) (sym short)) in
-    let grown : take (i + 1) hosts ≡ take i hosts ++ host ∷ [] = take_more hosts i 0 (omega (arith, length-host_numbers c.args.hosts.now)) ∙ ap (λ h. take i hosts ++ h ∷ []) (number_of_host c.args.hosts.now i none c.loop-place-test.true) in
+    let grown : take (i + 1) hosts ≡ take i hosts ++ host ∷ [] = take_more hosts i 0 (omega (arith, length-host_numbers c.args.hosts.now))
+    ∙ ap (λ h. take i hosts ++ h ∷ []) (number_of_host c.args.hosts.now i none c.loop-place-test.true) in
     wrote ∙ next ∙ ap (λ (l : List ℕ). dealt l count) (sym grown)

@@ -13,4 +13,5 @@ loop-place-preserved c =
     let nothing : ℕ → List ℕ = λ batch. [] in
     let more = map-range_with_len_more nothing 0 i i (omega arith) in
     let old = c.loop-place.batches.items in
-    ap batch_numbers c.in_ok-push.ensures.items ∙ map-append (λ (b : Vec HostId Global). host_numbers b.items) old (c.new.result ∷ []) ∙ ap (λ (l : List (List ℕ)). l ++ host_numbers c.new.result.items ∷ []) c.loop-place.invariant ∙ ap (λ (l : List HostId). dealt [] i ++ host_numbers l ∷ []) c.new.ensures.items ∙ sym more
+    ap batch_numbers c.in_ok-push.ensures.items ∙ map-append (λ (b : Vec HostId Global). host_numbers b.items) old (c.new.result ∷ [])
+    ∙ ap (λ (l : List (List ℕ)). l ++ host_numbers c.new.result.items ∷ []) c.loop-place.invariant ∙ ap (λ (l : List HostId). dealt [] i ++ host_numbers l ∷ []) c.new.ensures.items ∙ sym more

@@ -10,7 +10,8 @@ pub loop-index-preserved : goal.loop-index-preserved
 loop-index-preserved c =
     let i : ℕ = c.loop-index.index in
     let p : ℕ → Bool = is_held_back (groups_of c.args.fleet.now) c.args.statuses.now in
-    c.in_ok-push_where.ensures ∙ ap (λ (l : List ℕ). l ++ cond c.is_held_back-held.result (i ∷ []) []) c.loop-index.invariant ∙ ap (λ b. numbers_where p i ++ cond b (i ∷ []) []) c.is_held_back-held.ensures ∙ sym (numbers_where_more p i)
+    c.in_ok-push_where.ensures ∙ ap (λ (l : List ℕ). l ++ cond c.is_held_back-held.result (i ∷ []) []) c.loop-index.invariant
+    ∙ ap (λ b. numbers_where p i ++ cond b (i ∷ []) []) c.is_held_back-held.ensures ∙ sym (numbers_where_more p i)
 
 pub returns-clause-unblocks : goal.returns-clause-unblocks
 returns-clause-unblocks c = holding_unblocks c.args.fleet.now c.args.statuses.now c.requires.all

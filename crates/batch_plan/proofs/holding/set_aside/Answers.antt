@@ -19,6 +19,8 @@ loop-host-preserved c =
     let at : ℕ = (get_or hosts i none).index in
     let was = c.loop-host.invariant in
     elim c.if-host-statuses.branch [
-      | then-host-statuses w ↦ w.statuses-is ∙ ap (λ (l : List Status). set l at Held) was ∙ named_here (λ _. Held) (λ s. refl) hosts i none c.loop-host-test.true statuses Held (subst (λ (l : List Status). at < length l) was w.if-host-statuses.true) refl
-      | else-host-statuses w ↦ w.statuses-is ∙ was ∙ named_past (λ _. Held) (λ s. refl) hosts i none c.loop-host-test.true statuses (subst (λ (l : List Status). length l ≤ at) was w.if-host-statuses.false)
+      | then-host-statuses w ↦ w.statuses-is ∙ ap (λ (l : List Status). set l at Held) was
+          ∙ named_here (λ _. Held) (λ s. refl) hosts i none c.loop-host-test.true statuses Held (subst (λ (l : List Status). at < length l) was w.if-host-statuses.true) refl
+      | else-host-statuses w ↦ w.statuses-is ∙ was
+          ∙ named_past (λ _. Held) (λ s. refl) hosts i none c.loop-host-test.true statuses (subst (λ (l : List Status). length l ≤ at) was w.if-host-statuses.false)
     ]

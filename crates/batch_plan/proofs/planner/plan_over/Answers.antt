@@ -30,7 +30,9 @@ returns g c =
     let Free : List (Option Need) → Type 0 = λ l. (group : ℕ) → group < length l → is_blocked (need_at l group) ≡ false in
     let free = subst Free same c.in_default.ensures in
     let dealt_are = c.in_ok-batches.ensures ∙ ap (λ (l : List HostId). dealt (host_numbers l) best.count) c.as_slice-3.ensures.value in
-    let both = λ (statuses : List Status) (are : AreCountsOf statuses c.args.domains.now). planned_answer statuses c.args.domains.now are c.as_slice-2.result.now needs c.in_ok-needs.ensures.sound c.args.cap c.requires hosts c.in_ok-hosts.ensures c.len.result many best.count best.bound free c.name_bound-best.ensures (batch_numbers c.in_ok-batches.batches.items) dealt_are in
+    let both = λ (statuses : List Status) (are : AreCountsOf statuses c.args.domains.now). planned_answer statuses c.args.domains.now are c.as_slice-2.result.now needs
+    c.in_ok-needs.ensures.sound c.args.cap c.requires hosts c.in_ok-hosts.ensures c.len.result many best.count best.bound free c.name_bound-best.ensures
+    (batch_numbers c.in_ok-batches.batches.items) dealt_are in
     record {
       best = λ statuses are. (both statuses are).0;
       dealt = λ statuses are. (both statuses are).1;

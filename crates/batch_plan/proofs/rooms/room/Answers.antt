@@ -10,7 +10,8 @@ returns-in-Some c =
     let members = list_at c.args.fleet.now.members c.args.group.index in
     let left : Option ℕ → Option ℕ = option_map (λ limit. limit - down_count statuses members) in
     let down = c.count_down-down.ensures ∙ ap (down_count statuses) c.members.ensures.members in
-    let result : c.saturating_sub.result ≡ c.in-Some.limit - down_count statuses members = c.saturating_sub.ensures ∙ ap (λ n. n - c.count_down-down.result) c.from.ensures ∙ ap (λ n. c.in-Some.limit - n) down in
+    let result : c.saturating_sub.result ≡ c.in-Some.limit - down_count statuses members = c.saturating_sub.ensures ∙ ap (λ n. n - c.count_down-down.result) c.from.ensures
+    ∙ ap (λ n. c.in-Some.limit - n) down in
     ap (λ n. Some n) result ∙ ap left (sym c.in-Some.is ∙ c.limit.ensures) ∙ sym (room_is c.args.fleet.now c.args.group.index c.requires statuses)
 
 pub returns-in-None : goal.returns-in-None
