@@ -1,0 +1,16 @@
+use Rattle.std.proofs.Common.{◌≡◌, ◌∷◌, List, drop, drop-cons, refl, sym, ap, ◌∙◌}
+use Rattle.play_model.specs.declared.play.Play.{Play}
+use Rattle.play_plan.specs.PlayPlans.{parts_of_play}
+use Rattle.play_plan.proofs.PatternLemmas.{fault_here}
+use Rattle.planning.proofs.printing.plan_first.Goals as goal
+
+pub returns-in-Ok-clause-ok : goal.returns-in-Ok-clause-ok
+returns-in-Ok-clause-ok c =
+    let plays : List Play = c.args.plays.now in
+    let first : Play = c.index-plays-0.result in
+    let parts : plays ≡ first ∷ drop 1 plays = drop-cons plays 0 first c.requires ∙ ap (λ (play : Play). play ∷ drop 1 plays) (sym c.index-plays-0.is) in
+    record { first = first; others = drop 1 plays; are = parts; known = c.in_default.ensures.known; plan = c.in-Ok.ensures.ok }
+
+pub returns-in-Err-plan_play-clause-err : goal.returns-in-Err-plan_play-clause-err
+returns-in-Err-plan_play-clause-err c =
+    fault_here c.args.fleet.now parts_of_play c.args.plays.now 0 c.index-plays-0.result c.index-plays-0.is c.requires refl c.in-Err-plan_play.fault c.in-Err-plan_play.ensures.err

@@ -1,0 +1,12 @@
+//! The command `plan`: from the bytes of an inventory and of a playbook to the text of the plan.
+#![tactic(auto)]
+
+mod end;
+mod fault;
+mod fleet;
+mod printing;
+
+pub use end::End;
+pub use fault::PlanFault;
+pub use fleet::read_fleet;
+pub use printing::plan_text;
