@@ -108,6 +108,22 @@ run limits "$work/racks.json "
 check 'the name of a file with a blank behind it' 1 '' "rollout: 902 File name=$work/racks.json $newline"
 run limits ''
 check 'a file without a name' 1 '' "rollout: 902 File name=$newline"
+ln -s loop "$work/loop"
+run limits "$work/loop"
+check 'a link to itself' 1 '' "rollout: 902 File name=$work/loop$newline"
+run limits "$work/racks.json/inside"
+check 'a file on the way' 1 '' "rollout: 902 File name=$work/racks.json/inside$newline"
+long=$work/$(printf 'd%.0s' $(seq 200))/$(printf 'e%.0s' $(seq 200))
+mkdir -p "$long"
+cp "$work/racks.json" "$long/racks.json"
+run limits "$long/racks.json"
+check 'a file with a long path' 0 "$table" ''
+mkfifo "$work/pipe"
+cat "$work/racks.json" >"$work/pipe" &
+timeout 20 "$rollout" limits "$work/pipe" >"$work/out" 2>"$work/errors" </dev/null
+status=$?
+wait
+check 'a named pipe, which can be read once' 0 "$table" ''
 run limits "$work/racks.json" ''
 check 'an empty word behind the file' 1 '' "rollout: 901 BadLine
 error: unexpected argument '' found
@@ -261,6 +277,7 @@ For more information, try '--help'.
 }
 bad limits 'rollout limits <INV>' "the following required arguments were not provided:$newline  <INV>"
 bad 'limits a b' 'rollout limits <INV>' "unexpected argument 'b' found"
+bad 'limits a b c d e f g h i j k l m n o p q r s t' 'rollout limits <INV>' "unexpected argument 'b' found"
 bad jump 'rollout <COMMAND>' "unrecognized subcommand 'jump'"
 bad 'plan a b' 'rollout <COMMAND>' "unrecognized subcommand 'plan'"
 bad '--forks 3' 'rollout <COMMAND>' "unexpected argument '--forks' found"
