@@ -157,6 +157,144 @@ cat "$work/sized.json" | "$rollout" >"$work/out" 2>"$work/errors"
 status=$?
 check 'a pipe of one byte too many' 1 '' "rollout: 903 InputTooLarge$newline"
 
+# ---- plans
+
+# both INVENTORY PLAYBOOK: runs `plan` on files of these texts.
+both() {
+    printf '%s' "$1" >"$work/inventory.json"
+    printf '%s' "$2" >"$work/playbook.json"
+    run plan "$work/inventory.json" "$work/playbook.json"
+}
+
+# planned WHAT INVENTORY PLAYBOOK PLAN: the two texts have this plan.
+planned() {
+    both "$2" "$3"
+    check "$1" 0 "$4$newline" ''
+}
+
+# held_up WHAT INVENTORY PLAYBOOK PLAN: the same of a plan that leaves hosts out.
+held_up() {
+    both "$2" "$3"
+    check "$1" 3 "$4$newline" ''
+}
+
+# unplanned WHAT INVENTORY PLAYBOOK LINE: one of the two texts is refused by this line.
+unplanned() {
+    both "$2" "$3"
+    check "$1" 1 '' "$4$newline"
+}
+
+# play KEYS: a playbook of one play on all hosts, with these keys before its task.
+play() {
+    printf '[{"hosts":"all",%s"tasks":[{"command":"true"}]}]' "$1"
+}
+
+# step KEYS: a playbook of one play on all hosts, with a step of these keys.
+step() {
+    printf '[{"hosts":"all","tasks":[{%s}]}]' "$1"
+}
+
+# second KEYS: the same as the second play, with the step behind another.
+second() {
+    printf '[{"hosts":"all","tasks":[{"command":"true"}]},{"hosts":"all","tasks":[{"command":"true"},{%s}]}]' "$1"
+}
+
+all=$(play '')
+three='plan batches=3 bound=group r1 waiting=3 room=1
+batch 1: a d
+batch 2: b e
+batch 3: c'
+printf '%s' "$all" >"$work/all.json"
+run plan "$work/racks.json" "$work/all.json"
+check 'a plan' 0 "$three$newline" ''
+run plan -- "$work/racks.json" "$work/all.json"
+check 'a plan of files behind dashes' 0 "$three$newline" ''
+run plan "$work/racks.json" -- "$work/all.json"
+check 'a plan of a file behind dashes' 0 "$three$newline" ''
+run plan "$work/racks.json" "$work/all.json" --
+check 'a plan of files before dashes' 0 "$three$newline" ''
+(
+    cd "$work" || exit 1
+    cp racks.json ./-
+    cp all.json ./--help
+    "$rollout" plan - -- --help </dev/null >out 2>errors
+)
+status=$?
+check 'a plan of files that are named like options' 0 "$three$newline" ''
+
+planned 'a plan of nobody' '{"all":{}}' "$all" 'plan batches=0 bound=nothing'
+planned 'a plan that the wider group bounds' "$(printf '%s' "$racks" | sed 's/"max_down":1/"max_down":2/')" "$all" "plan batches=2 bound=group eu waiting=5 room=3${newline}batch 1: a c e${newline}batch 2: b d"
+ten='{"all":{"hosts":{"h0":null,"h1":null,"h2":null,"h3":null,"h4":null,"h5":null,"h6":null,"h7":null,"h8":null,"h9":null}}}'
+one_by_one='plan batches=10 bound=serial waiting=10 size=1
+batch 1: h0
+batch 2: h1
+batch 3: h2
+batch 4: h3
+batch 5: h4
+batch 6: h5
+batch 7: h6
+batch 8: h7
+batch 9: h8
+batch 10: h9'
+planned 'a plan of batches of three' "$ten" "$(play '"serial":3,')" 'plan batches=4 bound=serial waiting=10 size=3
+batch 1: h0 h4 h8
+batch 2: h1 h5 h9
+batch 3: h2 h6
+batch 4: h3 h7'
+planned 'a plan of batches of a share' "$ten" "$(play '"serial":"5%",')" "$one_by_one"
+planned 'a plan of the first of several sizes' "$ten" "$(play '"serial":[1,"70%"],')" "$one_by_one"
+planned 'a plan with an unlimited group beside a rack' '{"all":{"children":{"web":{"hosts":{"x":null}},"rb":{"vars":{"max_down":1}},"rack9":{"vars":{"max_down":1},"hosts":{"x":null}}}}}' "$all" "plan batches=1 bound=group rack9 waiting=1 room=1${newline}batch 1: x"
+planned 'a plan of a host at two places' '{"all":{"children":{"g":{"vars":{"max_down":1},"children":{"p":{"hosts":{"a":null}},"q":{"hosts":{"a":null}}}}}}}' "$all" "plan batches=1 bound=group g waiting=1 room=1${newline}batch 1: a"
+planned 'a plan under a share of half' "$(printf '%s' "$racks" | sed 's/"max_down":1/"max_down":"50%"/')" "$all" "$three"
+held_up 'no plan under a share of nobody' "$(printf '%s' "$racks" | sed 's/"max_down":1/"max_down":"33%"/')" "$all" 'blocked group=r1 waiting=3'
+none='{"all":{"children":{"g":{"vars":{"max_down":0},"hosts":{"a":null}}}}}'
+held_up 'no plan where none may be down' "$none" "$all" 'blocked group=g waiting=1'
+held_up 'a plan with a host set aside' "$none" "$(play '"on_blocked":"hold",')" "plan batches=0 bound=nothing${newline}held: a"
+planned 'a plan that has to set nobody aside' "$racks" "$(play '"on_blocked":"hold",')" "$three"
+pair='{"all":{"children":{"g":{"vars":{"max_down":1},"hosts":{"a":null,"b":null}}}}}'
+planned 'a plan of the first of two plays' "$pair" '[{"hosts":"a","tasks":[{"command":"true"}]},{"hosts":"all","tasks":[{"command":"true"}]}]' "plan batches=1 bound=group g waiting=1 room=1${newline}batch 1: a"
+
+# ---- faults of a playbook
+
+unplanned 'a name that nothing has' "$pair" '[{"hosts":"g:db","tasks":[{"command":"true"}]}]' 'rollout: 304 NoSuchName name=db'
+unplanned 'a name that nothing has in a second play' "$pair" '[{"hosts":"a","tasks":[{"command":"true"}]},{"hosts":"h\u00e9","tasks":[{"command":"true"}]}]' 'rollout: 304 NoSuchName name=h??'
+unplanned 'an unknown token' "$pair" "$(step '"command":"true","when":"tier = 1"')" 'rollout: 501 BadToken step=1 key=when at=5'
+unplanned 'an unknown token in a second play' "$pair" "$(second '"command":"true","when":"tier = 1"')" 'rollout: 501 BadToken play=2 step=2 key=when at=5'
+unplanned 'a condition that ends too early' "$pair" "$(step '"command":"true","failed_when":"r.rc == 3 and"')" 'rollout: 502 Unexpected step=1 key=failed_when at=13'
+unplanned 'a condition that ends too early in a second play' "$pair" "$(second '"command":"true","changed_when":""')" 'rollout: 502 Unexpected play=2 step=2 key=changed_when at=0'
+deep=$(printf 'not %.0s' $(seq 33))true
+unplanned 'a condition too deep' "$pair" "$(step "\"command\":\"true\",\"when\":\"$deep\"")" 'rollout: 503 TooDeep step=1 key=when at=128'
+unplanned 'a condition too deep in a second play' "$pair" "$(second "\"command\":\"true\",\"when\":\"$deep\"")" 'rollout: 503 TooDeep play=2 step=2 key=when at=128'
+long=$(printf '%4097s' true)
+unplanned 'a condition too long' "$pair" "$(step "\"command\":\"true\",\"when\":\"$long\"")" 'rollout: 504 TooLong step=1 key=when at=4096'
+unplanned 'a condition too long in a second play' "$pair" "$(second "\"command\":\"true\",\"changed_when\":\"$long\"")" 'rollout: 504 TooLong play=2 step=2 key=changed_when at=4096'
+unplanned 'braces that begin no hole' "$pair" "$(step '"command":"echo {{ name | upper }}"')" 'rollout: 602 BadBraces step=1'
+unplanned 'braces that begin no hole in a second play' "$pair" "$(second '"command":"echo {{ name | upper }}"')" 'rollout: 602 BadBraces play=2 step=2'
+unplanned 'a playbook cut off' "$pair" '[{"hosts":' 'rollout: 701 NotJson'
+unplanned 'a playbook that is no list' "$pair" '{}' 'rollout: 702 BadShape at='
+unplanned 'a command with a quote' "$pair" "$(step "\"command\":\"echo it's\"")" 'rollout: 702 BadShape at=0/tasks/0/command'
+unplanned 'a play without hosts' "$pair" '[{"tasks":[{"command":"true"}]}]' 'rollout: 702 BadShape at=0'
+unplanned 'an unknown key of a play' "$pair" "$(play '"roles":[],')" 'rollout: 703 UnknownKey at=0/roles'
+unplanned 'an unknown key of a step of a second play' "$pair" "$(second '"shell":"true"')" 'rollout: 703 UnknownKey at=1/tasks/1/shell'
+unplanned 'a handler that is missing' "$pair" "$(step '"command":"true","notify":"re\tload"')" 'rollout: 704 NoSuchHandler name=re?load'
+unplanned 'a handler twice' "$pair" "$(play '"handlers":[{"name":"reload","command":"true"},{"name":"reload","command":"true"}],')" 'rollout: 705 TwiceHandler name=reload'
+unplanned 'a size below nought' "$pair" "$(play '"serial":[1,-1],')" 'rollout: 706 BadSerial at=0/serial/1'
+unplanned 'a percentage above 100' "$pair" "$(play '"max_fail_percentage":101,')" 'rollout: 707 BadPercent at=0/max_fail_percentage'
+unplanned 'too many plays' "$pair" "[$(printf 'null,%.0s' $(seq 16))null]" 'rollout: 708 ManyPlays'
+unplanned 'too many steps' "$pair" "[{\"hosts\":\"all\",\"tasks\":[$(printf 'null,%.0s' $(seq 256))null]}]" 'rollout: 709 TooManySteps'
+unplanned 'an inventory refused before its playbook' '{"all":{"x":1}}' '[' 'rollout: 203 UnknownKey at=all/x'
+unplanned 'a fleet refused before its playbook' '{"all":{"children":{"g":{"vars":{"max_down":1},"hosts":{"a":{"down":true},"b":{"down":true}}}}}}' '[' 'rollout: 302 StartOver group=g down=2 limit=1'
+unplanned 'a share of more than all, to be planned' "$(printf '%s' "$racks" | sed 's/"max_down":1/"max_down":"101%"/')" "$all" 'rollout: 204 BadLimit at=all/children/eu/children/r1/vars/max_down'
+printf '[' >"$work/cut.json"
+run plan "$work/cut.json" "$work/no-play.json"
+check 'a missing playbook before any fault of the inventory' 1 '' "rollout: 902 File name=$work/no-play.json$newline"
+run plan "$work/no-inventory.json" "$work/no-play.json"
+check 'two missing files' 1 '' "rollout: 902 File name=$work/no-inventory.json$newline"
+run plan "$work/sized.json" "$work/no-play.json"
+check 'an inventory of one byte too many before a missing playbook' 1 '' "rollout: 903 InputTooLarge$newline"
+run plan "$work/cut.json" "$work/sized.json"
+check 'a playbook of one byte too many' 1 '' "rollout: 903 InputTooLarge$newline"
+
 # ---- outputs that take nothing, or not all
 
 # full WHAT WORDS: nothing can be written to standard output
@@ -169,6 +307,7 @@ full() {
     check "$what to a full disk" 1 '' "rollout: 904 Write written=0$newline"
 }
 full 'the table' limits "$work/racks.json"
+full 'a plan' plan "$work/racks.json" "$work/all.json"
 full 'the help' --help
 full 'the help of a command' limits --help
 full 'the version' --version
@@ -231,6 +370,7 @@ Usage: rollout <COMMAND>
 
 Commands:
   limits  Prints each limited group: its members, how many are down, its limit and its room
+  plan    Prints the fewest batches that update the hosts of a play, and what forces their number
   help    Print this message or the help of the given subcommand(s)
 
 Options:
@@ -238,11 +378,13 @@ Options:
   -V, --version  Print version
 
 INV is the inventory: a file of JSON that lists groups with their hosts, children and variables.
+PLAY is the playbook: a file of JSON that lists plays with their hosts and tasks.
 Without any word, rollout reads an inventory from standard input and prints its limits.
 
 Exit status:
   0  what was asked for was done
   1  the line, an input or a write was refused
+  3  hosts wait in a group that has no room
   5  want of memory
 '
 for word in --help -h help; do
@@ -264,6 +406,22 @@ for words in 'limits --help' 'limits -h' 'help limits'; do
     check "the help by $words" 0 "$limits_help" ''
 done
 
+plan_help='Prints the fewest batches that update the hosts of a play, and what forces their number
+
+Usage: rollout plan <INV> <PLAY>
+
+Arguments:
+  <INV>   The inventory: a file of JSON that lists groups with their hosts, children and variables
+  <PLAY>  The playbook: a file of JSON that lists plays with their hosts and tasks
+
+Options:
+  -h, --help  Print help
+'
+for words in 'plan --help' 'plan -h' 'help plan'; do
+    run $words
+    check "the help by $words" 0 "$plan_help" ''
+done
+
 # bad WORDS USAGE EXPLANATION: the words are no line
 bad() {
     run $1
@@ -279,7 +437,10 @@ bad limits 'rollout limits <INV>' "the following required arguments were not pro
 bad 'limits a b' 'rollout limits <INV>' "unexpected argument 'b' found"
 bad 'limits a b c d e f g h i j k l m n o p q r s t' 'rollout limits <INV>' "unexpected argument 'b' found"
 bad jump 'rollout <COMMAND>' "unrecognized subcommand 'jump'"
-bad 'plan a b' 'rollout <COMMAND>' "unrecognized subcommand 'plan'"
+bad plan 'rollout plan <INV> <PLAY>' "the following required arguments were not provided:$newline  <INV>$newline  <PLAY>"
+bad 'plan a' 'rollout plan <INV> <PLAY>' "the following required arguments were not provided:$newline  <PLAY>"
+bad 'plan a b c' 'rollout plan <INV> <PLAY>' "unexpected argument 'c' found"
+bad 'run a b' 'rollout <COMMAND>' "unrecognized subcommand 'run'"
 bad '--forks 3' 'rollout <COMMAND>' "unexpected argument '--forks' found"
 run "$(printf '\377')"
 check 'a word that is no text' 1 '' "rollout: 901 BadLine$newline"

@@ -1,5 +1,6 @@
--- clap takes the words that ask for limits, and reads the same file.
+-- clap takes the words that ask for limits or a plan, and reads the same files.
 use Rattle.std.proofs.Common.{◌≡◌, ℕ, Bool, true, false, eqb, List, [], ◌∷◌, Option, Some, None, codes, cond, refl, sym, subst, ◌∙◌, option_map}
+use Rattle.clap.specs.Lexer.{long_of, short_of}
 use Rattle.clap.specs.Words.{Row, Text, first_of, is_simple, is_simple_and_free, subcommand_of, takes}
 use Rattle.clap.specs.Words.{subcommand_name_of, subcommand_rows, subcommand_rows_of}
 use Rattle.clap.specs.declared.parser.matches.ArgMatches.{ArgMatches}
@@ -10,8 +11,8 @@ use Rattle.std.specs.Str.{bytes_eq}
 use Rattle.std.proofs.lemmas.Slice.Eq.{bytes_eq-Decides}
 use Rattle.std.specs.Box.{box_value}
 use Rattle.clap.proofs.OnLiterals.{clap_on_literals}
-use Rattle.command_line.specs.Syntax.{rollout, inventory_in}
-use Rattle.command_line.specs.Words.{Word, dashes, is_operand, lone_operand, limits_file}
+use Rattle.command_line.specs.Syntax.{rollout, file_in}
+use Rattle.command_line.specs.Words.{Word, dashes, is_operand, lone_operand, two_words, two_operands, limits_file, plan_files}
 
 pub simple : is_simple rollout ≡ true
 simple = refl
@@ -22,7 +23,13 @@ simple_and_free = refl
 -- clap takes the words, and reads the file
 pub record Reads (words : List Word) (file : Word) : Type 0 where
   pub taken : takes rollout words ≡ true
-  pub read : inventory_in (subcommand_of rollout words) ≡ Some file
+  pub read : file_in (codes "limits") (codes "INV") (subcommand_of rollout words) ≡ Some file
+
+-- clap takes the words, and reads both files
+pub record ReadsBoth (words : List Word) (files : Word × Word) : Type 0 where
+  pub taken : takes rollout words ≡ true
+  pub inventory : file_in (codes "plan") (codes "INV") (subcommand_of rollout words) ≡ Some files.0
+  pub playbook : file_in (codes "plan") (codes "PLAY") (subcommand_of rollout words) ≡ Some files.1
 
 reads_empty : Reads (codes "limits" ∷ [] ∷ []) []
 unfolding clap_on_literals
@@ -68,38 +75,41 @@ reads_before [] h = reads_before_empty
 reads_before (a ∷ []) h = reads_before_letter a (eqb a 45) refl
 reads_before (a ∷ b ∷ rest) h = reads_before_long a b rest (no_dash (eqb a 45) h)
 
-one_operand : (word file : Word) (plain : Bool) → is_operand word ≡ plain → cond plain (Some word) None ≡ Some file → Reads (codes "limits" ∷ word ∷ []) file
-one_operand word file true plain wanted =
-    let same : word ≡ file = cc in subst (Reads (codes "limits" ∷ word ∷ [])) same (reads_alone word plain)
-one_operand word file false plain wanted = cc
+-- what holds of the only operand, wherever the word that ends options stands
+module _ (P : List Word → Word → Type 0) (alone : (word : Word) → is_operand word ≡ true → P (word ∷ []) word)
+    (behind : (word : Word) → P (dashes ∷ word ∷ []) word) (before : (word : Word) → is_operand word ≡ true → P (word ∷ dashes ∷ []) word) where
+  one_operand : (word file : Word) (plain : Bool) → is_operand word ≡ plain → cond plain (Some word) None ≡ Some file → P (word ∷ []) file
+  one_operand word file true plain wanted =
+      let same : word ≡ file = cc in subst (P (word ∷ [])) same (alone word plain)
+  one_operand word file false plain wanted = cc
 
-operand_before : (word file : Word) (plain : Bool) → is_operand word ≡ plain → cond plain (Some word) None ≡ Some file → Reads (codes "limits" ∷ word ∷ codes "--" ∷ []) file
-operand_before word file true plain wanted =
-    let same : word ≡ file = cc in subst (Reads (codes "limits" ∷ word ∷ codes "--" ∷ [])) same (reads_before word plain)
-operand_before word file false plain wanted = cc
+  operand_before : (word file : Word) (plain : Bool) → is_operand word ≡ plain → cond plain (Some word) None ≡ Some file → P (word ∷ dashes ∷ []) file
+  operand_before word file true plain wanted =
+      let same : word ≡ file = cc in subst (P (word ∷ dashes ∷ [])) same (before word plain)
+  operand_before word file false plain wanted = cc
 
-two_words : (first second file : Word) (behind before : Bool) → bytes_eq first dashes ≡ behind → bytes_eq second dashes ≡ before
-    → cond behind (Some second) (cond before (cond (is_operand first) (Some first) None) None) ≡ Some file → Reads (codes "limits" ∷ first ∷ second ∷ []) file
-two_words first second file true before is_first is_second wanted =
-    let is : first ≡ dashes = (bytes_eq-Decides first dashes).0 is_first in
-    let same : second ≡ file = cc in
-    subst (λ w. Reads (codes "limits" ∷ w ∷ second ∷ []) file) (sym is) (subst (Reads (codes "limits" ∷ dashes ∷ second ∷ [])) same (reads_behind second))
-two_words first second file false true is_first is_second wanted =
-    let is : second ≡ dashes = (bytes_eq-Decides second dashes).0 is_second in
-    subst (λ w. Reads (codes "limits" ∷ first ∷ w ∷ []) file) (sym is) (operand_before first file (is_operand first) refl wanted)
-two_words first second file false false is_first is_second wanted = cc
+  of_two : (first second file : Word) (is_behind is_before : Bool) → bytes_eq first dashes ≡ is_behind → bytes_eq second dashes ≡ is_before
+      → cond is_behind (Some second) (cond is_before (cond (is_operand first) (Some first) None) None) ≡ Some file → P (first ∷ second ∷ []) file
+  of_two first second file true is_before is_first is_second wanted =
+      let is : first ≡ dashes = (bytes_eq-Decides first dashes).0 is_first in
+      let same : second ≡ file = cc in
+      subst (λ w. P (w ∷ second ∷ []) file) (sym is) (subst (P (dashes ∷ second ∷ [])) same (behind second))
+  of_two first second file false true is_first is_second wanted =
+      let is : second ≡ dashes = (bytes_eq-Decides second dashes).0 is_second in
+      subst (λ w. P (first ∷ w ∷ []) file) (sym is) (operand_before first file (is_operand first) refl wanted)
+  of_two first second file false false is_first is_second wanted = cc
 
-of_operands : (operands : List Word) (file : Word) → lone_operand operands ≡ Some file → Reads (codes "limits" ∷ operands) file
-of_operands [] file wanted = cc
-of_operands (word ∷ []) file wanted = one_operand word file (is_operand word) refl wanted
-of_operands (first ∷ second ∷ []) file wanted = two_words first second file (bytes_eq first dashes) (bytes_eq second dashes) refl refl wanted
-of_operands (first ∷ second ∷ third ∷ more) file wanted = cc
+  of_operands : (operands : List Word) (file : Word) → lone_operand operands ≡ Some file → P operands file
+  of_operands [] file wanted = cc
+  of_operands (word ∷ []) file wanted = one_operand word file (is_operand word) refl wanted
+  of_operands (first ∷ second ∷ []) file wanted = of_two first second file (bytes_eq first dashes) (bytes_eq second dashes) refl refl wanted
+  of_operands (first ∷ second ∷ third ∷ more) file wanted = cc
 
 of_command : (command : Word) (operands : List Word) (file : Word) (limits : Bool) → bytes_eq command (codes "limits") ≡ limits → cond limits (lone_operand operands) None ≡ Some file
     → Reads (command ∷ operands) file
 of_command command operands file true same wanted =
     let is : command ≡ codes "limits" = (bytes_eq-Decides command (codes "limits")).0 same in
-    subst (λ w. Reads (w ∷ operands) file) (sym is) (of_operands operands file wanted)
+    subst (λ w. Reads (w ∷ operands) file) (sym is) (of_operands (λ given. Reads (codes "limits" ∷ given)) reads_alone reads_behind reads_before operands file wanted)
 of_command command operands file false same wanted = cc
 
 -- clap takes the words that ask for the limits of a file, and reads that file
@@ -107,20 +117,112 @@ pub accepted : (words : List Word) (file : Word) → limits_file words ≡ Some 
 accepted [] file wanted = cc
 accepted (command ∷ operands) file wanted = of_command command operands file (bytes_eq command (codes "limits")) refl wanted
 
-inventory_found : (found : Option (Text × List Row)) (rows : List Row) → option_map (λ p. p.0) found ≡ Some (codes "limits") → option_map (λ p. p.1) found ≡ Some rows
-    → inventory_in found ≡ first_of (codes "INV") rows
-inventory_found None rows name found = cc
-inventory_found (Some p) rows name found =
-    let named : p.0 ≡ codes "limits" = cc in
+-- clap takes the word for a value: it neither ends the options nor is one
+record IsValue (word : Word) : Type 0 where
+  no_end : bytes_eq word dashes ≡ false
+  no_long : long_of word ≡ None
+  no_short : short_of word ≡ None
+
+value_letter : (a : ℕ) (dash : Bool) → eqb a 45 ≡ dash → IsValue (a ∷ [])
+value_letter a true h = record { no_end = simp h; no_long = simp h; no_short = simp h }
+value_letter a false h = record { no_end = simp h; no_long = simp h; no_short = simp h }
+
+value_long : (a b : ℕ) (rest : Word) → eqb a 45 ≡ false → IsValue (a ∷ b ∷ rest)
+value_long a b rest h = record { no_end = simp h; no_long = simp h; no_short = simp h }
+
+value_of_operand : (word : Word) → is_operand word ≡ true → IsValue word
+value_of_operand [] h = record { no_end = refl; no_long = refl; no_short = refl }
+value_of_operand (a ∷ []) h = value_letter a (eqb a 45) refl
+value_of_operand (a ∷ b ∷ rest) h = value_long a b rest (no_dash (eqb a 45) h)
+
+both_alone : (first second : Word) → IsValue first → IsValue second → ReadsBoth (codes "plan" ∷ first ∷ second ∷ []) (first, second)
+unfolding clap_on_literals
+both_alone first second p q = record {
+  taken = simp (p.no_end, p.no_long, p.no_short, q.no_end, q.no_long, q.no_short);
+  inventory = simp (p.no_end, p.no_long, p.no_short, q.no_end, q.no_long, q.no_short);
+  playbook = simp (p.no_end, p.no_long, p.no_short, q.no_end, q.no_long, q.no_short);
+}
+
+both_before : (first second : Word) → IsValue first → IsValue second → ReadsBoth (codes "plan" ∷ first ∷ second ∷ codes "--" ∷ []) (first, second)
+unfolding clap_on_literals
+both_before first second p q = record {
+  taken = simp (p.no_end, p.no_long, p.no_short, q.no_end, q.no_long, q.no_short);
+  inventory = simp (p.no_end, p.no_long, p.no_short, q.no_end, q.no_long, q.no_short);
+  playbook = simp (p.no_end, p.no_long, p.no_short, q.no_end, q.no_long, q.no_short);
+}
+
+both_between : (first second : Word) → IsValue first → ReadsBoth (codes "plan" ∷ first ∷ codes "--" ∷ second ∷ []) (first, second)
+unfolding clap_on_literals
+both_between first second p = record {
+  taken = simp (p.no_end, p.no_long, p.no_short);
+  inventory = simp (p.no_end, p.no_long, p.no_short);
+  playbook = simp (p.no_end, p.no_long, p.no_short);
+}
+
+both_behind : (first second : Word) → ReadsBoth (codes "plan" ∷ codes "--" ∷ first ∷ second ∷ []) (first, second)
+unfolding clap_on_literals
+both_behind first second = record { taken = refl; inventory = refl; playbook = refl }
+
+both_of_rest : (first second : Word) (rest : List Word) → is_operand first ≡ true → lone_operand rest ≡ Some second → ReadsBoth (codes "plan" ∷ first ∷ rest) (first, second)
+both_of_rest first second rest plain wanted =
+    let value : IsValue first = value_of_operand first plain in
+    of_operands (λ given file. ReadsBoth (codes "plan" ∷ first ∷ given) (first, file))
+    (λ word h. both_alone first word value (value_of_operand word h)) (λ word. both_between first word value)
+    (λ word h. both_before first word value (value_of_operand word h)) rest second wanted
+
+both_with : (first : Word) (rest : List Word) (files : Word × Word) (second : Option Word) → is_operand first ≡ true → lone_operand rest ≡ second
+    → option_map (λ file. (first, file)) second ≡ Some files → ReadsBoth (codes "plan" ∷ first ∷ rest) files
+both_with first rest files None plain read wanted = cc
+both_with first rest files (Some second) plain read wanted =
+    let same : (first, second) ≡ files = cc in subst (ReadsBoth (codes "plan" ∷ first ∷ rest)) same (both_of_rest first second rest plain read)
+
+both_behind_dashes : (rest : List Word) (files : Word × Word) → two_words rest ≡ Some files → ReadsBoth (codes "plan" ∷ dashes ∷ rest) files
+both_behind_dashes [] files wanted = cc
+both_behind_dashes (first ∷ []) files wanted = cc
+both_behind_dashes (first ∷ second ∷ []) files wanted =
+    let same : (first, second) ≡ files = cc in subst (ReadsBoth (codes "plan" ∷ dashes ∷ first ∷ second ∷ [])) same (both_behind first second)
+both_behind_dashes (first ∷ second ∷ third ∷ more) files wanted = cc
+
+both_first : (first : Word) (rest : List Word) (files : Word × Word) (behind plain : Bool) → bytes_eq first dashes ≡ behind → is_operand first ≡ plain
+    → cond behind (two_words rest) (cond plain (option_map (λ second. (first, second)) (lone_operand rest)) None) ≡ Some files
+    → ReadsBoth (codes "plan" ∷ first ∷ rest) files
+both_first first rest files true plain is_behind is_plain wanted =
+    let is : first ≡ dashes = (bytes_eq-Decides first dashes).0 is_behind in
+    subst (λ w. ReadsBoth (codes "plan" ∷ w ∷ rest) files) (sym is) (both_behind_dashes rest files wanted)
+both_first first rest files false true is_behind is_plain wanted = both_with first rest files (lone_operand rest) is_plain refl wanted
+both_first first rest files false false is_behind is_plain wanted = cc
+
+both_of_operands : (operands : List Word) (files : Word × Word) → two_operands operands ≡ Some files → ReadsBoth (codes "plan" ∷ operands) files
+both_of_operands [] files wanted = cc
+both_of_operands (first ∷ rest) files wanted = both_first first rest files (bytes_eq first dashes) (is_operand first) refl refl wanted
+
+both_of_command : (command : Word) (operands : List Word) (files : Word × Word) (plan : Bool) → bytes_eq command (codes "plan") ≡ plan
+    → cond plan (two_operands operands) None ≡ Some files → ReadsBoth (command ∷ operands) files
+both_of_command command operands files true same wanted =
+    let is : command ≡ codes "plan" = (bytes_eq-Decides command (codes "plan")).0 same in
+    subst (λ w. ReadsBoth (w ∷ operands) files) (sym is) (both_of_operands operands files wanted)
+both_of_command command operands files false same wanted = cc
+
+-- clap takes the words that ask for a plan, and reads both files
+pub accepted_both : (words : List Word) (files : Word × Word) → plan_files words ≡ Some files → ReadsBoth words files
+accepted_both [] files wanted = cc
+accepted_both (command ∷ operands) files wanted = both_of_command command operands files (bytes_eq command (codes "plan")) refl wanted
+
+file_found : (command argument : Text) (found : Option (Text × List Row)) (rows : List Row) → option_map (λ p. p.0) found ≡ Some command → option_map (λ p. p.1) found ≡ Some rows
+    → file_in command argument found ≡ first_of argument rows
+file_found command argument None rows name found = cc
+file_found command argument (Some p) rows name found =
+    let named : p.0 ≡ command = cc in
     let at : p.1 ≡ rows = cc in
-    rw (named, at) refl
+    let same : bytes_eq p.0 command ≡ true = (bytes_eq-Decides p.0 command).1 named in
+    rw (same, at) refl
 
 same_name : {Z : Type 0} (found : Option (Box SubCommand Z)) → option_map (λ p. p.0) (subcommand_rows found) ≡ option_map (λ b. (out-SubCommand (box_value b)).name.now) found
 same_name None = refl
 same_name (Some b) = refl
 
 -- what is found under the subcommand's name
-pub inventory_of : (m : ArgMatches) (rows : List Row) → subcommand_name_of m ≡ Some (codes "limits") → option_map (λ p. p.1) (subcommand_rows (out-ArgMatches m).subcommand) ≡ Some rows
-    → inventory_in (subcommand_rows_of m) ≡ first_of (codes "INV") rows
-inventory_of m rows name found =
-    inventory_found (subcommand_rows_of m) rows (same_name (out-ArgMatches m).subcommand ∙ name) found
+pub file_of : (command argument : Text) (m : ArgMatches) (rows : List Row) → subcommand_name_of m ≡ Some command
+    → option_map (λ p. p.1) (subcommand_rows (out-ArgMatches m).subcommand) ≡ Some rows → file_in command argument (subcommand_rows_of m) ≡ first_of argument rows
+file_of command argument m rows name found =
+    file_found command argument (subcommand_rows_of m) rows (same_name (out-ArgMatches m).subcommand ∙ name) found

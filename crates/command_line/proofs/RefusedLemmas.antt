@@ -7,16 +7,16 @@ use Rattle.clap.specs.declared.error.kind.ErrorKind.TheVariants.{DisplayHelp, Di
 use Rattle.clap.proofs.OnLiterals.{clap_on_literals}
 use Rattle.std.specs.Prelude.{Result, Ok, Err, IfOk, IfErr}
 use Rattle.command_line.specs.declared.command.Line.{Line}
-use Rattle.command_line.specs.declared.command.Line.TheVariants.{Limits, Print}
+use Rattle.command_line.specs.declared.command.Line.TheVariants.{Limits, Plan, Print}
 use Rattle.command_line.specs.declared.fault.LineFault.{LineFault}
 use Rattle.command_line.specs.declared.fault.LineFault.TheVariants.{BadLine, Unexplained, Memory}
-use Rattle.command_line.specs.Answers.{AnswersFor, Disagrees}
+use Rattle.command_line.specs.Answers.{AnswersFor, Disagrees, FindsOthers}
 use Rattle.command_line.specs.Messages as messages
 use Rattle.command_line.specs.Messages.{IsAskedFor}
 use Rattle.command_line.specs.declared.message.Message.{Message}
-use Rattle.command_line.specs.Syntax.{rollout, inventory_in}
-use Rattle.command_line.specs.Words.{Word, is_empty, is_command, limits_file, IsNoneOf, requests, IsTextFor, Explains, Refuses, Says}
-use Rattle.command_line.proofs.AcceptedLemmas.{accepted}
+use Rattle.command_line.specs.Syntax.{rollout}
+use Rattle.command_line.specs.Words.{Word, is_empty, is_command, limits_file, plan_files, IsNoneOf, requests, IsTextFor, Explains, Refuses, Says}
+use Rattle.command_line.proofs.AcceptedLemmas.{accepted, accepted_both}
 
 -- clap answers a request with its text
 answers_help : fault_of rollout (codes "--help" ∷ []) ≡ DisplayHelp ∷ []
@@ -43,6 +43,14 @@ answers_limits_short_help : fault_of rollout (codes "limits" ∷ codes "-h" ∷ 
 unfolding clap_on_literals
 answers_limits_short_help = refl
 
+answers_plan_help : fault_of rollout (codes "plan" ∷ codes "--help" ∷ []) ≡ DisplayHelp ∷ []
+unfolding clap_on_literals
+answers_plan_help = refl
+
+answers_plan_short_help : fault_of rollout (codes "plan" ∷ codes "-h" ∷ []) ≡ DisplayHelp ∷ []
+unfolding clap_on_literals
+answers_plan_short_help = refl
+
 -- the words are no request, where they are none of those that get one kind of answer
 no_request : (words : List Word) → ((request : List Word) (kind : ErrorKind) → fault_of rollout request ≡ kind ∷ [] → (kind ≡ DisplayHelp) ⊎ (kind ≡ DisplayVersion) → words ≢ request)
     → IsNoneOf words requests
@@ -58,7 +66,13 @@ no_request words other = (
           other _ _ answers_limits_help (inl refl),
           (
             other _ _ answers_limits_short_help (inl refl),
-            tt,
+            (
+              other _ _ answers_plan_help (inl refl),
+              (
+                other _ _ answers_plan_short_help (inl refl),
+                tt,
+              ),
+            ),
           ),
         ),
       ),
@@ -66,9 +80,15 @@ no_request words other = (
   ),
 )
 
-no_line : (words : List Word) (read : Option Word) → limits_file words ≡ read → is_empty words ≡ false → ((file : Word) → limits_file words ≢ Some file) → is_command words ≡ false
-no_line words None wanted some none = rw (some, wanted) refl
-no_line words (Some file) wanted some none = absurd (none file wanted)
+no_line_by : (words : List Word) (file : Option Word) (files : Option (Word × Word)) → limits_file words ≡ file → plan_files words ≡ files → is_empty words ≡ false
+    → ((file : Word) → limits_file words ≢ Some file) → ((files : Word × Word) → plan_files words ≢ Some files) → is_command words ≡ false
+no_line_by words None None no_limits no_plan some limits plan = rw (some, no_limits, no_plan) refl
+no_line_by words None (Some files) no_limits wanted some limits plan = absurd (plan files wanted)
+no_line_by words (Some file) files wanted no_plan some limits plan = absurd (limits file wanted)
+
+no_line : (words : List Word) → is_empty words ≡ false → ((file : Word) → limits_file words ≢ Some file) → ((files : Word × Word) → plan_files words ≢ Some files)
+    → is_command words ≡ false
+no_line words some limits plan = no_line_by words (limits_file words) (plan_files words) refl refl some limits plan
 
 -- clap's error is of the one kind that it has for these words
 kind_among : (words : List Word) (e : Error) (kind : ErrorKind) → kind ≢ OutOfMemory → HasKind (fault_of rollout words) e → kind_of e ≡ kind → IsAmong kind (fault_of rollout words)
@@ -105,7 +125,7 @@ refused words e (Err (BadLine message)) some taken has answers =
     let memory = answers.1 in
     let help = answers.2 in
     let version = answers.3 in (
-      no_line words (limits_file words) refl some (λ file wanted. memory (taken (accepted words file wanted).taken)),
+      no_line words some (λ file wanted. memory (taken (accepted words file wanted).taken)) (λ files wanted. memory (taken (accepted_both words files wanted).taken)),
       no_request words (λ request kind faults which is.
           let at : HasKind (kind ∷ []) e = subst (λ kinds. HasKind kinds e) (ap (fault_of rollout) is ∙ faults) has in
           ⊎_elim memory (⊎_elim (λ k. ⊎_elim (λ asked. help (k ∙ asked)) (λ asked. version (k ∙ asked)) which) (λ none. none)) at),
@@ -121,19 +141,29 @@ pub requested : (words : List Word) (e : Error) (answer : Result Line LineFault)
     → AnswersFor (kind_of e) answer → IfOk answer (Says words)
 requested words e (Err fault) some taken has answers = tt
 requested words e (Ok (Limits inventory)) some taken has answers = absurd answers
+requested words e (Ok (Plan inventory playbook)) some taken has answers = absurd answers
 requested words e (Ok (Print message)) some taken has answers = (
-  no_line words (limits_file words) refl some (λ file wanted. is_no_memory e answers.1 (taken (accepted words file wanted).taken)),
+  no_line words some (λ file wanted. is_no_memory e answers.1 (taken (accepted words file wanted).taken))
+      (λ files wanted. is_no_memory e answers.1 (taken (accepted_both words files wanted).taken)),
   subst IsAskedFor (sym answers.0) answers.1,
   of_error words e message answers.0 (is_no_memory e answers.1) has,
 )
 
+-- clap finds the files that the words say, so where it finds others the words are no command
+others_by : (words : List Word) (file : Option Word) (files : Option (Word × Word)) → limits_file words ≡ file → plan_files words ≡ files → is_empty words ≡ false
+    → FindsOthers file files (subcommand_of rollout words) → is_command words ≡ false
+others_by words (Some file) files wanted plan some others = absurd (others (accepted words file wanted).read)
+others_by words None (Some files) limits wanted some others =
+    let read = accepted_both words files wanted in absurd (others (read.inventory, read.playbook))
+others_by words None None limits plan some others = rw (some, limits, plan) refl
+
 -- words that clap took
 pub mismatched : (words : List Word) (fault : LineFault) → is_empty words ≡ false → fault_of rollout words ≡ []
-    → Disagrees words (inventory_in (subcommand_of rollout words)) fault → Refuses words fault
+    → Disagrees words (subcommand_of rollout words) fault → Refuses words fault
 mismatched words Memory some taken disagrees = some
 mismatched words (BadLine message) some taken disagrees = absurd disagrees
 mismatched words Unexplained some taken disagrees = (
-  no_line words (limits_file words) refl some (λ file wanted. disagrees file wanted (accepted words file wanted).read),
+  others_by words (limits_file words) (plan_files words) refl refl some disagrees,
   no_request words (λ request kind faults which is. let none : [] ≡ kind ∷ [] = sym taken ∙ ap (fault_of rollout) is ∙ faults in cc),
   taken,
 )

@@ -7,6 +7,8 @@ use crate::message::Message;
 pub enum Line {
     /// Prints the groups that limit how many of their hosts may be down.
     Limits { inventory: Source },
+    /// Prints the plan of the playbook's first play.
+    Plan { inventory: Source, playbook: Source },
     /// Prints this text: the help or the version.
     Print(Message),
 }

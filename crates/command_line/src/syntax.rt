@@ -1,7 +1,7 @@
 //! The commands and their arguments, as the help shows them.
 ghost use Rattle.std.specs.Prelude.{◌≡◌, true, false, IfOk, IfErr, map, string_bytes, codes};
 ghost use Rattle.std.specs.Option.{option_map};
-ghost use Rattle.clap.specs.Words.{FailsBy, app_of, fault_of, kind_of, subcommand_of, subcommand_rows_of, takes};
+ghost use Rattle.clap.specs.Words.{FailsBy, app_of, fault_of, kind_of, rule_of, subcommand_of, subcommand_rows_of, takes};
 ghost use Rattle.clap.specs.declared.builder.command.Command.TheViews.{out-Command as fields_of};
 ghost use Rattle.command_line.specs.Syntax as spec;
 
@@ -11,13 +11,23 @@ use std::alloc::{AllocError, Global};
 
 const INVENTORY: &str = "INV";
 
+const PLAYBOOK: &str = "PLAY";
+
+const INVENTORY_HELP: &str =
+    "The inventory: a file of JSON that lists groups with their hosts, children and variables";
+
+const PLAYBOOK_HELP: &str =
+    "The playbook: a file of JSON that lists plays with their hosts and tasks";
+
 const NOTES: &str = "\
 INV is the inventory: a file of JSON that lists groups with their hosts, children and variables.
+PLAY is the playbook: a file of JSON that lists plays with their hosts and tasks.
 Without any word, rollout reads an inventory from standard input and prints its limits.
 
 Exit status:
   0  what was asked for was done
   1  the line, an input or a write was refused
+  3  hosts wait in a group that has no room
   5  want of memory";
 
 fn rollout<'a>(alloc: Global) -> Result<Command<'a>, AllocError>
@@ -32,19 +42,45 @@ fn rollout<'a>(alloc: Global) -> Result<Command<'a>, AllocError>
         .after_help(NOTES)
         .no_binary_name(true)
         .subcommand_required(true)
-        .subcommand(limits(alloc)?)
+        .subcommand(limits(alloc)?)?
+        .subcommand(plan(alloc)?)
 }
 
 fn limits<'a>(alloc: Global) -> Result<Command<'a>, AllocError>
     ensures app { IfOk result (λ c. app_of c ≡ spec.limits_command) }
     ensures local { IfOk result (λ c. (fields_of c).has_globals ≡ false) }
 {
-    let inventory = Arg::new(alloc, INVENTORY).required(true).help(
-        "The inventory: a file of JSON that lists groups with their hosts, children and variables",
-    );
     Command::new(alloc, "limits")
         .about("Prints each limited group: its members, how many are down, its limit and its room")
-        .arg(inventory)
+        .arg(inventory(alloc))
+}
+
+fn plan<'a>(alloc: Global) -> Result<Command<'a>, AllocError>
+    ensures app { IfOk result (λ c. app_of c ≡ spec.plan_command) }
+    ensures local { IfOk result (λ c. (fields_of c).has_globals ≡ false) }
+{
+    Command::new(alloc, "plan")
+        .about(
+            "Prints the fewest batches that update the hosts of a play, and what forces their number",
+        )
+        .arg(inventory(alloc))?
+        .arg(playbook(alloc))
+}
+
+fn inventory<'a>(alloc: Global) -> Arg<'a>
+    ensures rule { rule_of result ≡ spec.inventory_argument }
+    ensures local { result.global ≡ false }
+{
+    Arg::new(alloc, INVENTORY)
+        .required(true)
+        .help(INVENTORY_HELP)
+}
+
+fn playbook<'a>(alloc: Global) -> Arg<'a>
+    ensures rule { rule_of result ≡ spec.playbook_argument }
+    ensures local { result.global ≡ false }
+{
+    Arg::new(alloc, PLAYBOOK).required(true).help(PLAYBOOK_HELP)
 }
 
 /// What clap reads of the words.
@@ -60,7 +96,21 @@ pub(crate) fn matches<'a>(alloc: Global, words: &'a [String]) -> Result<ArgMatch
 
 /// The inventory's file, where the command is `limits`.
 pub(crate) fn limits_inventory<'a>(matches: &ArgMatches<'a>) -> Option<&'a str>
-    ensures { option_map (λ s. s.now) result ≡ spec.inventory_in (subcommand_rows_of matches.now) }
+    ensures { option_map (λ s. s.now) result ≡ spec.file_in (codes "limits") (codes "INV") (subcommand_rows_of matches.now) }
 {
     matches.subcommand_matches("limits")?.get_str(INVENTORY)
+}
+
+/// The inventory's file, where the command is `plan`.
+pub(crate) fn plan_inventory<'a>(matches: &ArgMatches<'a>) -> Option<&'a str>
+    ensures { option_map (λ s. s.now) result ≡ spec.file_in (codes "plan") (codes "INV") (subcommand_rows_of matches.now) }
+{
+    matches.subcommand_matches("plan")?.get_str(INVENTORY)
+}
+
+/// The playbook's file, where the command is `plan`.
+pub(crate) fn plan_playbook<'a>(matches: &ArgMatches<'a>) -> Option<&'a str>
+    ensures { option_map (λ s. s.now) result ≡ spec.file_in (codes "plan") (codes "PLAY") (subcommand_rows_of matches.now) }
+{
+    matches.subcommand_matches("plan")?.get_str(PLAYBOOK)
 }

@@ -14,6 +14,45 @@ pub(crate) fn limits_file(words: &[String]) -> Option<&str>
     }
 }
 
+/// The inventory's and the playbook's file of which the words ask the plan.
+pub(crate) fn plan_files(words: &[String]) -> Option<(&str, &str)>
+    ensures { option_map (λ files. (files.0.now, files.1.now)) result ≡ spec.plan_files (map string_bytes words.now) }
+{
+    match words {
+        [command, operands @ ..] if is_word(command, "plan") => two_operands(operands),
+        _ => None,
+    }
+}
+
+/// The two operands of the words, where there are just two.
+fn two_operands(words: &[String]) -> Option<(&str, &str)>
+    ensures { option_map (λ pair. (pair.0.now, pair.1.now)) result ≡ spec.two_operands (map string_bytes words.now) }
+{
+    match words {
+        [first, rest @ ..] if is_word(first, "--") => two_words(rest),
+        [first, rest @ ..] if is_operand(first) => operand_and(first, rest),
+        _ => None,
+    }
+}
+
+/// The two words that these are.
+fn two_words(words: &[String]) -> Option<(&str, &str)>
+    ensures { option_map (λ pair. (pair.0.now, pair.1.now)) result ≡ spec.two_words (map string_bytes words.now) }
+{
+    match words {
+        [first, second] => Some((first.as_str(), second.as_str())),
+        _ => None,
+    }
+}
+
+/// A first operand with the only operand of the other words.
+fn operand_and<'a>(first: &'a String, rest: &'a [String]) -> Option<(&'a str, &'a str)>
+    ensures { option_map (λ pair. (pair.0.now, pair.1.now)) result ≡ spec.operand_and (string_bytes first.now) (map string_bytes rest.now) }
+{
+    let second = lone_operand(rest)?;
+    Some((first.as_str(), second))
+}
+
 /// The only operand of the words.
 fn lone_operand(words: &[String]) -> Option<&str>
     ensures { option_map (λ s. s.now) result ≡ spec.lone_operand (map string_bytes words.now) }

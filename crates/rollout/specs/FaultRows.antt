@@ -9,14 +9,23 @@ use Rattle.command_line.specs.declared.command.Source.{Source}
 use Rattle.command_line.specs.declared.command.Source.TheVariants.{StandardInput, File}
 use Rattle.command_line.specs.declared.fault.LineFault.{LineFault}
 use Rattle.command_line.specs.declared.fault.LineFault.TheVariants as line_fault
+use Rattle.cond.specs.declared.fault.CondFault.{CondFault}
+use Rattle.cond.specs.declared.fault.CondFault.TheVariants as cond_fault
 use Rattle.domains.specs.declared.fault.FleetFault.{FleetFault}
 use Rattle.domains.specs.declared.fault.FleetFault.TheVariants as fleet_fault
+use Rattle.domains.specs.declared.pattern_fault.PatternFault.{PatternFault}
+use Rattle.domains.specs.declared.pattern_fault.PatternFault.TheVariants as pattern_fault
 use Rattle.inventory_read.specs.Faults as read
 use Rattle.inventory_read.specs.declared.fault.ReadFault.{ReadFault}
 use Rattle.inventory_read.specs.declared.fault.ReadFault.TheVariants as read_fault
+use Rattle.play_faults.specs.Faults as playbook
+use Rattle.play_faults.specs.Faults.{key_name}
+use Rattle.play_faults.specs.declared.fault.PlayFault.{PlayFault}
+use Rattle.play_faults.specs.declared.fault.PlayFault.TheVariants as play_fault
+use Rattle.play_faults.specs.declared.key.ConditionKey.{ConditionKey}
 use Rattle.rollout.specs.FaultLines.{Row, ShownDetail, printable}
 use Rattle.rollout.specs.declared.fault.Fault.{Fault}
-use Rattle.rollout.specs.declared.fault.Fault.TheVariants.{Line, Input, Read, Fleet, Write, Memory}
+use Rattle.rollout.specs.declared.fault.Fault.TheVariants.{Line, Input, Read, Fleet, Playbook, Pattern, Write, Memory}
 
 abbrev row : List ℕ → List ShownDetail → Row
 row name details = record { name = name; details = details }
@@ -30,6 +39,13 @@ number key value = record { key = key; value = decimal value }
 -- want of memory has neither a number nor a row
 abbrev no_row : Row
 no_row = row [] []
+
+-- a fault at a path, and one that names something
+abbrev pub path_row : List ℕ → List ℕ → Row
+path_row name at = row name (text (codes "at") at ∷ [])
+
+abbrev pub name_row : List ℕ → List ℕ → Row
+name_row name named = row name (text (codes "name") named ∷ [])
 
 -- the name of an input
 abbrev pub name_of : Source → List ℕ
@@ -72,11 +88,52 @@ fleet_row (fleet_fault.StartOver group down limit) =
 fleet_row fleet_fault.TooManyHosts = row (codes "TooManyHosts") []
 fleet_row fleet_fault.Memory = no_row
 
+abbrev pub pattern_number : PatternFault → Option ℕ
+pattern_number (pattern_fault.NoSuchName name) = Some 304
+pattern_number pattern_fault.Memory = None
+
+abbrev pub pattern_row : PatternFault → Row
+pattern_row (pattern_fault.NoSuchName name) = name_row (codes "NoSuchName") (string_bytes name)
+pattern_row pattern_fault.Memory = no_row
+
+-- the play is told where the text has several
+abbrev pub condition_row : List ℕ → Option ℕ → ℕ → ConditionKey → ℕ → Row
+condition_row name None step key at = row name (number (codes "step") step ∷ text (codes "key") (key_name key) ∷ number (codes "at") at ∷ [])
+condition_row name (Some play) step key at =
+    row name (number (codes "play") play ∷ number (codes "step") step ∷ text (codes "key") (key_name key) ∷ number (codes "at") at ∷ [])
+
+abbrev pub cond_row : Option ℕ → ℕ → ConditionKey → CondFault → Row
+cond_row play step key (cond_fault.BadToken at) = condition_row (codes "BadToken") play step key at
+cond_row play step key (cond_fault.Unexpected at) = condition_row (codes "Unexpected") play step key at
+cond_row play step key (cond_fault.TooDeep at) = condition_row (codes "TooDeep") play step key at
+cond_row play step key (cond_fault.TooLong at) = condition_row (codes "TooLong") play step key at
+cond_row play step key cond_fault.Memory = no_row
+
+abbrev pub braces_row : Option ℕ → ℕ → Row
+braces_row None step = row (codes "BadBraces") (number (codes "step") step ∷ [])
+braces_row (Some play) step = row (codes "BadBraces") (number (codes "play") play ∷ number (codes "step") step ∷ [])
+
+abbrev pub playbook_row : PlayFault → Row
+playbook_row play_fault.NotJson = row (codes "NotJson") []
+playbook_row (play_fault.BadShape at) = path_row (codes "BadShape") (string_bytes at)
+playbook_row (play_fault.UnknownKey at) = path_row (codes "UnknownKey") (string_bytes at)
+playbook_row (play_fault.NoSuchHandler name) = name_row (codes "NoSuchHandler") (string_bytes name)
+playbook_row (play_fault.TwiceHandler name) = name_row (codes "TwiceHandler") (string_bytes name)
+playbook_row (play_fault.BadSerial at) = path_row (codes "BadSerial") (string_bytes at)
+playbook_row (play_fault.BadPercent at) = path_row (codes "BadPercent") (string_bytes at)
+playbook_row play_fault.ManyPlays = row (codes "ManyPlays") []
+playbook_row play_fault.TooManySteps = row (codes "TooManySteps") []
+playbook_row (play_fault.BadCondition play step key fault) = cond_row play step key fault
+playbook_row (play_fault.BadBraces play step) = braces_row play step
+playbook_row play_fault.Memory = no_row
+
 abbrev pub number_of : Fault → Option ℕ
 number_of (Line fault) = line.number_of fault
 number_of (Input source fault) = input.number_of fault
 number_of (Read fault) = read.number_of fault
 number_of (Fleet fault) = fleet_number fault
+number_of (Playbook fault) = playbook.number_of fault
+number_of (Pattern fault) = pattern_number fault
 number_of (Write fault) = Some 904
 number_of Memory = None
 
@@ -85,6 +142,8 @@ row_of (Line fault) = line_row fault
 row_of (Input source fault) = input_row source fault
 row_of (Read fault) = read_row fault
 row_of (Fleet fault) = fleet_row fault
+row_of (Playbook fault) = playbook_row fault
+row_of (Pattern fault) = pattern_row fault
 row_of (Write fault) = row (codes "Write") (number (codes "written") fault.written ∷ [])
 row_of Memory = no_row
 
@@ -96,5 +155,7 @@ explanation_of (Line line_fault.Memory) = []
 explanation_of (Input source fault) = []
 explanation_of (Read fault) = []
 explanation_of (Fleet fault) = []
+explanation_of (Playbook fault) = []
+explanation_of (Pattern fault) = []
 explanation_of (Write fault) = []
 explanation_of Memory = []

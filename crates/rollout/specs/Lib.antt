@@ -7,4 +7,6 @@ pub mod Endings
 pub mod Inputs
 pub mod LimitsText
 pub mod Commands
+pub mod PlanFaults
+pub mod Plans
 pub mod Runs

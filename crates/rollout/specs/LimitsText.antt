@@ -12,7 +12,7 @@ use Rattle.domains.specs.FleetViews.{FleetView}
 use Rattle.domains.specs.Fleets.{IsFleetOf}
 use Rattle.recap.specs.LimitsTable.{limits_table}
 use Rattle.rollout.specs.declared.fault.Fault.{Fault}
-use Rattle.rollout.specs.declared.fault.Fault.TheVariants.{Line, Input, Read, Fleet, Write, Memory}
+use Rattle.rollout.specs.declared.fault.Fault.TheVariants.{Line, Input, Read, Fleet, Playbook, Pattern, Write, Memory}
 
 -- the text says this inventory, its limited groups lie inside each other wherever they share a host, and none has more
 -- hosts down than its limit when a run starts
@@ -45,6 +45,8 @@ IsTrueFault text old new (Read fault) = IsTrueOf text fault × Keeps old new
 IsTrueFault text old new (Fleet fault) = IsNoFleet text fault × Keeps old new
 IsTrueFault text old new (Write fault) = BreaksTable text old new fault.written
 IsTrueFault text old new Memory = Keeps old new
+IsTrueFault text old new (Playbook fault) = ⊥
+IsTrueFault text old new (Pattern fault) = ⊥
 IsTrueFault text old new (Line fault) = ⊥
 IsTrueFault text old new (Input source fault) = ⊥
 
@@ -60,5 +62,7 @@ IsUnread text (Read fault) = IsTrueOf text fault
 IsUnread text (Fleet fault) = IsNoFleet text fault
 IsUnread text Memory = Unit {0}
 IsUnread text (Write fault) = ⊥
+IsUnread text (Playbook fault) = ⊥
+IsUnread text (Pattern fault) = ⊥
 IsUnread text (Line fault) = ⊥
 IsUnread text (Input source fault) = ⊥

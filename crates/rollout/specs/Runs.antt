@@ -6,11 +6,12 @@ use Rattle.std.specs.Io.KnownBytes.{Keeps}
 use Rattle.command_line.specs.Messages as messages
 use Rattle.command_line.specs.Words as words
 use Rattle.command_line.specs.declared.command.Line as declared_line
-use Rattle.command_line.specs.declared.command.Line.TheVariants.{Limits, Print}
+use Rattle.command_line.specs.declared.command.Line.TheVariants.{Limits, Plan, Print}
 use Rattle.command_line.specs.declared.fault.LineFault.{LineFault}
 use Rattle.command_line.specs.declared.fault.LineFault.TheVariants as line_fault
 use Rattle.rollout.specs.Commands.{TabulatesLimits, Prints}
 use Rattle.rollout.specs.Endings.{Reports, status_of}
+use Rattle.rollout.specs.Plans.{Plans}
 use Rattle.rollout.specs.Status.{code_of}
 use Rattle.rollout.specs.Systems.{Fails, Sources, Gives, Known}
 use Rattle.rollout.specs.declared.fault.Fault.{Fault}
@@ -21,6 +22,8 @@ use Rattle.rollout.specs.declared.status.Status.{Status}
 abbrev pub Does : Sources → declared_line.Line → Option (List ℕ) → Option (List ℕ) → Option (List ℕ) → Option (List ℕ) → Result Status Fault → Type 0
 Does sources (Limits inventory) input_old input_new out_old out_new result =
     TabulatesLimits sources inventory input_old input_new out_old out_new result
+Does sources (Plan inventory playbook) input_old input_new out_old out_new result =
+    Plans sources inventory playbook input_old input_new out_old out_new result
 Does sources (Print message) input_old input_new out_old out_new result =
     Keeps input_old input_new × Prints (messages.text_of message) out_old out_new result
 

@@ -4,8 +4,10 @@ ghost use Rattle.rollout.specs.FaultRows as rows;
 
 use bounded_io::{InputFault, WriteFault};
 use command_line::{LineFault, Source};
-use domains::FleetFault;
+use domains::{FleetFault, PatternFault};
 use inventory_read::ReadFault;
+use planning::PlanFault;
+use play_faults::PlayFault;
 use std::alloc::AllocError;
 
 /// Why the program did not do what it was asked for.
@@ -19,6 +21,10 @@ pub enum Fault {
     Read(ReadFault),
     /// An inventory is no fleet.
     Fleet(FleetFault),
+    /// A text is no playbook.
+    Playbook(PlayFault),
+    /// A part of a pattern names neither a group nor a host.
+    Pattern(PatternFault),
     /// An output broke off.
     Write(WriteFault),
     Memory,
@@ -34,6 +40,8 @@ impl Fault {
             Fault::Input { fault, .. } => fault.number(),
             Fault::Read(fault) => fault.number(),
             Fault::Fleet(fault) => fleet_number(fault),
+            Fault::Playbook(fault) => fault.number(),
+            Fault::Pattern(fault) => pattern_number(fault),
             Fault::Write(fault) => Some(fault.number()),
             Fault::Memory => None,
         }
@@ -48,6 +56,15 @@ fn fleet_number(fault: &FleetFault) -> Option<u16>
         FleetFault::StartOver { .. } => Some(302),
         FleetFault::TooManyHosts => Some(303),
         FleetFault::Memory => None,
+    }
+}
+
+fn pattern_number(fault: &PatternFault) -> Option<u16>
+    ensures { result ≡ rows.pattern_number fault.now }
+{
+    match fault {
+        PatternFault::NoSuchName { .. } => Some(304),
+        PatternFault::Memory => None,
     }
 }
 
@@ -81,5 +98,22 @@ impl From<FleetFault> for Fault {
 
     fn from(fault: FleetFault) -> Fault {
         Fault::Fleet(fault)
+    }
+}
+
+impl From<PlanFault> for Fault {
+    ghost use Rattle.std.specs.Prelude.{◌≡◌};
+    ghost use Rattle.rollout.specs.PlanFaults.{fault_of};
+
+    ghost from_gives = { λ plan fault. fault ≡ fault_of plan };
+
+    fn from(fault: PlanFault) -> Fault {
+        match fault {
+            PlanFault::Read(fault) => Fault::Read(fault),
+            PlanFault::Fleet(fault) => Fault::Fleet(fault),
+            PlanFault::Playbook(fault) => Fault::Playbook(fault),
+            PlanFault::Pattern(fault) => Fault::Pattern(fault),
+            PlanFault::Write(fault) => Fault::Write(fault),
+        }
     }
 }

@@ -1,5 +1,5 @@
 //! The line of each fault.
-ghost use Rattle.std.specs.Prelude.{◌≡◌, ◌++◌, flat_map};
+ghost use Rattle.std.specs.Prelude.{◌≡◌, ◌++◌, flat_map, string_bytes};
 ghost use Rattle.bounded_io.specs.Writing.{Writes};
 ghost use Rattle.rollout.specs.Details.{shown};
 ghost use Rattle.rollout.specs.Endings.{fault_text};
@@ -11,8 +11,10 @@ use crate::detail::{Detail, write_details};
 use crate::fault::Fault;
 use bounded_io::{InputFault, TextWriter};
 use command_line::{LineFault, Source};
-use domains::FleetFault;
+use cond::CondFault;
+use domains::{FleetFault, PatternFault};
 use inventory_read::ReadFault;
+use play_faults::{ConditionKey, PlayFault};
 use std::io::Write;
 
 /// Writes the fault's line; behind a bad line of words follows what is wrong with it.
@@ -58,6 +60,8 @@ fn write_row<W: Write>(text: &mut TextWriter<'_, W>, fault: &Fault)
         Fault::Input { source, fault } => write_input_row(text, source, fault),
         Fault::Read(fault) => write_read_row(text, fault),
         Fault::Fleet(fault) => write_fleet_row(text, fault),
+        Fault::Playbook(fault) => write_playbook_row(text, fault),
+        Fault::Pattern(fault) => write_pattern_row(text, fault),
         Fault::Write(fault) => row(text, "Write", &[Number("written", fault.written)]),
         Fault::Memory => {}
     }
@@ -134,6 +138,108 @@ fn write_fleet_row<W: Write>(text: &mut TextWriter<'_, W>, fault: &FleetFault)
         ),
         FleetFault::Memory => {}
     }
+}
+
+#[tactic(auto, using(bounded_io::proofs::Pieces::pieces_of_text))]
+fn write_pattern_row<W: Write>(text: &mut TextWriter<'_, W>, fault: &PatternFault)
+    ensures { Writes W.contents text.old text.new (row_text (rows.pattern_row fault.now)) }
+{
+    match fault {
+        PatternFault::NoSuchName { name } => name_row(text, "NoSuchName", name),
+        PatternFault::Memory => {}
+    }
+}
+
+#[tactic(auto, using(bounded_io::proofs::Pieces::pieces_of_text))]
+fn write_playbook_row<W: Write>(text: &mut TextWriter<'_, W>, fault: &PlayFault)
+    ensures { Writes W.contents text.old text.new (row_text (rows.playbook_row fault.now)) }
+{
+    match fault {
+        PlayFault::NotJson => row(text, "NotJson", &[]),
+        PlayFault::BadShape { at } => path_row(text, "BadShape", at),
+        PlayFault::UnknownKey { at } => path_row(text, "UnknownKey", at),
+        PlayFault::NoSuchHandler { name } => name_row(text, "NoSuchHandler", name),
+        PlayFault::TwiceHandler { name } => name_row(text, "TwiceHandler", name),
+        PlayFault::BadSerial { at } => path_row(text, "BadSerial", at),
+        PlayFault::BadPercent { at } => path_row(text, "BadPercent", at),
+        PlayFault::ManyPlays => row(text, "ManyPlays", &[]),
+        PlayFault::TooManySteps => row(text, "TooManySteps", &[]),
+        PlayFault::BadCondition {
+            play,
+            step,
+            key,
+            fault,
+        } => write_cond_row(text, *play, *step, *key, fault),
+        PlayFault::BadBraces { play, step } => write_braces_row(text, *play, *step),
+        PlayFault::Memory => {}
+    }
+}
+
+#[tactic(auto, using(bounded_io::proofs::Pieces::pieces_of_text))]
+fn write_cond_row<W: Write>(
+    text: &mut TextWriter<'_, W>,
+    play: Option<usize>,
+    step: usize,
+    key: ConditionKey,
+    fault: &CondFault,
+)
+    ensures { Writes W.contents text.old text.new (row_text (rows.cond_row play step key fault.now)) }
+{
+    match fault {
+        CondFault::BadToken { at } => condition_row(text, "BadToken", play, step, key, *at),
+        CondFault::Unexpected { at } => condition_row(text, "Unexpected", play, step, key, *at),
+        CondFault::TooDeep { at } => condition_row(text, "TooDeep", play, step, key, *at),
+        CondFault::TooLong { at } => condition_row(text, "TooLong", play, step, key, *at),
+        CondFault::Memory => {}
+    }
+}
+
+/// A row of a condition under a key of a step; of several plays it tells which.
+#[tactic(auto, using(bounded_io::proofs::Pieces::pieces_of_text))]
+fn condition_row<W: Write>(
+    text: &mut TextWriter<'_, W>,
+    name: &str,
+    play: Option<usize>,
+    step: usize,
+    key: ConditionKey,
+    at: usize,
+)
+    ensures { Writes W.contents text.old text.new (row_text (rows.condition_row name.now play step key at)) }
+{
+    let step = Number("step", step as u64);
+    let key = Text("key", key.name());
+    let at = Number("at", at as u64);
+    match play {
+        Some(play) => row(text, name, &[Number("play", play as u64), step, key, at]),
+        None => row(text, name, &[step, key, at]),
+    }
+}
+
+#[tactic(auto, using(bounded_io::proofs::Pieces::pieces_of_text))]
+fn write_braces_row<W: Write>(text: &mut TextWriter<'_, W>, play: Option<usize>, step: usize)
+    ensures { Writes W.contents text.old text.new (row_text (rows.braces_row play step)) }
+{
+    let step = Number("step", step as u64);
+    match play {
+        Some(play) => row(text, "BadBraces", &[Number("play", play as u64), step]),
+        None => row(text, "BadBraces", &[step]),
+    }
+}
+
+/// A row of a fault at a path.
+#[tactic(auto, using(bounded_io::proofs::Pieces::pieces_of_text))]
+fn path_row<W: Write>(text: &mut TextWriter<'_, W>, name: &str, at: &String)
+    ensures { Writes W.contents text.old text.new (row_text (rows.path_row name.now (string_bytes at.now))) }
+{
+    row(text, name, &[Text("at", at.as_str())]);
+}
+
+/// A row of a fault that names something.
+#[tactic(auto, using(bounded_io::proofs::Pieces::pieces_of_text))]
+fn name_row<W: Write>(text: &mut TextWriter<'_, W>, name: &str, named: &String)
+    ensures { Writes W.contents text.old text.new (row_text (rows.name_row name.now (string_bytes named.now))) }
+{
+    row(text, name, &[Text("name", named.as_str())]);
 }
 
 /// A row of the table: the name of a fault, and its details in their order.

@@ -4,7 +4,7 @@ ghost use Rattle.std.specs.Process.{exit_status};
 ghost use Rattle.rollout.specs.Runs.{Attempts, Does, Performs, Runs};
 ghost use Rattle.rollout.specs.Systems.{sources_of};
 
-use crate::commands::{limits, print};
+use crate::commands::{limits, plan, print};
 use crate::ending::{conclude, exit_code};
 use crate::fault::Fault;
 use crate::status::Status;
@@ -77,6 +77,10 @@ fn follow<S: System, I: Input, O: Write>(
 {
     match line {
         Line::Limits { inventory } => limits(system, alloc, inventory, input, out),
+        Line::Plan {
+            inventory,
+            playbook,
+        } => plan(system, alloc, inventory, playbook, input, out),
         Line::Print(message) => print(message.as_str(), out),
     }
 }

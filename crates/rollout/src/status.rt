@@ -2,6 +2,8 @@
 ghost use Rattle.std.specs.Prelude.{◌≡◌};
 ghost use Rattle.rollout.specs.Status.{code_of};
 
+use planning::End;
+
 /// The end of the program, as its exit status tells it.
 #[derive(Clone, Copy, Debug, PartialEq, Eq)]
 pub enum Status {
@@ -9,6 +11,8 @@ pub enum Status {
     Done,
     /// The line, an input or a write was refused.
     Refused,
+    /// Hosts wait in a group that has no room.
+    Blocked,
     /// Memory was wanting.
     Memory,
 }
@@ -20,7 +24,22 @@ impl Status {
         match self {
             Status::Done => 0,
             Status::Refused => 1,
+            Status::Blocked => 3,
             Status::Memory => 5,
+        }
+    }
+}
+
+impl From<End> for Status {
+    ghost use Rattle.std.specs.Prelude.{◌≡◌};
+    ghost use Rattle.rollout.specs.Status.{status_of_end};
+
+    ghost from_gives = { λ end status. status ≡ status_of_end end };
+
+    fn from(end: End) -> Status {
+        match end {
+            End::Planned => Status::Done,
+            End::Blocked => Status::Blocked,
         }
     }
 }

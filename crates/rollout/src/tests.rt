@@ -254,6 +254,69 @@ fn the_file_that_is_named_is_read_whole(rt: HostRuntime) -> Result<(), Fail> {
     Ok(())
 }
 
+const ALL: &str = r#"[{"hosts":"all","tasks":[{"command":"true"}]}]"#;
+
+const NO_ROOM: &str = r#"{"all":{"children":{"g":{"vars":{"max_down":0},"hosts":{"a":null}}}}}"#;
+
+/// The two files of `plan`, what is printed, what is reported, and the exit status.
+const PLANS: [(&str, &str, &str, &str, u8); 7] = [
+    (
+        "racks",
+        "all",
+        "plan batches=3 bound=group r1 waiting=3 room=1\nbatch 1: a d\nbatch 2: b e\nbatch 3: c\n",
+        "",
+        0,
+    ),
+    ("no room", "all", "blocked group=g waiting=1\n", "", 3),
+    (
+        "no room",
+        "hold",
+        "plan batches=0 bound=nothing\nheld: a\n",
+        "",
+        3,
+    ),
+    ("all", "racks", "", "rollout: 202 BadShape at=\n", 1),
+    ("racks", "racks", "", "rollout: 702 BadShape at=\n", 1),
+    ("all", "none", "", "rollout: 902 File name=none\n", 1),
+    (
+        "racks",
+        "second",
+        "",
+        "rollout: 501 BadToken play=2 step=1 key=when at=2\n",
+        1,
+    ),
+];
+
+#[test]
+fn a_plan_is_printed_or_its_fault_is_reported(rt: HostRuntime) -> Result<(), Fail> {
+    let files = [
+        ("racks", TWO_RACKS),
+        ("no room", NO_ROOM),
+        ("all", ALL),
+        (
+            "hold",
+            r#"[{"hosts":"all","on_blocked":"hold","tasks":[{"command":"true"}]}]"#,
+        ),
+        (
+            "second",
+            r#"[{"hosts":"all","tasks":[{"command":"true"}]},{"hosts":"x","tasks":[{"command":"true","when":"a ="}]}]"#,
+        ),
+    ];
+    for (inventory, playbook, printed, reported, status) in PLANS {
+        let words = ["plan", inventory, playbook];
+        let system = Given {
+            alloc: rt.alloc(),
+            words: &words,
+            files: &files,
+        };
+        let (out, errors, code) = ended(rt.alloc(), &system, b"unread");
+        assert_eq!(rt; out.as_slice(), printed.as_bytes(), "{words:?}");
+        assert_eq!(rt; errors.as_slice(), reported.as_bytes(), "{words:?}");
+        assert_eq!(rt; code, ExitCode::from(status), "{words:?}");
+    }
+    Ok(())
+}
+
 /// Takes bytes until its room is used up, and none then.
 #[derive(Drop)]
 struct Narrow {

@@ -7,13 +7,14 @@ use std::test::Fail;
 enum Wanted {
     Inventory(&'static str),
     PipedInventory,
+    Files(&'static str, &'static str),
     Text(&'static str),
     Refusal,
 }
 
-use Wanted::{Inventory, PipedInventory, Refusal, Text};
+use Wanted::{Files, Inventory, PipedInventory, Refusal, Text};
 
-const LINES: [(&[&str], Wanted); 26] = [
+const LINES: [(&[&str], Wanted); 41] = [
     (&[], PipedInventory),
     (&["limits", "inv.json"], Inventory("inv.json")),
     (&["limits", "--", "-x"], Inventory("-x")),
@@ -29,7 +30,20 @@ const LINES: [(&[&str], Wanted); 26] = [
     (&["limits", "--forks", "2"], Refusal),
     (&["limit", "a"], Refusal),
     (&["--", "limits", "a"], Refusal),
-    (&["plan", "a", "b"], Refusal),
+    (&["plan", "a", "b"], Files("a", "b")),
+    (&["plan", "-", "-"], Files("-", "-")),
+    (&["plan", "", "plan"], Files("", "plan")),
+    (&["plan", "--", "-x", "--"], Files("-x", "--")),
+    (&["plan", "a", "--", "--help"], Files("a", "--help")),
+    (&["plan", "a", "b", "--"], Files("a", "b")),
+    (&["plan"], Refusal),
+    (&["plan", "a"], Refusal),
+    (&["plan", "a", "--"], Refusal),
+    (&["plan", "--", "a"], Refusal),
+    (&["plan", "a", "b", "c"], Refusal),
+    (&["plan", "a", "--", "b", "c"], Refusal),
+    (&["plan", "a", "-x"], Refusal),
+    (&["plan", "--forks", "2", "a", "b"], Refusal),
     (&["run", "a", "b"], Refusal),
     (&["rehearse", "a", "b"], Refusal),
     (&["jump"], Refusal),
@@ -40,6 +54,11 @@ const LINES: [(&[&str], Wanted); 26] = [
     (&["--version"], Text("rollout 0.1.0\n")),
     (&["-V"], Text("rollout 0.1.0\n")),
     (&["limits", "--help"], Text("Usage: rollout limits <INV>")),
+    (&["plan", "-h"], Text("Usage: rollout plan <INV> <PLAY>")),
+    (
+        &["plan", "a", "--help"],
+        Text("Usage: rollout plan <INV> <PLAY>"),
+    ),
 ];
 
 fn agrees(outcome: &Result<Line, LineFault>, wanted: &Wanted) -> bool {
@@ -54,6 +73,15 @@ fn agrees(outcome: &Result<Line, LineFault>, wanted: &Wanted) -> bool {
                 inventory: Source::File(name),
             },
         ) => { matches!(wanted, Inventory(file) if name.as_str() == *file) }
+        Ok(
+            Line::Plan {
+                inventory: Source::File(inventory),
+                playbook: Source::File(playbook),
+            },
+        ) => {
+            matches!(wanted, Files(first, second) if inventory.as_str() == *first && playbook.as_str() == *second)
+        }
+        Ok(Line::Plan { .. }) => false,
         Ok(Line::Print(text)) => matches!(wanted, Text(part) if text.as_str().contains(*part)),
         Err(LineFault::BadLine(text)) => matches!(wanted, Refusal)
             && text.as_str().contains("Usage: "),

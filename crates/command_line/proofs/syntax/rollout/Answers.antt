@@ -23,4 +23,6 @@ returns c =
     let unnamed : app_of c.no_binary_name.result ≡ without_name (with_version new) = ap app_of_fields c.no_binary_name.ensures ∙ ap without_name described in
     let required : app_of c.subcommand_required.result ≡ with_command (without_name (with_version new)) = ap app_of_fields c.subcommand_required.ensures ∙ ap with_command unnamed in
     let below = ap (λ (app : App). app.top) c.in_ok-limits.ensures.app in
-    IfOk-weaker c.subcommand.result _ _ (λ r h. h.shape c.in_ok-limits.ensures.local ∙ ap₂ with_subcommand required below) c.subcommand.ensures
+    let first = c.in_ok-subcommand.ensures.shape c.in_ok-limits.ensures.local ∙ ap₂ with_subcommand required below in
+    let beside = ap (λ (app : App). app.top) c.in_ok-plan.ensures.app in
+    IfOk-weaker c.subcommand-2.result _ _ (λ r h. h.shape c.in_ok-plan.ensures.local ∙ ap₂ with_subcommand first beside) c.subcommand-2.ensures
