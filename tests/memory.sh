@@ -89,6 +89,8 @@ each_refused() {
 
 each_refused limits "$top/examples/two-regions.json"
 each_refused limits "$top/examples/crossing-racks.json"
+each_refused plan "$top/examples/two-racks.json" "$top/examples/restart-web.json"
+each_refused plan "$top/examples/two-regions.json" "$top/examples/everywhere.json"
 input=$top/examples/two-regions.json
 each_refused
 input=/dev/null
