@@ -258,6 +258,8 @@ planned 'a plan of the first of two plays' "$pair" '[{"hosts":"a","tasks":[{"com
 
 unplanned 'a name that nothing has' "$pair" '[{"hosts":"g:db","tasks":[{"command":"true"}]}]' 'rollout: 304 NoSuchName name=db'
 unplanned 'a name that nothing has in a second play' "$pair" '[{"hosts":"a","tasks":[{"command":"true"}]},{"hosts":"h\u00e9","tasks":[{"command":"true"}]}]' 'rollout: 304 NoSuchName name=h??'
+nobody=$(printf 'n%.0s' $(seq 300))
+unplanned 'a name longer than names are' "$pair" '[{"hosts":"'"$nobody"'","tasks":[{"command":"true"}]}]' "rollout: 304 NoSuchName name=$nobody"
 unplanned 'an unknown token' "$pair" "$(step '"command":"true","when":"tier = 1"')" 'rollout: 501 BadToken step=1 key=when at=5'
 unplanned 'an unknown token in a second play' "$pair" "$(second '"command":"true","when":"tier = 1"')" 'rollout: 501 BadToken play=2 step=2 key=when at=5'
 unplanned 'a condition that ends too early' "$pair" "$(step '"command":"true","failed_when":"r.rc == 3 and"')" 'rollout: 502 Unexpected step=1 key=failed_when at=13'

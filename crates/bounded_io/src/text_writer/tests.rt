@@ -30,7 +30,7 @@ fn write_lines<W: Write>(out: &mut W, numbers: &[u64]) -> Result<(), WriteFault>
     text.finish()
 }
 
-/// Takes bytes, a few at a write, until its room is used up; then each write ends as `then` says.
+/// Takes bytes, a few at a write, until its room is used up; then a write ends as `then` says, and there is room again.
 #[derive(Drop)]
 struct Narrow {
     taken: Vec<u8>,
@@ -49,6 +49,8 @@ impl Write for Narrow {
     fn write(&mut self, buf: &[u8]) -> io::Result<usize> {
         let count = buf.len().min(self.most).min(self.room);
         if count == 0 {
+            // whoever tries again is found out by the bytes behind
+            self.room = buf.len();
             return match self.then {
                 Then::TakesNone => Ok(0),
                 Then::Fails(kind) => Err(io::Error::from(kind)),
