@@ -1,5 +1,5 @@
 //! From tokens to a tree, down the rules of the grammar. What nests has room for so many more brackets and `not`s.
-ghost use Rattle.std.specs.Prelude.{◌≡◌, ◌<◌, Some, IfOk, IfErr, length, map, true, box_value};
+ghost use Rattle.std.specs.Prelude.{◌≡◌, ◌<◌, ◌++◌, ◌∷◌, [], Some, IfOk, IfErr, length, map, true, box_value};
 ghost use Rattle.cond.specs.Grammar as grammar;
 ghost use Rattle.cond.specs.Meaning.{Environment, any_meaning, all_meaning, neg_meaning, primary_meaning, test_meaning, turned};
 ghost use Rattle.cond.specs.Readings as readings;
@@ -16,7 +16,7 @@ use crate::leaf::Test;
 use crate::reading::test;
 use crate::rest::Rest;
 use crate::stop::Stop;
-use std::alloc::Global;
+use std::alloc::{AllocError, Global};
 
 /// all { "or" all }
 #[cycle(parser)]
@@ -37,11 +37,11 @@ pub(crate) fn any<'a, 't>(
             Ok(read) => read,
             Err(stop) => return Err(stop),
         };
-        parts.push(part)?;
         if is_or(&rest) {
+            parts.push(part)?;
             left = rest.behind();
         } else {
-            return Ok((either(parts), rest));
+            return Ok((either(parts, part)?, rest));
         }
     }
 }
@@ -65,11 +65,11 @@ fn all<'a, 't>(
             Ok(read) => read,
             Err(stop) => return Err(stop),
         };
-        parts.push(part)?;
         if is_and(&rest) {
+            parts.push(part)?;
             left = rest.behind();
         } else {
-            return Ok((both(parts), rest));
+            return Ok((both(parts, part)?, rest));
         }
     }
 }
@@ -230,25 +230,23 @@ fn negated(part: Box<Cond>) -> Cond
     Cond::Negated(part)
 }
 
-// One part is itself.
-fn either(mut parts: Vec<Cond>) -> Cond
-    ensures { (e : Environment) → verdict_of e result ≡ any_of (map (verdict_of e) parts.items) }
+// A part that stands alone is itself, and takes no memory.
+fn either(mut parts: Vec<Cond>, last: Cond) -> Result<Cond, AllocError>
+    ensures { IfOk result (λ tree. (e : Environment) → verdict_of e tree ≡ any_of (map (verdict_of e) (parts.items ++ last ∷ []))) }
 {
-    if parts.len() == 1 {
-        if let Some(only) = parts.pop() {
-            return only;
-        }
+    if parts.is_empty() {
+        return Ok(last);
     }
-    Cond::Either(parts)
+    parts.push(last)?;
+    Ok(Cond::Either(parts))
 }
 
-fn both(mut parts: Vec<Cond>) -> Cond
-    ensures { (e : Environment) → verdict_of e result ≡ all_of (map (verdict_of e) parts.items) }
+fn both(mut parts: Vec<Cond>, last: Cond) -> Result<Cond, AllocError>
+    ensures { IfOk result (λ tree. (e : Environment) → verdict_of e tree ≡ all_of (map (verdict_of e) (parts.items ++ last ∷ []))) }
 {
-    if parts.len() == 1 {
-        if let Some(only) = parts.pop() {
-            return only;
-        }
+    if parts.is_empty() {
+        return Ok(last);
     }
-    Cond::Both(parts)
+    parts.push(last)?;
+    Ok(Cond::Both(parts))
 }

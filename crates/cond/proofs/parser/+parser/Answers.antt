@@ -1,4 +1,4 @@
-use Rattle.std.proofs.Common.{◌≡◌, ℕ, ◌<◌, List, length, sym, refl, ap, ◌∙◌, subst, arith, rules}
+use Rattle.std.proofs.Common.{◌≡◌, ℕ, ◌<◌, List, [], ◌∷◌, ◌++◌, length, sym, refl, ap, ◌∙◌, subst, arith, rules}
 use Rattle.cond.specs.Tokens.{Token, Not, Opening}
 use Rattle.cond.specs.Seen.{ahead}
 use Rattle.cond.proofs.OrChains as or_chains
@@ -18,7 +18,7 @@ any-alternatives-preserved t c =
 
 pub any-returns-else-is_or-clause-read : goal.any-returns-else-is_or-clause-read
 any-returns-else-is_or-clause-read t c =
-    or_chains.all_read (ahead c.args.tokens) (ahead c.alternatives.left) c.args.room c.alternatives.parts.items c.push.new.self.items c.in-Ok.read.0 (ahead c.in-Ok.read.1) c.alternatives.invariant.0 c.in-Ok.ensures.read c.in_ok-push.ensures.items (first_other_or (ahead c.in-Ok.read.1) (sym c.is_or.ensures ∙ c.if-is_or.false)) c.either.result c.either.ensures
+    or_chains.all_read (ahead c.args.tokens) (ahead c.alternatives.left) c.args.room c.alternatives.parts.items (c.alternatives.parts.items ++ c.in-Ok.read.0 ∷ []) c.in-Ok.read.0 (ahead c.in-Ok.read.1) c.alternatives.invariant.0 c.in-Ok.ensures.read refl (first_other_or (ahead c.in-Ok.read.1) (sym c.is_or.ensures ∙ c.if-is_or.false)) c.in_ok-either.field-0 c.in_ok-either.ensures
 
 pub all-returns-in-Err-clause-refused : goal.all-returns-in-Err-clause-refused
 all-returns-in-Err-clause-refused t c =
@@ -30,7 +30,7 @@ all-conjuncts-preserved t c =
 
 pub all-returns-else-is_and-clause-read : goal.all-returns-else-is_and-clause-read
 all-returns-else-is_and-clause-read t c =
-    and_chains.all_read (ahead c.args.tokens) (ahead c.conjuncts.left) c.args.room c.conjuncts.parts.items c.push.new.self.items c.in-Ok.read.0 (ahead c.in-Ok.read.1) c.conjuncts.invariant.0 c.in-Ok.ensures.read c.in_ok-push.ensures.items (first_other_and (ahead c.in-Ok.read.1) (sym c.is_and.ensures ∙ c.if-is_and.false)) c.both.result c.both.ensures
+    and_chains.all_read (ahead c.args.tokens) (ahead c.conjuncts.left) c.args.room c.conjuncts.parts.items (c.conjuncts.parts.items ++ c.in-Ok.read.0 ∷ []) c.in-Ok.read.0 (ahead c.in-Ok.read.1) c.conjuncts.invariant.0 c.in-Ok.ensures.read refl (first_other_and (ahead c.in-Ok.read.1) (sym c.is_and.ensures ∙ c.if-is_and.false)) c.in_ok-both.field-0 c.in_ok-both.ensures
 
 pub neg-returns-else-is_not-clause-read : goal.neg-returns-else-is_not-clause-read
 neg-returns-else-is_not-clause-read t c =
