@@ -27,7 +27,8 @@ pub(crate) struct Tokens<'t> {
 pub(crate) fn tokenize<'t>(alloc: Global, text: &'t str) -> Result<Tokens<'t>, AllocError>
     ensures { IfOk result (λ found. FallsInto text.now (marks found.all.items) found.left.now) }
 {
-    let mut all = Vec::new(alloc);
+    // Mostly a token has two bytes or more, or a blank beside it.
+    let mut all = Vec::with_capacity(alloc, text.len() / 2)?;
     let mut left = without_blanks(text);
     while let Some((kind, behind)) = token_at(left) {
         let at = text.len() - left.len();

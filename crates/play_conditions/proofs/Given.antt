@@ -5,19 +5,13 @@ use Rattle.cond.specs.declared.condition.Cond.{Cond}
 use Rattle.inventory_model.specs.Names.{Name}
 use Rattle.serde_json.specs.Data.{Data}
 use Rattle.serde_json.specs.Find.{get}
-use Rattle.play_rules.specs.Breaches.{Spot, Broken, BadShape, unless, where_given}
+use Rattle.play_rules.specs.Breaches.{Spot, Check, Broken, BadShape, unless, where_given}
 use Rattle.play_rules.specs.Conditions as rules
 use Rattle.play_rules.specs.Conditions.{clause_of, is_clause, clauses_listed, clauses_of, asked_of, checks_of, checks_at}
 use Rattle.play_faults.specs.Checks.{AllKept}
 use Rattle.play_conditions.specs.Says.{MeanEach, IsJoined, Says, IsFlawOf}
 use Rattle.play_conditions.specs.declared.flaw.ConditionFlaw.{ConditionFlaw}
 use Rattle.play_conditions.proofs.Readings.{kept_where_meant}
-
-pub kept_given : (spot : Spot) (key : Name) (value : Data) (list : List Data) (clauses : List rules.Clause) (parts : List Cond) → list ≡ clauses_listed value → list_all is_clause list ≡ true → clauses ≡ filter_map clause_of list → MeanEach clauses parts → AllKept (checks_of spot key value)
-kept_given spot key value list clauses parts listed all are each =
-    let meant : AllKept (flat_map (asked_of spot key) (filter_map clause_of list)) = subst (λ (of : List rules.Clause). AllKept (flat_map (asked_of spot key) of)) are (kept_where_meant spot key clauses parts each) in
-    let kept : AllKept (map Broken (unless (list_all is_clause list) BadShape) ++ flat_map (asked_of spot key) (filter_map clause_of list)) = subst (λ (test : Bool). AllKept (map Broken (unless test BadShape) ++ flat_map (asked_of spot key) (filter_map clause_of list))) (sym all) meant in
-    subst (λ (of : List Data). AllKept (map Broken (unless (list_all is_clause of) BadShape) ++ flat_map (asked_of spot key) (filter_map clause_of of))) listed kept
 
 no_parts : (parts : List Cond) → MeanEach [] parts → parts ≡ []
 no_parts [] each = refl
@@ -30,9 +24,23 @@ says_of (clause ∷ clauses) parts None each joined =
 says_of clauses parts (Some tree) each joined =
     (λ none. joined.0 (no_parts parts (subst (λ (of : List rules.Clause). MeanEach of parts) none each)), record { parts = parts; each = each; same = joined.1 })
 
-pub says_given : (value : Data) (list : List Data) (clauses : List rules.Clause) (parts : List Cond) (result : Option Cond) → list ≡ clauses_listed value → clauses ≡ filter_map clause_of list → MeanEach clauses parts → IsJoined parts result → Says (clauses_of value) result
-says_given value list clauses parts result listed are each joined =
-    subst (λ (of : List rules.Clause). Says of result) (are ∙ ap (filter_map clause_of) listed) (says_of clauses parts result each joined)
+-- the checks of parts whose shapes pass or not
+abbrev checks_with : Spot → Name → Bool → List Data → List Check
+checks_with spot key passed list =
+    map Broken (unless passed BadShape) ++ flat_map (asked_of spot key) (filter_map clause_of list)
+
+module _ (value : Data) (list : List Data) (listed : list ≡ clauses_listed value) where
+  module _ (clauses : List rules.Clause) (parts : List Cond) (are : clauses ≡ filter_map clause_of list) (each : MeanEach clauses parts) where
+    pub kept_given : (spot : Spot) (key : Name) → list_all is_clause list ≡ true → AllKept (checks_of spot key value)
+    kept_given spot key all =
+        let meant = subst (λ (of : List rules.Clause). AllKept (flat_map (asked_of spot key) of)) are (kept_where_meant spot key clauses parts each) in
+        let kept = subst (λ (passed : Bool). AllKept (checks_with spot key passed list)) (sym all) meant in
+        subst (λ (of : List Data). AllKept (checks_with spot key (list_all is_clause of) of)) listed kept
+
+    pub says_given : (result : Option Cond) → IsJoined parts result → Says (clauses_of value) result
+    says_given result joined =
+        let said = are ∙ ap (filter_map clause_of) listed in
+        subst (λ (of : List rules.Clause). Says of result) said (says_of clauses parts result each joined)
 
 module _ (spot : Spot) (key name : Name) (step value : Data) (result : Result (Option Cond) ConditionFlaw) (same : name ≡ key) (given : Some value ≡ get name step) where
   found : Some value ≡ get key step

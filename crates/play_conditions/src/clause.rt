@@ -50,7 +50,7 @@ pub(crate) fn clauses_in<'a>(
 ) -> Result<Vec<Clause<'a>>, AllocError>
     ensures { IfOk result (λ clauses. map said clauses.items ≡ filter_map spec.clause_of (map view list.now)) }
 {
-    let mut clauses = Vec::new(alloc);
+    let mut clauses = Vec::with_capacity(alloc, list.len())?;
     for value in list {
         if let Some(clause) = clause_of(value) {
             clauses.push(clause)?;

@@ -45,7 +45,7 @@ pub(crate) fn read_each(alloc: Global, clauses: &[Clause<'_>]) -> Result<Vec<Con
     ensures ok { IfOk result (λ parts. MeanEach (map said clauses.now) parts.items) }
     ensures err { (spot : Spot) (key : Name) → IfErr result (λ fault. IsFaultOfText spot key fault (flat_map (asked_of spot key) (map said clauses.now))) }
 {
-    let mut parts = Vec::new(alloc);
+    let mut parts = Vec::with_capacity(alloc, clauses.len())?;
     for index in 0..clauses.len() {
         match read_clause(alloc, clauses[index]) {
             Ok(part) => parts.push(part)?,

@@ -10,9 +10,10 @@ use Rattle.play_conditions.proofs.reading.read_given.Goals as goal
 pub returns-in-Ok-clause-kept : goal.returns-in-Ok-clause-kept
 returns-in-Ok-clause-kept c = λ spot.
     let each = subst (λ (of : List Clause). MeanEach (map said of) c.in-Ok.parts.items) c.as_slice.ensures.value c.in-Ok.ensures.ok in
-    kept_given spot (key_name c.args.key) (view c.args.value.now) _ _ c.in-Ok.parts.items c.clauses_listed-list.ensures (sym c.are_clauses.ensures ∙ c.if-not-are_clauses.false) c.in_ok-clauses.ensures each
+    let all = sym c.are_clauses.ensures ∙ c.if-not-are_clauses.false in
+    kept_given (view c.args.value.now) _ c.clauses_listed-list.ensures _ c.in-Ok.parts.items c.in_ok-clauses.ensures each spot (key_name c.args.key) all
 
 pub returns-in-Ok-clause-says : goal.returns-in-Ok-clause-says
 returns-in-Ok-clause-says c =
     let each = subst (λ (of : List Clause). MeanEach (map said of) c.in-Ok.parts.items) c.as_slice.ensures.value c.in-Ok.ensures.ok in
-    says_given (view c.args.value.now) _ _ c.in-Ok.parts.items c.joined.result c.clauses_listed-list.ensures c.in_ok-clauses.ensures each c.joined.ensures
+    says_given (view c.args.value.now) _ c.clauses_listed-list.ensures _ c.in-Ok.parts.items c.in_ok-clauses.ensures each c.joined.result c.joined.ensures
