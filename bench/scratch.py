@@ -8,6 +8,14 @@ TOP = os.path.dirname(os.path.dirname(os.path.abspath(__file__)))
 MIB = 1 << 20
 
 
+def link(source, target):
+    """A second name for the file, or a copy where the target lies on another disk: what was proved of a crate takes hundreds of MiB."""
+    try:
+        os.link(source, target)
+    except OSError:
+        shutil.copy2(source, target)
+
+
 def build(folder, crates, name, needs, source, words, proofs={}):
     """Proves and builds a program over crates of the repository, in a repository of its own; it is run once with the words. Its proofs
     are texts by their paths."""
@@ -15,7 +23,8 @@ def build(folder, crates, name, needs, source, words, proofs={}):
         shutil.copytree(
             os.path.join(TOP, "crates", crate),
             os.path.join(folder, "crates", crate),
-            ignore=shutil.ignore_patterns("must-fail"),
+            ignore=shutil.ignore_patterns("must-fail", "incremental"),
+            copy_function=link,
         )
     shutil.copy(os.path.join(TOP, "HANDLES"), folder)
     subprocess.run(["git", "init", "-q", "."], cwd=folder, check=True)

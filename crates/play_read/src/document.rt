@@ -75,7 +75,7 @@ fn read_each(alloc: Global, plays: &[Value]) -> Result<Vec<Play>, PlayFault>
     ensures says { IfOk result (λ read. AllZip IsPlay (map spec.play_of (map view plays.now)) read.items) }
     ensures err { IfErr result (λ fault. IsRefusal fault (spec.checks_of_plays (nat_lt 1 (length plays.now)) 1 (map view plays.now))) }
 {
-    let mut read = Vec::new(alloc);
+    let mut read = Vec::with_capacity(alloc, plays.len())?;
     for index in 0..plays.len() {
         match read_one(alloc, place_of(index, plays.len()), &plays[index]) {
             Ok(play) => read.push(play)?,

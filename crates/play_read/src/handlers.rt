@@ -88,7 +88,7 @@ pub(crate) fn read_handlers<'a>(
     ensures plain { IfOk result (λ steps. All HasPlainWords steps.items) }
     ensures err { IfErr result (λ fault. IsRefusal fault (checks_of_handlers play.told (tasks + 1) [] (map view handlers.now))) }
 {
-    let mut steps = Vec::new(alloc);
+    let mut steps = Vec::with_capacity(alloc, handlers.len())?;
     for index in 0..handlers.len() {
         let place = StepPlace {
             play,

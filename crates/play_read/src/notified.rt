@@ -38,7 +38,7 @@ fn numbers_of(
     ensures numbers { IfOk result (λ numbers. numbers.items ≡ filter_map (spec.place_of (known handlers.now)) (lent_texts names.now)) }
     ensures err { IfErr result (λ fault. IsRefusal fault (map Broken (map NoSuchHandler (filter (spec.is_missing (known handlers.now)) (lent_texts names.now))))) }
 {
-    let mut numbers = Vec::new(alloc);
+    let mut numbers = Vec::with_capacity(alloc, names.len())?;
     for name in names {
         let Some(number) = handlers.place_of(name) else {
             return Err(PlayFault::NoSuchHandler {

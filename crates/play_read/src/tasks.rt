@@ -78,7 +78,7 @@ pub(crate) fn read_tasks(
     ensures plain { IfOk result (λ steps. All HasPlainWords steps.items) }
     ensures err { IfErr result (λ fault. IsRefusal fault (checks_of_tasks play.told 1 (known handlers.now) (map view tasks.now))) }
 {
-    let mut steps = Vec::new(alloc);
+    let mut steps = Vec::with_capacity(alloc, tasks.len())?;
     for index in 0..tasks.len() {
         let place = StepPlace {
             play,

@@ -44,7 +44,7 @@ fn is_word(value: &Value) -> bool
 fn words_among(alloc: Global, list: &[Value]) -> Result<Vec<String>, AllocError>
     ensures { IfOk result (λ words. map string_bytes words.items ≡ filter_map spec.word_of (map view list.now)) }
 {
-    let mut words = Vec::new(alloc);
+    let mut words = Vec::with_capacity(alloc, list.len())?;
     for value in list {
         if let Some(word) = word_of(alloc, value)? {
             words.push(word)?;

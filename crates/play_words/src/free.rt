@@ -57,7 +57,7 @@ fn is_parameter(word: &[u8]) -> bool
 fn copied(alloc: Global, words: &[&str]) -> Result<Vec<String>, AllocError>
     ensures { IfOk result (λ copies. map string_bytes copies.items ≡ lent_texts words.now) }
 {
-    let mut copies = Vec::new(alloc);
+    let mut copies = Vec::with_capacity(alloc, words.len())?;
     for word in words {
         copies.push(String::from_str(alloc, word)?)?;
     }

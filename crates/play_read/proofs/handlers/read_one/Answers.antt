@@ -21,5 +21,5 @@ pub returns-in_ok-fault_of_step-in-Err-clause-err :
 returns-in_ok-fault_of_step-in-Err-clause-err c =
     let spot = spot_at c.args.place.play.told c.args.place.number in
     let handler = view c.args.handler.now in
-    told_here c.in_ok-fault_of_step-in-Err.field-0 (named_in spot c.in-Err.flaw) (checks_of_handler spot handler) (map Broken (twice_named (known c.args.names.now) handler)) c.in_ok-fault_of_step-in-Err.ensures
-    (c.in-Err.ensures.err spot)
+    told_here c.in_ok-fault_of_step-in-Err.field-0 (named_in spot c.in-Err.flaw) (checks_of_handler spot handler)
+    (map Broken (twice_named (known c.args.names.now) handler)) c.in_ok-fault_of_step-in-Err.ensures (c.in-Err.ensures.err spot)

@@ -21,5 +21,5 @@ pub returns-in_ok-fault_of_step-in-Err-clause-err :
 returns-in_ok-fault_of_step-in-Err-clause-err c =
     let spot = spot_at c.args.place.play.told c.args.place.number in
     let task = view c.args.task.now in
-    told_here c.in_ok-fault_of_step-in-Err.field-0 (named_in spot c.in-Err.flaw) (checks_of_task spot task) (map Broken (unknown_handlers (known c.args.handlers.now) task)) c.in_ok-fault_of_step-in-Err.ensures
-    (c.in-Err.ensures.err spot)
+    told_here c.in_ok-fault_of_step-in-Err.field-0 (named_in spot c.in-Err.flaw) (checks_of_task spot task)
+    (map Broken (unknown_handlers (known c.args.handlers.now) task)) c.in_ok-fault_of_step-in-Err.ensures (c.in-Err.ensures.err spot)
