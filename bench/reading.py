@@ -1,6 +1,7 @@
 """What the benches of readers share: a program that reads a text as often as it is told, and the table of its times and memory
 against serde_json alone on the same bytes."""
 import os
+import subprocess
 
 from scratch import build
 
@@ -47,22 +48,23 @@ fn main(rt: HostRuntime) -> io::Result<()> {
         };
         least = least.min(start.elapsed(&rt)?.as_nanos());
     }
-    println!(rt; "{least} {answer}")
+    println!(rt; "{least} {answer}")?;
+    // It stays until its standard input ends, so that its greatest size can be read.
+    let _end = fs::read(&rt, "/dev/stdin")?;
+    Ok(())
 }
 """
 
 
 def run(program, what, path, runs):
-    """The least time in seconds, the answer, and the greatest resident size in MiB."""
-    reading, writing = os.pipe()
-    child = os.posix_spawn(
-        program, [program, what, path, str(runs)], os.environ, file_actions=[(os.POSIX_SPAWN_DUP2, writing, 1)]
-    )
-    os.close(writing)
-    with os.fdopen(reading) as pipe:
-        words = pipe.read().split()
-    _, _, usage = os.wait4(child, 0)
-    return int(words[0]) / 1e9, words[1], usage.ru_maxrss / 1024
+    """The least time in seconds, the answer, and the greatest resident size in MiB. That size is asked of the process while it lives:
+    what `wait4` tells of a child is at least the size of this process, which holds the text."""
+    child = subprocess.Popen([program, what, path, str(runs)], stdin=subprocess.PIPE, stdout=subprocess.PIPE)
+    words = child.stdout.readline().split()
+    with open(f"/proc/{child.pid}/status") as status:
+        size = next(int(line.split()[1]) for line in status if line.startswith("VmHWM"))
+    child.communicate()
+    return int(words[0]) / 1e9, words[1].decode(), size / 1024
 
 
 def compare(folder, crates, needs, used, called, cases):
