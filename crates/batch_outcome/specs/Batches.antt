@@ -1,5 +1,5 @@
 -- When a batch halts, and what becomes of its hosts. `fails` gives each host the step that failed on it, if one did.
-use Rattle.std.specs.Prelude.{ℕ, zero, suc, ◌*◌, nat_lt, nat_le, Bool, false, cond, Option, Some, None, List, length, map, count_by, if◌then◌else◌}
+use Rattle.std.specs.Prelude.{ℕ, zero, suc, ◌*◌, nat_lt, nat_le, Bool, false, cond, Option, Some, None, List, length, map, count_by, slice_index_or, if◌then◌else◌}
 use Rattle.std.specs.Option.{option_or}
 use Rattle.std.specs.List.{range_with_len}
 use Rattle.fleet_numbers.specs.NumberLists.{has_number}
@@ -9,6 +9,10 @@ use Rattle.fleet_states.specs.declared.status.Status.TheVariants.{Updated, Faile
 
 abbrev pub Fails : Type 0
 Fails = ℕ → Option ℕ
+
+-- the failing steps of the hosts, in the order of their numbers
+abbrev pub fails_in : List (Option ℕ) → Fails
+fails_in failing host = slice_index_or failing host None
 
 -- the failing step is this one or an earlier one
 abbrev pub is_failed_by : Option ℕ → ℕ → Bool

@@ -1,0 +1,33 @@
+//! How many hosts of a batch have failed.
+ghost use Rattle.std.specs.Prelude.{◌≡◌, slice_index_or, None};
+ghost use Rattle.batch_outcome.specs.Batches as spec;
+ghost use Rattle.batch_outcome.specs.Batches.{fails_in};
+
+/// How many hosts of the batch have failed by this step. `failing` has for each host of the fleet the step that failed on
+/// it, if one did; the failures of hosts outside the batch do not count.
+pub fn failed_by(failing: &[Option<usize>], batch: &[usize], step: usize) -> usize
+    ensures { result ≡ spec.failed_count (fails_in failing.now) batch.now step }
+{
+    batch
+        .iter()
+        .filter(|host| is_failed_by(failing_step(failing, **host), step))
+        .count()
+}
+
+fn failing_step(failing: &[Option<usize>], host: usize) -> Option<usize>
+    ensures { result ≡ fails_in failing.now host }
+{
+    match failing.get(host) {
+        Some(step) => *step,
+        None => None,
+    }
+}
+
+fn is_failed_by(failing: Option<usize>, step: usize) -> bool
+    ensures { result ≡ spec.is_failed_by failing step }
+{
+    match failing {
+        Some(failing) => failing <= step,
+        None => false,
+    }
+}
