@@ -1,14 +1,14 @@
 //! What a row changes on its host.
-ghost use Rattle.std.specs.Prelude.{◌≡◌, ℕ, ◌<◌, ◌&&◌, ◌||◌, OnOk, length};
+ghost use Rattle.std.specs.Prelude.{◌≡◌, ℕ, ◌<◌, ◌&&◌, ◌||◌, IfOk, OnOk, length};
 ghost use Rattle.fleet_numbers.specs.NumberLists.{has_number};
 ghost use Rattle.registered_results.specs.Results.{row_of};
 ghost use Rattle.outcome_results.specs.Hosts.{known_of, with_result};
-ghost use Rattle.outcome_results.specs.Endings.{Ending};
+ghost use Rattle.outcome_results.specs.Endings.{Ending, ending_of};
 ghost use Rattle.outcome_results.specs.Judging.{register_of, registered_row};
 ghost use Rattle.host_track.specs.Summaries.{HasPlaceFor, IsCopyFor, mark_at};
 
 use host_vars::Vars;
-use outcome_results::Finding;
+use outcome_results::{Finding, Outcome};
 use play_model::Step;
 use registered_results::Registered;
 use std::alloc::{AllocError, Global};
@@ -21,6 +21,21 @@ pub(crate) fn reserve(vars: &mut Vars, alloc: Global, step: &Step) -> Result<(),
     match &step.register {
         Some(name) => vars.reserve(alloc, name.as_str()),
         None => Ok(()),
+    }
+}
+
+/// A copy of the outcome's row, where the step registers its result: `Summary::enter` takes it. It fails for want of memory
+/// alone.
+pub fn copy_for(
+    alloc: Global,
+    step: &Step,
+    outcome: &Outcome,
+) -> Result<Option<Registered>, AllocError>
+    ensures { IfOk result (IsCopyFor (register_of step.now) (ending_of outcome.now)) }
+{
+    match &step.register {
+        Some(_name) => Ok(Some(outcome.row(alloc)?)),
+        None => Ok(None),
     }
 }
 

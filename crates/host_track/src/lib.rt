@@ -6,6 +6,7 @@ mod laws;
 mod place;
 mod summary;
 
+pub use entering::copy_for;
 pub use laws::{
     a_due_step_adds_its_row, a_failed_row_is_the_last, a_handler_runs_where_it_was_notified,
     a_track_grows_by_appending, another_step_adds_none, at_most_one_row_a_step,
