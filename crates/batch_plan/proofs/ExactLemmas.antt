@@ -36,7 +36,7 @@ distinct_once (x ∷ xs) once =
         let one : bit (nat_eq x x) ≡ 1 = ap bit (eq-eqb x x refl) in
         omega (arith, once x, count_by-cons (nat_eq x) x xs, one, count_some (nat_eq x) x xs here (eq-eqb x x refl))
 
-module _ (fleet : FleetView) (sound : IsSound fleet) (statuses : List Status) (cap : Option ℕ) (batches : List (List ℕ)) where
+module _ (fleet : FleetView) (statuses : List Status) (cap : Option ℕ) (batches : List (List ℕ)) where
   module _ (plan : IsPlan (groups_of fleet) statuses cap batches) where
     batch_times : (host k : ℕ) (d : List ℕ) → k < length batches → count_by (nat_eq host) (get_or batches k d) ≤ times_in batches host
     batch_times host k d within = get_or-le-sum_by (λ batch. count_by (nat_eq host) batch) batches k d within
@@ -102,9 +102,9 @@ module _ (fleet : FleetView) (sound : IsSound fleet) (statuses : List Status) (c
       (λ here. both_ways (is_waiting (status_at statuses host)) idle (list_all_number (λ host. is_waiting (status_at statuses host)) batch host wait.1 here)) in
       omega (arith, sum_by-cons (λ batch. count_by (nat_eq host) batch) batch bs, count_absent host batch gone, absent_times bs host parts.1 idle)
 
-  pub plan_from : StandOnce statuses batches → list_all (keeps_cap statuses cap) batches ≡ true → list_all (keep_room statuses batches) (groups_of fleet) ≡ true
+  pub plan_from : IsSound fleet → StandOnce statuses batches → list_all (keeps_cap statuses cap) batches ≡ true → list_all (keep_room statuses batches) (groups_of fleet) ≡ true
       → IsPlan (groups_of fleet) statuses cap batches
-  plan_from stand keep rooms =
+  plan_from sound stand keep rooms =
       record {
         once = λ host. by_case host (cases_lt host (length statuses));
         none_empty = λ k d l. ltb-true 0 (length (get_or batches k d)) (parts k d l).0;

@@ -5,11 +5,14 @@ pub mod DealLemmas
 pub mod ShareLemmas
 pub mod NamingLemmas
 pub mod CountedLemmas
+pub mod ToldLemmas
 pub mod PlannedLemmas
 pub mod AnswerLemmas
 pub mod BeginningLemmas
 pub mod HoldingLemmas
 pub mod RoomLemmas
 pub mod CheckLemmas
+pub mod PlacesLemmas
+pub mod FittingLemmas
 pub mod ExactLemmas
 pub mod UniqueLemmas

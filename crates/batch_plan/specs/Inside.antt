@@ -1,6 +1,7 @@
 -- Words of the proofs' steps: the needs of groups as their counts tell them, the best bound so far, a play's hosts.
-use Rattle.std.specs.Prelude.{◌≡◌, ℕ, ◌<◌, ◌≤◌, ◌-◌, Bool, false, nat_eq, None, Option, Some, List, filter, option_map, slice_index_or}
+use Rattle.std.specs.Prelude.{◌≡◌, ℕ, ◌<◌, ◌≤◌, ◌-◌, Bool, false, cond, nat_eq, None, Option, Some, List, [], ◌∷◌, filter, option_map, slice_index_or}
 use Rattle.domain_counts.specs.Counts.{Counted, down_in, place_at, waiting_in}
+use Rattle.domain_counts.specs.Nodes.{Node}
 use Rattle.domain_counts.specs.Places.{waits}
 use Rattle.fleet_states.specs.declared.status.Status.{Status}
 use Rattle.fleet_states.specs.declared.status.Status.TheVariants.{Idle, Waiting, Running, Updated, Failed, Halted, Off, Held}
@@ -14,6 +15,20 @@ use Rattle.batch_plan.specs.Bounds.{Forces, rank}
 abbrev pub counted_need : Counted → ℕ → Option Need
 counted_need counted group =
     option_map (λ limit. record { waiting = waiting_in counted group; room = limit - down_in counted group }) (slice_index_or counted.fleet.limits group None)
+
+-- the same by the node of the group
+abbrev pub node_need : List (Option ℕ) → Node → Option Need
+node_need limits node =
+    option_map (λ limit. record { waiting = node.waiting; room = limit - node.down }) (slice_index_or limits node.group None)
+
+-- what is known of a group's need once a node has told that of its own group
+abbrev pub told : List (Option ℕ) → Node → ℕ → Option Need → Option Need
+told limits node group before = cond (nat_eq group node.group) (node_need limits node) before
+
+-- the same once all these nodes have
+abbrev pub told_by : List (Option ℕ) → List Node → ℕ → Option Need → Option Need
+told_by limits [] group before = before
+told_by limits (node ∷ nodes) group before = told_by limits nodes group (told limits node group before)
 
 -- the waiting hosts by their places, in the order in which hosts are dealt
 abbrev pub counted_order : Counted → List ℕ

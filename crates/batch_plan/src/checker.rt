@@ -1,64 +1,24 @@
 //! Whether a plan that was handed in is one, and whether its bound forces its number of batches.
-ghost use Rattle.std.specs.Prelude.{◌≡◌, ◌↔◌, ◌<◌, IfSome, IsTrue, ◌≤◌, Some, cond, count_by, length, map, min, nat_eq, not};
+ghost use Rattle.std.specs.Prelude.{◌≡◌, ◌↔◌, IsTrue, length, map, not};
 ghost use Rattle.std.specs.List.{list_all};
 ghost use Rattle.domains.specs.Ids.{host_numbers};
 ghost use Rattle.domains.specs.Starts.{exceeds};
-ghost use Rattle.fleet_numbers.specs.NumberLists.{has_number, list_at};
 ghost use Rattle.fleet_states.specs.Statuses.{is_waiting, status_at};
-ghost use Rattle.fleet_states.specs.Groups.{group_at, groups_of};
+ghost use Rattle.fleet_states.specs.Groups.{groups_of};
 ghost use Rattle.batch_plan.specs.Needs.{needs_of};
 ghost use Rattle.batch_plan.specs.Needs as needs;
-ghost use Rattle.batch_plan.specs.Plans.{IsPlan, batch_numbers, times_in};
+ghost use Rattle.batch_plan.specs.Plans.{IsPlan, batch_numbers};
 ghost use Rattle.batch_plan.specs.Bounds.{Forces, IsForced};
-ghost use Rattle.batch_plan.specs.Checks.{StandOnce};
 ghost use Rattle.batch_plan.specs.Checks as model;
 
 use crate::answers::{Bound, Plan};
+use crate::marks::stand_once;
 use crate::needs::Need;
-use crate::rooms::{count_all, need_in, room};
+use crate::places_left::keep_room;
+use crate::rooms::{count_all, need_in};
 use domains::Fleet;
 use fleet_states::{Status, status_of};
 use group_tree::{GroupId, HostId};
-
-fn count_in(batch: &[HostId], host: usize) -> usize
-    ensures { result ≡ count_by (nat_eq host) (host_numbers batch.now) }
-{
-    batch.iter().filter(|other| host == other.index).count()
-}
-
-/// How often the host stands in the batches, where that is less than twice; else 2.
-fn times_in_batches(batches: &[Vec<HostId>], host: usize) -> usize
-    ensures { result ≡ min 2 (times_in (batch_numbers batches.now) host) }
-{
-    let mut times = 0;
-    for batch in batches {
-        times = (times + count_in(batch.as_slice(), host).min(2)).min(2);
-    }
-    times
-}
-
-fn stands_once(statuses: &[Status], batches: &[Vec<HostId>], host: usize) -> bool
-    ensures { IsTrue result ↔ (times_in (batch_numbers batches.now) host ≡ model.due statuses.now host) }
-{
-    let due = if status_of(statuses, HostId { index: host }).is_waiting() {
-        1
-    } else {
-        0
-    };
-    times_in_batches(batches, host) == due
-}
-
-/// Whether each host that waits stands in the batches once, and no other host that has a status does.
-fn stand_once(statuses: &[Status], batches: &[Vec<HostId>]) -> bool
-    ensures { IsTrue result ↔ StandOnce statuses.now (batch_numbers batches.now) }
-{
-    for host in 0..statuses.len() {
-        if !stands_once(statuses, batches, host) {
-            return false;
-        }
-    }
-    true
-}
 
 fn all_wait(statuses: &[Status], batch: &[HostId]) -> bool
     ensures { result ≡ list_all (λ host. is_waiting (status_at statuses.now host.index)) batch.now }
@@ -95,60 +55,6 @@ fn keep_cap(statuses: &[Status], cap: Option<u32>, batches: &[Vec<HostId>]) -> b
 {
     for batch in batches {
         if !keeps_cap(statuses, cap, batch.as_slice()) {
-            return false;
-        }
-    }
-    true
-}
-
-/// 1 for a host of the group, else 0.
-fn member_bit(fleet: &Fleet, group: GroupId, host: HostId) -> usize
-    requires { group.index < length fleet.now.groups }
-    ensures bit { result ≡ cond (has_number host.index (list_at fleet.now.members group.index)) 1 0 }
-    ensures few { result ≤ 1 }
-{
-    if fleet.is_member(group, host) { 1 } else { 0 }
-}
-
-fn count_members(fleet: &Fleet, group: GroupId, batch: &[HostId]) -> usize
-    requires { group.index < length fleet.now.groups }
-    ensures { result ≡ count_by (λ host. has_number host (list_at fleet.now.members group.index)) (host_numbers batch.now) }
-{
-    let mut count = 0;
-    for host in batch {
-        count += member_bit(fleet, group, *host);
-    }
-    count
-}
-
-fn has_room(room: usize, fleet: &Fleet, group: GroupId, batches: &[Vec<HostId>]) -> bool
-    requires { group.index < length fleet.now.groups }
-    ensures { result ≡ list_all (model.keeps_room (Some room) (list_at fleet.now.members group.index)) (batch_numbers batches.now) }
-{
-    for batch in batches {
-        if count_members(fleet, group, batch.as_slice()) > room {
-            return false;
-        }
-    }
-    true
-}
-
-/// Whether no batch has more hosts of the group than that has room for.
-fn keeps_room(fleet: &Fleet, statuses: &[Status], group: GroupId, batches: &[Vec<HostId>]) -> bool
-    requires { group.index < length fleet.now.groups }
-    ensures { result ≡ model.keep_room statuses.now (batch_numbers batches.now) (group_at (groups_of fleet.now) group.index) }
-{
-    match room(fleet, statuses, group) {
-        Some(room) => has_room(room, fleet, group, batches),
-        None => true,
-    }
-}
-
-fn keep_room(fleet: &Fleet, statuses: &[Status], batches: &[Vec<HostId>]) -> bool
-    ensures { result ≡ list_all (model.keep_room statuses.now (batch_numbers batches.now)) (groups_of fleet.now) }
-{
-    for index in 0..fleet.groups() {
-        if !keeps_room(fleet, statuses, GroupId { index }, batches) {
             return false;
         }
     }
@@ -222,15 +128,14 @@ pub fn check_plan(fleet: &Fleet, statuses: &[Status], cap: Option<u32>, plan: &P
     ensures { IsTrue result ↔ (IsPlan (groups_of fleet.now) statuses.now cap (batch_numbers plan.now.batches.items)
         × Forces (needs_of (groups_of fleet.now) statuses.now cap) (length plan.now.batches.items) plan.now.bound) }
 {
-    let _groups = fleet.groups();
     let batches = plan.batches.as_slice();
-    if !stand_once(statuses, batches) {
-        return false;
-    }
     if !keep_cap(statuses, cap, batches) {
         return false;
     }
     if !keep_room(fleet, statuses, batches) {
+        return false;
+    }
+    if !stand_once(statuses, batches) {
         return false;
     }
     forces(fleet, statuses, cap, plan.bound, batches.len())

@@ -1,14 +1,15 @@
 //! What the counts of a fleet's limited groups say of waiting hosts and of room.
-ghost use Rattle.std.specs.Prelude.{◌≡◌, ◌<◌, ◌++◌, ◌∷◌, [], cond, length, map, IfOk, OnOk};
+ghost use Rattle.std.specs.Prelude.{◌≡◌, ℕ, ◌<◌, ◌++◌, ◌∷◌, [], None, cond, length, map, replicate, slice_index_or, IfOk, OnOk};
 ghost use Rattle.std.specs.List.{range_with_len};
 ghost use Rattle.domains.specs.Ids.{host_numbers};
 ghost use Rattle.domains.specs.FleetViews.{IsSound};
+ghost use Rattle.domain_counts.specs.Nodes.{own_node, side_by_side};
 ghost use Rattle.domain_counts.specs.Places.{waits};
 ghost use Rattle.batch_plan.specs.Places as model;
-ghost use Rattle.batch_plan.specs.Inside.{counted_need, counted_order};
+ghost use Rattle.batch_plan.specs.Inside.{counted_need, counted_order, node_need, told, told_by};
 
 use crate::needs::Need;
-use domain_counts::{Domains, Place};
+use domain_counts::{DomTree, Domains, Place};
 use domains::Fleet;
 use fleet_states::Status;
 use group_tree::{GroupId, HostId};
@@ -40,21 +41,58 @@ pub fn counted<'f, A: Allocator + Clone>(
     Ok(domains)
 }
 
-/// What a group needs, where it has a limit.
-fn need_at<A: Allocator>(domains: &Domains<'_, A>, group: GroupId) -> Option<Need>
-    requires { group.index < length domains.now.fleet.groups }
-    ensures { result ≡ counted_need domains.now group.index }
+/// What a group needs of which the counts stand, where it has a limit.
+fn need_of<A: Allocator>(fleet: &Fleet, tree: &DomTree<A>) -> Option<Need>
+    requires { tree.now.group < length fleet.now.groups }
+    ensures { result ≡ node_need fleet.now.limits (own_node tree.now) }
 {
-    match domains.fleet().limit(group) {
+    match fleet.limit(tree.group()) {
         Some(limit) => Some(Need {
-            waiting: domains.waiting(group),
-            room: usize::from(limit).saturating_sub(domains.down(group)),
+            waiting: tree.waiting(),
+            room: usize::from(limit).saturating_sub(tree.down()),
         }),
         None => None,
     }
 }
 
-/// What each group needs, in preorder.
+/// Tells what the group needs, apart from those below it.
+fn tell_own<A: Allocator>(needs: &mut [Option<Need>], fleet: &Fleet, tree: &DomTree<A>)
+    requires { length needs.old ≡ length fleet.now.groups }
+    ensures len { length needs.new ≡ length needs.old }
+    ensures told { (group : ℕ) → group < length needs.old
+        → slice_index_or needs.new group None ≡ told fleet.now.limits (own_node tree.now) group (slice_index_or needs.old group None) }
+{
+    let group = tree.group();
+    if group.index < needs.len() {
+        needs[group.index] = need_of(fleet, tree);
+    }
+}
+
+/// Tells what each of these groups and of those below them needs.
+fn tell_all<A: Allocator>(needs: &mut [Option<Need>], fleet: &Fleet, trees: &[DomTree<A>])
+    requires { length needs.old ≡ length fleet.now.groups }
+    ensures len { length needs.new ≡ length needs.old }
+    ensures told { (group : ℕ) → group < length needs.old
+        → slice_index_or needs.new group None ≡ told_by fleet.now.limits (side_by_side trees.now) group (slice_index_or needs.old group None) }
+{
+    for tree in trees {
+        tell_own(needs, fleet, tree);
+        tell_all(needs, fleet, tree.children());
+    }
+}
+
+/// Nothing is known of so many groups.
+fn untold(alloc: Global, groups: usize) -> Result<Vec<Option<Need>>, AllocError>
+    ensures { IfOk result (λ needs. needs.items ≡ replicate groups None) }
+{
+    let mut needs = Vec::with_capacity(alloc, groups)?;
+    for _group in 0..groups {
+        needs.push(None)?;
+    }
+    Ok(needs)
+}
+
+/// What each group needs, in preorder, read off the tree of counts.
 pub(crate) fn list_needs<A: Allocator>(
     alloc: Global,
     domains: &Domains<'_, A>,
@@ -62,11 +100,9 @@ pub(crate) fn list_needs<A: Allocator>(
     ensures needs { IfOk result (λ needs. needs.items ≡ map (counted_need domains.now) (range_with_len 0 (length domains.now.fleet.groups))) }
     ensures sound { IfOk result (λ _. IsSound domains.now.fleet) }
 {
-    let groups = domains.fleet().groups();
-    let mut needs = Vec::with_capacity(alloc, groups)?;
-    for index in 0..groups {
-        needs.push(need_at(domains, GroupId { index }))?;
-    }
+    let fleet = domains.fleet();
+    let mut needs = untold(alloc, fleet.groups())?;
+    tell_all(needs.as_mut_slice(), fleet, domains.tops());
     Ok(needs)
 }
 

@@ -8,8 +8,10 @@ mod counting;
 mod dealing;
 mod holding;
 mod laws;
+mod marks;
 mod naming;
 mod needs;
+mod places_left;
 mod planner;
 mod rooms;
 

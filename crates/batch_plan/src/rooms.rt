@@ -1,5 +1,5 @@
 //! How many hosts of a group wait, and how many may go down. None of these calls takes memory.
-ghost use Rattle.std.specs.Prelude.{◌≡◌, ◌<◌, ◌<◌, length};
+ghost use Rattle.std.specs.Prelude.{◌≡◌, ◌<◌, ◌^◌, IfSome, length};
 ghost use Rattle.fleet_states.specs.Statuses.{waiting_count};
 ghost use Rattle.fleet_states.specs.Groups.{group_at, groups_of};
 ghost use Rattle.fleet_states.specs.Groups as model;
@@ -21,7 +21,8 @@ pub fn waiting(fleet: &Fleet, statuses: &[Status], group: GroupId) -> usize
 /// How many more of the group's hosts may go down, where it has a limit; 0 where as many are down or more.
 pub fn room(fleet: &Fleet, statuses: &[Status], group: GroupId) -> Option<usize>
     requires { group.index < length fleet.now.groups }
-    ensures { result ≡ model.room statuses.now (group_at (groups_of fleet.now) group.index) }
+    ensures room { result ≡ model.room statuses.now (group_at (groups_of fleet.now) group.index) }
+    ensures small { IfSome result (λ room. room < 2 ^ 16) }
 {
     match fleet.limit(group) {
         Some(limit) => {

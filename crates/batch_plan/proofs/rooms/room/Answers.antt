@@ -4,8 +4,8 @@ use Rattle.fleet_states.specs.Statuses.{down_count}
 use Rattle.batch_plan.proofs.RoomLemmas.{room_is}
 use Rattle.batch_plan.proofs.rooms.room.Goals as goal
 
-pub returns-in-Some : goal.returns-in-Some
-returns-in-Some c =
+pub returns-in-Some-clause-room : goal.returns-in-Some-clause-room
+returns-in-Some-clause-room c =
     let statuses = c.args.statuses.now in
     let members = list_at c.args.fleet.now.members c.args.group.index in
     let left : Option ℕ → Option ℕ = option_map (λ limit. limit - down_count statuses members) in
@@ -14,8 +14,8 @@ returns-in-Some c =
     ∙ ap (λ n. c.in-Some.limit - n) down in
     ap (λ n. Some n) result ∙ ap left (sym c.in-Some.is ∙ c.limit.ensures) ∙ sym (room_is c.args.fleet.now c.args.group.index c.requires statuses)
 
-pub returns-in-None : goal.returns-in-None
-returns-in-None c =
+pub returns-in-None-clause-room : goal.returns-in-None-clause-room
+returns-in-None-clause-room c =
     let statuses = c.args.statuses.now in
     let members = list_at c.args.fleet.now.members c.args.group.index in
     let left : Option ℕ → Option ℕ = option_map (λ limit. limit - down_count statuses members) in
