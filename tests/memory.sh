@@ -120,5 +120,6 @@ cond_tests memory::a_condition_is_read_or_memory_is_wanting
 domain_counts_tests memory::a_call_that_was_refused_memory_answers_again
 host_vars_tests memory::a_call_that_was_refused_memory_answers_again
 playbook_tests memory::a_playbook_is_read_or_memory_is_wanting
+planning_tests memory::a_call_that_was_refused_memory_answers_again
 TESTS
 finish
