@@ -82,13 +82,25 @@ fn bound_text(alloc: Global, fleet: &Fleet, bound: Bound) -> Result<String, Allo
     }
 }
 
-fn push_batch(text: &mut String, fleet: &Fleet, batch: &[HostId]) -> Result<(), AllocError> {
-    text.push_str(" /")?;
-    for host in batch {
+/// Adds the hosts' names, each after a blank.
+fn push_names(text: &mut String, fleet: &Fleet, hosts: &[HostId]) -> Result<(), AllocError> {
+    for host in hosts {
         text.push_str(" ")?;
         text.push_str(host_name(fleet, *host))?;
     }
     Ok(())
+}
+
+/// The hosts' names, each after a blank.
+pub fn names(alloc: Global, fleet: &Fleet, hosts: &[HostId]) -> Result<String, AllocError> {
+    let mut text = String::new(alloc);
+    push_names(&mut text, fleet, hosts)?;
+    Ok(text)
+}
+
+fn push_batch(text: &mut String, fleet: &Fleet, batch: &[HostId]) -> Result<(), AllocError> {
+    text.push_str(" /")?;
+    push_names(text, fleet, batch)
 }
 
 /// The bound and then each batch, or the group that blocks the plan.

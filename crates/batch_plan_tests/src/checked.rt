@@ -1,0 +1,74 @@
+//! Plans from elsewhere that are checked.
+use crate::text::{fleet_of, region};
+use batch_plan::answers::Plan;
+use batch_plan::{Bound, Status, check_plan};
+use domains::Fleet;
+use group_tree::{GroupId, HostId};
+use std::alloc::{AllocError, Global};
+use std::test::Fail;
+
+/// The bound that forces three batches: of the first rack so many wait.
+fn rack_bound(waiting: usize) -> Bound {
+    Bound::Group {
+        group: GroupId { index: 2 },
+        waiting,
+        room: 1,
+    }
+}
+
+/// A plan with the hosts of these numbers, a list for each batch.
+fn plan_of(alloc: Global, batches: &[&[usize]], bound: Bound) -> Result<Plan, AllocError> {
+    let mut numbered = Vec::new(alloc);
+    for batch in batches {
+        let mut hosts = Vec::new(alloc);
+        for index in *batch {
+            hosts.push(HostId { index: *index })?;
+        }
+        numbered.push(hosts)?;
+    }
+    Ok(Plan {
+        batches: numbered,
+        bound,
+    })
+}
+
+/// Whether these batches are a plan of a fleet of which all hosts wait, with a bound that forces their number.
+fn is_forced(
+    alloc: Global,
+    fleet: &Fleet,
+    batches: &[&[usize]],
+    bound: Bound,
+) -> Result<bool, AllocError> {
+    let statuses = vec![in alloc; Status::Waiting; fleet.hosts()]?;
+    let plan = plan_of(alloc, batches, bound)?;
+    Ok(check_plan(fleet, statuses.as_slice(), None, &plan))
+}
+
+#[test]
+fn a_plan_is_forced_whatever_the_order_of_its_hosts(rt: HostRuntime) -> Result<(), Fail> {
+    let fleet = fleet_of(rt.alloc(), region(rt.alloc(), 1, 2)?)?;
+    let three = rack_bound(3);
+    assert!(rt; is_forced(rt.alloc(), &fleet, &[&[0, 3], &[1, 4], &[2]], three)?);
+    assert!(rt; is_forced(rt.alloc(), &fleet, &[&[3, 0], &[4, 1], &[2]], three)?);
+    assert!(rt; !is_forced(rt.alloc(), &fleet, &[&[0, 3], &[1, 2], &[4]], three)?);
+    assert!(rt; !is_forced(rt.alloc(), &fleet, &[&[0, 3], &[1, 4], &[2]], rack_bound(4))?);
+    Ok(())
+}
+
+#[test]
+fn what_no_host_has_is_no_plan(rt: HostRuntime) -> Result<(), Fail> {
+    let fleet = fleet_of(rt.alloc(), region(rt.alloc(), 1, 2)?)?;
+    let three = rack_bound(3);
+    let past = usize::MAX;
+    assert!(rt; !is_forced(rt.alloc(), &fleet, &[&[0, 3], &[1, 4], &[2, 5]], three)?);
+    assert!(rt; !is_forced(rt.alloc(), &fleet, &[&[0, 3], &[1, 4], &[2, past]], three)?);
+    assert!(rt; !is_forced(rt.alloc(), &fleet, &[&[0, 3], &[1, 4], &[]], three)?);
+    assert!(rt; !is_forced(rt.alloc(), &fleet, &[&[0, 3], &[1, 4], &[2, 3]], three)?);
+    let nowhere = Bound::Group {
+        group: GroupId { index: past },
+        waiting: 3,
+        room: 1,
+    };
+    assert!(rt; !is_forced(rt.alloc(), &fleet, &[&[0, 3], &[1, 4], &[2]], nowhere)?);
+    Ok(())
+}
