@@ -1,3 +1,4 @@
 pub mod RosterLemmas
 pub mod MarkLemmas
 pub mod OpeningLemmas
+pub mod HoldingLemmas

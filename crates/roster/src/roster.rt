@@ -7,6 +7,7 @@ ghost use Rattle.down_ledger.specs.Ledgers.{down_in, ledger_of};
 ghost use Rattle.roster.specs.Rosters.{seated_at, with_host};
 ghost use Rattle.roster.specs.Unfit.{IsFirstFull};
 
+mod holding;
 mod opening;
 
 use domains::Fleet;
@@ -152,13 +153,16 @@ impl<'f> Roster<'f> {
         }
     }
 
-    /// The share of a host, where it rests; from now on it doesn't.
-    pub fn lend(&mut self, host: HostId) -> Option<Share>
+    /// The share of a host that rests; from now on it doesn't.
+    pub fn lend(&mut self, host: HostId) -> Share
         requires { seated_at self.old.seated host.index ≡ true }
-        ensures share { MatchOption result ⊥ (λ share. share.host ≡ host) }
+        ensures share { result.host ≡ host }
         ensures rest { self.new ≡ record self.old { seated = slice_set self.old.seated host.index false } }
     {
-        self.seats[host.index].take()
+        match self.seats[host.index].take() {
+            Some(share) => share,
+            None => unreachable!(),
+        }
     }
 
     /// A share rests from now on; its host has this status.

@@ -57,4 +57,23 @@ impl<'f> Roster<'f> {
         }
         Ok(())
     }
+
+    /// Whether there is room for these hosts; else the group that `take_all` would tell. No memory is taken.
+    pub fn test_room(&mut self, hosts: &[HostId]) -> Result<(), GroupId>
+        requires all { length self.old.seated ≡ length self.old.statuses }
+        requires rest { NobodyRests self.old }
+        requires safe { IsSafe (groups_of self.old.fleet) self.old.statuses }
+        requires ready { IsTrue (are_ready self.old.statuses (host_numbers hosts.now)) }
+        ensures same { self.new ≡ self.old }
+        ensures tells { MatchResult result
+            (λ _. Fits (groups_of self.old.fleet) self.old.statuses (host_numbers hosts.now))
+            (λ group. IsShort (groups_of self.old.fleet) self.old.statuses (host_numbers hosts.now) group.index) }
+    {
+        match self.take_all(hosts) {
+            Ok(()) => {}
+            Err(group) => return Err(group),
+        }
+        self.give_all_back(hosts);
+        Ok(())
+    }
 }

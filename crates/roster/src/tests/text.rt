@@ -85,9 +85,7 @@ pub fn report(roster: &mut Roster<'_>, host: HostId, status: Status) {
     if !roster.rests(host) {
         return;
     }
-    let Some(share) = roster.lend(host) else {
-        return;
-    };
+    let share = roster.lend(host);
     if roster.status(share.host()).is_down() && status.is_down() {
         roster.rest(share, status);
     }
