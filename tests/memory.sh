@@ -115,7 +115,7 @@ done <<'TESTS'
 domains_tests memory::a_call_that_was_refused_memory_answers_again
 down_ledger tests::memory::a_call_that_was_refused_memory_answers_again
 roster tests::memory::a_call_that_was_refused_memory_answers_again
-roll_core tests::one_batch::a_failed_host_keeps_its_place_in_the_limit
+roll_core_tests one_batch::a_failed_host_blocks_its_rack
 cond_tests memory::a_condition_is_read_or_memory_is_wanting
 domain_counts_tests memory::a_call_that_was_refused_memory_answers_again
 batch_plan_tests memory::a_call_that_was_refused_memory_answers_again

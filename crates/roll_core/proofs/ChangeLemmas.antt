@@ -43,6 +43,17 @@ after_batch_again Halted = refl
 after_batch_again Off = refl
 after_batch_again Held = refl
 
+-- who is down after a batch was so before it is closed
+pub down_stays : (s : Status) → is_down (after_batch s) ≡ true → after_batch s ≡ s
+down_stays Idle e = refl
+down_stays Waiting e = refl
+down_stays Running e = absurd (cc)
+down_stays Updated e = refl
+down_stays Failed e = refl
+down_stays Halted e = refl
+down_stays Off e = refl
+down_stays Held e = refl
+
 -- a host that is read again, after it may have changed, changes to the same
 pub again : (hosts : List ℕ) (statuses : List Status) (host : ℕ) → host < length statuses → after_batch (status_at (changed after_batch hosts statuses) host) ≡ after_batch (status_at statuses host)
 again hosts statuses host within =

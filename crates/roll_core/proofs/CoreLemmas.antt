@@ -1,9 +1,9 @@
 -- A log that grows by one event stays legal, and has places for the events to come.
-use Rattle.std.proofs.Common.{◌≡◌, ℕ, zero, suc, ◌+◌, ◌≤◌, ◌<◌, Bool, true, false, cond, nat_eq, find, Some, List, [], ◌∷◌, ◌++◌, length, set, replicate, sym, ap, ◌∙◌, refl, subst, arith, inl, inr, ◌⊎◌}
+use Rattle.std.proofs.Common.{◌≡◌, ℕ, zero, suc, ◌+◌, ◌≤◌, ◌<◌, Bool, true, false, cond, nat_eq, find, Some, List, [], ◌∷◌, ◌++◌, length, set, replicate, sym, ap, ◌∙◌, refl, subst, arith}
 use Rattle.std.specs.List.{count_by}
-use Rattle.std.proofs.lemmas.List.{get_or_past, length-append}
+use Rattle.std.proofs.lemmas.List.{length-append}
 use Rattle.std.proofs.lemmas.List.Sums.{sum_by-cons, sum_by-set}
-use Rattle.std.proofs.lemmas.Bool.{cases_lt, eq-eqb, or_left, or_right}
+use Rattle.std.proofs.lemmas.Bool.{eq-eqb, or_left, or_right}
 use Rattle.fleet_numbers.specs.NumberLists.{has_number}
 use Rattle.group_tree.specs.declared.ids.HostId.{HostId}
 use Rattle.fleet_states.specs.declared.status.Status.{Status}
@@ -13,14 +13,16 @@ use Rattle.roll_core.specs.declared.stage.Progress.{Progress}
 use Rattle.roll_core.specs.declared.stage.Progress.TheVariants.{Due, Claimed, Reported}
 use Rattle.roll_core.specs.declared.event.Event.{Event}
 use Rattle.roll_core.specs.declared.event.Event.TheVariants.{Open, Claim, Report, Barrier, Close}
-use Rattle.fleet_states.specs.Groups.{FleetGroup, IsSafe}
-use Rattle.roll_core.specs.States.{after_batch, State, Allowed, MayClaim, MayReport, next, progress_at, start_state}
-use Rattle.fleet_states.specs.Statuses.{changed}
+use Rattle.fleet_states.specs.Groups.{FleetGroup, IsSafe, groups_of}
+use Rattle.domains.specs.FleetViews.{FleetView}
+use Rattle.fleet_states.specs.declared.status.Status.TheVariants.{Running}
+use Rattle.roll_core.specs.States.{after_batch, State, Allowed, MayClaim, MayReport, has_reported, next, progress_at, start_state}
+use Rattle.fleet_states.specs.Statuses.{NobodyRuns, changed, status_at}
 use Rattle.roll_core.specs.Logs.{IsLegal, state_after}
 use Rattle.roll_core.specs.Inside.Machines.{IsAfterLog, MachineView, is_out, owed_at, owed_by}
 use Rattle.roll_core.specs.Views.{is_due, next_due}
 use Rattle.fleet_states.proofs.CountLemmas.{bit}
-use Rattle.roll_core.proofs.FrontLemmas.{legal_end, start_at_work}
+use Rattle.roll_core.proofs.FrontLemmas.{IsAtWork, claimed_within, legal_end, legal_work, start_at_work}
 
 pub state_after-push : (state : State) (log : List Event) (event : Event) → state_after state (log ++ event ∷ []) ≡ next (state_after state log) event
 state_after-push state [] event = refl
@@ -32,26 +34,34 @@ legal_push groups state (first ∷ log) event legal allowed =
     (legal.0, legal_push groups (next state first) log event legal.1 allowed)
 
 -- one more event keeps all of it
-pub kept_more : (old new : MachineView) (start : List Status) (log log' : List Event) (owed owed' capacity capacity' : ℕ) (event : Event) → IsAfterLog old start log owed capacity → Allowed old.groups old.state event → new.groups ≡ old.groups → new.state ≡ next old.state event → log' ≡ log ++ event ∷ [] → owed' ≡ owed_by (next old.state event) → length log + 1 + owed' ≤ capacity' → IsAfterLog new start log' owed' capacity'
-kept_more old new start log log' owed owed' capacity capacity' event kept allowed groups state grown owes room =
+pub kept_more : (old new : MachineView) (start : List Status) (log log' : List Event) (owed owed' capacity capacity' : ℕ) (event : Event) → IsAfterLog old start log owed capacity → Allowed (groups_of old.fleet) old.state event
+    → new.fleet ≡ old.fleet → new.state ≡ next old.state event → log' ≡ log ++ event ∷ [] → owed' ≡ owed_by (next old.state event) → length log + 1 + owed' ≤ capacity' → IsAfterLog new start log' owed' capacity'
+kept_more old new start log log' owed owed' capacity capacity' event kept allowed fleet state grown owes room =
     record {
       state = state ∙ ap (λ s. next s event) kept.state ∙ sym (state_after-push (start_state start) log event) ∙ ap (state_after (start_state start)) (sym grown);
-      legal = subst (λ (g : List FleetGroup). IsLegal g (start_state start) log') (sym groups) (subst (λ (l : List Event). IsLegal old.groups (start_state start) l) (sym grown) longer);
-      safe = subst (λ (g : List FleetGroup). IsSafe g start) (sym groups) kept.safe;
+      legal = subst (λ (f : FleetView). IsLegal (groups_of f) (start_state start) log') (sym fleet) (subst (λ (l : List Event). IsLegal (groups_of old.fleet) (start_state start) l) (sym grown) longer);
+      safe = subst (λ (f : FleetView). IsSafe (groups_of f) start) (sym fleet) kept.safe;
       rests = kept.rests;
       owes = owes ∙ ap owed_by (sym state);
       places = omega (arith, room, ap length grown, length-append log (event ∷ []));
     }
   where
-    may : Allowed old.groups (state_after (start_state start) log) event
-    may = subst (λ (s : State). Allowed old.groups s event) kept.state allowed
+    may : Allowed (groups_of old.fleet) (state_after (start_state start) log) event
+    may = subst (λ (s : State). Allowed (groups_of old.fleet) s event) kept.state allowed
 
-    longer : IsLegal old.groups (start_state start) (log ++ event ∷ [])
-    longer = legal_push old.groups (start_state start) log event kept.legal may
+    longer : IsLegal (groups_of old.fleet) (start_state start) (log ++ event ∷ [])
+    longer = legal_push (groups_of old.fleet) (start_state start) log event kept.legal may
 
-pub kept_safe : (machine : MachineView) (start : List Status) (log : List Event) (owed capacity : ℕ) → IsAfterLog machine start log owed capacity → IsSafe machine.groups machine.state.statuses
-kept_safe machine start log owed capacity kept =
-    subst (λ (s : State). IsSafe machine.groups s.statuses) (sym kept.state) (legal_end machine.groups (start_state start) log (start_at_work start) kept.safe kept.legal)
+module _ (machine : MachineView) (start : List Status) (log : List Event) (owed capacity : ℕ) (kept : IsAfterLog machine start log owed capacity) where
+  pub kept_safe : IsSafe (groups_of machine.fleet) machine.state.statuses
+  kept_safe =
+      subst (λ (s : State). IsSafe (groups_of machine.fleet) s.statuses) (sym kept.state) (legal_end (groups_of machine.fleet) (start_state start) log (start_at_work start) kept.safe kept.legal)
+
+  -- who is claimed and has not reported is running
+  pub kept_runs : (host : ℕ) → MayReport machine.state host → status_at machine.state.statuses host ≡ Running
+  kept_runs host may =
+      let work : IsAtWork machine.state = subst IsAtWork (sym kept.state) (legal_work (groups_of machine.fleet) (start_state start) log (start_at_work start) kept.legal) in
+      work.runs host may.inside (ap has_reported may.claimed)
 
 count-set : (progress : List Progress) (host : ℕ) (new : Progress) → host < length progress → count_by is_out (set progress host new) + bit (is_out (progress_at progress host)) ≡ count_by is_out progress + bit (is_out new)
 count-set progress host new within =
@@ -73,13 +83,6 @@ owed_claim state host owed owes may within =
     let before : bit (is_out (progress_at state.progress host.index)) ≡ 0 = ap (λ p. bit (is_out p)) may.due in
     let now : owed + 1 ≡ count_by is_out (set state.progress host.index Claimed) + 2 = omega (arith, was, more, before) in
     now ∙ sym (ap (λ s. owed_at s (count_by is_out (set state.progress host.index Claimed))) may.working)
-
-pub claimed_within : (progress : List Progress) (host : ℕ) → progress_at progress host ≡ Claimed → host < length progress
-claimed_within progress host claimed = by_case (cases_lt host (length progress))
-  where
-    by_case : (host < length progress) ⊎ (length progress ≤ host) → host < length progress
-    by_case (inl within) = within
-    by_case (inr past) = absurd (let e : Claimed ≡ Due = sym claimed ∙ get_or_past progress host Due past in cc)
 
 pub owed_report : (state : State) (host : HostId) (failed : Bool) (owed : ℕ) → owed ≡ owed_by state → MayReport state host.index → (owed ≡ owed_by (next state (Report host failed)) + 1) × (2 ≤ owed_by (next state (Report host failed)))
 owed_report state host failed owed owes may =
@@ -105,6 +108,18 @@ owed_ended state owed owes ended =
 
 pub owed_start : (start : List Status) → 0 ≡ owed_by (start_state start)
 owed_start start = sym (none_out (length start))
+
+pub starts_after : (machine : MachineView) (fleet : FleetView) (statuses start : List Status) (log : List Event) (capacity : ℕ) → machine ≡ record { fleet = fleet; state = start_state statuses } → start ≡ statuses → log ≡ []
+    → NobodyRuns statuses → IsSafe (groups_of fleet) statuses → IsAfterLog machine start log 0 capacity
+starts_after machine fleet statuses start log capacity is same bare rests safe =
+    subst (λ (m : MachineView). IsAfterLog m start log 0 capacity) (sym is) (subst (λ (l : List Event). IsAfterLog begun start l 0 capacity) (sym bare) (subst (λ (l : List Status). IsAfterLog begun l [] 0 capacity) (sym same) begins))
+  where
+    begun : MachineView
+    begun = record { fleet = fleet; state = start_state statuses }
+
+    begins : IsAfterLog (record { fleet = fleet; state = start_state statuses }) statuses [] 0 capacity
+    begins =
+        record { state = refl; legal = tt; safe = safe; rests = rests; owes = owed_start statuses; places = omega arith }
 
 found_number : (p : ℕ → Bool) (xs : List ℕ) (n : ℕ) → find p xs ≡ Some n → (p n ≡ true) × (has_number n xs ≡ true)
 found_number p [] n e = absurd (cc)

@@ -27,7 +27,7 @@ pub record IsAtWork (state : State) : Type 0 where
 pub start_at_work : (start : List Status) → IsAtWork (start_state start)
 start_at_work start = record { runs = λ host here left. absurd (cc); bare = λ at. refl }
 
-claimed_within : (progress : List Progress) (host : ℕ) → progress_at progress host ≡ Claimed → host < length progress
+pub claimed_within : (progress : List Progress) (host : ℕ) → progress_at progress host ≡ Claimed → host < length progress
 claimed_within progress host claimed = by_case (cases_lt host (length progress))
   where
     by_case : (host < length progress) ⊎ (length progress ≤ host) → host < length progress
@@ -105,3 +105,9 @@ pub legal_end : (groups : List FleetGroup) (state : State) (log : List Event) �
 legal_end groups state [] work safe legal = safe
 legal_end groups state (event ∷ log) work safe legal =
     legal_end groups (next state event) log (next_at_work groups state event legal.0 work) (next_safe groups state event legal.0 work safe) legal.1
+
+-- after all of a legal log the hosts that have not reported are running
+pub legal_work : (groups : List FleetGroup) (state : State) (log : List Event) → IsAtWork state → IsLegal groups state log → IsAtWork (state_after state log)
+legal_work groups state [] work legal = work
+legal_work groups state (event ∷ log) work legal =
+    legal_work groups (next state event) log (next_at_work groups state event legal.0 work) legal.1

@@ -1,11 +1,8 @@
 pub mod FrontLemmas
-pub mod RunningCounts
-pub mod HeldLemmas
-pub mod SetLemmas
 pub mod ChangeLemmas
-pub mod OverLemmas
-pub mod TrialLemmas
 pub mod MachineLemmas
+pub mod SeatLemmas
 pub mod CoreLemmas
+pub mod KeptLemmas
 pub mod StepLemmas
 pub mod RestLemmas

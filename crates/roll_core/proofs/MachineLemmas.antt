@@ -9,7 +9,7 @@ use Rattle.fleet_numbers.specs.NumberLists.{has_number, are_below}
 use Rattle.fleet_states.specs.declared.status.Status.{Status}
 use Rattle.roll_core.specs.declared.stage.Stage.{Stage}
 use Rattle.roll_core.specs.declared.stage.Stage.TheVariants.{Boundary, Working, Ended}
-use Rattle.roll_core.specs.declared.stage.Progress.TheVariants.{Due, Claimed}
+use Rattle.roll_core.specs.declared.stage.Progress.TheVariants.{Due, Claimed, Reported}
 use Rattle.domains.specs.Ids.{host_numbers}
 use Rattle.fleet_states.specs.Statuses.{are_distinct, is_waiting, status_at, are_ready}
 use Rattle.roll_core.specs.States.{State, MayEnd, has_reported, progress_at}
@@ -17,6 +17,7 @@ use Rattle.roll_core.specs.Inside.Machines.{IsInOrder}
 use Rattle.roll_core.specs.Views.{first_busy, first_due, is_due, next_due}
 use Rattle.fleet_states.proofs.NumberLemmas.{distinct_fresh, number_at, number_below}
 use Rattle.fleet_states.proofs.ReadyLemmas.{ready_below}
+use Rattle.roll_core.proofs.FrontLemmas.{claimed_within}
 
 pub find_here : (p : ℕ → Bool) (xs : List ℕ) (i : ℕ) → i < length xs → ((k : ℕ) → k < i → p (get_or xs k 0) ≡ false) → p (get_or xs i 0) ≡ true → find p xs ≡ Some (get_or xs i 0)
 find_here p [] i within before here = absurd (omega arith)
@@ -130,6 +131,31 @@ module _ (hosts : ℕ) (stage : Stage) (state : State) (claimed : ℕ) (order : 
               by_case (inr more) =
                   let same : n ≡ claimed = omega (arith, m, more) in
                   absurd (apart (ap (λ (i : ℕ). get_or state.batch i 0) same ∙ place.1))
+
+  pub report_keeps : (host : ℕ) → progress_at state.progress host ≡ Claimed → has_number host state.batch ≡ true → IsInOrder hosts stage state.batch (set state.progress host Reported) claimed
+  report_keeps host out inside =
+      record {
+        len = length-set state.progress host Reported ∙ order.len;
+        within = order.within;
+        distinct = order.distinct;
+        others = λ other beside. get_or-set_other state.progress host other Reported Due (λ e. both_ways (has_number other state.batch) beside (ap (λ (n : ℕ). has_number n state.batch) e ∙ inside)) ∙ order.others other beside;
+        boundary = order.boundary;
+        reach = order.reach;
+        taken = λ k l. taken_at k l (cases_eq (get_or state.batch k 0) host);
+        left = λ k l m. get_or-set_other state.progress host (get_or state.batch k 0) Reported Due (λ e. not_due k l m e) ∙ order.left k l m;
+      }
+    where
+      not_due : (k : ℕ) → claimed ≤ k → k < length state.batch → get_or state.batch k 0 ≡ host → ⊥
+      not_due k l m e =
+          let both : Claimed ≡ Due = sym out ∙ ap (progress_at state.progress) (sym e) ∙ order.left k l m in
+          let none : ⊥ = cc in
+          none
+
+      taken_at : (k : ℕ) → k < claimed → (get_or state.batch k 0 ≡ host) ⊎ (get_or state.batch k 0 ≡ host → ⊥) → is_due (progress_at (set state.progress host Reported) (get_or state.batch k 0)) ≡ false
+      taken_at k l (inl e) =
+          ap (λ (n : ℕ). is_due (progress_at (set state.progress host Reported) n)) e ∙ ap is_due (get_or-set_same state.progress host Reported Due (claimed_within state.progress host out))
+      taken_at k l (inr d) =
+          ap is_due (get_or-set_other state.progress host (get_or state.batch k 0) Reported Due d) ∙ order.taken k l
 
   pub opened : (statuses : List Status) (batch : List ℕ) → length statuses ≡ hosts → stage ≡ Boundary → are_ready statuses batch ≡ true → IsInOrder hosts Working batch state.progress 0
   opened statuses batch len rest ready =

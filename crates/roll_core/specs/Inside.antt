@@ -1,3 +1,2 @@
--- What only the proofs need: what the core keeps between its calls.
-pub mod Counting
+-- What only the proofs need: what the board keeps between its calls.
 pub mod Machines

@@ -1,4 +1,3 @@
-pub mod Groups
 pub mod States
 pub mod Logs
 pub mod Refusals

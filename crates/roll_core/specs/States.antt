@@ -1,6 +1,6 @@
 -- The state of a roll: the statuses, and the open batch.
-use Rattle.std.specs.Prelude.{◌≡◌, ℕ, ◌<◌, Bool, true, false, cond, List, [], ◌∷◌, length, replicate, slice_set, slice_index_or}
-use Rattle.std.specs.List.{list_all, list_any}
+use Rattle.std.specs.Prelude.{◌≡◌, ℕ, ◌<◌, Bool, true, false, cond, List, [], length, replicate, slice_set, slice_index_or}
+use Rattle.std.specs.List.{list_all}
 use Rattle.fleet_numbers.specs.NumberLists.{has_number}
 use Rattle.fleet_states.specs.declared.status.Status.{Status}
 use Rattle.fleet_states.specs.declared.status.Status.TheVariants.{Idle, Waiting, Running, Updated, Failed, Halted, Off, Held}
@@ -11,7 +11,8 @@ use Rattle.roll_core.specs.declared.stage.Progress.TheVariants.{Due, Claimed, Re
 use Rattle.roll_core.specs.declared.event.Event.{Event}
 use Rattle.roll_core.specs.declared.event.Event.TheVariants.{Hold, Open, Claim, Report, Barrier, Close}
 use Rattle.fleet_states.specs.Statuses.{are_ready, changed}
-use Rattle.fleet_states.specs.Groups.{FleetGroup, Fits, is_full_for}
+use Rattle.fleet_states.specs.Groups.{FleetGroup, Fits}
+use Rattle.roster.specs.Unfit.{is_stuck}
 
 -- the batch is empty at a boundary; progress is by the hosts' numbers, and each host is due until it is claimed
 pub record State : Type 0 where
@@ -43,10 +44,6 @@ after_batch Failed = Failed
 after_batch Halted = Halted
 after_batch Off = Off
 after_batch Held = Held
-
--- some group that holds the host has no room for it
-abbrev pub is_stuck : List FleetGroup → List Status → ℕ → Bool
-is_stuck groups statuses host = list_any (is_full_for statuses (host ∷ [])) groups
 
 -- waiting hosts may be set aside at a boundary where each is held by a group without room
 pub record MayHold (groups : List FleetGroup) (state : State) (hosts : List ℕ) : Type 0 where

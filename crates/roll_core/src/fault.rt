@@ -14,7 +14,8 @@ pub enum OpenFault {
     /// The first host of the list that is not waiting, or stood in the list before. A number that no host has is not
     /// waiting.
     NotWaiting { host: HostId },
-    /// The first group of which the list names more members than it has room for, by its place from 0.
+    /// The list names more of the group's members than it has room for. As the hosts go down one by one, in the order of the
+    /// list, it is the outermost group without room for the first host that finds none.
     Full { group: GroupId },
     Memory,
 }
@@ -68,6 +69,17 @@ impl HoldFault {
             HoldFault::HasRoom { .. } => Some(815),
             HoldFault::Memory => None,
         }
+    }
+}
+
+impl From<AllocError> for HoldFault {
+    ghost use Rattle.std.specs.Prelude.{◌≡◌};
+    ghost use Rattle.roll_core.specs.declared.fault.HoldFault.TheVariants.{Memory};
+
+    ghost from_gives = { λ _ fault. fault ≡ Memory };
+
+    fn from(_refused: AllocError) -> HoldFault {
+        HoldFault::Memory
     }
 }
 

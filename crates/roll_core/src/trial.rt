@@ -1,56 +1,52 @@
-//! Whether a batch may be opened.
-ghost use Rattle.std.specs.Prelude.{◌≡◌, IsTrue, MatchResult};
-ghost use Rattle.fleet_numbers.specs.NumberLists.{are_below};
-ghost use Rattle.fleet_states.specs.declared.status.Status.TheVariants.{Running};
+//! Whether a batch may be opened, and whether hosts may be set aside.
+ghost use Rattle.std.specs.Prelude.{◌≡◌, IsTrue, MatchResult, length};
+ghost use Rattle.std.specs.List.{list_all};
 ghost use Rattle.domains.specs.Ids.{host_numbers};
-ghost use Rattle.fleet_states.specs.Statuses.{changed, are_ready};
-ghost use Rattle.fleet_states.specs.Groups.{IsSafe, Fits};
-ghost use Rattle.roll_core.specs.Refusals.{IsFirstUnready, IsUnfit};
+ghost use Rattle.fleet_states.specs.Statuses.{are_ready};
+ghost use Rattle.fleet_states.specs.Groups.{Fits, IsSafe, groups_of};
+ghost use Rattle.roster.specs.Rosters.{NobodyRests};
+ghost use Rattle.roster.specs.Unfit.{is_stuck};
+ghost use Rattle.roll_core.specs.Refusals.{IsUnfit};
+ghost use Rattle.roll_core.specs.HoldRefusals.{IsUnheld};
 
-use crate::fault::OpenFault;
-use crate::statuses::Statuses;
-use fleet_states::Status;
-use group_tree::{GroupId, HostId};
+use crate::fault::{HoldFault, OpenFault};
+use group_tree::HostId;
+use roster::Roster;
 
-/// Makes the hosts running. At a host that is not waiting, or stood before, it gives back those before it and tells
-/// which host it is.
-fn start(statuses: &mut Statuses, hosts: &[HostId]) -> Result<(), HostId>
-    ensures groups { statuses.new.groups ≡ statuses.old.groups }
-    ensures statuses { MatchResult result
-        (λ _. IsTrue (are_ready statuses.old.statuses (host_numbers hosts.now))
-        × (statuses.new.statuses ≡ changed (λ _. Running) (host_numbers hosts.now) statuses.old.statuses))
-        (λ host. IsFirstUnready statuses.old.statuses (host_numbers hosts.now) host.index
-        × (statuses.new.statuses ≡ statuses.old.statuses)) }
-{
-    for place in 0..hosts.len() {
-        let host = hosts[place];
-        if !statuses.at(host).is_waiting() {
-            statuses.set_all(&hosts[..place], Status::Waiting);
-            return Err(host);
-        }
-        statuses.set(host, Status::Running);
-    }
-    Ok(())
-}
-
-/// Tries a batch out: the hosts are made running, the counts looked at, and all is put back.
-pub(crate) fn try_batch(statuses: &mut Statuses, hosts: &[HostId]) -> Result<(), OpenFault>
-    requires { IsSafe statuses.old.groups statuses.old.statuses }
-    ensures same { statuses.new ≡ statuses.old }
+/// Whether the hosts wait, each once, and there is room for them.
+pub(crate) fn try_batch(roster: &mut Roster<'_>, hosts: &[HostId]) -> Result<(), OpenFault>
+    requires all { length roster.old.seated ≡ length roster.old.statuses }
+    requires rest { NobodyRests roster.old }
+    requires safe { IsSafe (groups_of roster.old.fleet) roster.old.statuses }
+    ensures same { roster.new ≡ roster.old }
     ensures tells { MatchResult result
-        (λ _. IsTrue (are_ready statuses.old.statuses (host_numbers hosts.now)) × Fits statuses.old.groups statuses.old.statuses (host_numbers hosts.now))
-        (IsUnfit statuses.old.groups statuses.old.statuses (host_numbers hosts.now)) }
+        (λ _. IsTrue (are_ready roster.old.statuses (host_numbers hosts.now)) × Fits (groups_of roster.old.fleet) roster.old.statuses (host_numbers hosts.now))
+        (IsUnfit (groups_of roster.old.fleet) roster.old.statuses (host_numbers hosts.now)) }
 {
-    match start(statuses, hosts) {
+    match roster.test_ready(hosts) {
         Ok(()) => {}
         Err(host) => return Err(OpenFault::NotWaiting { host }),
     }
-    let over = statuses.first_over(hosts);
-    statuses.set_all(hosts, Status::Waiting);
-    match over {
-        Some(index) => Err(OpenFault::Full {
-            group: GroupId { index },
-        }),
-        None => Ok(()),
+    match roster.test_room(hosts) {
+        Ok(()) => Ok(()),
+        Err(group) => Err(OpenFault::Full { group }),
+    }
+}
+
+/// Whether the hosts wait, each once, and there is room for none of them.
+pub(crate) fn try_hold(roster: &mut Roster<'_>, hosts: &[HostId]) -> Result<(), HoldFault>
+    ensures same { roster.new ≡ roster.old }
+    ensures tells { MatchResult result
+        (λ _. IsTrue (are_ready roster.old.statuses (host_numbers hosts.now))
+        × IsTrue (list_all (is_stuck (groups_of roster.old.fleet) roster.old.statuses) (host_numbers hosts.now)))
+        (IsUnheld (groups_of roster.old.fleet) roster.old.statuses (host_numbers hosts.now)) }
+{
+    match roster.test_ready(hosts) {
+        Ok(()) => {}
+        Err(host) => return Err(HoldFault::NotWaiting { host }),
+    }
+    match roster.test_stuck(hosts) {
+        Ok(()) => Ok(()),
+        Err(host) => Err(HoldFault::HasRoom { host }),
     }
 }

@@ -1,9 +1,11 @@
 -- What the machine is seen as, and what it and the log keep.
-use Rattle.std.specs.Prelude.{◌≡◌, ℕ, ◌+◌, ◌<◌, ◌≤◌, Bool, true, false, List, [], length, count_by, slice_index_or}
+use Rattle.std.specs.Prelude.{◌≡◌, ℕ, ◌+◌, ◌<◌, ◌≤◌, Bool, true, false, ◌&&◌, not, List, [], length, count_by, slice_index_or}
 use Rattle.fleet_numbers.specs.NumberLists.{has_number, are_below}
 use Rattle.fleet_states.specs.declared.status.Status.{Status}
 use Rattle.fleet_states.specs.Statuses.{NobodyRuns, are_distinct}
-use Rattle.fleet_states.specs.Groups.{FleetGroup, IsSafe}
+use Rattle.domains.specs.FleetViews.{FleetView}
+use Rattle.fleet_states.specs.Groups.{IsSafe, groups_of}
+use Rattle.roster.specs.Rosters.{RosterView, seated_at}
 use Rattle.roll_core.specs.declared.event.Event.{Event}
 use Rattle.roll_core.specs.declared.stage.Stage.{Stage}
 use Rattle.roll_core.specs.declared.stage.Stage.TheVariants.{Boundary, Working, Ended}
@@ -14,7 +16,7 @@ use Rattle.roll_core.specs.Logs.{state_after, IsLegal}
 use Rattle.roll_core.specs.Views.{is_due}
 
 pub record MachineView : Type 0 where
-  pub groups : List FleetGroup
+  pub fleet : FleetView
   pub state : State
 
 -- the batch is of distinct hosts, those before `claimed` are claimed, and no others are
@@ -34,6 +36,21 @@ is_out Due = false
 is_out Claimed = true
 is_out Reported = false
 
+-- whose share rests: those hosts of the batch whose claim is not out
+abbrev pub rests : List ℕ → List Progress → ℕ → Bool
+rests batch progress host = has_number host batch && not (is_out (progress_at progress host))
+
+-- each host of the batch has its share on its seat, or in a claim that is out; once the batch has ended no claim is out
+pub record IsSeated (seated : List Bool) (hosts : ℕ) (stage : Stage) (batch : List ℕ) (progress : List Progress) : Type 0 where
+  pub len : length seated ≡ hosts
+  pub shares : (host : ℕ) → seated_at seated host ≡ rests batch progress host
+  pub ended : stage ≡ Ended → (host : ℕ) → has_number host batch ≡ true → is_out (progress_at progress host) ≡ false
+
+-- what the machine keeps
+pub record IsKept (roster : RosterView) (stage : Stage) (batch : List ℕ) (progress : List Progress) (claimed : ℕ) : Type 0 where
+  pub order : IsInOrder (length roster.statuses) stage batch progress claimed
+  pub seats : IsSeated roster.seated (length roster.statuses) stage batch progress
+
 -- how many events are still to come: a report for each claim, and the barrier and the closing of an open batch
 abbrev pub owed_at : Stage → ℕ → ℕ
 owed_at Boundary claims = claims
@@ -46,8 +63,8 @@ owed_by state = owed_at state.stage (count_by is_out state.progress)
 -- the machine is where a legal log from a safe start at rest has led, and the log has places for the events to come
 pub record IsAfterLog (machine : MachineView) (start : List Status) (log : List Event) (owed capacity : ℕ) : Type 0 where
   pub state : machine.state ≡ state_after (start_state start) log
-  pub legal : IsLegal machine.groups (start_state start) log
-  pub safe : IsSafe machine.groups start
+  pub legal : IsLegal (groups_of machine.fleet) (start_state start) log
+  pub safe : IsSafe (groups_of machine.fleet) start
   pub rests : NobodyRuns start
   pub owes : owed ≡ owed_by machine.state
   pub places : length log + owed ≤ capacity

@@ -5,7 +5,8 @@ use Rattle.domains.specs.Ids.{host_numbers}
 use Rattle.roll_core.specs.States.{State, has_reported, progress_at}
 use Rattle.roll_core.specs.Inside.Machines.{MachineView}
 use Rattle.roll_core.specs.Views.{first_busy}
-use Rattle.roll_core.proofs.MachineLemmas.{ends, find-host_numbers}
+use Rattle.roll_core.proofs.KeptLemmas.{kept_ended}
+use Rattle.roll_core.proofs.MachineLemmas.{all_from_none, find-host_numbers, ends}
 use Rattle.roll_core.proofs.machine.Machine.barrier.Goals as goal
 
 -- what the code finds is the first busy host of the state
@@ -19,14 +20,21 @@ found state hosts hosts' progress' result batch same progress is =
 pub returns-in-Some-clause-busy : goal.returns-in-Some-clause-busy
 returns-in-Some-clause-busy c =
     let batch = c.self.inside.batch.items in
-    let state : State = record { statuses = c.self.inside.statuses.statuses; stage = c.self.inside.stage; batch = host_numbers batch; progress = c.self.inside.progress.items } in
+    let state : State = record { statuses = c.self.inside.roster.statuses; stage = c.self.inside.stage; batch = host_numbers batch; progress = c.self.inside.progress.items } in
     let first = found state batch c.as_slice.result.now c.as_slice-2.result.now c.find_busy.result refl c.as_slice.ensures.value c.as_slice-2.ensures.value c.find_busy.ensures in
     subst (λ (v : MachineView). first_busy v.state ≡ Some c.in-Some.host.index) c.self.view_is (first ∙ ap (option_map (λ (h : HostId). h.index)) c.in-Some.is)
 
 pub returns-in-None-clause-ok : goal.returns-in-None-clause-ok
 returns-in-None-clause-ok c =
     let batch = c.self.inside.batch.items in
-    let state : State = record { statuses = c.self.inside.statuses.statuses; stage = c.self.inside.stage; batch = host_numbers batch; progress = c.self.inside.progress.items } in
+    let state : State = record { statuses = c.self.inside.roster.statuses; stage = c.self.inside.stage; batch = host_numbers batch; progress = c.self.inside.progress.items } in
     let first = found state batch c.as_slice.result.now c.as_slice-2.result.now c.find_busy.result refl c.as_slice.ensures.value c.as_slice-2.ensures.value c.find_busy.ensures in
     let none = subst (λ (v : MachineView). first_busy v.state ≡ None) c.self.view_is (first ∙ ap (option_map (λ (h : HostId). h.index)) c.in-None.is) in
     ends c.args.self.now.state c.requires none
+
+pub invariant_of-self : goal.invariant_of-self
+invariant_of-self c =
+    let state : State = record { statuses = c.self.inside.roster.statuses; stage = c.self.inside.stage; batch = host_numbers c.self.inside.batch.items; progress = c.self.inside.progress.items } in
+    let first = found state c.self.inside.batch.items c.as_slice.result.now c.as_slice-2.result.now c.find_busy.result refl c.as_slice.ensures.value c.as_slice-2.ensures.value c.find_busy.ensures in
+    let none : first_busy state ≡ None = first ∙ ap (option_map (λ (h : HostId). h.index)) c.in-None.is in
+    kept_ended c.self.inside.roster state c.self.inside.claimed c.self.invariant (all_from_none (λ h. has_reported (progress_at state.progress h)) state.batch none)
