@@ -6,3 +6,5 @@
 mod fleets;
 #[cfg(test)]
 mod one_batch;
+#[cfg(test)]
+mod thousands;
