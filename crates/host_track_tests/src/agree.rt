@@ -1,0 +1,125 @@
+//! The summary agrees with the slow program on plays that are drawn.
+use crate::dice::Dice;
+use crate::end::{End, PRINTED};
+use crate::hosts::hosts;
+use crate::made::{MadePlay, draw_ends, draw_play};
+use crate::playbook::playbook;
+use crate::slow::{Host, Row, slow_track};
+use crate::told::{one_more_if, whole_track};
+use crate::walk::whole_walk;
+use host_vars::{Registered, Vars};
+use outcome_results::Judged;
+use play_read::read_play;
+use std::alloc::{AllocError, Global};
+use std::test::Fail;
+
+const PLAYS: u32 = 2500;
+
+/// What the earlier play left on the second host.
+const EARLIER: Row = Row {
+    end: End::Ran(3),
+    register: Some("r"),
+    changed: false,
+    failed: true,
+    judged: Judged::Failed,
+    notify: &[],
+};
+
+const HOSTS: [Host; 2] = [
+    Host {
+        name: "a",
+        has_value: true,
+        earlier: None,
+    },
+    Host {
+        name: "b",
+        has_value: false,
+        earlier: Some(EARLIER),
+    },
+];
+
+fn with_earlier(alloc: Global, vars: &Vars, earlier: Option<Row>) -> Result<Vars, AllocError> {
+    let mut vars = vars.copy(alloc)?;
+    if let Some(row) = earlier {
+        vars.reserve(alloc, "r")?;
+        let result = Registered {
+            rc: row.code(),
+            stdout: String::from_str(alloc, PRINTED)?,
+            stderr: String::new(alloc),
+            changed: row.changed,
+            failed: row.failed,
+            skipped: row.is_skipped(),
+        };
+        vars.register("r", result);
+    }
+    Ok(vars)
+}
+
+/// How often something happened that the plays are to show.
+#[derive(Default, Drop)]
+struct Seen {
+    tracks: usize,
+    ignored: usize,
+    failed: usize,
+    skipped: usize,
+    without_name: usize,
+    handlers: usize,
+    notified_and_failed: usize,
+}
+
+impl Seen {
+    fn add(&mut self, made: &MadePlay, rows: &[Row]) {
+        self.tracks = self.tracks.saturating_add(1);
+        for row in rows {
+            self.ignored = one_more_if(matches!(row.judged, Judged::Ignored { .. }), self.ignored);
+            self.failed = one_more_if(row.judged == Judged::Failed, self.failed);
+            self.skipped = one_more_if(row.judged == Judged::Skipped, self.skipped);
+            self.without_name = one_more_if(
+                matches!(row.end, End::Undefined(_)),
+                self.without_name,
+            );
+        }
+        let tasks = made.tasks;
+        let handlers = rows.len().saturating_sub(tasks);
+        self.handlers = self.handlers.saturating_add(handlers);
+        let notified = rows.iter().any(|row| {
+            row.judged == Judged::Ok { changed: true } && !row.notify.is_empty()
+        });
+        let failed = rows.iter().any(|row| row.judged == Judged::Failed);
+        self.notified_and_failed = one_more_if(notified && failed, self.notified_and_failed);
+    }
+}
+
+#[test]
+fn made_plays_are_walked_as_the_slow_program_says(rt: HostRuntime) -> Result<(), Fail> {
+    let alloc = rt.alloc();
+    let fleet = hosts(alloc, &[("a", 1), ("b", -1)])?;
+    let mut seen = Seen::default();
+    for seed in 0..PLAYS {
+        let mut dice = Dice { state: seed };
+        let made = draw_play(alloc, &mut dice)?;
+        let text = playbook(alloc, &made)?;
+        let read = read_play(alloc, text.as_bytes())?;
+        for (host, vars) in HOSTS.iter().zip(&fleet) {
+            let ends = draw_ends(alloc, &mut dice, made.steps.len())?;
+            let slow = slow_track(alloc, &made, *host, &ends)?;
+            seen.add(&made, &slow.rows);
+            let wanted = whole_track(*host, slow)?;
+            let start = with_earlier(alloc, vars, host.earlier)?;
+            let walked = whole_walk(alloc, &read, start, &ends)?;
+            assert_eq!(rt; walked.as_str(), wanted.as_str(), "{text} {ends:?}");
+        }
+    }
+    assert_eq!(rt; seen.tracks, 5000);
+    for (what, times) in [
+        ("ignored", seen.ignored),
+        ("failed", seen.failed),
+        ("skipped", seen.skipped),
+        ("without a name", seen.without_name),
+        ("handlers", seen.handlers),
+        ("notified and failed", seen.notified_and_failed),
+    ] {
+        assert!(rt; times > 500, "{what}: {times} times");
+    }
+    Ok(())
+}

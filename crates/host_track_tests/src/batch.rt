@@ -1,0 +1,89 @@
+//! A batch of four hosts, of which the first two fail at the first of two steps.
+use crate::end::End;
+use crate::hosts::hosts;
+use crate::shown::show_counts;
+use crate::walk::walk;
+use batch_outcome::{failed_by, is_past, status_after};
+use fleet_states::Status;
+use play_model::Play;
+use play_read::read_play;
+use std::alloc::Global;
+use std::fmt::Write;
+use std::test::Fail;
+
+fn ends(host: usize) -> &'static [End] {
+    if host < 2 { &[End::Ran(1)] } else { &[] }
+}
+
+/// The step at which the batch of all these hosts halts.
+fn halt(alloc: Global, play: &Play, failing: &[Option<usize>]) -> Result<Option<usize>, Fail> {
+    let mut batch = Vec::new(alloc);
+    for host in 0..failing.len() {
+        batch.push(host)?;
+    }
+    let size = u32::try_from(batch.len()).unwrap_or(u32::MAX);
+    for place in 0..play.steps().len() {
+        let failed = u32::try_from(failed_by(failing, &batch, place)).unwrap_or(u32::MAX);
+        if is_past(play.max_fail(), failed, size) {
+            return Ok(Some(place));
+        }
+    }
+    Ok(None)
+}
+
+fn state(status: Status) -> &'static str {
+    match status {
+        Status::Updated => " updated\n",
+        Status::Failed => " failed\n",
+        Status::Halted => " halted\n",
+        _ => " not in the batch\n",
+    }
+}
+
+/// Of each host its rows up to the halt, its counts, and what becomes of it.
+fn batch(alloc: Global, percentage: &str) -> Result<String, Fail> {
+    let play = format!(in alloc;
+        "[{{\"hosts\":\"all\",\"max_fail_percentage\":{percentage},
+        \"tasks\":[{{\"command\":\"x\"}},{{\"command\":\"y\"}}]}}]"
+    )?;
+    let play = read_play(alloc, play.as_bytes())?;
+    let hosts = hosts(alloc, &[("a", -1), ("b", -1), ("c", -1), ("d", -1)])?;
+    let mut failing = Vec::new(alloc);
+    for (host, vars) in hosts.iter().enumerate() {
+        let steps = play.steps().len();
+        let walked = walk(alloc, &play, vars.copy(alloc)?, ends(host), steps)?;
+        failing.push(walked.failing)?;
+    }
+    let halt = halt(alloc, &play, &failing)?;
+    let steps = halt.map_or(play.steps().len(), |place| place.saturating_add(1));
+    let mut shown = String::new(alloc);
+    for (host, vars) in hosts.iter().enumerate() {
+        let walked = walk(alloc, &play, vars.copy(alloc)?, ends(host), steps)?;
+        write!(shown, "{}", walked.rows)?;
+        show_counts(&mut shown, walked.summary.counts())?;
+        shown.push_str(state(status_after(halt, walked.failing)))?;
+    }
+    Ok(shown)
+}
+
+#[test]
+fn as_many_failures_as_the_percentage_are_not_too_many(rt: HostRuntime) -> Result<(), Fail> {
+    let alloc = rt.alloc();
+    assert_eq!(rt;
+        batch(alloc, "50")?.as_str(),
+        "1 [x] rc=1 failed / 0 0 1 0 0 failed
+1 [x] rc=1 failed / 0 0 1 0 0 failed
+1 [x] rc=0 ok changed / 2 [y] rc=0 ok changed / 2 2 0 0 0 updated
+1 [x] rc=0 ok changed / 2 [y] rc=0 ok changed / 2 2 0 0 0 updated
+"
+    );
+    assert_eq!(rt;
+        batch(alloc, "49")?.as_str(),
+        "1 [x] rc=1 failed / 0 0 1 0 0 failed
+1 [x] rc=1 failed / 0 0 1 0 0 failed
+1 [x] rc=0 ok changed / 1 1 0 0 0 halted
+1 [x] rc=0 ok changed / 1 1 0 0 0 halted
+"
+    );
+    Ok(())
+}
