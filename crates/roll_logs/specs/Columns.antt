@@ -1,0 +1,53 @@
+-- What a log says of the hosts, against columns, which give each host and step an end for its program.
+use Rattle.std.specs.Prelude.{◌≡◌, ℕ, suc, true, Option, Some, None, List, [], ◌∷◌, length}
+use Rattle.fleet_numbers.specs.NumberLists.{has_number}
+use Rattle.fleet_states.specs.Statuses.{status_at}
+use Rattle.host_track.specs.Tracks.{Column, track, whole_track, failing_step}
+use Rattle.batch_outcome.specs.Batches.{Fails, halt, status_after}
+use Rattle.roll_logs.specs.Rolls.{Roll}
+use Rattle.roll_logs.specs.Events.{Event, set_aside, opened, claimed, reported, passed, closed}
+use Rattle.roll_logs.specs.States.{State, ended, start_state}
+use Rattle.roll_logs.specs.Logs.{IsLegal, next, state_after}
+
+abbrev pub Columns : Type 0
+Columns = ℕ → Column
+
+abbrev pub TellsOf : Columns → Event → Type 0
+TellsOf columns (set_aside hosts) = Unit {0}
+TellsOf columns (opened batch) = Unit {0}
+TellsOf columns (claimed host step) = Unit {0}
+TellsOf columns (reported host step ending) = columns host step ≡ ending
+TellsOf columns (passed step) = Unit {0}
+TellsOf columns closed = Unit {0}
+
+-- the columns have the end of each report
+abbrev pub Tells : Columns → List Event → Type 0
+Tells columns [] = Unit {0}
+Tells columns (event ∷ log) = TellsOf columns event × Tells columns log
+
+-- the step that fails on each host by itself
+abbrev pub fails_by : Roll → Columns → Fails
+fails_by roll columns host =
+    failing_step (whole_track roll.play (roll.known host) (columns host))
+
+-- the step at which a batch of such hosts halts
+abbrev pub halt_by : Roll → Columns → List ℕ → Option ℕ
+halt_by roll columns batch =
+    halt (fails_by roll columns) batch roll.play.max_fail (length roll.play.steps.items)
+
+-- how many steps the hosts of a batch have been through that ended so
+abbrev pub steps_until : Roll → Option ℕ → ℕ
+steps_until roll None = length roll.play.steps.items
+steps_until roll (Some halt) = suc halt
+
+-- the batch has halted where its hosts by themselves say that it does; each has the rows of its track up to there, and the
+-- status that its own failing step gives it once the batch is closed
+pub record EndsByColumns (roll : Roll) (columns : Columns) (state : State) (halt : Option ℕ) : Type 0 where
+  pub halts : halt ≡ halt_by roll columns state.batch
+  pub rows : (host : ℕ) → has_number host state.batch ≡ true → state.rows host ≡ track roll.play (roll.known host) (columns host) (steps_until roll halt)
+  pub statuses : (host : ℕ) → has_number host state.batch ≡ true → status_at (next roll state closed).statuses host ≡ status_after halt (fails_by roll columns host)
+
+-- a batch ends as its hosts do by themselves, whoever worked on them, in whatever order and beside whom
+abbrev pub BatchesEndByColumns : Type 0
+BatchesEndByColumns =
+    (roll : Roll) (log : List Event) (columns : Columns) (halt : Option ℕ) → IsLegal roll (start_state roll) log → Tells columns log → (state_after roll (start_state roll) log).phase ≡ ended halt → EndsByColumns roll columns (state_after roll (start_state roll) log) halt

@@ -1,0 +1,6 @@
+pub mod Rolls
+pub mod Events
+pub mod States
+pub mod Logs
+pub mod Laws
+pub mod Columns

@@ -1,0 +1,27 @@
+//! What holds of every legal log, whoever makes it.
+ghost use Rattle.roll_logs.specs.Columns.{BatchesEndByColumns};
+ghost use Rattle.roll_logs.specs.Laws.{ForksBoundTheClaims, LegalLogsAreSafe, LegalLogsRestBetweenBatches};
+
+/// From a safe start no group is over its limit after any number of the events.
+pub fn legal_logs_are_safe()
+    ensures { LegalLogsAreSafe }
+{}
+
+/// From a start at which nobody runs, nobody runs wherever no batch is open.
+#[tactic(auto, using(crate::proofs::RestFronts::legal_rest))]
+pub fn legal_logs_rest_between_batches()
+    ensures { LegalLogsRestBetweenBatches }
+{}
+
+/// After any number of the events at most as many claims are out as there are forks.
+#[tactic(auto, using(crate::proofs::ClaimFronts::legal_bounded))]
+pub fn forks_bound_the_claims()
+    ensures { ForksBoundTheClaims }
+{}
+
+/// A batch ends as each of its hosts does by itself on the ends that were reported: in whatever order workers claimed and
+/// reported, it halts at the step at which so many of its hosts fail by themselves, each has the rows of its own track up to
+/// there, and the status that follows from its own failing step once the batch is closed.
+pub fn batches_end_by_columns()
+    ensures { BatchesEndByColumns }
+{}

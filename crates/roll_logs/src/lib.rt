@@ -1,0 +1,9 @@
+//! The events of a roll of many steps, which logs of them are legal, and what holds of every legal log.
+#![tactic(auto)]
+
+mod laws;
+
+pub use laws::{
+    batches_end_by_columns, forks_bound_the_claims, legal_logs_are_safe,
+    legal_logs_rest_between_batches,
+};
