@@ -1,9 +1,10 @@
 -- A batch of a legal log ends as its hosts do by themselves.
 use Rattle.std.proofs.Common.{◌≡◌, ℕ, suc, ◌+◌, ◌-◌, ◌≤◌, ◌<◌, nat_lt, Bool, true, false, cond, ◌||◌, Option, Some, None, List, [], ◌∷◌, ◌++◌, length, refl, sym, ap, ◌∙◌, subst, arith, inl, inr, ◌⊎◌}
 use Rattle.std.specs.Prelude.{if◌then◌else◌}
-use Rattle.std.specs.List.{list_all, list_any}
+use Rattle.std.specs.List.{list_any}
 use Rattle.std.proofs.lemmas.Bool.{both_ways, cases_eq, cases_lt, not-false, not-true, ltb-false, ltb-true}
 use Rattle.fleet_numbers.specs.NumberLists.{has_number}
+use Rattle.fleet_states.specs.declared.status.Status.{Status}
 use Rattle.fleet_states.specs.declared.status.Status.TheVariants.{Running, Failed, Halted}
 use Rattle.fleet_states.specs.Statuses.{status_at}
 use Rattle.fleet_states.proofs.ReadyLemmas.{ready_waits}
@@ -16,7 +17,7 @@ use Rattle.batch_outcome.specs.Laws.{IsLeastHalt}
 use Rattle.batch_outcome.proofs.BatchLaws.{least}
 use Rattle.roll_logs.specs.Rolls.{Roll}
 use Rattle.roll_logs.specs.Events.{Event, set_aside, opened, claimed, reported, passed, closed}
-use Rattle.roll_logs.specs.States.{State, Phase, between, working, ended, start_state, failures, is_awaited, is_last, phase_after, rows_with, with_rows, at_rest}
+use Rattle.roll_logs.specs.States.{State, Phase, between, working, ended, start_state, failures, is_awaited, is_dead, is_last, phase_after, rows_with, with_rows, at_rest}
 use Rattle.roll_logs.specs.Logs.{Allowed, IsLegal, MayReport, next, closed_state, state_after}
 use Rattle.roll_logs.specs.Columns.{Columns, Tells, TellsOf, fails_by, halt_by, steps_until, BatchesEndByColumns}
 use Rattle.roll_logs.proofs.OutLemmas.{count_same, any_none, all_in}
@@ -34,12 +35,35 @@ module _ (roll : Roll) (columns : Columns) where
   abbrev halts : List ℕ → ℕ → Bool
   halts batch step = halts_at (fails_by roll columns) batch roll.play.max_fail step
 
+  -- the batch has halted at the right step, if at one, and each of its hosts has the rows up to there
+  abbrev Ends : State → Option ℕ → Type 0
+  Ends state halt =
+      (halt ≡ halt_by roll columns state.batch) × ((host : ℕ) → has_number host state.batch ≡ true → state.rows host ≡ rows_of host (steps_until roll halt))
+
+  -- the rows of a host before a step or through it
+  abbrev IsAt : List Entry → ℕ → ℕ → Type 0
+  IsAt rows host step = (rows ≡ rows_of host step) ⊎ (rows ≡ rows_of host (suc step))
+
+  -- each host of the batch is through the step
+  abbrev Through : State → ℕ → Type 0
+  Through state step =
+      (host : ℕ) → has_number host state.batch ≡ true → state.rows host ≡ rows_of host (suc step)
+
+  abbrev is_waited_for : State → ℕ → ℕ → Bool
+  is_waited_for state step host = is_awaited roll.play (state.rows host) step
+
+  abbrev NobodyIsWaitedFor : State → ℕ → Type 0
+  NobodyIsWaitedFor state step = list_any (is_waited_for state step) state.batch ≡ false
+
   -- before the step nothing halts the batch, and each of its hosts is before the step or through it
   record OnTrack (state : State) : Type 0 where
-    rows : (host step : ℕ) → has_number host state.batch ≡ true → state.phase ≡ working step → (state.rows host ≡ rows_of host step) ⊎ (state.rows host ≡ rows_of host (suc step))
+    rows : (host step : ℕ) → has_number host state.batch ≡ true → state.phase ≡ working step → IsAt (state.rows host) host step
     inside : (step : ℕ) → state.phase ≡ working step → step < steps
     goes_on : (step earlier : ℕ) → state.phase ≡ working step → earlier < step → halts state.batch earlier ≡ false
-    ends : (halt : Option ℕ) → state.phase ≡ ended halt → (halt ≡ halt_by roll columns state.batch) × ((host : ℕ) → has_number host state.batch ≡ true → state.rows host ≡ rows_of host (steps_until roll halt))
+    ends : (halt : Option ℕ) → state.phase ≡ ended halt → Ends state halt
+
+  abbrev IsKept : State → Type 0
+  IsKept state = AtWork roll.play state × OnTrack state
 
   start_on_track : OnTrack (start_state roll)
   start_on_track =
@@ -74,7 +98,7 @@ module _ (roll : Roll) (columns : Columns) where
       by_case (Some other) is = absurd (both_ways true (sym (is.1) ∙ none other is.0) refl)
 
   -- a step that every host of the batch is through
-  module _ (state : State) (step : ℕ) (within : step < steps) (through : (host : ℕ) → has_number host state.batch ≡ true → state.rows host ≡ rows_of host (suc step)) where
+  module _ (state : State) (step : ℕ) (within : step < steps) (through : Through state step) where
     failed_alike : (host : ℕ) → has_number host state.batch ≡ true → has_failed (state.rows host) ≡ is_failed_by (fails_by roll columns host) step
     failed_alike host here =
         ap has_failed (through host here) ∙ sym (failed_by roll.play (roll.known host) (columns host) steps step within)
@@ -87,7 +111,7 @@ module _ (roll : Roll) (columns : Columns) where
     past_alike = ap (λ n. is_past roll.play.max_fail n (length state.batch)) counts_alike
 
     -- where all have failed none goes on, and no later step halts the batch if this one doesn't
-    module _ (dead : list_all (λ host. has_failed (state.rows host)) state.batch ≡ true) where
+    module _ (dead : is_dead state ≡ true) where
       failed_here : (host : ℕ) → has_number host state.batch ≡ true → has_failed (rows_of host (suc step)) ≡ true
       failed_here host here =
           sym (ap has_failed (through host here)) ∙ all_in (λ host. has_failed (state.rows host)) state.batch host dead here
@@ -98,13 +122,19 @@ module _ (roll : Roll) (columns : Columns) where
           let number : suc step + (later - step) ≡ suc later = omega (arith, behind) in
           sym (ap (rows_of host) number) ∙ stays
 
+      alike_at : (host later : ℕ) → later < steps → is_failed_by (fails_by roll columns host) later ≡ has_failed (rows_of host (suc later))
+      alike_at host later inside = failed_by roll.play (roll.known host) (columns host) steps later inside
+
       later_alike : (later : ℕ) → step ≤ later → later < steps → halts state.batch later ≡ halts state.batch step
       later_alike later behind inside =
-          ap (λ n. is_past roll.play.max_fail n (length state.batch)) (count_same (λ host. is_failed_by (fails_by roll columns host) later) (λ host. is_failed_by (fails_by roll columns host) step) state.batch alike)
+          ap (λ n. is_past roll.play.max_fail n (length state.batch)) (count_same (failed_at later) (failed_at step) state.batch alike)
         where
+          failed_at : ℕ → ℕ → Bool
+          failed_at place host = is_failed_by (fails_by roll columns host) place
+
           alike : (host : ℕ) → has_number host state.batch ≡ true → is_failed_by (fails_by roll columns host) later ≡ is_failed_by (fails_by roll columns host) step
           alike host here =
-              failed_by roll.play (roll.known host) (columns host) steps later inside ∙ ap has_failed (later_rows host here later behind) ∙ sym (failed_by roll.play (roll.known host) (columns host) steps step within)
+              alike_at host later inside ∙ ap has_failed (later_rows host here later behind) ∙ sym (alike_at host step within)
 
       whole_rows : (host : ℕ) → has_number host state.batch ≡ true → rows_of host (suc step) ≡ rows_of host steps
       whole_rows host here =
@@ -121,20 +151,17 @@ module _ (roll : Roll) (columns : Columns) where
           by_case (inl same) = ap (halts state.batch) same ∙ not_here
           by_case (inr apart) = before earlier (omega (arith, inside, apart))
 
-      abbrev Ends : Option ℕ → Type 0
-      Ends halt = (halt ≡ halt_by roll columns state.batch) × ((host : ℕ) → has_number host state.batch ≡ true → state.rows host ≡ rows_of host (steps_until roll halt))
-
-      halted_here : halts state.batch step ≡ true → Ends (Some step)
+      halted_here : halts state.batch step ≡ true → Ends state (Some step)
       halted_here here = (sym (first_halt state.batch step within here before), through)
 
-      ended_last : halts state.batch step ≡ false → is_last roll.play step ≡ true → Ends None
+      ended_last : halts state.batch step ≡ false → is_last roll.play step ≡ true → Ends state None
       ended_last not_here last =
           (sym (no_halt state.batch (λ earlier inside. none_before not_here earlier (omega (arith, inside, number)))), λ host here. through host here ∙ ap (rows_of host) number)
         where
           number : suc step ≡ steps
           number = omega (arith, within, ltb-false (suc step) steps (not-true (nat_lt (suc step) steps) last))
 
-      ended_dead : halts state.batch step ≡ false → list_all (λ host. has_failed (state.rows host)) state.batch ≡ true → Ends None
+      ended_dead : halts state.batch step ≡ false → is_dead state ≡ true → Ends state None
       ended_dead not_here dead =
           (sym (no_halt state.batch none), λ host here. through host here ∙ whole_rows dead host here)
         where
@@ -149,43 +176,54 @@ module _ (roll : Roll) (columns : Columns) where
       abbrev Passes : Phase → Type 0
       Passes between = ⊥
       Passes (working now) = (now ≡ suc step) × (now < steps) × (halts state.batch step ≡ false)
-      Passes (ended halt) = Ends halt
+      Passes (ended halt) = Ends state halt
 
       passes : Passes (phase_after roll.play state step)
       passes =
-          by_case (is_past roll.play.max_fail (failures state) (length state.batch)) past_alike (is_last roll.play step) refl (list_all (λ host. has_failed (state.rows host)) state.batch) refl
+          by_case (is_past roll.play.max_fail (failures state) (length state.batch)) past_alike (is_last roll.play step) refl (is_dead state) refl
         where
-          by_case : (past : Bool) → past ≡ halts state.batch step → (last : Bool) → is_last roll.play step ≡ last → (dead : Bool) → list_all (λ host. has_failed (state.rows host)) state.batch ≡ dead → Passes (if past then ended (Some step) else (if last then ended None else (if dead then ended None else working (suc step))))
+          phase_by : Bool → Bool → Bool → Phase
+          phase_by past last dead =
+              if past then ended (Some step) else (if last then ended None else (if dead then ended None else working (suc step)))
+
+          by_case : (past : Bool) → past ≡ halts state.batch step → (last : Bool) → is_last roll.play step ≡ last → (dead : Bool) → is_dead state ≡ dead → Passes (phase_by past last dead)
           by_case true past last is_it dead are = halted_here (sym past)
           by_case false past true is_it dead are = ended_last (sym past) is_it
           by_case false past false is_it true are = ended_dead (sym past) are
           by_case false past false is_it false are =
               (refl, ltb-true (suc step) steps (not-false (nat_lt (suc step) steps) is_it), sym past)
 
+  due_as_awaited : (host step : ℕ) (rows : List Entry) → rows ≡ rows_of host step → is_due roll.play (rows_of host step) step ≡ is_awaited roll.play rows step
+  due_as_awaited host step rows waits =
+      sym (awaited_where_due roll.play (roll.known host) (columns host) step) ∙ sym (ap (λ l. is_awaited roll.play l step) waits)
+
   -- where nothing is awaited, each host is through the step
-  through_step : (state : State) (step : ℕ) → OnTrack state → state.phase ≡ working step → list_any (λ host. is_awaited roll.play (state.rows host) step) state.batch ≡ false → (host : ℕ) → has_number host state.batch ≡ true → state.rows host ≡ rows_of host (suc step)
+  through_step : (state : State) (step : ℕ) → OnTrack state → state.phase ≡ working step → NobodyIsWaitedFor state step → Through state step
   through_step state step on at none host here = by_case (on.rows host step here at)
     where
-      by_case : (state.rows host ≡ rows_of host step) ⊎ (state.rows host ≡ rows_of host (suc step)) → state.rows host ≡ rows_of host (suc step)
+      by_case : IsAt (state.rows host) host step → state.rows host ≡ rows_of host (suc step)
       by_case (inr through) = through
       by_case (inl waits) =
-          let idle = any_none (λ host. is_awaited roll.play (state.rows host) step) state.batch host none here in
-          let not_due : is_due roll.play (rows_of host step) step ≡ false = sym (awaited_where_due roll.play (roll.known host) (columns host) step) ∙ sym (ap (λ rows. is_awaited roll.play rows step) waits) ∙ idle in
+          let idle = any_none (is_waited_for state step) state.batch host none here in
+          let not_due : is_due roll.play (rows_of host step) step ≡ false = due_as_awaited host step (state.rows host) waits ∙ idle in
           waits ∙ sym (other_rows roll.play (roll.known host) (columns host) step not_due)
 
-  passed_on_track : (state : State) (step : ℕ) → OnTrack state → state.phase ≡ working step → list_any (λ host. is_awaited roll.play (state.rows host) step) state.batch ≡ false → (phase : Phase) → phase_after roll.play state step ≡ phase → OnTrack (record state { phase = phase })
+  abbrev in_phase : Phase → State → State
+  in_phase phase state = record state { phase = phase }
+
+  passed_on_track : (state : State) (step : ℕ) → OnTrack state → state.phase ≡ working step → NobodyIsWaitedFor state step → (phase : Phase) → phase_after roll.play state step ≡ phase → OnTrack (in_phase phase state)
   passed_on_track state step on at none phase is = by_case phase (subst (Passes state step within through before) is (passes state step within through before))
     where
       within : step < steps
       within = on.inside step at
 
-      through : (host : ℕ) → has_number host state.batch ≡ true → state.rows host ≡ rows_of host (suc step)
+      through : Through state step
       through = through_step state step on at none
 
       before : (earlier : ℕ) → earlier < step → halts state.batch earlier ≡ false
       before earlier inside = on.goes_on step earlier at inside
 
-      by_case : (phase : Phase) → Passes state step within through before phase → OnTrack (record state { phase = phase })
+      by_case : (phase : Phase) → Passes state step within through before phase → OnTrack (in_phase phase state)
       by_case between never = absurd never
       by_case (working now) pass =
           record {
@@ -199,17 +237,14 @@ module _ (roll : Roll) (columns : Columns) where
             rows = λ host other here e. absurd (cc);
             inside = λ other e. absurd (cc);
             goes_on = λ other earlier e inside. absurd (cc);
-            ends = λ halt e. subst Ended (end_of found halt e) pass;
+            ends = λ halt e. subst (Ends state) (end_of found halt e) pass;
           }
         where
-          Ended : Option ℕ → Type 0
-          Ended halt = (halt ≡ halt_by roll columns state.batch) × ((host : ℕ) → has_number host state.batch ≡ true → state.rows host ≡ rows_of host (steps_until roll halt))
-
           end_of : (a b : Option ℕ) → ended a ≡ ended b → a ≡ b
           end_of a b same = cc
 
-  reported_on_track : (state : State) (host step : ℕ) (ending : Ending) → MayReport roll state host step ending → columns host step ≡ ending → AtWork roll.play state → OnTrack state → OnTrack (next roll state (reported host step ending))
-  reported_on_track state host step ending may told at_work on =
+  reported_on_track : (state : State) (host step : ℕ) (ending : Ending) → MayReport roll state host step ending → columns host step ≡ ending → IsKept state → OnTrack (next roll state (reported host step ending))
+  reported_on_track state host step ending may told (at_work, on) =
       record {
         rows = λ other now here e. by_case other now here e (cases_eq other host);
         inside = on.inside;
@@ -231,14 +266,14 @@ module _ (roll : Roll) (columns : Columns) where
           let idle = not_awaited roll.play (roll.known host) (columns host) step may.task may.is in
           both_ways true (sym awaited ∙ ap (λ rows. is_awaited roll.play rows step) through ∙ idle) refl
 
-      one_more : (state.rows host ≡ rows_of host step) ⊎ (state.rows host ≡ rows_of host (suc step)) → new ≡ rows_of host (suc step)
+      one_more : IsAt (state.rows host) host step → new ≡ rows_of host (suc step)
       one_more (inr through) = absurd (not_through through)
       one_more (inl waits) =
-          let due : is_due roll.play (rows_of host step) step ≡ true = sym (awaited_where_due roll.play (roll.known host) (columns host) step) ∙ sym (ap (λ rows. is_awaited roll.play rows step) waits) ∙ awaited in
+          let due : is_due roll.play (rows_of host step) step ≡ true = due_as_awaited host step (state.rows host) waits ∙ awaited in
           let row : List Entry → Ending → List Entry = λ rows end. rows ++ row_at (known_after roll.play (roll.known host) rows) (step_at roll.play step) step end in
           ap (λ rows. row rows ending) waits ∙ ap (row (rows_of host step)) (sym told) ∙ sym (due_rows roll.play (roll.known host) (columns host) step due)
 
-      by_case : (other now : ℕ) → has_number other state.batch ≡ true → state.phase ≡ working now → (other ≡ host) ⊎ (other ≡ host → ⊥) → (with_rows host new state.rows other ≡ rows_of other now) ⊎ (with_rows host new state.rows other ≡ rows_of other (suc now))
+      by_case : (other now : ℕ) → has_number other state.batch ≡ true → state.phase ≡ working now → (other ≡ host) ⊎ (other ≡ host → ⊥) → IsAt (with_rows host new state.rows other) other now
       by_case other now here e (inl same) =
           let one : step ≡ now = work.step_of step now (sym may.at ∙ e) in
           let through : new ≡ rows_of host (suc step) = one_more (on.rows host step in_batch may.at) in
@@ -248,7 +283,7 @@ module _ (roll : Roll) (columns : Columns) where
           stays : with_rows host new state.rows other ≡ state.rows other
           stays = work.other_rows host new state.rows other apart
 
-          either : (state.rows other ≡ rows_of other now) ⊎ (state.rows other ≡ rows_of other (suc now)) → (with_rows host new state.rows other ≡ rows_of other now) ⊎ (with_rows host new state.rows other ≡ rows_of other (suc now))
+          either : IsAt (state.rows other) other now → IsAt (with_rows host new state.rows other) other now
           either (inl waits) = inl (stays ∙ waits)
           either (inr through) = inr (stays ∙ through)
 
@@ -284,21 +319,28 @@ module _ (roll : Roll) (columns : Columns) where
   next_on_track state (claimed host step) may told at_work on =
       record { rows = on.rows; inside = on.inside; goes_on = on.goes_on; ends = on.ends }
   next_on_track state (reported host step ending) may told at_work on =
-      reported_on_track state host step ending may told at_work on
+      reported_on_track state host step ending may told (at_work, on)
   next_on_track state (passed step) may told at_work on =
       passed_on_track state step on may.at may.reported (phase_after roll.play state step) refl
   next_on_track state closed may told at_work on =
       subst (λ (phase : Phase). OnTrack (closed_state phase state)) (sym may.at) (closed_on_track state may.halt)
 
   -- what becomes of a host of a batch that ended so
-  fate : (rows : List Entry) (halt failing : Option ℕ) → (halt ≡ None → failing ≡ failing_step rows) → ((at : ℕ) → halt ≡ Some at → has_failed rows ≡ is_failed_by failing at) → at_rest halt (status_in_batch rows) ≡ status_after halt failing
+  abbrev FailsUpTo : List Entry → Option ℕ → Option ℕ → Type 0
+  FailsUpTo rows halt failing =
+      (at : ℕ) → halt ≡ Some at → has_failed rows ≡ is_failed_by failing at
+
+  fate : (rows : List Entry) (halt failing : Option ℕ) → (halt ≡ None → failing ≡ failing_step rows) → FailsUpTo rows halt failing → at_rest halt (status_in_batch rows) ≡ status_after halt failing
   fate rows None failing whole up_to = subst (λ found. at_rest None (status_in_batch rows) ≡ status_after None found) (sym (whole refl)) (all rows)
     where
       all : (rows : List Entry) → at_rest None (status_in_batch rows) ≡ status_after None (failing_step rows)
       all [] = refl
       all (row ∷ rows) = by_case (is_failed row.finding.judged) (all rows)
         where
-          by_case : (b : Bool) → at_rest None (status_in_batch rows) ≡ status_after None (failing_step rows) → at_rest None (if b || has_failed rows then Failed else Running) ≡ status_after None (if b then Some row.step else failing_step rows)
+          working_or : Bool → Status
+          working_or failed = if failed then Failed else Running
+
+          by_case : (b : Bool) → at_rest None (status_in_batch rows) ≡ status_after None (failing_step rows) → at_rest None (working_or (b || has_failed rows)) ≡ status_after None (if b then Some row.step else failing_step rows)
           by_case true later = refl
           by_case false later = later
   fate rows (Some at) failing whole up_to = rw (up_to at refl) (by_case (is_failed_by failing at))
@@ -311,23 +353,34 @@ module _ (roll : Roll) (columns : Columns) where
   halt_within batch at is =
       (subst (IsLeastHalt (fails_by roll columns) batch roll.play.max_fail steps) is (least (fails_by roll columns) batch roll.play.max_fail steps)).0
 
-  closed_status : (state : State) (halt : Option ℕ) (host : ℕ) → AtWork roll.play state → halt ≡ halt_by roll columns state.batch → state.rows host ≡ rows_of host (steps_until roll halt) → has_number host state.batch ≡ true → status_at (closed_state (ended halt) state).statuses host ≡ status_after halt (fails_by roll columns host)
-  closed_status state halt host at_work halted rows here =
-      status_at-changed_idle (at_rest halt) state.batch state.statuses host refl ∙ ap (λ b. cond b (at_rest halt (status_at state.statuses host)) (status_at state.statuses host)) here ∙ ap (at_rest halt) (at_work.works host here) ∙ fate (state.rows host) halt (fails_by roll columns host) whole up_to
+  -- what the host is once the batch is closed from this phase
+  abbrev IsClosedAs : State → ℕ → Option ℕ → Phase → Type 0
+  IsClosedAs state host halt phase =
+      status_at (closed_state phase state).statuses host ≡ status_after halt (fails_by roll columns host)
+
+  closed_status : (state : State) (halt : Option ℕ) (host : ℕ) → AtWork roll.play state → Ends state halt → has_number host state.batch ≡ true → IsClosedAs state host halt (ended halt)
+  closed_status state halt host at_work is here =
+      status_at-changed_idle (at_rest halt) state.batch state.statuses host refl ∙ ap closed_if here ∙ ap (at_rest halt) (at_work.works host here) ∙ fate (state.rows host) halt (fails_by roll columns host) whole up_to
     where
+      rows : state.rows host ≡ rows_of host (steps_until roll halt)
+      rows = is.1 host here
+
+      closed_if : Bool → Status
+      closed_if b = cond b (at_rest halt (status_at state.statuses host)) (status_at state.statuses host)
+
       whole : halt ≡ None → fails_by roll columns host ≡ failing_step (state.rows host)
       whole e = sym (ap failing_step (rows ∙ ap (λ h. rows_of host (steps_until roll h)) e))
 
       up_to : (at : ℕ) → halt ≡ Some at → has_failed (state.rows host) ≡ is_failed_by (fails_by roll columns host) at
       up_to at e =
           let own : state.rows host ≡ rows_of host (suc at) = rows ∙ ap (λ h. rows_of host (steps_until roll h)) e in
-          let within : at < steps = halt_within state.batch at (sym halted ∙ e) in
+          let within : at < steps = halt_within state.batch at (sym is.0 ∙ e) in
           ap has_failed own ∙ sym (failed_by roll.play (roll.known host) (columns host) steps at within)
 
-  along_log : (state : State) (log : List Event) → IsLegal roll state log → Tells columns log → AtWork roll.play state → OnTrack state → AtWork roll.play (state_after roll state log) × OnTrack (state_after roll state log)
-  along_log state [] legal told at_work on = (at_work, on)
-  along_log state (event ∷ log) legal told at_work on =
-      along_log (next roll state event) log legal.1 told.1 (next_at_work roll state event legal.0 at_work) (next_on_track state event legal.0 told.0 at_work on)
+  along_log : (state : State) (log : List Event) → IsLegal roll state log → Tells columns log → IsKept state → IsKept (state_after roll state log)
+  along_log state [] legal told kept = kept
+  along_log state (event ∷ log) legal told kept =
+      along_log (next roll state event) log legal.1 told.1 (next_at_work roll state event legal.0 kept.0, next_on_track state event legal.0 told.0 kept.0 kept.1)
 
 pub ends_by_columns : BatchesEndByColumns
 ends_by_columns roll log columns halt legal told at =
@@ -338,11 +391,11 @@ ends_by_columns roll log columns halt legal told at =
 
     kept : AtWork roll.play state × OnTrack roll columns state
     kept =
-        along_log roll columns (start_state roll) log legal told (start_at_work roll) (start_on_track roll columns)
+        along_log roll columns (start_state roll) log legal told (start_at_work roll, start_on_track roll columns)
 
-    ended_so : (halt ≡ halt_by roll columns state.batch) × ((host : ℕ) → has_number host state.batch ≡ true → state.rows host ≡ rows_of roll columns host (steps_until roll halt))
+    ended_so : Ends roll columns state halt
     ended_so = kept.1.ends halt at
 
     closes : (host : ℕ) → has_number host state.batch ≡ true → status_at (next roll state closed).statuses host ≡ status_after halt (fails_by roll columns host)
     closes host here =
-        subst (λ (phase : Phase). status_at (closed_state phase state).statuses host ≡ status_after halt (fails_by roll columns host)) (sym at) (closed_status roll columns state halt host kept.0 ended_so.0 (ended_so.1 host here) here)
+        subst (IsClosedAs roll columns state host halt) (sym at) (closed_status roll columns state halt host kept.0 ended_so here)

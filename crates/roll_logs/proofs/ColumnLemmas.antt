@@ -1,5 +1,6 @@
 -- Where a track fails, against its rows of the first steps.
-use Rattle.std.proofs.Common.{◌≡◌, ℕ, zero, suc, ◌+◌, ◌<◌, nat_eq, Bool, true, false, ◌&&◌, ◌||◌, Option, Some, None, List, [], ◌∷◌, ◌++◌, length, refl, sym, ap, ◌∙◌, subst, arith, inl, inr, ◌⊎◌, add-suc, add-zero}
+use Rattle.std.proofs.Common.{◌≡◌, ℕ, zero, suc, ◌+◌, ◌<◌, nat_eq, Bool, true, false, ◌&&◌, ◌||◌, Option, Some, None, List, [], ◌∷◌, ◌++◌, length, refl, sym, ap, ◌∙◌, subst, arith, inl, inr, ◌⊎◌}
+
 use Rattle.std.specs.Prelude.{All, if◌then◌else◌}
 use Rattle.std.proofs.lemmas.List.{append-nil}
 use Rattle.std.proofs.lemmas.Option.{slice_get_past}
@@ -39,7 +40,10 @@ failed_before [] row step later = later_step (is_failed row.finding.judged) row.
 failed_before (first ∷ rows) row step later =
     by_case (is_failed first.finding.judged) (failed_before rows row step later)
   where
-    by_case : (b : Bool) → is_failed_by (failing_step (rows ++ row ∷ [])) step ≡ is_failed_by (failing_step rows) step → is_failed_by (if b then Some first.step else failing_step (rows ++ row ∷ [])) step ≡ is_failed_by (if b then Some first.step else failing_step rows) step
+    first_or : Bool → Option ℕ → Option ℕ
+    first_or b later = if b then Some first.step else later
+
+    by_case : (b : Bool) → is_failed_by (failing_step (rows ++ row ∷ [])) step ≡ is_failed_by (failing_step rows) step → is_failed_by (first_or b (failing_step (rows ++ row ∷ []))) step ≡ is_failed_by (first_or b (failing_step rows)) step
     by_case true same = refl
     by_case false same = same
 
@@ -51,7 +55,10 @@ module _ (play : Play) (known : Known) (column : Column) where
   below steps = (rise play known column steps).1
 
   -- one more step adds the row of that step, or none
-  with_step : (P : List Entry → Type 0) (rows : List Entry) (place : ℕ) → P rows → ((row : Entry) → row.step ≡ place → P (rows ++ row ∷ [])) → P (rows ++ row_if_due play known rows place (column place))
+  abbrev StaysWith : (List Entry → Type 0) → List Entry → ℕ → Type 0
+  StaysWith P rows place = (row : Entry) → row.step ≡ place → P (rows ++ row ∷ [])
+
+  with_step : (P : List Entry → Type 0) (rows : List Entry) (place : ℕ) → P rows → StaysWith P rows place → P (rows ++ row_if_due play known rows place (column place))
   with_step P rows place none one = by_case (is_due play rows place) (step_at play place)
     where
       by_case : (due : Bool) (step : Option Step) → P (rows ++ (if due then row_at (known_after play known rows) step place (column place) else []))
@@ -59,12 +66,16 @@ module _ (play : Play) (known : Known) (column : Column) where
       by_case true None = subst P (sym (append-nil rows)) none
       by_case false step = subst P (sym (append-nil rows)) none
 
+  abbrev IsFailedAlike : ℕ → ℕ → Type 0
+  IsFailedAlike steps step =
+      is_failed_by (failing_step (rows_of steps)) step ≡ has_failed (rows_of (suc step))
+
   pub failed_by : (steps step : ℕ) → step < steps → is_failed_by (failing_step (rows_of steps)) step ≡ has_failed (rows_of (suc step))
   unfolding track
   failed_by zero step past = absurd (omega (arith, past))
   failed_by (suc steps) step inside = by_case (failed_by steps step) (cases_eq step steps)
     where
-      by_case : (step < steps → is_failed_by (failing_step (rows_of steps)) step ≡ has_failed (rows_of (suc step))) → (step ≡ steps) ⊎ (step ≡ steps → ⊥) → is_failed_by (failing_step (rows_of (suc steps))) step ≡ has_failed (rows_of (suc step))
+      by_case : (step < steps → IsFailedAlike steps step) → (step ≡ steps) ⊎ (step ≡ steps → ⊥) → IsFailedAlike (suc steps) step
       by_case before (inl same) =
           subst (λ (n : ℕ). is_failed_by (failing_step (rows_of (suc n))) step ≡ has_failed (rows_of (suc step))) same (failed_up_to (rows_of (suc step)) step (below (suc step)))
       by_case before (inr apart) =
@@ -112,7 +123,8 @@ module _ (play : Play) (known : Known) (column : Column) where
 
       has : (rows : List Entry) (row : Entry) → row.step ≡ step → is_awaited play (rows ++ row ∷ []) step ≡ false
       has rows row at =
-          let here : has_row (rows ++ row ∷ []) step ≡ true = list_any-append (λ (entry : Entry). nat_eq entry.step step) rows (row ∷ []) ∙ rw (eq-eqb row.step step at) (or_true (has_row rows step)) in
+          let split = list_any-append (λ (entry : Entry). nat_eq entry.step step) rows (row ∷ []) in
+          let here : has_row (rows ++ row ∷ []) step ≡ true = split ∙ rw (eq-eqb row.step step at) (or_true (has_row rows step)) in
           rw here (and_false (is_due play (rows ++ row ∷ []) step))
         where
           or_true : (b : Bool) → (b || true) ≡ true
@@ -122,7 +134,10 @@ module _ (play : Play) (known : Known) (column : Column) where
       none : is_due play (rows_of step) step ≡ false → is_awaited play (rows_of step ++ []) step ≡ false
       none due = subst (λ (rows : List Entry). is_awaited play rows step ≡ false) (sym (append-nil (rows_of step))) (awaited_where_due step ∙ due)
 
-      by_case : (due : Bool) → is_due play (rows_of step) step ≡ due → (at : Option Step) → at ≡ Some task → is_awaited play (rows_of step ++ (if due then row_at (known_after play known (rows_of step)) at step (column step) else [])) step ≡ false
+      row_of : Option Step → List Entry
+      row_of at = row_at (known_after play known (rows_of step)) at step (column step)
+
+      by_case : (due : Bool) → is_due play (rows_of step) step ≡ due → (at : Option Step) → at ≡ Some task → is_awaited play (rows_of step ++ (if due then row_of at else [])) step ≡ false
       by_case true due (Some at) is = has (rows_of step) _ refl
       by_case true due None is = absurd (cc)
       by_case false due at is = none due

@@ -6,3 +6,4 @@ pub mod RestFronts
 pub mod ClaimFronts
 pub mod ColumnLemmas
 pub mod ColumnFronts
+pub mod OnceFronts

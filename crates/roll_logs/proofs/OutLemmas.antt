@@ -33,7 +33,10 @@ has_without host (first ∷ hosts) other here =
     rest : List ℕ
     rest = without host hosts
 
-    by_case : (has_number other rest ≡ true → (other ≡ host → ⊥) × (has_number other hosts ≡ true)) → (b : Bool) → nat_eq first host ≡ b → has_number other (cond (not b) (first ∷ rest) rest) ≡ true → (other ≡ host → ⊥) × (has_number other (first ∷ hosts) ≡ true)
+    rest_or : Bool → List ℕ
+    rest_or b = cond (not b) (first ∷ rest) rest
+
+    by_case : (has_number other rest ≡ true → (other ≡ host → ⊥) × (has_number other hosts ≡ true)) → (b : Bool) → nat_eq first host ≡ b → has_number other (rest_or b) ≡ true → (other ≡ host → ⊥) × (has_number other (first ∷ hosts) ≡ true)
     by_case later true same is = ((later is).0, or_right (nat_eq other first) (has_number other hosts) (later is).1)
     by_case later false apart is = either (or_cases (nat_eq other first) (has_number other rest) is)
       where
@@ -70,3 +73,21 @@ any_none test hosts host none here = by_case (test host) refl
     by_case : (b : Bool) → test host ≡ b → b ≡ false
     by_case true passes = sym (any_of test hosts host here passes) ∙ none
     by_case false fails = refl
+
+-- who is left when another is taken out
+pub has_still : (host : ℕ) (hosts : List ℕ) (other : ℕ) → (other ≡ host → ⊥) → has_number other hosts ≡ true → has_number other (without host hosts) ≡ true
+has_still host [] other apart here = absurd (cc)
+has_still host (first ∷ hosts) other apart here =
+    by_case (has_still host hosts other apart) (nat_eq first host) refl (or_cases (nat_eq other first) (has_number other hosts) here)
+  where
+    rest : List ℕ
+    rest = without host hosts
+
+    rest_or : Bool → List ℕ
+    rest_or b = cond (not b) (first ∷ rest) rest
+
+    by_case : (has_number other hosts ≡ true → has_number other rest ≡ true) → (b : Bool) → nat_eq first host ≡ b → (nat_eq other first ≡ true) ⊎ (has_number other hosts ≡ true) → has_number other (rest_or b) ≡ true
+    by_case later true same (inl is) = absurd (apart (eqb-true other first is ∙ eqb-true first host same))
+    by_case later true same (inr behind) = later behind
+    by_case later false gone (inl is) = or_left (nat_eq other first) (has_number other rest) is
+    by_case later false gone (inr behind) = or_right (nat_eq other first) (has_number other rest) (later behind)

@@ -23,8 +23,11 @@ RunsInBatch state =
 start_in_batch : (roll : Roll) → NobodyRuns roll.start → RunsInBatch (start_state roll)
 start_in_batch roll rest host runs = absurd (both_ways true (sym runs ∙ nobody_at roll.start host rest) refl)
 
+abbrev runs_in : List Status → ℕ → Bool
+runs_in statuses host = is_running (status_at statuses host)
+
 -- a host that runs after such a change is one of the changed, or ran before
-ran : (change : Status → Status) (hosts : List ℕ) (statuses : List Status) (host : ℕ) → is_running (status_at (changed change hosts statuses) host) ≡ true → (has_number host hosts ≡ true) ⊎ (is_running (status_at statuses host) ≡ true)
+ran : (change : Status → Status) (hosts : List ℕ) (statuses : List Status) (host : ℕ) → runs_in (changed change hosts statuses) host ≡ true → (has_number host hosts ≡ true) ⊎ (runs_in statuses host ≡ true)
 ran change hosts statuses host runs = by_case (cases_lt host (length statuses))
   where
     either : (b : Bool) → is_running (cond b (change (status_at statuses host)) (status_at statuses host)) ≡ true → (b ≡ true) ⊎ (is_running (status_at statuses host) ≡ true)
@@ -38,7 +41,7 @@ ran change hosts statuses host runs = by_case (cases_lt host (length statuses))
         absurd (both_ways true (sym runs ∙ ap is_running (status_at-changed_past change hosts statuses host past)) refl)
 
 -- a change to a status at rest makes nobody run
-ran_before : (change : Status → Status) (hosts : List ℕ) (statuses : List Status) (host : ℕ) → ((s : Status) → is_running (change s) ≡ false) → is_running (status_at (changed change hosts statuses) host) ≡ true → (has_number host hosts ≡ false) × (is_running (status_at statuses host) ≡ true)
+ran_before : (change : Status → Status) (hosts : List ℕ) (statuses : List Status) (host : ℕ) → ((s : Status) → is_running (change s) ≡ false) → runs_in (changed change hosts statuses) host ≡ true → (has_number host hosts ≡ false) × (runs_in statuses host ≡ true)
 ran_before change hosts statuses host rests runs = by_case (cases_lt host (length statuses))
   where
     either : (b : Bool) → is_running (cond b (change (status_at statuses host)) (status_at statuses host)) ≡ true → (b ≡ false) × (is_running (status_at statuses host) ≡ true)
@@ -100,7 +103,11 @@ nobody_runs state in_batch none k d within =
     by_case true is = sym (sym (ap (has_number k) none) ∙ in_batch k is)
     by_case false is = refl
 
-fronts_rest : (roll : Roll) (state : State) (log : List Event) → AtWork roll.play state → RunsInBatch state → IsLegal roll state log → (n : ℕ) → (state_after roll state (take n log)).phase ≡ between → NobodyRuns (state_after roll state (take n log)).statuses
+-- where no batch is open nobody runs
+abbrev RestsBetween : State → Type 0
+RestsBetween state = state.phase ≡ between → NobodyRuns state.statuses
+
+fronts_rest : (roll : Roll) (state : State) (log : List Event) → AtWork roll.play state → RunsInBatch state → IsLegal roll state log → (n : ℕ) → RestsBetween (state_after roll state (take n log))
 fronts_rest roll state [] work in_batch legal zero at = nobody_runs state in_batch (work.bare at)
 fronts_rest roll state [] work in_batch legal (suc n) at = nobody_runs state in_batch (work.bare at)
 fronts_rest roll state (event ∷ log) work in_batch legal zero at = nobody_runs state in_batch (work.bare at)

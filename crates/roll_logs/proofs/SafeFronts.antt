@@ -27,7 +27,11 @@ down_at_rest halt Halted = omega arith
 down_at_rest halt Off = omega arith
 down_at_rest halt Held = omega arith
 
-pub next_safe : (roll : Roll) (state : State) (event : Event) → Allowed roll state event → AtWork roll.play state → IsSafe roll.groups state.statuses → IsSafe roll.groups (next roll state event).statuses
+-- no group is over its limit in the state
+abbrev IsSafeIn : Roll → State → Type 0
+IsSafeIn roll state = IsSafe roll.groups state.statuses
+
+pub next_safe : (roll : Roll) (state : State) (event : Event) → Allowed roll state event → AtWork roll.play state → IsSafeIn roll state → IsSafeIn roll (next roll state event)
 next_safe roll state (set_aside hosts) may work safe = safe_held roll.groups hosts state.statuses safe
 next_safe roll state (opened batch) may work safe =
     safe_opened roll.groups state.statuses batch may.ready may.fits safe
@@ -41,9 +45,10 @@ next_safe roll state (reported host step ending) may work safe =
     by_case false = safe
 next_safe roll state (passed step) may work safe = safe
 next_safe roll state closed may work safe =
-    subst (λ (phase : Phase). IsSafe roll.groups (closed_state phase state).statuses) (sym may.at) (safe_changed roll.groups (at_rest may.halt) state.batch state.statuses refl (down_at_rest may.halt) safe)
+    let rested = safe_changed roll.groups (at_rest may.halt) state.batch state.statuses refl (down_at_rest may.halt) safe in
+    subst (λ (phase : Phase). IsSafeIn roll (closed_state phase state)) (sym may.at) rested
 
-fronts_safe : (roll : Roll) (state : State) (log : List Event) → AtWork roll.play state → IsSafe roll.groups state.statuses → IsLegal roll state log → (n : ℕ) → IsSafe roll.groups (state_after roll state (take n log)).statuses
+fronts_safe : (roll : Roll) (state : State) (log : List Event) → AtWork roll.play state → IsSafeIn roll state → IsLegal roll state log → (n : ℕ) → IsSafeIn roll (state_after roll state (take n log))
 fronts_safe roll state [] work safe legal zero = safe
 fronts_safe roll state [] work safe legal (suc n) = safe
 fronts_safe roll state (event ∷ log) work safe legal zero = safe

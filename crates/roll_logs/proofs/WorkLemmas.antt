@@ -40,8 +40,11 @@ start_at_work roll =
       nobody = λ idle. refl;
     }
 
+abbrev waits_in : List Status → ℕ → Bool
+waits_in statuses host = is_waiting (status_at statuses host)
+
 -- a host that waits after such a change waited before it
-waited : (change : Status → Status) (hosts : List ℕ) (statuses : List Status) (host : ℕ) → ((s : Status) → is_waiting (change s) ≡ true → is_waiting s ≡ true) → is_waiting (status_at (changed change hosts statuses) host) ≡ true → is_waiting (status_at statuses host) ≡ true
+waited : (change : Status → Status) (hosts : List ℕ) (statuses : List Status) (host : ℕ) → ((s : Status) → is_waiting (change s) ≡ true → is_waiting s ≡ true) → waits_in (changed change hosts statuses) host ≡ true → waits_in statuses host ≡ true
 waited change hosts statuses host only waits = by_case (cases_lt host (length statuses))
   where
     either : (b : Bool) → is_waiting (cond b (change (status_at statuses host)) (status_at statuses host)) ≡ true → is_waiting (status_at statuses host) ≡ true
@@ -122,8 +125,12 @@ own_rows host rows all other same = ap (λ b. cond b rows (all other)) (eq-eqb o
 pub other_rows : (host : ℕ) (rows : List Entry) (all : ℕ → List Entry) (other : ℕ) → (other ≡ host → ⊥) → with_rows host rows all other ≡ all other
 other_rows host rows all other apart = ap (λ b. cond b rows (all other)) (ne_eqb other host apart)
 
+abbrev NobodyIsAwaited : Play → State → ℕ → Type 0
+NobodyIsAwaited play state step =
+    list_any (λ host. is_awaited play (state.rows host) step) state.batch ≡ false
+
 -- nobody of the batch is awaited, so nobody is out
-pub passed_out : (play : Play) (state : State) (step : ℕ) → AtWork play state → state.phase ≡ working step → list_any (λ host. is_awaited play (state.rows host) step) state.batch ≡ false → state.out ≡ []
+pub passed_out : (play : Play) (state : State) (step : ℕ) → AtWork play state → state.phase ≡ working step → NobodyIsAwaited play state step → state.out ≡ []
 passed_out play state step work at none = none_listed state.out nobody_out
   where
     nobody_out : (host : ℕ) → has_number host state.out ≡ true → ⊥
@@ -209,16 +216,21 @@ next_at_work roll state (reported host step ending) may work =
     rows : List Entry
     rows = rows_with roll host (state.rows host) step ending
 
-    works_after : (other : ℕ) → has_number other state.batch ≡ true → (other ≡ host) ⊎ (other ≡ host → ⊥) → status_at (with_failure host rows state.statuses) other ≡ status_in_batch (with_rows host rows state.rows other)
+    status_after : ℕ → Status
+    status_after other = status_at (with_failure host rows state.statuses) other
+
+    own : (other : ℕ) → other ≡ host → status_after other ≡ status_in_batch rows
+    own other same = ap status_after same ∙ own_status roll state host step work may.claimed may.at rows
+
+    works_after : (other : ℕ) → has_number other state.batch ≡ true → (other ≡ host) ⊎ (other ≡ host → ⊥) → status_after other ≡ status_in_batch (with_rows host rows state.rows other)
     works_after other here (inl same) =
-        ap (status_at (with_failure host rows state.statuses)) same ∙ own_status roll state host step work may.claimed may.at rows ∙ sym (ap status_in_batch (own_rows host rows state.rows other same))
+        own other same ∙ sym (ap status_in_batch (own_rows host rows state.rows other same))
     works_after other here (inr apart) =
         other_status host rows state.statuses other apart ∙ work.works other here ∙ sym (ap status_in_batch (other_rows host rows state.rows other apart))
 
     fresh_after : (other : ℕ) → is_waiting (status_at (with_failure host rows state.statuses) other) ≡ true → (other ≡ host) ⊎ (other ≡ host → ⊥) → with_rows host rows state.rows other ≡ []
     fresh_after other waits (inl same) =
-        let own : status_at (with_failure host rows state.statuses) other ≡ status_in_batch rows = ap (status_at (with_failure host rows state.statuses)) same ∙ own_status roll state host step work may.claimed may.at rows in
-        absurd (both_ways true (sym waits ∙ ap is_waiting own ∙ in_batch_waits_not rows) refl)
+        absurd (both_ways true (sym waits ∙ ap is_waiting (own other same) ∙ in_batch_waits_not rows) refl)
     fresh_after other waits (inr apart) =
         other_rows host rows state.rows other apart ∙ work.fresh other (sym (ap is_waiting (other_status host rows state.statuses other apart)) ∙ waits)
 

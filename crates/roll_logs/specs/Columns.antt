@@ -7,7 +7,7 @@ use Rattle.batch_outcome.specs.Batches.{Fails, halt, status_after}
 use Rattle.roll_logs.specs.Rolls.{Roll}
 use Rattle.roll_logs.specs.Events.{Event, set_aside, opened, claimed, reported, passed, closed}
 use Rattle.roll_logs.specs.States.{State, ended, start_state}
-use Rattle.roll_logs.specs.Logs.{IsLegal, next, state_after}
+use Rattle.roll_logs.specs.Logs.{IsLegal, end_state, next}
 
 abbrev pub Columns : Type 0
 Columns = ℕ → Column
@@ -50,4 +50,4 @@ pub record EndsByColumns (roll : Roll) (columns : Columns) (state : State) (halt
 -- a batch ends as its hosts do by themselves, whoever worked on them, in whatever order and beside whom
 abbrev pub BatchesEndByColumns : Type 0
 BatchesEndByColumns =
-    (roll : Roll) (log : List Event) (columns : Columns) (halt : Option ℕ) → IsLegal roll (start_state roll) log → Tells columns log → (state_after roll (start_state roll) log).phase ≡ ended halt → EndsByColumns roll columns (state_after roll (start_state roll) log) halt
+    (roll : Roll) (log : List Event) (columns : Columns) (halt : Option ℕ) → IsLegal roll (start_state roll) log → Tells columns log → (end_state roll log).phase ≡ ended halt → EndsByColumns roll columns (end_state roll log) halt

@@ -4,3 +4,4 @@ pub mod States
 pub mod Logs
 pub mod Laws
 pub mod Columns
+pub mod Once

@@ -12,7 +12,7 @@ use Rattle.host_jobs.specs.Asking.{asks}
 use Rattle.host_track.specs.Tracks.{Entry, known_after, step_at}
 use Rattle.roll_logs.specs.Rolls.{Roll, EndsAs}
 use Rattle.roll_logs.specs.Events.{Event, set_aside, opened, claimed, reported, passed, closed}
-use Rattle.roll_logs.specs.States.{State, Phase, between, working, ended, is_awaited, rows_with, with_rows, without, with_failure, phase_after, at_rest}
+use Rattle.roll_logs.specs.States.{State, Phase, between, working, ended, start_state, is_awaited, rows_with, with_rows, without, with_failure, phase_after, at_rest}
 
 -- some group that holds the host has no room for it
 abbrev pub is_stuck : List FleetGroup → List Status → ℕ → Bool
@@ -95,6 +95,10 @@ next roll state closed = closed_state state.phase state
 abbrev pub state_after : Roll → State → List Event → State
 state_after roll state [] = state
 state_after roll state (event ∷ log) = state_after roll (next roll state event) log
+
+-- the state after a whole log
+abbrev pub end_state : Roll → List Event → State
+end_state roll log = state_after roll (start_state roll) log
 
 -- each event is allowed where it stands
 abbrev pub IsLegal : Roll → State → List Event → Type 0

@@ -55,6 +55,10 @@ with_failure host rows statuses = if has_failed rows then slice_set statuses hos
 abbrev pub failures : State → ℕ
 failures state = count_by (λ host. has_failed (state.rows host)) state.batch
 
+-- every host of the batch has failed
+abbrev pub is_dead : State → Bool
+is_dead state = list_all (λ host. has_failed (state.rows host)) state.batch
+
 abbrev pub is_last : Play → ℕ → Bool
 is_last play step = not (nat_lt (suc step) (length play.steps.items))
 
@@ -62,7 +66,7 @@ is_last play step = not (nat_lt (suc step) (length play.steps.items))
 -- step begins
 abbrev pub phase_after : Play → State → ℕ → Phase
 phase_after play state step =
-    if is_past play.max_fail (failures state) (length state.batch) then ended (Some step) else (if is_last play step then ended None else (if list_all (λ host. has_failed (state.rows host)) state.batch then ended None else working (suc step)))
+    if is_past play.max_fail (failures state) (length state.batch) then ended (Some step) else (if is_last play step then ended None else (if is_dead state then ended None else working (suc step)))
 
 -- what becomes of a host that is at work when its batch is closed
 abbrev pub resting : Option ℕ → Status

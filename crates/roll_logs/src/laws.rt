@@ -1,5 +1,6 @@
 //! What holds of every legal log, whoever makes it.
 ghost use Rattle.roll_logs.specs.Columns.{BatchesEndByColumns};
+ghost use Rattle.roll_logs.specs.Once.{NoHostIsClaimedTwice, NoHostReportsTwice};
 ghost use Rattle.roll_logs.specs.Laws.{ForksBoundTheClaims, LegalLogsAreSafe, LegalLogsRestBetweenBatches};
 
 /// From a safe start no group is over its limit after any number of the events.
@@ -24,4 +25,14 @@ pub fn forks_bound_the_claims()
 /// there, and the status that follows from its own failing step once the batch is closed.
 pub fn batches_end_by_columns()
     ensures { BatchesEndByColumns }
+{}
+
+/// No host is claimed twice for a step: no program is run twice.
+pub fn no_host_is_claimed_twice_for_a_step()
+    ensures { NoHostIsClaimedTwice }
+{}
+
+/// No host reports a step twice.
+pub fn no_host_reports_a_step_twice()
+    ensures { NoHostReportsTwice }
 {}

@@ -5,5 +5,6 @@ mod laws;
 
 pub use laws::{
     batches_end_by_columns, forks_bound_the_claims, legal_logs_are_safe,
-    legal_logs_rest_between_batches,
+    legal_logs_rest_between_batches, no_host_is_claimed_twice_for_a_step,
+    no_host_reports_a_step_twice,
 };
