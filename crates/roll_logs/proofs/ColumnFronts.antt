@@ -26,46 +26,46 @@ use Rattle.roll_logs.proofs.WorkLemmas as work
 use Rattle.roll_logs.proofs.WorkLemmas.{AtWork, start_at_work, next_at_work, status_in_batch}
 
 module _ (roll : Roll) (columns : Columns) where
-  abbrev steps : ℕ
+  abbrev pub steps : ℕ
   steps = length roll.play.steps.items
 
-  abbrev rows_of : ℕ → ℕ → List Entry
+  abbrev pub rows_of : ℕ → ℕ → List Entry
   rows_of host n = track roll.play (roll.known host) (columns host) n
 
-  abbrev halts : List ℕ → ℕ → Bool
+  abbrev pub halts : List ℕ → ℕ → Bool
   halts batch step = halts_at (fails_by roll columns) batch roll.play.max_fail step
 
   -- the batch has halted at the right step, if at one, and each of its hosts has the rows up to there
-  abbrev Ends : State → Option ℕ → Type 0
+  abbrev pub Ends : State → Option ℕ → Type 0
   Ends state halt =
       (halt ≡ halt_by roll columns state.batch) × ((host : ℕ) → has_number host state.batch ≡ true → state.rows host ≡ rows_of host (steps_until roll halt))
 
   -- the rows of a host before a step or through it
-  abbrev IsAt : List Entry → ℕ → ℕ → Type 0
+  abbrev pub IsAt : List Entry → ℕ → ℕ → Type 0
   IsAt rows host step = (rows ≡ rows_of host step) ⊎ (rows ≡ rows_of host (suc step))
 
   -- each host of the batch is through the step
-  abbrev Through : State → ℕ → Type 0
+  abbrev pub Through : State → ℕ → Type 0
   Through state step =
       (host : ℕ) → has_number host state.batch ≡ true → state.rows host ≡ rows_of host (suc step)
 
-  abbrev is_waited_for : State → ℕ → ℕ → Bool
+  abbrev pub is_waited_for : State → ℕ → ℕ → Bool
   is_waited_for state step host = is_awaited roll.play (state.rows host) step
 
-  abbrev NobodyIsWaitedFor : State → ℕ → Type 0
+  abbrev pub NobodyIsWaitedFor : State → ℕ → Type 0
   NobodyIsWaitedFor state step = list_any (is_waited_for state step) state.batch ≡ false
 
   -- before the step nothing halts the batch, and each of its hosts is before the step or through it
-  record OnTrack (state : State) : Type 0 where
-    rows : (host step : ℕ) → has_number host state.batch ≡ true → state.phase ≡ working step → IsAt (state.rows host) host step
-    inside : (step : ℕ) → state.phase ≡ working step → step < steps
-    goes_on : (step earlier : ℕ) → state.phase ≡ working step → earlier < step → halts state.batch earlier ≡ false
-    ends : (halt : Option ℕ) → state.phase ≡ ended halt → Ends state halt
+  pub record OnTrack (state : State) : Type 0 where
+    pub rows : (host step : ℕ) → has_number host state.batch ≡ true → state.phase ≡ working step → IsAt (state.rows host) host step
+    pub inside : (step : ℕ) → state.phase ≡ working step → step < steps
+    pub goes_on : (step earlier : ℕ) → state.phase ≡ working step → earlier < step → halts state.batch earlier ≡ false
+    pub ends : (halt : Option ℕ) → state.phase ≡ ended halt → Ends state halt
 
-  abbrev IsKept : State → Type 0
+  abbrev pub IsKept : State → Type 0
   IsKept state = AtWork roll.play state × OnTrack state
 
-  start_on_track : OnTrack (start_state roll)
+  pub start_on_track : OnTrack (start_state roll)
   start_on_track =
       record {
         rows = λ host step here at. absurd (cc);
@@ -377,7 +377,7 @@ module _ (roll : Roll) (columns : Columns) where
           let within : at < steps = halt_within state.batch at (sym is.0 ∙ e) in
           ap has_failed own ∙ sym (failed_by roll.play (roll.known host) (columns host) steps at within)
 
-  along_log : (state : State) (log : List Event) → IsLegal roll state log → Tells columns log → IsKept state → IsKept (state_after roll state log)
+  pub along_log : (state : State) (log : List Event) → IsLegal roll state log → Tells columns log → IsKept state → IsKept (state_after roll state log)
   along_log state [] legal told kept = kept
   along_log state (event ∷ log) legal told kept =
       along_log (next roll state event) log legal.1 told.1 (next_at_work roll state event legal.0 kept.0, next_on_track state event legal.0 told.0 kept.0 kept.1)

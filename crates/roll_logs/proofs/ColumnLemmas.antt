@@ -1,9 +1,8 @@
 -- Where a track fails, against its rows of the first steps.
-use Rattle.std.proofs.Common.{◌≡◌, ℕ, zero, suc, ◌+◌, ◌<◌, nat_eq, Bool, true, false, ◌&&◌, ◌||◌, Option, Some, None, List, [], ◌∷◌, ◌++◌, length, refl, sym, ap, ◌∙◌, subst, arith, inl, inr, ◌⊎◌}
-
+use Rattle.std.proofs.Common.{◌≡◌, ℕ, zero, suc, ◌+◌, ◌<◌, nat_eq, Bool, true, false, ◌&&◌, ◌||◌, Option, Some, None, List, [], ◌∷◌, ◌++◌, refl, sym, ap, ◌∙◌, subst, arith, inl, inr, ◌⊎◌}
+use Rattle.std.proofs.Common.{add-suc, add-zero}
 use Rattle.std.specs.Prelude.{All, if◌then◌else◌}
 use Rattle.std.proofs.lemmas.List.{append-nil}
-use Rattle.std.proofs.lemmas.Option.{slice_get_past}
 use Rattle.std.proofs.lemmas.List.Elements.{All-head, All-tail}
 use Rattle.std.proofs.lemmas.List.Folds.{list_any-append}
 use Rattle.std.proofs.lemmas.Bool.{cases_eq, eq-eqb, le-leb, lt-leb, ne_eqb}
@@ -11,7 +10,7 @@ use Rattle.play_model.specs.declared.play.Play.{Play}
 use Rattle.play_model.specs.declared.step.Step.{Step}
 use Rattle.outcome_results.specs.Hosts.{Known}
 use Rattle.outcome_results.specs.Counting.{is_failed}
-use Rattle.host_track.specs.Tracks.{Entry, Column, track, whole_track, is_due, has_failed, failing_step, row_if_due, row_at, known_after, step_at}
+use Rattle.host_track.specs.Tracks.{Entry, Column, track, is_due, has_failed, failing_step, row_if_due, row_at, known_after, step_at}
 use Rattle.host_track.proofs.TrackLaws.{adds_none, rise}
 use Rattle.batch_outcome.specs.Batches.{is_failed_by}
 use Rattle.roll_logs.specs.States.{has_row, is_awaited}
@@ -141,23 +140,6 @@ module _ (play : Play) (known : Known) (column : Column) where
       by_case true due (Some at) is = has (rows_of step) _ refl
       by_case true due None is = absurd (cc)
       by_case false due at is = none due
-
-  -- past the last step no row comes
-  pub all_rows : (more : ℕ) → rows_of (length play.steps.items + more) ≡ whole_track play known column
-  unfolding track
-  all_rows zero = rw add-zero refl
-  all_rows (suc more) =
-      let place : ℕ = length play.steps.items + more in
-      let none : step_at play place ≡ None = slice_get_past play.steps.items place (omega arith) in
-      let same : rows_of (suc place) ≡ rows_of place = no_step (rows_of place) place none in
-      rw add-suc (same ∙ all_rows more)
-    where
-      no_step : (rows : List Entry) (place : ℕ) → step_at play place ≡ None → rows ++ row_if_due play known rows place (column place) ≡ rows
-      no_step rows place none = by_case (is_due play rows place)
-        where
-          by_case : (due : Bool) → rows ++ (if due then row_at (known_after play known rows) (step_at play place) place (column place) else []) ≡ rows
-          by_case true = rw none (append-nil rows)
-          by_case false = append-nil rows
 
   -- the next rows, where the step is due and where it is not
   pub due_rows : (step : ℕ) → is_due play (rows_of step) step ≡ true → rows_of (suc step) ≡ rows_of step ++ row_at (known_after play known (rows_of step)) (step_at play step) step (column step)

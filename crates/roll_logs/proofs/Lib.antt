@@ -7,3 +7,4 @@ pub mod ClaimFronts
 pub mod ColumnLemmas
 pub mod ColumnFronts
 pub mod OnceFronts
+pub mod ChangeLaws

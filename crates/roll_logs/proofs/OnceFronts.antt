@@ -3,7 +3,7 @@ use Rattle.std.proofs.Common.{◌≡◌, ℕ, ◌+◌, ◌≤◌, nat_eq, Bool, 
 use Rattle.std.specs.List.{count_by}
 use Rattle.std.proofs.lemmas.List.Folds.{list_any-append}
 use Rattle.std.proofs.lemmas.List.Sums.{sum_by-cons}
-use Rattle.std.proofs.lemmas.Bool.{and_parts, both_ways, cases_eq, eq-eqb, eqb-true, or_right}
+use Rattle.std.proofs.lemmas.Bool.{and_parts, both_ways, cases_eq, eq-eqb, eqb-true, ne_eqb, or_right}
 use Rattle.fleet_numbers.specs.NumberLists.{has_number}
 use Rattle.fleet_states.proofs.CountLemmas.{bit}
 use Rattle.play_model.specs.declared.step.Step.{Step}
@@ -11,11 +11,11 @@ use Rattle.outcome_results.specs.Endings.{Ending}
 use Rattle.host_track.specs.Tracks.{Entry, is_due, known_after, row_at, step_at}
 use Rattle.roll_logs.specs.Rolls.{Roll}
 use Rattle.roll_logs.specs.Events.{Event, set_aside, opened, claimed, reported, passed, closed}
-use Rattle.roll_logs.specs.States.{State, Phase, between, working, ended, start_state, has_row, rows_with, with_rows}
+use Rattle.roll_logs.specs.States.{State, Phase, between, working, ended, start_state, has_row, rows_with, with_rows, without}
 use Rattle.roll_logs.specs.Logs.{Allowed, IsLegal, MayReport, next, closed_state}
-use Rattle.roll_logs.specs.Once.{is_claim_of, is_report_of, NoHostIsClaimedTwice, NoHostReportsTwice}
-use Rattle.roll_logs.proofs.OutLemmas.{has_still}
-use Rattle.roll_logs.proofs.WorkLemmas.{AtWork, start_at_work, next_at_work, own_rows, other_rows, passed_out, step_of}
+use Rattle.roll_logs.specs.Once.{is_claim_of, is_report_of, NoHostIsClaimedTwice, NoHostReportsTwice, ReportsFollowClaims}
+use Rattle.roll_logs.proofs.OutLemmas.{has_still, has_without}
+use Rattle.roll_logs.proofs.WorkLemmas.{AtWork, start_at_work, next_at_work, closed_rows, own_rows, other_rows, passed_out, step_of}
 
 count_first : (test : Event → Bool) (event : Event) (log : List Event) → test event ≡ true → count_by test (event ∷ log) ≡ 1 + count_by test log
 count_first test event log passes =
@@ -44,11 +44,6 @@ row_added roll host rows step ending task is = by_case (step_at roll.play step) 
         let more : List Entry = row_at (known_after roll.play (roll.known host) rows) (Some at) step ending in
         let here : has_row more step ≡ true = ap (λ b. b || false) (eq-eqb step step refl) in
         list_any-append (λ (entry : Entry). nat_eq entry.step step) rows more ∙ or_right (has_row rows step) (has_row more step) here
-
-closed_rows : (state : State) (phase : Phase) (host : ℕ) → (closed_state phase state).rows host ≡ state.rows host
-closed_rows state between host = refl
-closed_rows state (working step) host = refl
-closed_rows state (ended halt) host = refl
 
 module _ (roll : Roll) (host step : ℕ) where
   -- the host has a row of the step, or is out for it
@@ -203,6 +198,100 @@ module _ (roll : Roll) (host step : ℕ) where
           omega (arith, none, first)
       by_case false is few = omega (arith, few, count_other (is_report_of host step) event log is)
 
+  abbrev at_step : Phase → Bool
+  at_step between = false
+  at_step (working now) = nat_eq now step
+  at_step (ended halt) = false
+
+  -- 1 where the host is out for the step
+  abbrev owed : State → ℕ
+  owed state = bit (has_number host state.out && at_step state.phase)
+
+  nobody_owes : (state : State) → state.out ≡ [] → owed state ≡ 0
+  nobody_owes state none = ap (λ out. bit (has_number host out && at_step state.phase)) none
+
+  -- a claim of the step makes one owed, its report settles it, and nothing else makes one
+  Paid : State → Event → Type 0
+  Paid state event =
+      bit (is_report_of host step event) + owed (next roll state event) ≤ bit (is_claim_of host step event) + owed state
+
+  paid_claim : (state : State) (other place : ℕ) → state.phase ≡ working place → Paid state (claimed other place)
+  unfolding Paid
+  paid_claim state other place at =
+      by_case (nat_eq host other) refl (has_number host state.out) (nat_eq place step) (ap at_step at)
+    where
+      by_case : (mine : Bool) → nat_eq host other ≡ mine → (out here : Bool) → at_step state.phase ≡ here → 0 + bit ((mine || out) && at_step state.phase) ≤ bit (nat_eq other host && here) + bit (out && at_step state.phase)
+      by_case false apart out here is = omega arith
+      by_case true same out true is =
+          let own : nat_eq other host ≡ true = eq-eqb other host (sym (eqb-true host other same)) in
+          rw (is, own) (omega arith)
+      by_case true same out false is = rw is (none out)
+        where
+          none : (out : Bool) → 0 + 0 ≤ bit (nat_eq other host && false) + bit (out && false)
+          none out = omega arith
+
+  paid_report : (state : State) (other place : ℕ) (ending : Ending) → has_number other state.out ≡ true → state.phase ≡ working place → Paid state (reported other place ending)
+  unfolding Paid
+  paid_report state other place ending out at = by_case (cases_eq host other)
+    where
+      gone : host ≡ other → (left : Bool) → has_number host (without other state.out) ≡ left → left ≡ false
+      gone same true is = absurd ((has_without other state.out host is).0 same)
+      gone same false is = refl
+
+      stays : (before after : Bool) → (after ≡ true → before ≡ true) → (here : Bool) → bit (after && here) ≤ bit (before && here)
+      stays before false kept here = omega arith
+      stays before true kept here = rw (kept refl) (omega arith)
+
+      by_case : (host ≡ other) ⊎ (host ≡ other → ⊥) → bit (nat_eq other host && nat_eq place step) + bit (has_number host (without other state.out) && at_step state.phase) ≤ 0 + bit (has_number host state.out && at_step state.phase)
+      by_case (inl same) =
+          let own : nat_eq other host ≡ true = eq-eqb other host (sym same) in
+          let left : has_number host (without other state.out) ≡ false = gone same (has_number host (without other state.out)) refl in
+          let was : has_number host state.out ≡ true = ap (λ h. has_number h state.out) same ∙ out in
+          let here : at_step state.phase ≡ nat_eq place step = ap at_step at in
+          rw (own, left, was, here) (omega arith)
+      by_case (inr apart) =
+          let other_host : nat_eq other host ≡ false = ne_eqb other host (λ e. apart (sym e)) in
+          let fewer = stays (has_number host state.out) (has_number host (without other state.out)) (λ is. (has_without other state.out host is).1) (at_step state.phase) in
+          rw other_host (omega (arith, fewer))
+
+  paid_none : (state : State) (event : Event) → is_report_of host step event ≡ false → (next roll state event).out ≡ [] → Paid state event
+  unfolding Paid
+  paid_none state event silent none =
+      let before : owed (next roll state event) ≡ 0 = nobody_owes (next roll state event) none in
+      rw silent (omega (arith, before))
+
+  closed_out : (state : State) (phase : Phase) → (closed_state phase state).out ≡ state.out
+  closed_out state between = refl
+  closed_out state (working now) = refl
+  closed_out state (ended halt) = refl
+
+  paid : (state : State) (event : Event) → Allowed roll state event → AtWork roll.play state → Paid state event
+  unfolding Paid
+  paid state (set_aside hosts) may work = omega arith
+  paid state (opened batch) may work = paid_none state (opened batch) refl (work.nobody idle)
+    where
+      idle : (now : ℕ) → state.phase ≡ working now → ⊥
+      idle now at = let both : between ≡ working now = sym may.boundary ∙ at in cc
+  paid state (claimed other place) may work = paid_claim state other place may.at
+  paid state (reported other place ending) may work = paid_report state other place ending may.claimed may.at
+  paid state (passed place) may work =
+      paid_none state (passed place) refl (passed_out roll.play state place work may.at may.reported)
+  paid state closed may work =
+      paid_none state closed refl (closed_out state state.phase ∙ work.nobody idle)
+    where
+      idle : (now : ℕ) → state.phase ≡ working now → ⊥
+      idle now at = let both : ended may.halt ≡ working now = sym may.at ∙ at in cc
+
+  claims_cover : (state : State) (log : List Event) → AtWork roll.play state → IsLegal roll state log → count_by (is_report_of host step) log ≤ count_by (is_claim_of host step) log + owed state
+  unfolding Paid
+  claims_cover state [] work legal = omega arith
+  claims_cover state (event ∷ log) work legal =
+      let later = claims_cover (next roll state event) log (next_at_work roll state event legal.0 work) legal.1 in
+      let here : bit (is_report_of host step event) + owed (next roll state event) ≤ bit (is_claim_of host step event) + owed state = paid state event legal.0 work in
+      let reports = sum_by-cons (λ e. bit (is_report_of host step e)) event log in
+      let claims = sum_by-cons (λ e. bit (is_claim_of host step e)) event log in
+      omega (arith, later, here, reports, claims)
+
 pub no_claim_twice : NoHostIsClaimedTwice
 no_claim_twice roll log host step legal =
     claimed_once roll host step (start_state roll) log (start_at_work roll) legal
@@ -210,3 +299,8 @@ no_claim_twice roll log host step legal =
 pub no_report_twice : NoHostReportsTwice
 no_report_twice roll log host step legal =
     reported_once roll host step (start_state roll) log (start_at_work roll) legal
+
+pub reports_follow : ReportsFollowClaims
+reports_follow roll log host step legal =
+    let covered = claims_cover roll host step (start_state roll) log (start_at_work roll) legal in
+    omega (arith, covered)

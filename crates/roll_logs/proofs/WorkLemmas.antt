@@ -137,6 +137,11 @@ passed_out play state step work at none = none_listed state.out nobody_out
     nobody_out host out =
         both_ways true (sym (any_of (λ h. is_awaited play (state.rows h) step) state.batch host (work.inside host out) (work.awaited host step out at)) ∙ none) refl
 
+pub closed_rows : (state : State) (phase : Phase) (host : ℕ) → (closed_state phase state).rows host ≡ state.rows host
+closed_rows state between host = refl
+closed_rows state (working step) host = refl
+closed_rows state (ended halt) host = refl
+
 closed_at_work : (play : Play) (state : State) (halt : Option ℕ) → state.phase ≡ ended halt → AtWork play state → AtWork play (closed_state (ended halt) state)
 closed_at_work play state halt at work =
     record {

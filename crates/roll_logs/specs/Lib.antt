@@ -5,3 +5,4 @@ pub mod Logs
 pub mod Laws
 pub mod Columns
 pub mod Once
+pub mod Changes

@@ -30,3 +30,8 @@ NoHostIsClaimedTwice =
 abbrev pub NoHostReportsTwice : Type 0
 NoHostReportsTwice =
     (roll : Roll) (log : List Event) (host step : ℕ) → IsLegal roll (start_state roll) log → count_by (is_report_of host step) log ≤ 1
+
+-- no report without a claim before it: at every front at most as many as there are claims
+abbrev pub ReportsFollowClaims : Type 0
+ReportsFollowClaims =
+    (roll : Roll) (log : List Event) (host step : ℕ) → IsLegal roll (start_state roll) log → count_by (is_report_of host step) log ≤ count_by (is_claim_of host step) log

@@ -1,6 +1,7 @@
 //! What holds of every legal log, whoever makes it.
+ghost use Rattle.roll_logs.specs.Changes.{BatchesAreOnTrack, EventsLeaveOtherHosts, FailedFromTheFailingRowOn, RowsLast};
 ghost use Rattle.roll_logs.specs.Columns.{BatchesEndByColumns};
-ghost use Rattle.roll_logs.specs.Once.{NoHostIsClaimedTwice, NoHostReportsTwice};
+ghost use Rattle.roll_logs.specs.Once.{NoHostIsClaimedTwice, NoHostReportsTwice, ReportsFollowClaims};
 ghost use Rattle.roll_logs.specs.Laws.{ForksBoundTheClaims, LegalLogsAreSafe, LegalLogsRestBetweenBatches};
 
 /// From a safe start no group is over its limit after any number of the events.
@@ -35,4 +36,29 @@ pub fn no_host_is_claimed_twice_for_a_step()
 /// No host reports a step twice.
 pub fn no_host_reports_a_step_twice()
     ensures { NoHostReportsTwice }
+{}
+
+/// At every front at most as many reports of a host's step have come as claims of it: none comes without a claim before it.
+pub fn reports_follow_claims()
+    ensures { ReportsFollowClaims }
+{}
+
+/// What an event isn't about it leaves: a host that failed, was halted or is updated stays so after its batch.
+pub fn events_leave_other_hosts()
+    ensures { EventsLeaveOtherHosts }
+{}
+
+/// Only a report changes the rows of its host: they last beyond its batch.
+pub fn rows_last()
+    ensures { RowsLast }
+{}
+
+/// At every front a host of the open batch is failed exactly where a row of it has failed.
+pub fn hosts_are_failed_from_the_failing_row_on()
+    ensures { FailedFromTheFailingRowOn }
+{}
+
+/// While a batch is at a step, each of its hosts has the rows of its own track before that step, or through it.
+pub fn batches_are_on_track()
+    ensures { BatchesAreOnTrack }
 {}
