@@ -8,3 +8,4 @@ pub mod ColumnLemmas
 pub mod ColumnFronts
 pub mod OnceFronts
 pub mod ChangeLaws
+pub mod ProgressLaws

@@ -6,3 +6,4 @@ pub mod Laws
 pub mod Columns
 pub mod Once
 pub mod Changes
+pub mod Progress

@@ -2,6 +2,7 @@
 ghost use Rattle.roll_logs.specs.Changes.{BatchesAreOnTrack, EventsLeaveOtherHosts, FailedFromTheFailingRowOn, RowsLast};
 ghost use Rattle.roll_logs.specs.Columns.{BatchesEndByColumns};
 ghost use Rattle.roll_logs.specs.Once.{NoHostIsClaimedTwice, NoHostReportsTwice, ReportsFollowClaims};
+ghost use Rattle.roll_logs.specs.Progress.{DeadBatchesEnd, OpenBatchesGoOn};
 ghost use Rattle.roll_logs.specs.Laws.{ForksBoundTheClaims, LegalLogsAreSafe, LegalLogsRestBetweenBatches};
 
 /// From a safe start no group is over its limit after any number of the events.
@@ -61,4 +62,14 @@ pub fn hosts_are_failed_from_the_failing_row_on()
 /// While a batch is at a step, each of its hosts has the rows of its own track before that step, or through it.
 pub fn batches_are_on_track()
     ensures { BatchesAreOnTrack }
+{}
+
+/// While a batch is open some event may come, if there are forks: no legal log is stuck in a batch.
+pub fn open_batches_go_on()
+    ensures { OpenBatchesGoOn }
+{}
+
+/// Where every host of a batch has failed, no further step begins.
+pub fn dead_batches_end()
+    ensures { DeadBatchesEnd }
 {}

@@ -1,6 +1,6 @@
 use Rattle.roll_logs.proofs.ChangeLaws.{on_track}
 use Rattle.roll_logs.proofs.laws.batches_are_on_track.Goals as goal
 
--- src/laws.rt:62:1
+-- src/laws.rt:63:1
 pub returns : goal.returns
 returns c = on_track
