@@ -3,7 +3,7 @@ against serde_json alone on the same bytes."""
 import os
 import subprocess
 
-from scratch import build
+from scratch import build, resident
 
 PROGRAM = """\
 //! Reads a text as often as it is told, and prints the least time in nanoseconds and the answer.
@@ -57,14 +57,12 @@ fn main(rt: HostRuntime) -> io::Result<()> {
 
 
 def run(program, what, path, runs):
-    """The least time in seconds, the answer, and the greatest resident size in MiB. That size is asked of the process while it lives:
-    what `wait4` tells of a child is at least the size of this process, which holds the text."""
+    """The least time in seconds, the answer, and the greatest resident size in MiB, of which the process is asked while it lives."""
     child = subprocess.Popen([program, what, path, str(runs)], stdin=subprocess.PIPE, stdout=subprocess.PIPE)
     words = child.stdout.readline().split()
-    with open(f"/proc/{child.pid}/status") as status:
-        size = next(int(line.split()[1]) for line in status if line.startswith("VmHWM"))
+    size = resident(child.pid)
     child.communicate()
-    return int(words[0]) / 1e9, words[1].decode(), size / 1024
+    return int(words[0]) / 1e9, words[1].decode(), size
 
 
 def compare(folder, crates, needs, used, called, cases):

@@ -67,6 +67,13 @@ def crates_below(name):
     return found
 
 
+def resident(process):
+    """The greatest resident size so far of a process that lives, in MiB. What `wait4` tells of a child is at least the size of the
+    process that made it, which may hold the text."""
+    with open(f"/proc/{process}/status") as status:
+        return next(int(line.split()[1]) for line in status if line.startswith("VmHWM")) / 1024
+
+
 def members(count, member):
     return ",".join(member(number) for number in range(count))
 

@@ -1,5 +1,6 @@
 #!/bin/sh
 # Refuses each allocation in turn, of the built program: what it answers is what it answers with all memory, or want of memory and nothing else.
+# The opening of a file is refused for want of memory too, as a system does that has none left.
 # Those of the tests too that hold whatever one allocation is refused. It needs a C compiler, crates/rollout/out/rollout, and
 # what rt ci (or rt test) leaves in the out/ of each crate named below.
 . "$(dirname "$0")/common.sh"
@@ -9,7 +10,9 @@ cat >"$work/refuse.c" <<'C'
 #include <dlfcn.h>
 #include <errno.h>
 #include <fcntl.h>
+#include <stdarg.h>
 #include <stdlib.h>
+#include <string.h>
 #include <unistd.h>
 
 /* Whether this allocation is the one that REFUSE numbers, from 1. Where it is, the file REFUSED is made. */
@@ -47,6 +50,22 @@ int posix_memalign(void **out, size_t alignment, size_t size) {
     static int (*real)(void **, size_t, size_t);
     if (!real) real = (int (*)(void **, size_t, size_t))dlsym(RTLD_NEXT, "posix_memalign");
     return refused() ? ENOMEM : real(out, alignment, size);
+}
+
+/* The file that REFUSE_OPEN names can't be opened for want of memory. */
+int open(const char *path, int flags, ...) {
+    static int (*real)(const char *, int, ...);
+    if (!real) real = (int (*)(const char *, int, ...))dlsym(RTLD_NEXT, "open");
+    const char *refused_path = getenv("REFUSE_OPEN");
+    if (refused_path && strcmp(path, refused_path) == 0) {
+        errno = ENOMEM;
+        return -1;
+    }
+    va_list rest;
+    va_start(rest, flags);
+    int mode = va_arg(rest, int);
+    va_end(rest);
+    return real(path, flags, mode);
 }
 C
 ${CC:-cc} -shared -fPIC -O1 -o "$work/refuse.so" "$work/refuse.c" -ldl || {
@@ -97,6 +116,17 @@ input=/dev/null
 each_refused --help
 each_refused --version
 each_refused limits one two
+
+# opening_refused FILE WORDS: the system wants memory to open the file, which is no fault of the file
+opening_refused() {
+    file=$1
+    shift
+    REFUSE_OPEN=$file LD_PRELOAD="$work/refuse.so" "$rollout" "$@" >"$work/out" 2>"$work/errors" <"$input"
+    status=$?
+    check "$file not opened for want of memory" 5 '' "rollout: memory$newline"
+}
+opening_refused "$top/examples/two-regions.json" limits "$top/examples/two-regions.json"
+opening_refused "$top/examples/everywhere.json" plan "$top/examples/two-regions.json" "$top/examples/everywhere.json"
 # crate and test, which holds whatever one allocation is refused
 while read -r crate name; do
     tests=$top/crates/$crate/out/${crate}_tests
