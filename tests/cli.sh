@@ -286,6 +286,7 @@ unplanned 'too many plays' "$pair" "[$(printf 'null,%.0s' $(seq 16))null]" 'roll
 unplanned 'too many steps' "$pair" "[{\"hosts\":\"all\",\"tasks\":[$(printf 'null,%.0s' $(seq 256))null]}]" 'rollout: 709 TooManySteps'
 unplanned 'an inventory refused before its playbook' '{"all":{"x":1}}' '[' 'rollout: 203 UnknownKey at=all/x'
 unplanned 'a fleet refused before its playbook' '{"all":{"children":{"g":{"vars":{"max_down":1},"hosts":{"a":{"down":true},"b":{"down":true}}}}}}' '[' 'rollout: 302 StartOver group=g down=2 limit=1'
+unplanned 'limits that cross, to be planned' '{"all":{"children":{"row1":{"vars":{"max_down":2},"hosts":{"x":null},"children":{"rb":{"vars":{"max_down":1},"hosts":{"b":null}}}},"rack9":{"vars":{"max_down":1},"hosts":{"x":null}}}}}' '[' 'rollout: 301 NotNested host=x first=rack9 second=row1'
 unplanned 'a share of more than all, to be planned' "$(printf '%s' "$racks" | sed 's/"max_down":1/"max_down":"101%"/')" "$all" 'rollout: 204 BadLimit at=all/children/eu/children/r1/vars/max_down'
 printf '[' >"$work/cut.json"
 run plan "$work/cut.json" "$work/no-play.json"

@@ -9,11 +9,15 @@ const ALL: &str = r#"[{"hosts":"all","tasks":[{"command":"true"}]}]"#;
 const PAIR: &str =
     r#"{"all":{"children":{"g":{"vars":{"max_down":1},"hosts":{"a":null,"b":null}}}}}"#;
 
+/// `x` is in `row1`, which stands over `rb`, and in `rack9`, which stands beside both.
+const CROSSING: &str =
+    r#"{"all":{"children":{"row1":{"vars":{"max_down":2},"hosts":{"x":null},"children":{"rb":{"vars":{"max_down":1},"hosts":{"b":null}}}},"rack9":{"vars":{"max_down":1},"hosts":{"x":null}}}}}"#;
+
 const NOBODY: &str =
     r#"[{"hosts":"a","tasks":[{"command":"true"}]},{"hosts":"db","tasks":[{"command":"true"}]}]"#;
 
 /// An inventory, a playbook, and the number of the fault that is told.
-const REFUSED: [(&str, &str, u16); 9] = [
+const REFUSED: [(&str, &str, u16); 10] = [
     (r#"{"all":{"children":{"eu""#, ALL, 201),
     (r#"{"all":{"x":1}}"#, "[", 203),
     (
@@ -21,6 +25,7 @@ const REFUSED: [(&str, &str, u16); 9] = [
         "[",
         302,
     ),
+    (CROSSING, "[", 301),
     (PAIR, "[", 701),
     (
         PAIR,
