@@ -40,6 +40,7 @@ kept_more old new start log log' owed owed' capacity capacity' event kept allowe
     record {
       state = state ∙ ap (λ s. next s event) kept.state ∙ sym (state_after-push (start_state start) log event) ∙ ap (state_after (start_state start)) (sym grown);
       legal = subst (λ (f : FleetView). IsLegal (groups_of f) (start_state start) log') (sym fleet) (subst (λ (l : List Event). IsLegal (groups_of old.fleet) (start_state start) l) (sym grown) longer);
+      all = kept.all ∙ ap (λ (f : FleetView). length f.hosts) (sym fleet);
       safe = subst (λ (f : FleetView). IsSafe (groups_of f) start) (sym fleet) kept.safe;
       rests = kept.rests;
       owes = owes ∙ ap owed_by (sym state);
@@ -110,8 +111,8 @@ pub owed_start : (start : List Status) → 0 ≡ owed_by (start_state start)
 owed_start start = sym (none_out (length start))
 
 pub starts_after : (machine : MachineView) (fleet : FleetView) (statuses start : List Status) (log : List Event) (capacity : ℕ) → machine ≡ record { fleet = fleet; state = start_state statuses } → start ≡ statuses → log ≡ []
-    → NobodyRuns statuses → IsSafe (groups_of fleet) statuses → IsAfterLog machine start log 0 capacity
-starts_after machine fleet statuses start log capacity is same bare rests safe =
+    → length statuses ≡ length fleet.hosts → NobodyRuns statuses → IsSafe (groups_of fleet) statuses → IsAfterLog machine start log 0 capacity
+starts_after machine fleet statuses start log capacity is same bare all rests safe =
     subst (λ (m : MachineView). IsAfterLog m start log 0 capacity) (sym is) (subst (λ (l : List Event). IsAfterLog begun start l 0 capacity) (sym bare) (subst (λ (l : List Status). IsAfterLog begun l [] 0 capacity) (sym same) begins))
   where
     begun : MachineView
@@ -119,7 +120,7 @@ starts_after machine fleet statuses start log capacity is same bare rests safe =
 
     begins : IsAfterLog (record { fleet = fleet; state = start_state statuses }) statuses [] 0 capacity
     begins =
-        record { state = refl; legal = tt; safe = safe; rests = rests; owes = owed_start statuses; places = omega arith }
+        record { state = refl; legal = tt; all = all; safe = safe; rests = rests; owes = owed_start statuses; places = omega arith }
 
 found_number : (p : ℕ → Bool) (xs : List ℕ) (n : ℕ) → find p xs ≡ Some n → (p n ≡ true) × (has_number n xs ≡ true)
 found_number p [] n e = absurd (cc)

@@ -68,9 +68,10 @@ impl<'f> Board<'f> {
         })
     }
 
-    /// All events, the oldest first.
+    /// All events, the oldest first. There was one status a host at the start.
     pub fn log(&self) -> &[Event]
         ensures value { result.now ≡ self.now.log }
+        ensures all { length self.now.start ≡ length self.now.fleet.hosts }
         ensures legal { IsLegal (groups_of self.now.fleet) (start_state self.now.start) self.now.log }
         ensures safe { FrontsAreSafe (groups_of self.now.fleet) (start_state self.now.start) self.now.log }
         ensures rests { RestsAtBoundaries (start_state self.now.start) self.now.log }

@@ -64,6 +64,7 @@ owed_by state = owed_at state.stage (count_by is_out state.progress)
 pub record IsAfterLog (machine : MachineView) (start : List Status) (log : List Event) (owed capacity : ℕ) : Type 0 where
   pub state : machine.state ≡ state_after (start_state start) log
   pub legal : IsLegal (groups_of machine.fleet) (start_state start) log
+  pub all : length start ≡ length machine.fleet.hosts
   pub safe : IsSafe (groups_of machine.fleet) start
   pub rests : NobodyRuns start
   pub owes : owed ≡ owed_by machine.state

@@ -1,4 +1,4 @@
-use Rattle.std.proofs.Common.{subst}
+use Rattle.std.proofs.Common.{◌≡◌, length, subst}
 use Rattle.fleet_states.specs.Groups.{groups_of}
 use Rattle.roll_core.specs.States.{start_state}
 use Rattle.roll_core.specs.Logs.{FrontsAreSafe, RestsAtBoundaries}
@@ -6,6 +6,10 @@ use Rattle.roll_core.specs.Views.{BoardView}
 use Rattle.roll_core.proofs.FrontLemmas.{legal_fronts}
 use Rattle.roll_core.proofs.RestLemmas.{legal_rests}
 use Rattle.roll_core.proofs.board.Board.log.Goals as goal
+
+pub returns-clause-all : goal.returns-clause-all
+returns-clause-all c =
+    subst (λ (v : BoardView). length v.start ≡ length v.fleet.hosts) c.self.view_is c.self.invariant.all
 
 pub returns-clause-safe : goal.returns-clause-safe
 returns-clause-safe c =
