@@ -92,7 +92,8 @@ impl<'f> Board<'f> {
         self.machine.status(host)
     }
 
-    /// How many of the group's members are down now.
+    /// How many of the group's members are down now. Near-constant time for a group that has a limit; the members of another are
+    /// counted.
     pub fn down(&self, group: GroupId) -> u32
         ensures { result ≡ down_in (ledger_of self.now.fleet (state_of self.now).statuses) group.index }
     {
