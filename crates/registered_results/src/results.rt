@@ -1,5 +1,5 @@
 //! Names with a place for a result, in the order in which they were first used.
-ghost use Rattle.std.specs.Prelude.{◌≡◌, IsTrue, IfOk, OnOk, Some, cond, ◌||◌, option_map, None, false};
+ghost use Rattle.std.specs.Prelude.{◌≡◌, IsTrue, IfOk, OnErr, OnOk, Some, cond, ◌||◌, option_map, None, false};
 ghost use Rattle.inventory_model.specs.Names.{Name, same_name};
 ghost use Rattle.registered_results.specs.Results.{row_of, has_place, result_of, seen_at};
 ghost use Rattle.std.specs.Option.{option_or};
@@ -35,11 +35,12 @@ impl Results {
         self.places.contains_key(name)
     }
 
-    /// Makes a place for a name that has none, so that registering takes no memory. No result is changed, also where
-    /// memory is refused.
+    /// Makes a place for a name that has none, so that registering takes no memory. No result is changed, and where memory
+    /// is refused, no place is made or lost.
     pub fn reserve(&mut self, alloc: Global, name: &str) -> Result<(), AllocError>
         ensures place { OnOk result ((other : Name) → has_place self.new other
             ≡ (same_name name.now other || has_place self.old other)) }
+        ensures refused { OnErr result ((other : Name) → has_place self.new other ≡ has_place self.old other) }
         ensures results { (other : Name) → result_of self.new other ≡ result_of self.old other }
     {
         if self.is_reserved(name) {
