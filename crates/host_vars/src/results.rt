@@ -1,5 +1,5 @@
 //! The registered results of a host.
-ghost use Rattle.std.specs.Prelude.{◌≡◌, Some, cond, ◌||◌, IfOk, IsTrue, OnOk};
+ghost use Rattle.std.specs.Prelude.{◌≡◌, Some, cond, ◌||◌, IfOk, IsTrue, OnErr, OnOk};
 ghost use Rattle.inventory_model.specs.Names.{Name, same_name};
 ghost use Rattle.registered_results.specs.Results.{row_of};
 ghost use Rattle.host_vars.specs.HostVars.{variables_of, has_place_in, result_in, IsSame};
@@ -10,11 +10,12 @@ use std::alloc::{AllocError, Global};
 use std::sync::Arc;
 
 impl Vars {
-    /// Makes a place for a result under the name, so that registering takes no memory. No result is changed, also
-    /// where memory is refused.
+    /// Makes a place for a result under the name, so that registering takes no memory. No result is changed, and where
+    /// memory is refused, no place is made or lost.
     pub fn reserve(&mut self, alloc: Global, name: &str) -> Result<(), AllocError>
         ensures place { OnOk result ((other : Name) → has_place_in self.new other
             ≡ (same_name name.now other || has_place_in self.old other)) }
+        ensures refused { OnErr result ((other : Name) → has_place_in self.new other ≡ has_place_in self.old other) }
         ensures results { (other : Name) → result_in self.new other ≡ result_in self.old other }
         ensures variables { variables_of self.new ≡ variables_of self.old }
     {
