@@ -5,6 +5,3 @@ mod marks;
 mod roster;
 
 pub use roster::Roster;
-
-#[cfg(test)]
-mod tests;
