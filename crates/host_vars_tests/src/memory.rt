@@ -2,45 +2,17 @@
 ghost use Rattle.std.specs.Prelude.{◌<◌, IfOk, length};
 ghost use Rattle.domains.specs.Fleets.{IsFleetOf};
 
+use crate::fleets::{nested, tree_of};
 use domains::{Fleet, FleetFault};
-use group_tree::{Group, GroupFault, HostId, Scalar, Tree};
+use group_tree::{GroupFault, HostId, Tree};
 use host_vars::{Registered, RenderFault, Vars, layered, layered_all};
-use std::alloc::{AllocError, Allocator, Global};
+use std::alloc::{AllocError, Global};
 use std::test::Fail;
 
-fn group<A: Allocator + Clone>(
-    alloc: A,
-    name: &str,
-    value: i64,
-    hosts: &[&str],
-) -> Result<Group<A>, GroupFault> {
-    let variables = [("v", Scalar::Int(value))];
-    let mut group = Group::new(alloc, name, None, &variables)?;
-    for host in hosts {
-        group.add_host(host, &[])?;
-    }
-    Ok(group)
-}
-
-fn with<A: Allocator + Clone>(
-    mut group: Group<A>,
-    child: Group<A>,
-) -> Result<Group<A>, GroupFault> {
-    group.add_child(child)?;
-    Ok(group)
-}
-
-/// A group k in a group m; a is in both, b in m.
-fn groups<A: Allocator + Clone>(alloc: A) -> Result<Group<A>, GroupFault> {
-    let k = group(alloc.clone()?, "k", 3, &["a"])?;
-    let m = with(group(alloc.clone()?, "m", 2, &["a", "b"])?, k)?;
-    with(group(alloc, "all", 1, &[])?, m)
-}
-
 /// A call that was refused memory is made again.
-fn groups_again(alloc: Global) -> Result<Group<Global>, GroupFault> {
-    match groups(alloc) {
-        Err(GroupFault::Memory) => groups(alloc),
+fn tree_again(alloc: Global) -> Result<Tree<Global>, GroupFault> {
+    match tree_of(alloc, 1, &nested()) {
+        Err(GroupFault::Memory) => tree_of(alloc, 1, &nested()),
         answer => answer,
     }
 }
@@ -125,21 +97,19 @@ fn render_again(vars: &Vars, alloc: Global) -> Result<String, Fail> {
 #[test]
 fn a_call_that_was_refused_memory_answers_again(rt: HostRuntime) -> Result<(), Fail> {
     let alloc = rt.alloc();
-    let Ok(tree) = Tree::new(groups_again(alloc)?) else {
-        return Err(Fail::new("no tree"));
-    };
+    let tree = tree_again(alloc)?;
     let fleet = fleet_again(alloc, &tree)?;
-    let Some(host) = fleet.host("a") else {
+    let Some(host) = fleet.host("h") else {
         return Err(Fail::new("no host"));
     };
     let mut vars = layered_again(alloc, &tree, &fleet, host)?;
     with_result_again(&mut vars, alloc)?;
     let copy = copy_again(&vars, alloc)?;
-    assert_eq!(rt; render_again(&copy, alloc)?.as_str(), "a-3-up");
-    assert_eq!(rt; render_again(&vars, alloc)?.as_str(), "a-3-up");
+    assert_eq!(rt; render_again(&copy, alloc)?.as_str(), "h-3-up");
+    assert_eq!(rt; render_again(&vars, alloc)?.as_str(), "h-3-up");
     assert_eq!(rt;
         layered_all_again(alloc, &tree, &fleet)?.as_slice().len(),
-        2
+        1
     );
     Ok(())
 }

@@ -1,5 +1,5 @@
 //! A slow program that looks at every group, against `layered` and `layered_all`.
-use crate::fleets::{Row, tree_of};
+use crate::fleets::{Row, listed, tree_of};
 use cond::{Env, Scalar, Value};
 use domains::Fleet;
 use group_tree::HostId;
@@ -30,23 +30,34 @@ fn value_if(is_set: bool, value: i64) -> i64 {
     if is_set { value } else { -1 }
 }
 
-fn row(name: &'static str, above: &'static str, value: i64, choice: u32) -> Row {
-    Row {
-        name,
-        above,
-        value,
-        hosts: hosts_of(choice),
-    }
-}
-
 /// The groups m, c and z below `all`, k below m and d below z, with values and hosts by the digits of the number.
 fn groups_of(number: u32) -> [Row; 5] {
     [
-        row("m", "all", value_if(number % 2 == 1, 2), number),
-        row("c", "all", value_if(number / 2 % 2 == 1, 3), number / 2),
-        row("z", "all", value_if(number / 4 % 2 == 1, 4), number / 4),
-        row("k", "m", value_if(number / 8 % 2 == 1, 5), number / 3),
-        row("d", "z", value_if(number / 16 % 2 == 1, 6), number / 5),
+        listed("m", "all", value_if(number % 2 == 1, 2), hosts_of(number)),
+        listed(
+            "c",
+            "all",
+            value_if(number / 2 % 2 == 1, 3),
+            hosts_of(number / 2),
+        ),
+        listed(
+            "z",
+            "all",
+            value_if(number / 4 % 2 == 1, 4),
+            hosts_of(number / 4),
+        ),
+        listed(
+            "k",
+            "m",
+            value_if(number / 8 % 2 == 1, 5),
+            hosts_of(number / 3),
+        ),
+        listed(
+            "d",
+            "z",
+            value_if(number / 16 % 2 == 1, 6),
+            hosts_of(number / 5),
+        ),
     ]
 }
 
