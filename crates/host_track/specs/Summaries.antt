@@ -1,5 +1,5 @@
 -- What a summary of a host's rows says of them.
-use Rattle.std.specs.Prelude.{◌≡◌, ℕ, ◌-◌, ◌<◌, Bool, false, IsTrue, Option, Some, None, List, length, slice_index_or}
+use Rattle.std.specs.Prelude.{◌≡◌, ℕ, ◌-◌, ◌<◌, nat_lt, not, ◌&&◌, ◌||◌, Bool, false, IsTrue, Option, Some, None, List, length, slice_index_or}
 use Rattle.registered_results.specs.Results.{row_of}
 use Rattle.registered_results.specs.declared.registered.Registered.{Registered}
 use Rattle.host_vars.specs.HostVars.{has_place_in}
@@ -15,6 +15,11 @@ use Rattle.host_track.specs.declared.summary.Summary.{Summary}
 
 abbrev pub mark_at : List Bool → ℕ → Bool
 mark_at marks handler = slice_index_or marks handler false
+
+-- the step at this place is due by the summary
+abbrev pub shows_due : Play → Summary → ℕ → Bool
+shows_due play summary place =
+    not summary.failed && (nat_lt place play.tasks || mark_at summary.notified.items (place - play.tasks))
 
 -- the summary is that of these rows of a host that began so; the counts are exact for up to 2^32 - 1 rows
 pub record Shows (play : Play) (start : Known) (entries : List Entry) (summary : Summary) : Type 0 where

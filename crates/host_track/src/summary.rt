@@ -8,7 +8,7 @@ ghost use Rattle.outcome_results.specs.Judging.{register_of, finding_of};
 ghost use Rattle.host_jobs.specs.Asking.{asks, asked_as};
 ghost use Rattle.host_track.specs.Tracks as spec;
 ghost use Rattle.host_track.specs.Tracks.{Entry, known_after, step_at, entry_of};
-ghost use Rattle.host_track.specs.Summaries.{Shows, HasPlaceFor, IsCopyFor, mark_at};
+ghost use Rattle.host_track.specs.Summaries.{Shows, HasPlaceFor, IsCopyFor, mark_at, shows_due};
 
 use crate::entering::{either, notify, register, reserve};
 use host_jobs::{Asked, ask};
@@ -45,7 +45,8 @@ impl Summary {
     /// Whether the step at this place of the play is due on the host. It takes no memory.
     pub fn is_due(&self, play: &Play, place: usize) -> bool
         requires { place < length play.now.steps.items }
-        ensures { (start : Known) (entries : List Entry) → Shows play.now start entries self.now
+        ensures value { result ≡ shows_due play.now self.now place }
+        ensures due { (start : Known) (entries : List Entry) → Shows play.now start entries self.now
             → result ≡ spec.is_due play.now entries place }
     {
         self.is_due_behind(play.tasks(), place)
@@ -100,7 +101,8 @@ impl Summary {
 
     /// Whether a row is judged failed.
     pub fn has_failed(&self) -> bool
-        ensures { (play : plays.Play) (start : Known) (entries : List Entry) → Shows play start entries self.now
+        ensures value { result ≡ self.now.failed }
+        ensures failed { (play : plays.Play) (start : Known) (entries : List Entry) → Shows play start entries self.now
             → result ≡ spec.has_failed entries }
     {
         self.failed

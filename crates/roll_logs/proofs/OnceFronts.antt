@@ -35,7 +35,7 @@ row_stays roll host rows step place ending has =
     let more : List Entry = row_at (known_after roll.play (roll.known host) rows) (step_at roll.play place) place ending in
     list_any-append (λ (entry : Entry). nat_eq entry.step step) rows more ∙ ap (λ b. b || has_row more step) has
 
-row_added : (roll : Roll) (host : ℕ) (rows : List Entry) (step : ℕ) (ending : Ending) (task : Step) → step_at roll.play step ≡ Some task → has_row (rows_with roll host rows step ending) step ≡ true
+pub row_added : (roll : Roll) (host : ℕ) (rows : List Entry) (step : ℕ) (ending : Ending) (task : Step) → step_at roll.play step ≡ Some task → has_row (rows_with roll host rows step ending) step ≡ true
 row_added roll host rows step ending task is = by_case (step_at roll.play step) is
   where
     by_case : (at : Option Step) → at ≡ Some task → has_row (rows ++ row_at (known_after roll.play (roll.known host) rows) at step ending) step ≡ true

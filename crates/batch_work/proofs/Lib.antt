@@ -1,0 +1,10 @@
+mod ListLemmas
+mod StateLemmas
+mod LineLemmas
+mod ClaimLemmas
+mod EnterLemmas
+mod PassLemmas
+mod LineUpLemmas
+mod DueLemmas
+mod BatchLemmas
+mod StartLemmas
