@@ -1,9 +1,9 @@
-mod ListLemmas
-mod StateLemmas
+pub mod ListLemmas
+pub mod StateLemmas
 mod LineLemmas
 mod ClaimLemmas
 mod EnterLemmas
-mod PassLemmas
+pub mod PassLemmas
 mod LineUpLemmas
 mod DueLemmas
 mod BatchLemmas

@@ -1,8 +1,9 @@
-pub mod FrontLemmas
-pub mod ChangeLemmas
-pub mod MachineLemmas
-pub mod SeatLemmas
-pub mod CoreLemmas
-pub mod KeptLemmas
-pub mod StepLemmas
-pub mod RestLemmas
+mod FewLemmas
+mod LogLemmas
+mod PlaceLemmas
+mod HeldLemmas
+mod ReportLemmas
+mod StepLemmas
+mod KeptLemmas
+mod WayLemmas
+mod ClosingLemmas

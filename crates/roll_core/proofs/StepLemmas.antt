@@ -1,66 +1,149 @@
--- Who may report, step by step.
-use Rattle.std.proofs.Common.{◌≡◌, ℕ, ◌<◌, Bool, length, Option, Some, None, sym, ap, ◌∙◌, subst}
-use Rattle.std.proofs.lemmas.List.{get_or-set_same, get_or-set_other}
-use Rattle.group_tree.specs.declared.ids.HostId.{HostId}
-use Rattle.roll_core.specs.declared.claim.Claim.{Claim as ClaimOut}
-use Rattle.roll_core.specs.declared.stage.Progress.TheVariants.{Due, Claimed, Reported}
-use Rattle.roll_core.specs.declared.event.Event.{Event}
-use Rattle.roll_core.specs.declared.event.Event.TheVariants.{Claim, Report}
-use Rattle.roll_core.specs.States.{State, MayClaim, MayReport, next, progress_at, start_state}
-use Rattle.roll_core.specs.Views.{BoardView, IsClaim, next_due, state_of, with_event}
-use Rattle.roll_core.proofs.CoreLemmas.{next_may, state_after-push}
+-- The work while a batch is at a step: who is awaited, who is out, and with what.
+use Rattle.std.proofs.Common.{◌≡◌, ℕ, zero, suc, ◌<◌, nat_eq, Bool, true, false, ◌&&◌, ◌||◌, ◌⊎◌, inl, inr, cond, Decides, Some, None, find, List, [], ◌∷◌, length, sym, ap, ◌∙◌, refl, subst, arith}
+use Rattle.std.specs.List.{list_any, slice_get}
+use Rattle.std.proofs.lemmas.Bool.{and_parts, both_ways, eq-eqb, eqb-true, ltb-true, or_cases, or_left, or_right}
+use Rattle.fleet_numbers.specs.NumberLists.{has_number}
+use Rattle.domains.specs.Ids.{host_numbers}
+use Rattle.fleet_states.proofs.NumberLemmas.{number_below}
+use Rattle.play_model.specs.declared.play.Play.{Play}
+use Rattle.play_model.specs.declared.step.Step.{Step}
+use Rattle.outcome_results.specs.Endings.{ending_of}
+use Rattle.host_jobs.specs.Asking.{Request}
+use Rattle.host_jobs.specs.declared.asked.Asked.{Asked}
+use Rattle.host_track.specs.Tracks.{step_at}
+use Rattle.host_track.specs.declared.summary.Summary.{Summary}
+use Rattle.roll_logs.specs.Rolls.{EndsAs, Roll}
+use Rattle.roll_logs.specs.States.{State, is_awaited, working}
+use Rattle.roll_logs.specs.Logs.{MayPass, MayReport}
+use Rattle.roll_logs.proofs.WorkLemmas.{step_of}
+use Rattle.batch_work.specs.declared.stage.Stage.{Stage}
+use Rattle.batch_work.specs.declared.stage.Stage.TheVariants.{Between, Working, Ended}
+use Rattle.batch_work.specs.declared.turn.Turn.{Turn}
+use Rattle.batch_work.specs.declared.turn.Turn.TheVariants.{Over, Due, Out}
+use Rattle.batch_work.specs.declared.work.BatchWork.{BatchWork}
+use Rattle.batch_work.specs.Turns.{awaits, is_out, is_within, turn_at}
+use Rattle.batch_work.specs.Works.{IsGiven, IsWorkOf, is_awaited_by, phase_of}
+use Rattle.roll_core.specs.declared.done.Done.{Done}
+use Rattle.roll_core.specs.declared.way.Way.{Way}
+use Rattle.roll_core.specs.declared.way.Way.TheVariants.{Program, Settled}
+use Rattle.roll_core.specs.Ways.{is_end, outcome_in, request_of}
+use Rattle.roll_core.specs.Claims.{IsOut}
+use Rattle.roll_core.specs.Inside.{IsGivenOut}
 
-pub state_of-event : (board : BoardView) (event : Event) → state_of (with_event board event) ≡ next (state_of board) event
-state_of-event board event = state_after-push (start_state board.start) board.log event
+get_in : {X : Type 0} (xs : List X) (i : ℕ) → i < length xs → (x : X) × (slice_get xs i ≡ Some x)
+get_in [] i within = absurd (omega (arith, within))
+get_in (x ∷ xs) zero within = (x, refl)
+get_in (x ∷ xs) (suc i) within = get_in xs i (omega (arith, within))
 
-pub claimed_may_report : (state : State) (host : HostId) → MayClaim state host.index → host.index < length state.progress → MayReport (next state (Claim host)) host.index
-claimed_may_report state host may within =
-    record { working = may.working; inside = may.inside; claimed = get_or-set_same state.progress host.index Claimed Due within }
+-- a test that each of them fails
+none_passes : (p : ℕ → Bool) (xs : List ℕ) → ((n : ℕ) → has_number n xs ≡ true → p n ≡ false) → list_any p xs ≡ false
+none_passes p [] fails = refl
+none_passes p (x ∷ xs) fails =
+    ap (λ b. b || list_any p xs) (fails x (or_left (nat_eq x x) (has_number x xs) (eq-eqb x x refl))) ∙ none_passes p xs (λ n here. fails n (or_right (nat_eq n x) (has_number n xs) here))
 
--- a host that is out is not the one that is claimed next
-pub apart : (state : State) (host other : ℕ) → MayReport state other → MayClaim state host → other ≡ host → ⊥
-apart state host other out may e =
-    let both : Claimed ≡ Due = sym out.claimed ∙ ap (progress_at state.progress) e ∙ may.due in
-    let none : ⊥ = cc in
-    none
-
-pub claim_keeps_out : (state : State) (host : HostId) (other : ℕ) → MayReport state other → MayClaim state host.index → MayReport (next state (Claim host)) other
-claim_keeps_out state host other out may =
-    record { working = out.working; inside = out.inside; claimed = get_or-set_other state.progress host.index other Claimed Due (apart state host.index other out may) ∙ out.claimed }
-
-pub report_keeps_out : (state : State) (host : HostId) (failed : Bool) (other : ℕ) → MayReport state other → (other ≡ host.index → ⊥) → MayReport (next state (Report host failed)) other
-report_keeps_out state host failed other out d =
-    record { working = out.working; inside = out.inside; claimed = get_or-set_other state.progress host.index other Reported Due d ∙ out.claimed }
-
-pub claimed : (old new : BoardView) (state : State) (claim : ClaimOut) (host : HostId) → claim.share.host ≡ host → state ≡ state_of old → new ≡ with_event old (Claim host) → next_due state.stage state ≡ Some host.index → host.index < length state.progress → IsClaim old new (Some claim)
-claimed old new state claim host named is grown due within =
-    subst Claims (sym named) made
+-- where none is found each fails
+found_none : (p : ℕ → Bool) (xs : List ℕ) (n : ℕ) → find p xs ≡ None → has_number n xs ≡ true → p n ≡ false
+found_none p [] n none here = absurd (cc)
+found_none p (x ∷ xs) n none here =
+    by_case (p x) refl (or_cases (nat_eq n x) (has_number n xs) here) (found_none p xs n)
   where
-    Claims : HostId → Type 0
-    Claims h = (new ≡ with_event old (Claim h)) × (next_due (state_of old).stage (state_of old) ≡ Some h.index) × MayReport (state_of new) h.index
+    by_case : (b : Bool) → p x ≡ b → (nat_eq n x ≡ true) ⊎ (has_number n xs ≡ true) → (find p xs ≡ None → has_number n xs ≡ true → p n ≡ false) → p n ≡ false
+    by_case true is which later =
+        absurd (let some : Some x ≡ None = sym (ap (λ b. cond b (Some x) (find p xs)) is) ∙ none in cc)
+    by_case false is (inl same) later = ap p (eqb-true n x same) ∙ is
+    by_case false is (inr behind) later =
+        later (sym (ap (λ b. cond b (Some x) (find p xs)) is) ∙ none) behind
 
-    made : Claims host
-    made =
-        let may : MayReport (next state (Claim host)) host.index = claimed_may_report state host (next_may state host.index due) within in
-        let after : next state (Claim host) ≡ state_of new = ap (λ s. next s (Claim host)) is ∙ sym (state_of-event old (Claim host)) ∙ ap state_of (sym grown) in
-        (grown, subst (λ (s : State). next_due s.stage s ≡ Some host.index) is due, subst (λ (s : State). MayReport s host.index) after may)
+-- a stage whose phase is at a step
+pub stage_at : (stage : Stage) (step : ℕ) → phase_of stage ≡ working step → stage ≡ Working step
+stage_at Between step e = absurd (cc)
+stage_at (Working now) step e = ap Working (step_of now step e)
+stage_at (Ended halt) step e = absurd (cc)
 
--- a claim leaves the other claims out
-pub claim_keeps : (old new : BoardView) (which : Option ClaimOut) (other : ℕ) → IsClaim old new which → MayReport (state_of old) other → MayReport (state_of new) other
-claim_keeps old new None other is out = subst (λ (v : BoardView). MayReport (state_of v) other) (sym is.0) out
-claim_keeps old new (Some claim) other is out =
-    let host : HostId = claim.share.host in
-    let out_still = claim_keeps_out (state_of old) host other out (next_may (state_of old) host.index is.1) in
-    subst (λ (v : BoardView). MayReport (state_of v) other) (sym is.0) (subst (λ (s : State). MayReport s other) (sym (state_of-event old (Claim host))) out_still)
+ends_as : (way : Way) → is_end way ≡ true → EndsAs (request_of way) (ending_of (outcome_in way))
+ends_as (Program words outcome) is = is
+ends_as (Settled outcome) is = refl
 
-pub claim_apart : (old new : BoardView) (claim : ClaimOut) (other : ℕ) → IsClaim old new (Some claim) → MayReport (state_of old) other → other ≡ claim.share.host.index → ⊥
-claim_apart old new claim other is out =
-    apart (state_of old) claim.share.host.index other out (next_may (state_of old) claim.share.host.index is.1)
+-- what is done of a claim that is out may be reported
+pub may_report : (roll : Roll) (state : State) (done : Done) → IsOut roll state done → MayReport roll state done.share.host.index done.step (ending_of (outcome_in done.way))
+may_report roll state done out =
+    record {
+      at = out.at;
+      claimed = out.out;
+      task = out.task;
+      is = out.is;
+      ends = subst (λ (asked : Request). EndsAs asked (ending_of (outcome_in done.way))) out.asked (ends_as done.way done.ends);
+    }
 
-pub report_keeps : (old new : BoardView) (host : HostId) (failed : Bool) (other : ℕ) → new ≡ with_event old (Report host failed) → MayReport (state_of old) other → (other ≡ host.index → ⊥) → MayReport (state_of new) other
-report_keeps old new host failed other grown out d =
-    let out_still = report_keeps_out (state_of old) host failed other out d in
-    subst (λ (v : BoardView). MayReport (state_of v) other) (sym grown) (subst (λ (s : State). MayReport s other) (sym (state_of-event old (Report host failed))) out_still)
+module _ (roll : Roll) (state : State) (work : BatchWork) (is : IsWorkOf roll state work) where
+  -- who is out has been given something
+  pub out_given : (host : ℕ) → has_number host state.out ≡ true → (asked : Asked) × (turn_at work.turns.items host ≡ Out asked)
+  out_given host here = by_case (turn_at work.turns.items host) refl
+    where
+      by_case : (turn : Turn) → turn_at work.turns.items host ≡ turn → (asked : Asked) × (turn_at work.turns.items host ≡ Out asked)
+      by_case Over e = absurd (both_ways true (sym here ∙ sym (is.taken host) ∙ ap is_out e) refl)
+      by_case Due e = absurd (both_ways true (sym here ∙ sym (is.taken host) ∙ ap is_out e) refl)
+      by_case (Out asked) e = (asked, e)
 
-pub stage_after : (old new : BoardView) (event : Event) → new ≡ with_event old event → (state_of new).stage ≡ (next (state_of old) event).stage
-stage_after old new event grown = ap (λ (v : BoardView). (state_of v).stage) grown ∙ ap (λ (s : State). s.stage) (state_of-event old event)
+  -- and is in the batch
+  pub out_inside : (host : ℕ) (asked : Asked) → turn_at work.turns.items host ≡ Out asked → has_number host state.batch ≡ true
+  out_inside host asked turn =
+      (and_parts (has_number host state.batch) (is_awaited_by roll.play state.phase (state.rows host)) (sym (is.awaited host) ∙ ap awaits turn)).0
+
+  pub host_within : (host : ℕ) → has_number host state.batch ≡ true → host < length work.summaries.items
+  host_within host here =
+      number_below (length work.summaries.items) (host_numbers work.batch.items) host work.within (ap (has_number host) is.batch ∙ here)
+
+  module _ (step : ℕ) (at : work.stage ≡ Working step) where
+    pub at_step : state.phase ≡ working step
+    at_step = sym is.phase ∙ ap phase_of at
+
+    pub step_within : step < length roll.play.steps.items
+    step_within =
+        subst (λ (p : Play). step < length p.steps.items) is.play (ltb-true step (length work.play.now.steps.items) (sym (ap (is_within (length work.play.now.steps.items)) at) ∙ work.step))
+
+    pub task_at : (task : Step) × (step_at roll.play step ≡ Some task)
+    task_at = get_in roll.play.steps.items step step_within
+
+    -- where nobody is awaited the batch may pass
+    pub may_pass : find (λ host. awaits (turn_at work.turns.items host)) (host_numbers work.batch.items) ≡ None → MayPass roll state step
+    may_pass none =
+        record { at = at_step; reported = none_passes (λ host. is_awaited roll.play (state.rows host) step) state.batch over }
+      where
+        over : (host : ℕ) → has_number host state.batch ≡ true → is_awaited roll.play (state.rows host) step ≡ false
+        over host here =
+            let named = ap (λ b. b && is_awaited_by roll.play state.phase (state.rows host)) here ∙ ap (λ p. is_awaited_by roll.play p (state.rows host)) at_step in
+            sym named ∙ sym (is.awaited host) ∙ found_none (λ h. awaits (turn_at work.turns.items h)) (host_numbers work.batch.items) host none (ap (has_number host) is.batch ∙ here)
+
+    -- what a host that is out was given is what the step asks of it
+    given : (host : ℕ) (asked : Asked) (task : Step) → turn_at work.turns.items host ≡ Out asked → step_at roll.play step ≡ Some task → (summary : Summary) × IsGiven roll state host summary.vars asked task
+    given host asked task turn named =
+        let got = get_in work.summaries.items host (host_within host (out_inside host asked turn)) in
+        (got.0, is.given host step asked got.0 task turn got.1 at_step named)
+
+    pub out_decides : (done : Done) (b : Bool) → step ≡ done.step → Decides b (IsGivenOut work done) → Decides b (IsOut roll state done)
+    out_decides done b same decides = (λ yes. out_of (decides.0 yes), λ out. decides.1 (given_of out))
+      where
+        host : ℕ
+        host = done.share.host.index
+
+        out_of : IsGivenOut work done → IsOut roll state done
+        out_of out =
+            let mine = given host out.asked task_at.0 out.turn task_at.1 in
+            record {
+              at = at_step ∙ ap working same;
+              out = sym (is.taken host) ∙ ap is_out out.turn;
+              task = task_at.0;
+              is = subst (λ (n : ℕ). step_at roll.play n ≡ Some task_at.0) same task_at.1;
+              asked = sym out.same ∙ mine.1.asks;
+            }
+
+        given_of : IsOut roll state done → IsGivenOut work done
+        given_of out =
+            let asked = out_given host out.out in
+            let mine = given host asked.0 out.task asked.1 (subst (λ (n : ℕ). step_at roll.play n ≡ Some out.task) (sym same) out.is) in
+            record { asked = asked.0; turn = asked.1; same = mine.1.asks ∙ sym out.asked }
+
+    -- of another step nobody is out
+    pub out_elsewhere : (done : Done) → (step ≡ done.step → ⊥) → IsOut roll state done → ⊥
+    out_elsewhere done apart out = apart (step_of step done.step (sym at_step ∙ out.at))

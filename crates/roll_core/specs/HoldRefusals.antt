@@ -1,13 +1,14 @@
 -- Why hosts are not set aside.
 use Rattle.std.specs.Prelude.{◌≡◌, ℕ, ◌≢◌, true, Option, Some, None, List}
 use Rattle.fleet_states.specs.declared.status.Status.{Status}
-use Rattle.roll_core.specs.declared.stage.Stage.TheVariants.{Boundary}
-use Rattle.roll_core.specs.declared.fault.HoldFault.{HoldFault}
-use Rattle.roll_core.specs.declared.fault.HoldFault.TheVariants.{NotBoundary, NotWaiting, HasRoom, Memory}
 use Rattle.fleet_states.specs.Groups.{FleetGroup}
 use Rattle.fleet_states.specs.Statuses.{are_ready}
 use Rattle.roster.specs.Unfit.{IsFirstUnready, IsFirstWithRoom}
-use Rattle.roll_core.specs.States.{State, MayHold}
+use Rattle.roll_logs.specs.Rolls.{Roll}
+use Rattle.roll_logs.specs.States.{State, between}
+use Rattle.roll_logs.specs.Logs.{MaySetAside}
+use Rattle.roll_core.specs.declared.fault.HoldFault.{HoldFault}
+use Rattle.roll_core.specs.declared.fault.HoldFault.TheVariants.{NotBoundary, NotWaiting, HasRoom, Memory}
 
 abbrev pub hold_number_of : HoldFault → Option ℕ
 hold_number_of NotBoundary = Some 811
@@ -24,10 +25,10 @@ IsUnheld groups statuses hosts (HasRoom host) =
 IsUnheld groups statuses hosts Memory = ⊥
 
 -- what a refusal to set hosts aside says; memory alone refuses hosts that may be
-abbrev pub IsHoldRefusalOf : List FleetGroup → State → List ℕ → HoldFault → Type 0
-IsHoldRefusalOf groups state hosts NotBoundary = state.stage ≢ Boundary
-IsHoldRefusalOf groups state hosts (NotWaiting host) =
-    (state.stage ≡ Boundary) × IsUnheld groups state.statuses hosts (NotWaiting host)
-IsHoldRefusalOf groups state hosts (HasRoom host) =
-    (state.stage ≡ Boundary) × IsUnheld groups state.statuses hosts (HasRoom host)
-IsHoldRefusalOf groups state hosts Memory = MayHold groups state hosts
+abbrev pub IsHoldRefusalOf : Roll → State → List ℕ → HoldFault → Type 0
+IsHoldRefusalOf roll state hosts NotBoundary = state.phase ≢ between
+IsHoldRefusalOf roll state hosts (NotWaiting host) =
+    (state.phase ≡ between) × IsUnheld roll.groups state.statuses hosts (NotWaiting host)
+IsHoldRefusalOf roll state hosts (HasRoom host) =
+    (state.phase ≡ between) × IsUnheld roll.groups state.statuses hosts (HasRoom host)
+IsHoldRefusalOf roll state hosts Memory = MaySetAside roll state hosts

@@ -1,7 +1,7 @@
-pub mod States
-pub mod Logs
+pub mod Ways
+pub mod Views
+pub mod Claims
+pub mod Barriers
 pub mod Refusals
 pub mod HoldRefusals
-pub mod Views
-pub mod Laws
 pub mod Inside

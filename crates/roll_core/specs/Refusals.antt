@@ -1,13 +1,14 @@
 -- Why a batch is not opened.
 use Rattle.std.specs.Prelude.{◌≡◌, ℕ, ◌≢◌, true, Option, Some, None, List}
 use Rattle.fleet_states.specs.declared.status.Status.{Status}
-use Rattle.roll_core.specs.declared.stage.Stage.TheVariants.{Boundary}
-use Rattle.roll_core.specs.declared.fault.OpenFault.{OpenFault}
-use Rattle.roll_core.specs.declared.fault.OpenFault.TheVariants.{NotBoundary, NotWaiting, Full, Memory}
 use Rattle.fleet_states.specs.Groups.{FleetGroup}
 use Rattle.fleet_states.specs.Statuses.{are_ready}
 use Rattle.roster.specs.Unfit.{IsFirstUnready, IsShort}
-use Rattle.roll_core.specs.States.{State, MayOpen}
+use Rattle.roll_logs.specs.Rolls.{Roll}
+use Rattle.roll_logs.specs.States.{State, between}
+use Rattle.roll_logs.specs.Logs.{MayOpen}
+use Rattle.roll_core.specs.declared.fault.OpenFault.{OpenFault}
+use Rattle.roll_core.specs.declared.fault.OpenFault.TheVariants.{NotBoundary, NotWaiting, Full, Memory}
 
 abbrev pub number_of : OpenFault → Option ℕ
 number_of NotBoundary = Some 811
@@ -24,10 +25,10 @@ IsUnfit groups statuses hosts (Full group) =
 IsUnfit groups statuses hosts Memory = ⊥
 
 -- what a refusal of a batch says; memory alone refuses one that may be opened
-abbrev pub IsRefusalOf : List FleetGroup → State → List ℕ → OpenFault → Type 0
-IsRefusalOf groups state hosts NotBoundary = state.stage ≢ Boundary
-IsRefusalOf groups state hosts (NotWaiting host) =
-    (state.stage ≡ Boundary) × IsUnfit groups state.statuses hosts (NotWaiting host)
-IsRefusalOf groups state hosts (Full group) =
-    (state.stage ≡ Boundary) × IsUnfit groups state.statuses hosts (Full group)
-IsRefusalOf groups state hosts Memory = MayOpen groups state hosts
+abbrev pub IsRefusalOf : Roll → State → List ℕ → OpenFault → Type 0
+IsRefusalOf roll state hosts NotBoundary = state.phase ≢ between
+IsRefusalOf roll state hosts (NotWaiting host) =
+    (state.phase ≡ between) × IsUnfit roll.groups state.statuses hosts (NotWaiting host)
+IsRefusalOf roll state hosts (Full group) =
+    (state.phase ≡ between) × IsUnfit roll.groups state.statuses hosts (Full group)
+IsRefusalOf roll state hosts Memory = MayOpen roll state hosts

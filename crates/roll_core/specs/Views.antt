@@ -1,54 +1,65 @@
--- What clauses see of a board: a log with its start, and whose turn is next in it.
-use Rattle.std.specs.Prelude.{◌≡◌, ℕ, Bool, true, false, not, Option, Some, None, List, [], ◌∷◌, ◌++◌, find}
-use Rattle.fleet_states.specs.declared.status.Status.{Status}
+-- What clauses see of a board: a log, with all that its roll was given at the start.
+use Rattle.std.specs.Prelude.{◌≡◌, ℕ, List, [], ◌∷◌, ◌++◌, map}
 use Rattle.domains.specs.FleetViews.{FleetView}
-use Rattle.roll_core.specs.declared.claim.Claim.{Claim as ClaimOut}
-use Rattle.roll_core.specs.declared.event.Event.{Event}
-use Rattle.roll_core.specs.declared.event.Event.TheVariants.{Claim}
-use Rattle.roll_core.specs.declared.stage.Stage.{Stage}
-use Rattle.roll_core.specs.declared.stage.Stage.TheVariants.{Boundary, Working, Ended}
-use Rattle.roll_core.specs.declared.stage.Progress.{Progress}
-use Rattle.roll_core.specs.declared.stage.Progress.TheVariants.{Due, Claimed, Reported}
-use Rattle.roll_core.specs.States.{State, MayReport, start_state, progress_at, has_reported}
-use Rattle.roll_core.specs.Logs.{state_after}
+use Rattle.fleet_states.specs.declared.status.Status.{Status}
+use Rattle.fleet_states.specs.Statuses.{NobodyRuns}
+use Rattle.fleet_states.specs.Groups.{IsSafe, groups_of}
+use Rattle.host_vars.specs.declared.vars.Vars.{Vars}
+use Rattle.play_model.specs.declared.play.Play.{Play}
+use Rattle.outcome_results.specs.Endings.{ending_of}
+use Rattle.roster.specs.Rosters.{RosterView}
+use Rattle.roll_logs.specs.Rolls.{Roll}
+use Rattle.roll_logs.specs.Events.{Event, set_aside, opened, claimed, reported, passed, closed}
+use Rattle.roll_logs.specs.States.{State, between}
+use Rattle.roll_logs.specs.Logs.{end_state}
+use Rattle.roll_logs.specs.Laws.{front}
+use Rattle.batch_work.specs.Works.{known_at}
+use Rattle.roll_core.specs.declared.event.Event.{Event as Entry}
+use Rattle.roll_core.specs.declared.event.Event.TheVariants.{Hold, Open, Claim, Report, Barrier, Close}
 
--- the host is not claimed yet
-abbrev pub is_due : Progress → Bool
-is_due Due = true
-is_due Claimed = false
-is_due Reported = false
-
--- the first of these hosts that is due
-abbrev pub first_due : List Progress → List ℕ → Option ℕ
-first_due progress hosts = find (λ host. is_due (progress_at progress host)) hosts
-
--- the host that is claimed next
-abbrev pub next_due : Stage → State → Option ℕ
-next_due Boundary state = None
-next_due Working state = first_due state.progress state.batch
-next_due Ended state = None
-
--- the first of these hosts that has not reported
-abbrev pub first_busy : State → Option ℕ
-first_busy state = find (λ host. not (has_reported (progress_at state.progress host))) state.batch
-
--- a log with its start, over a fleet
+-- the fleet and the play; how many claims may be out at once; the hosts' statuses and variables at the start; the log
 pub record BoardView : Type 0 where
   pub fleet : FleetView
+  pub play : Play
+  pub forks : ℕ
   pub start : List Status
+  pub vars : List Vars
   pub log : List Event
+
+-- the event that stands in the log
+abbrev pub event_of : Entry → Event
+event_of (Hold hosts) = set_aside hosts
+event_of (Open batch) = opened batch
+event_of (Claim host step) = claimed host.index step
+event_of (Report host step outcome) = reported host.index step (ending_of outcome)
+event_of (Barrier step) = passed step
+event_of Close = closed
+
+abbrev pub events_of : List Entry → List Event
+events_of log = map event_of log
+
+abbrev pub view_of : RosterView → Play → ℕ → List Status → List Vars → List Entry → BoardView
+view_of roster play forks start vars log =
+    record { fleet = roster.fleet; play = play; forks = forks; start = start; vars = vars; log = events_of log }
+
+-- what the roll of the board was given
+abbrev pub roll_of : BoardView → Roll
+roll_of board =
+    record { groups = groups_of board.fleet; play = board.play; forks = board.forks; start = board.start; known = known_at board.vars }
 
 -- the state after all of the log
 abbrev pub state_of : BoardView → State
-state_of board = state_after (start_state board.start) board.log
+state_of board = end_state (roll_of board) board.log
 
 -- the log with one more event
 abbrev pub with_event : BoardView → Event → BoardView
 with_event board event = record board { log = board.log ++ event ∷ [] }
 
--- the board after its next host is claimed, which may be reported from now on; where there is none, nothing has changed and
--- no host is due
-abbrev pub IsClaim : BoardView → BoardView → Option ClaimOut → Type 0
-IsClaim old new None = (new ≡ old) × (next_due (state_of old).stage (state_of old) ≡ None)
-IsClaim old new (Some claim) =
-    (new ≡ with_event old (Claim claim.share.host)) × (next_due (state_of old).stage (state_of old) ≡ Some claim.share.host.index) × MayReport (state_of new) claim.share.host.index
+-- after each of its first events no group is over its limit
+abbrev pub FrontsAreSafe : Roll → List Event → Type 0
+FrontsAreSafe roll log = (n : ℕ) → IsSafe roll.groups (front roll log n).statuses
+
+-- after each of its first events nobody runs where no batch is open
+abbrev pub RestsAtBoundaries : Roll → List Event → Type 0
+RestsAtBoundaries roll log =
+    (n : ℕ) → (front roll log n).phase ≡ between → NobodyRuns (front roll log n).statuses

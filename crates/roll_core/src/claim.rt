@@ -1,21 +1,32 @@
 //! A host that a worker has taken.
 ghost use Rattle.std.specs.Prelude.{◌≡◌};
 
+use crate::done::Done;
+use crate::job::Job;
 use down_ledger::Share;
-use group_tree::HostId;
 
-/// The leave to work on a host of the open batch, with the host's share. There is one for each time that a board hands a host out,
-/// so it can't be copied. It doesn't say which board that was: any board on which the host is claimed takes it. Whoever drops it leaves
-/// its host down and its batch open, unless another board's claim of that host is reported in its place.
+/// The leave to work on a host of the open batch, with its job and the host's share. There is one for each time that a board hands
+/// a host out, so it can't be copied. Whoever drops it leaves its host down and its batch open.
 #[derive(Debug, Drop)]
 pub struct Claim {
     pub(crate) share: Share,
+    pub(crate) job: Job,
+    ghost same: { share.host ≡ job.host },
 }
 
 impl Claim {
-    pub fn host(&self) -> HostId
-        ensures { result ≡ self.now.share.host }
+    pub fn job(&self) -> &Job
+        ensures { result.now ≡ self.now.job }
     {
-        self.share.host()
+        &self.job
     }
+}
+
+/// What a board hands out.
+#[derive(Debug, Drop)]
+pub enum Claimed {
+    /// A program is to run.
+    Run(Claim),
+    /// None is: the step is skipped on the host, or has failed there. It may be reported.
+    Settled(Done),
 }

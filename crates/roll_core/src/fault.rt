@@ -1,8 +1,9 @@
-//! Why a batch is not opened or not ended.
+//! Why a batch is not opened, a host not set aside, a step not over, a report not taken.
 ghost use Rattle.std.specs.Prelude.{◌≡◌};
 ghost use Rattle.roll_core.specs.Refusals.{number_of};
 ghost use Rattle.roll_core.specs.HoldRefusals.{hold_number_of};
 
+use crate::done::Done;
 use group_tree::{GroupId, HostId};
 use std::alloc::AllocError;
 
@@ -83,7 +84,7 @@ impl From<AllocError> for HoldFault {
     }
 }
 
-/// A host of the batch has not reported yet.
+/// A host of the batch on which the step is due has not reported it.
 #[derive(Clone, Copy, Debug, PartialEq, Eq)]
 pub struct Busy {
     pub host: HostId,
@@ -98,9 +99,17 @@ impl Busy {
     }
 }
 
-/// What comes after a barrier.
-#[derive(Clone, Copy, Debug, PartialEq, Eq)]
-pub enum Next {
-    /// The batch is over, and is to be closed.
-    BatchEnd,
+/// No claim of this host and step, with these words or this settled outcome, is out.
+#[derive(Debug, Drop)]
+pub struct Stranger {
+    pub done: Done,
+}
+
+impl Stranger {
+    /// The number of the rule that is broken.
+    pub fn number(&self) -> u16
+        ensures { result ≡ 816 }
+    {
+        816
+    }
 }

@@ -1,21 +1,25 @@
-//! The core of a roll: one batch at a time, its log, and the limits that each moment of it keeps.
+//! The core of a roll: batches of hosts that go through the steps of a play, the log, and the limits that each moment of it keeps.
 #![tactic(auto)]
 
 mod batch;
 mod board;
 mod claim;
 mod closing;
+mod done;
 mod event;
 mod fault;
-mod laws;
-mod machine;
-mod stage;
+mod job;
+mod next;
 mod trial;
+mod way;
 
 pub use batch::Batch;
 pub use board::Board;
-pub use claim::Claim;
+pub use claim::{Claim, Claimed};
+pub use done::Done;
 pub use event::Event;
-pub use fault::{Busy, HoldFault, Next, OpenFault};
+pub use fault::{Busy, HoldFault, OpenFault, Stranger};
 pub use fleet_states::Status;
-pub use laws::{legal_logs_are_safe, legal_logs_rest_between_batches};
+pub use job::Job;
+pub use next::Next;
+pub use outcome_results::Outcome;

@@ -1,26 +1,32 @@
-//! The hosts of a batch have all reported.
-ghost use Rattle.std.specs.Prelude.{◌≡◌, IfErr, OnErr, OnOk, Some};
-ghost use Rattle.roll_core.specs.declared.event.Event.TheVariants.{Barrier};
-ghost use Rattle.roll_core.specs.declared.stage.Stage.TheVariants.{Working};
-ghost use Rattle.roll_core.specs.States.{MayEnd};
-ghost use Rattle.roll_core.specs.Views.{first_busy, state_of, with_event};
+//! A batch passes a step.
+ghost use Rattle.std.specs.Prelude.{◌≡◌, IfErr, IfOk, OnErr, Some, true};
+ghost use Rattle.roll_core.specs.Barriers.{HasPassed, first_busy, is_working};
+ghost use Rattle.roll_core.specs.Views.{roll_of, state_of};
 
 use crate::board::{Board, keep};
 use crate::event::Event;
-use crate::fault::{Busy, Next};
+use crate::fault::Busy;
+use crate::next::{Next, next_of};
+use batch_work::Stage;
 
 impl<'f> Board<'f> {
-    /// Ends the batch once each of its hosts has reported; else names the first that has not, and changes nothing.
+    /// Passes the present step once each host of the batch on which it is due has reported it; else names the first that has not, and
+    /// changes nothing. Time linear in the batch; it takes no memory.
     pub fn barrier(&mut self) -> Result<Next, Busy>
-        requires { (state_of self.old).stage ≡ Working }
-        ensures ok { OnOk result (self.new ≡ with_event self.old Barrier) }
-        ensures all_reported { OnOk result (MayEnd (state_of self.old)) }
-        ensures err { IfErr result (λ busy. first_busy (state_of self.old) ≡ Some busy.host.index) }
+        requires { is_working (state_of self.old).phase ≡ true }
+        ensures ok { IfOk result (HasPassed self.old self.new) }
+        ensures err { IfErr result (λ busy. first_busy (roll_of self.old) (state_of self.old) ≡ Some busy.host.index) }
         ensures unchanged { OnErr result (self.new ≡ self.old) }
     {
-        self.machine.barrier()?;
-        keep(&mut self.log, Event::Barrier);
-        self.owed -= 1;
-        Ok(Next::BatchEnd)
+        let Stage::Working(step) = self.work.stage() else {
+            unreachable!()
+        };
+        match self.work.first_awaited() {
+            Some(host) => return Err(Busy { host }),
+            None => {}
+        }
+        self.work.pass(step);
+        keep(&mut self.log, Event::Barrier(step));
+        Ok(next_of(self.work.stage()))
     }
 }

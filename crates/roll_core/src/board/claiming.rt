@@ -1,26 +1,54 @@
 //! A worker takes a host.
 ghost use Rattle.std.specs.Prelude.{◌≡◌, IfOk, OnErr};
-ghost use Rattle.roll_core.specs.Views.{IsClaim};
+ghost use Rattle.batch_work.specs.Requests.{HasRow, request_of};
+ghost use Rattle.roll_core.specs.Claims.{IsClaim, IsClaimedAs};
 
 use crate::board::{Board, keep};
-use crate::claim::Claim;
+use crate::claim::{Claim, Claimed};
+use crate::done::Done;
 use crate::event::Event;
+use crate::job::Job;
+use crate::way::Way;
+use batch_work::{Given, Taken};
+use down_ledger::Share;
 use std::alloc::{AllocError, Global};
 
 impl<'f> Board<'f> {
-    /// Hands out the host of the batch whose turn it is, with its share; none where no host is due. Want of memory leaves everything
-    /// as it was.
-    pub fn claim(&mut self, _alloc: Global) -> Result<Option<Claim>, AllocError>
+    /// Hands out the next host of the batch on which the present step is due and that nobody has taken, with its share and its job,
+    /// or with the outcome where no program is to run; none where there is no such host, or where as many claims are out as there are
+    /// forks. Want of memory leaves everything as it was.
+    pub fn claim(&mut self, alloc: Global) -> Result<Option<Claimed>, AllocError>
         ensures ok { IfOk result (IsClaim self.old self.new) }
         ensures unchanged { OnErr result (self.new ≡ self.old) }
     {
-        let Some(host) = self.machine.next_due() else {
+        let owed = self.owed();
+        self.log.reserve(owed + 2)?;
+        let Some(taken) = self.work.claim(alloc, self.forks)? else {
             return Ok(None);
         };
-        self.log.reserve(self.owed + 2)?;
-        let share = self.machine.claim(host);
-        keep(&mut self.log, Event::Claim(host));
-        self.owed += 1;
-        Ok(Some(Claim { share }))
+        let share = self.roster.lend(taken.host);
+        keep(&mut self.log, Event::Claim(taken.host, taken.step));
+        Ok(Some(claimed(share, taken)))
+    }
+}
+
+/// What a worker is given, with the host's share.
+fn claimed(share: Share, taken: Taken) -> Claimed
+    requires host { share.host ≡ taken.host }
+    requires row { HasRow taken.given }
+    ensures { IsClaimedAs taken.host.index taken.step (request_of taken.given) result }
+{
+    let Taken { host, step, given } = taken;
+    match given {
+        Given::Job { words } => Claimed::Run(Claim {
+            share,
+            job: Job { host, step, words },
+        }),
+        Given::Settled { outcome, row } => Claimed::Settled(Done {
+            share,
+            step,
+            way: Way::Settled(outcome),
+            row,
+        }),
     }
 }

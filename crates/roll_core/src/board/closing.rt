@@ -1,20 +1,25 @@
 //! A batch is over.
-ghost use Rattle.std.specs.Prelude.{◌≡◌};
-ghost use Rattle.roll_core.specs.declared.event.Event.TheVariants.{Close};
-ghost use Rattle.roll_core.specs.declared.stage.Stage.TheVariants.{Ended};
+ghost use Rattle.std.specs.Prelude.{◌≡◌, true};
+ghost use Rattle.roll_logs.specs.Events.{closed};
+ghost use Rattle.roll_core.specs.Barriers.{is_over};
 ghost use Rattle.roll_core.specs.Views.{state_of, with_event};
 
 use crate::board::{Board, keep};
+use crate::closing::finish;
 use crate::event::Event;
+use batch_work::Stage;
 
 impl<'f> Board<'f> {
-    /// Closes a batch that has ended: its hosts that did not fail are up again.
+    /// Closes a batch that is over: its live hosts are up again, or halted and down where it was halted. It takes no memory.
     pub fn close(&mut self)
-        requires { (state_of self.old).stage ≡ Ended }
-        ensures { self.new ≡ with_event self.old Close }
+        requires { is_over (state_of self.old).phase ≡ true }
+        ensures { self.new ≡ with_event self.old closed }
     {
-        self.machine.close();
+        let Stage::Ended(halt) = self.work.stage() else {
+            unreachable!()
+        };
+        finish(&mut self.roster, self.work.batch(), halt);
+        self.work.end();
         keep(&mut self.log, Event::Close);
-        self.owed = 0;
     }
 }

@@ -1,46 +1,62 @@
-use Rattle.std.proofs.Common.{◌≡◌, ◌+◌, ◌++◌, ◌∷◌, [], List, Some, sym, ap, ◌∙◌, arith}
-use Rattle.domains.specs.FleetViews.{FleetView}
-use Rattle.roll_core.specs.declared.claim.Claim.{Claim as ClaimOut}
+use Rattle.std.proofs.Common.{◌++◌, ◌∷◌, [], Option, List, sym, ap, ◌∙◌, subst, refl, arith}
+use Rattle.host_jobs.specs.Asking.{Request}
+use Rattle.roster.specs.Rosters.{RosterView}
+use Rattle.roll_logs.specs.Events.{claimed}
+use Rattle.batch_work.specs.declared.taken.Taken.{Taken}
+use Rattle.batch_work.specs.Works.{IsClaim, IsTaken}
 use Rattle.roll_core.specs.declared.event.Event.{Event}
 use Rattle.roll_core.specs.declared.event.Event.TheVariants.{Claim}
-use Rattle.roll_core.specs.States.{MayClaim}
-use Rattle.roll_core.specs.Views.{BoardView, next_due, state_of, with_event}
-use Rattle.roll_core.proofs.StepLemmas.{claimed}
-use Rattle.roll_core.proofs.CoreLemmas.{kept_more, next_may, owed_claim}
+use Rattle.roll_core.specs.Claims.{IsClaimedAs, IsHandedOut}
+use Rattle.roll_core.specs.Views.{BoardView, roll_of, state_of, view_of}
+use Rattle.roll_core.specs.Inside.{owed_by}
+use Rattle.roll_core.proofs.HeldLemmas.{held_claimed}
+use Rattle.roll_core.proofs.KeptLemmas.{kept_grown, view_more}
+use Rattle.roll_core.proofs.PlaceLemmas.{owed_claimed}
+use Rattle.roll_core.proofs.StepLemmas.{stage_at, task_at}
 use Rattle.roll_core.proofs.board.Board.claim.Goals as goal
 
 pub invariant_of-self-2 : goal.invariant_of-self-2
 invariant_of-self-2 c =
-    let machine = c.self.inside.machine in
-    let places = c.self.inside.log in
-    let owed = c.self.inside.owed in
+    let old = c.self.inside.roster in
+    let work = c.self.inside.work in
+    let new = c.lend-share.new.self in
+    let log = c.self.inside.log.items in
+    let board : BoardView = view_of old c.self.inside.play.now c.self.inside.forks c.self.inside.start.now c.self.inside.vars.now log in
     let kept = c.self.invariant in
-    let keeps = c.keep.ensures in
-    let due : next_due machine.state.stage machine.state ≡ Some c.in-Some.host.index = sym c.in-Some.ensures.first in
-    let may : MayClaim machine.state c.in-Some.host.index = next_may machine.state c.in-Some.host.index due in
-    let owes : owed + 1 ≡ _ = owed_claim machine.state c.in-Some.host owed kept.owes may c.in-Some.ensures.within in
-    let start = c.self.inside.start.items in
-    let new_log = c.keep.new.log.items in
-    let old_log = places.items in
-    let new = c.claim-share.new.self in
-    let event : Event = Claim c.in-Some.host in
-    let claims = c.claim-share.ensures in
+    let taken = c.in-Some.taken in
+    let takes : IsTaken (roll_of board) (state_of board) c.claim.new.self taken = subst (λ (o : Option Taken). IsClaim (roll_of board) (state_of board) c.claim.new.self o) c.in-Some.is (c.in_ok-taken.ensures.ok (roll_of board) (state_of board) kept.held.works refl) in
+    let owes = owed_claimed (roll_of board) (state_of board) taken.host.index taken.step in
+    let owed = c.owed-owed.ensures ∙ ap (λ (v : BoardView). owed_by (roll_of v) (state_of v)) (sym c.self.view_is) in
     let reserves = c.in_ok-reserve.ensures in
-    let grown = keeps.items ∙ ap (λ (l : List Event). l ++ event ∷ []) reserves.items in
-    kept_more machine new start old_log new_log owed _ places.cap _ event kept may claims.fleet claims.state grown owes (omega (arith, reserves.ok, reserves.len, places.ok, keeps.capacity))
+    let grown = c.keep.ensures.items ∙ ap (λ (l : List Event). l ++ Claim taken.host taken.step ∷ []) reserves.items in
+    kept_grown old new c.self.inside.play.now c.self.inside.forks c.self.inside.start.now c.self.inside.vars.now log c.keep.new.log.items (Claim taken.host taken.step) (claimed taken.host.index taken.step) work c.claim.new.self _ _ kept refl (ap (λ (r : RosterView). r.fleet) c.lend-share.ensures.rest) grown takes.may
+    (held_claimed (roll_of board) (state_of board) old work kept.held taken.host.index taken.step new c.claim.new.self c.lend-share.ensures.rest takes.work)
+    (omega (arith, owes, owed, reserves.ok, reserves.len, c.self.inside.log.ok, c.keep.ensures.capacity))
 
 pub returns-clause-ok : goal.returns-clause-ok
 returns-clause-ok c =
-    let machine = c.self.inside.machine in
-    let now = c.args.self.now in
-    let grown_log = c.keep.new.log.items in
-    let view : FleetView → List Event → BoardView = λ fleet log. record { fleet = fleet; start = c.self.inside.start.items; log = log } in
-    let host = c.in-Some.host in
-    let event : Event = Claim host in
-    let log : grown_log ≡ c.self.inside.log.items ++ event ∷ [] = c.keep.ensures.items ∙ ap (λ (l : List Event). l ++ event ∷ []) c.in_ok-reserve.ensures.items in
-    let same : view c.claim-share.new.self.fleet grown_log ≡ view machine.fleet grown_log = ap (λ f. view f grown_log) c.claim-share.ensures.fleet in
-    let new : BoardView = view c.claim-share.new.self.fleet grown_log in
-    let grown : new ≡ with_event now event = same ∙ ap (view machine.fleet) log ∙ ap (λ v. with_event v event) c.self.view_is in
-    let state = c.self.invariant.state ∙ ap state_of c.self.view_is in
-    let claim : ClaimOut = record { share = c.claim-share.result } in
-    claimed now new machine.state claim host c.claim-share.ensures.share state grown (sym c.in-Some.ensures.first) c.in-Some.ensures.within
+    let old = c.self.inside.roster in
+    let work = c.self.inside.work in
+    let new = c.lend-share.new.self in
+    let log = c.self.inside.log.items in
+    let view : RosterView → List Event → BoardView = λ r l. view_of r c.self.inside.play.now c.self.inside.forks c.self.inside.start.now c.self.inside.vars.now l in
+    let board : BoardView = view old log in
+    let kept = c.self.invariant in
+    let taken = c.in-Some.taken in
+    let takes : IsTaken (roll_of board) (state_of board) c.claim.new.self taken = subst (λ (o : Option Taken). IsClaim (roll_of board) (state_of board) c.claim.new.self o) c.in-Some.is (c.in_ok-taken.ensures.ok (roll_of board) (state_of board) kept.held.works refl) in
+    let at = stage_at work.stage taken.step (kept.held.works.phase ∙ takes.may.at) in
+    let task = task_at (roll_of board) (state_of board) work kept.held.works taken.step at in
+    let reserves = c.in_ok-reserve.ensures in
+    let grown = c.keep.ensures.items ∙ ap (λ (l : List Event). l ++ Claim taken.host taken.step ∷ []) reserves.items in
+    let seen = view_more old new c.self.inside.play.now c.self.inside.forks c.self.inside.start.now c.self.inside.vars.now log c.keep.new.log.items (Claim taken.host taken.step) (ap (λ (r : RosterView). r.fleet) c.lend-share.ensures.rest) grown in
+    let made : IsHandedOut board (view new c.keep.new.log.items) c.claimed.result = record {
+      host = taken.host.index;
+      step = taken.step;
+      task = task.0;
+      first = takes.first;
+      may = takes.may;
+      at = task.1;
+      handed = subst (λ (r : Request). IsClaimedAs taken.host.index taken.step r c.claimed.result) (takes.asks task.0 task.1) c.claimed.ensures;
+      grown = seen;
+    } in
+    subst (λ (v : BoardView). IsHandedOut v (view new c.keep.new.log.items) c.claimed.result) c.self.view_is made

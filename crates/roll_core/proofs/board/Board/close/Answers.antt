@@ -1,23 +1,49 @@
-use Rattle.std.proofs.Common.{◌≡◌, sym, subst, arith}
+use Rattle.std.proofs.Common.{◌≡◌, ℕ, Bool, true, false, if◌then◌else◌, List, sym, ap, ◌∙◌, subst, refl, arith}
+use Rattle.std.proofs.lemmas.List.{length-map}
+use Rattle.fleet_numbers.specs.NumberLists.{has_number}
+use Rattle.domains.specs.Ids.{host_numbers}
+use Rattle.fleet_states.specs.declared.status.Status.{Status}
+use Rattle.fleet_states.specs.declared.status.Status.TheVariants.{Running, Failed}
+use Rattle.fleet_states.specs.Statuses.{is_down, status_at}
+use Rattle.host_track.specs.Tracks.{has_failed}
+use Rattle.roster.specs.Rosters.{HasChanged}
+use Rattle.roll_logs.specs.Events.{closed}
+use Rattle.roll_logs.specs.States.{at_rest}
+use Rattle.batch_work.specs.declared.stage.Stage.TheVariants.{Ended}
 use Rattle.roll_core.specs.declared.event.Event.TheVariants.{Close}
-use Rattle.roll_core.specs.declared.stage.Stage.TheVariants.{Ended}
-use Rattle.roll_core.specs.Views.{BoardView, state_of}
-use Rattle.roll_core.proofs.CoreLemmas.{kept_more, owed_close, owed_ended}
+use Rattle.roll_core.specs.Views.{BoardView, event_of, roll_of, state_of, view_of}
+use Rattle.roll_core.proofs.HeldLemmas.{held_closed}
+use Rattle.roll_core.proofs.KeptLemmas.{kept_at_work, kept_grown, kept_over_out, kept_phase}
+use Rattle.roll_core.proofs.PlaceLemmas.{owed_closed}
 use Rattle.roll_core.proofs.board.Board.close.Goals as goal
+
+down_in_batch : (failed : Bool) → is_down (if failed then Failed else Running) ≡ true
+down_in_batch true = refl
+down_in_batch false = refl
+
+pub finish-requires-clause-down : goal.finish-requires-clause-down
+finish-requires-clause-down c =
+    let board : BoardView = view_of c.self.inside.roster c.self.inside.play.now c.self.inside.forks c.self.inside.start.now c.self.inside.vars.now c.self.inside.log.items in
+    let state = state_of board in
+    let kept = c.self.invariant in
+    let members = ap host_numbers c.batch.ensures ∙ kept.held.works.batch in
+    λ host here.
+    let works = (kept_at_work board c.self.inside.roster c.self.inside.work _ kept).works host (sym (ap (has_number host) members) ∙ here) in
+    ap (λ (l : List Status). is_down (status_at l host)) kept.held.statuses ∙ ap is_down works ∙ down_in_batch (has_failed (state.rows host))
 
 pub invariant_of-self : goal.invariant_of-self
 invariant_of-self c =
-    let machine = c.self.inside.machine in
-    let places = c.self.inside.log in
-    let owed = c.self.inside.owed in
+    let old = c.self.inside.roster in
+    let work = c.self.inside.work in
+    let log = c.self.inside.log.items in
+    let board : BoardView = view_of old c.self.inside.play.now c.self.inside.forks c.self.inside.start.now c.self.inside.vars.now log in
     let kept = c.self.invariant in
-    let keeps = c.keep.ensures in
-    let ended = subst (λ s. s.stage ≡ Ended) (sym kept.state) (subst (λ (v : BoardView). (state_of v).stage ≡ Ended) (sym c.self.view_is) c.requires) in
-    let start = c.self.inside.start.items in
-    let new_log = c.keep.new.log.items in
-    let old_log = places.items in
-    let new = c.close.new.self in
-    let closes = c.close.ensures in
-    let none = owed_close machine.state in
-    let some = owed_ended machine.state owed kept.owes ended in
-    kept_more machine new start old_log new_log owed 0 places.cap _ Close kept ended closes.fleet closes.state keeps.items none (omega (arith, some, keeps.capacity, kept.places))
+    let halt = c.in-Ended.halt in
+    let at = kept_phase board old work _ kept (Ended halt) (sym c.stage.ensures ∙ c.in-Ended.is) in
+    let members = ap host_numbers c.batch.ensures ∙ kept.held.works.batch in
+    let changes = subst (λ (l : List ℕ). HasChanged old c.finish.new.roster l (at_rest halt) false) members c.finish.ensures in
+    let over = c.end.ensures (roll_of board) (state_of board) halt kept.held.works at (kept_over_out board old work _ kept halt at) in
+    let owes = owed_closed (roll_of board) (state_of board) halt at in
+    kept_grown old c.finish.new.roster c.self.inside.play.now c.self.inside.forks c.self.inside.start.now c.self.inside.vars.now log c.keep.new.log.items Close closed work c.end.new.self _ _ kept refl c.finish.ensures.fleet c.keep.ensures.items (record { halt = halt; at = at })
+    (held_closed (roll_of board) (state_of board) old work kept.held halt c.finish.new.roster c.end.new.self at changes over)
+    (omega (arith, owes, kept.places, length-map log event_of, c.keep.ensures.capacity))

@@ -1,29 +1,27 @@
-use Rattle.std.proofs.Common.{◌≡◌, ℕ, List, ◌++◌, ◌∷◌, [], ap, ◌∙◌, arith}
+use Rattle.std.proofs.Common.{ℕ, ◌++◌, ◌∷◌, [], List, sym, ap, ◌∙◌, subst, arith}
+use Rattle.domains.specs.Ids.{host_numbers}
+use Rattle.roster.specs.Rosters.{RosterView}
+use Rattle.roll_logs.specs.Events.{set_aside}
+use Rattle.roll_logs.specs.Logs.{MaySetAside}
 use Rattle.roll_core.specs.declared.event.Event.{Event}
 use Rattle.roll_core.specs.declared.event.Event.TheVariants.{Hold}
-use Rattle.domains.specs.Ids.{host_numbers}
-use Rattle.fleet_states.specs.Groups.{groups_of}
-use Rattle.roll_core.specs.States.{MayHold, next}
-use Rattle.roll_core.specs.Inside.Machines.{MachineView}
-use Rattle.roll_core.proofs.CoreLemmas.{kept_more}
+use Rattle.roll_core.specs.Views.{BoardView, roll_of, state_of, view_of}
+use Rattle.roll_core.proofs.HeldLemmas.{held_aside}
+use Rattle.roll_core.proofs.KeptLemmas.{kept_grown, kept_none_out}
+use Rattle.roll_core.proofs.PlaceLemmas.{owed_between}
 use Rattle.roll_core.proofs.board.Board.hold.Goals as goal
 
 pub invariant_of-self-2 : goal.invariant_of-self-2
 invariant_of-self-2 c =
-    let machine = c.self.inside.machine in
-    let places = c.self.inside.log in
-    let owed = c.self.inside.owed in
+    let old = c.self.inside.roster in
+    let new = c.set_all_aside.new.self in
+    let log = c.self.inside.log.items in
+    let board : BoardView = view_of old c.self.inside.play.now c.self.inside.forks c.self.inside.start.now c.self.inside.vars.now log in
     let kept = c.self.invariant in
-    let grown_log = c.keep.new.log.items in
-    let keeps = c.keep.ensures in
-    let batch : List ℕ = host_numbers c.args.hosts.now in
-    let event : Event = Hold batch in
+    let numbers : List ℕ = host_numbers c.args.hosts.now in
+    let may = subst (λ (v : BoardView). MaySetAside (roll_of v) (state_of v) numbers) (sym (c.self.view_is ∙ c.in_ok-test_hold.ensures.same)) c.in_ok-test_hold.ensures.tells in
+    let none = owed_between (roll_of board) (state_of board) may.boundary (kept_none_out board old c.self.inside.work _ kept may.boundary) in
     let reserves = c.in_ok-reserve.ensures in
-    let trial = c.in_ok-test_hold.ensures in
-    let state : c.hold.new.self.state ≡ next machine.state event = c.hold.ensures.state ∙ ap (λ (v : MachineView). next v.state event) trial.same in
-    let fleet : c.hold.new.self.fleet ≡ machine.fleet = c.hold.ensures.fleet ∙ ap (λ (v : MachineView). v.fleet) trial.same in
-    let reserved = keeps.items ∙ ap (λ (l : List Event). l ++ Hold c.in_ok-batch.batch ∷ []) reserves.items in
-    let log : grown_log ≡ places.items ++ event ∷ [] = reserved ∙ ap (λ (b : List ℕ). places.items ++ Hold b ∷ []) c.in_ok-batch.ensures in
-    let may : MayHold (groups_of machine.fleet) machine.state batch = trial.tells in
-    let start = c.self.inside.start.items in
-    kept_more machine c.hold.new.self start places.items grown_log owed owed places.cap _ event kept may fleet state log kept.owes (omega (arith, reserves.ok, reserves.len, places.ok, keeps.capacity))
+    let grown = c.keep.ensures.items ∙ ap (λ (l : List Event). l ++ Hold c.in_ok-batch.batch ∷ []) reserves.items in
+    kept_grown old new c.self.inside.play.now c.self.inside.forks c.self.inside.start.now c.self.inside.vars.now log c.keep.new.log.items (Hold c.in_ok-batch.batch) (set_aside numbers) c.self.inside.work c.self.inside.work _ _ kept (ap set_aside c.in_ok-batch.ensures) (ap (λ (r : RosterView). r.fleet) c.set_all_aside.ensures) grown may
+    (held_aside (roll_of board) (state_of board) old c.self.inside.work kept.held numbers new c.set_all_aside.ensures) (omega (arith, none, reserves.ok, reserves.len, c.self.inside.log.ok, c.keep.ensures.capacity))

@@ -1,24 +1,17 @@
-use Rattle.std.proofs.Common.{◌≡◌, length, subst}
-use Rattle.fleet_states.specs.Groups.{groups_of}
-use Rattle.roll_core.specs.States.{start_state}
-use Rattle.roll_core.specs.Logs.{FrontsAreSafe, RestsAtBoundaries}
-use Rattle.roll_core.specs.Views.{BoardView}
-use Rattle.roll_core.proofs.FrontLemmas.{legal_fronts}
-use Rattle.roll_core.proofs.RestLemmas.{legal_rests}
+use Rattle.std.proofs.Common.{subst}
+use Rattle.roll_logs.proofs.RestFronts.{legal_rest}
+use Rattle.roll_logs.proofs.SafeFronts.{legal_fronts}
+use Rattle.roll_core.specs.Views.{BoardView, FrontsAreSafe, RestsAtBoundaries, roll_of, view_of}
 use Rattle.roll_core.proofs.board.Board.log.Goals as goal
-
-pub returns-clause-all : goal.returns-clause-all
-returns-clause-all c =
-    subst (λ (v : BoardView). length v.start ≡ length v.fleet.hosts) c.self.view_is c.self.invariant.all
 
 pub returns-clause-safe : goal.returns-clause-safe
 returns-clause-safe c =
     let kept = c.self.invariant in
-    let safe = legal_fronts (groups_of c.self.inside.machine.fleet) c.self.inside.start.items c.self.inside.log.items kept.safe kept.legal in
-    subst (λ (v : BoardView). FrontsAreSafe (groups_of v.fleet) (start_state v.start) v.log) c.self.view_is safe
+    let board : BoardView = view_of c.self.inside.roster c.self.inside.play.now c.self.inside.forks c.self.inside.start.now c.self.inside.vars.now c.self.inside.log.items in
+    subst (λ (v : BoardView). FrontsAreSafe (roll_of v) v.log) c.self.view_is (legal_fronts (roll_of board) board.log kept.safe kept.legal)
 
 pub returns-clause-rests : goal.returns-clause-rests
 returns-clause-rests c =
     let kept = c.self.invariant in
-    let rests = legal_rests (groups_of c.self.inside.machine.fleet) c.self.inside.start.items c.self.inside.log.items kept.rests kept.legal in
-    subst (λ (v : BoardView). RestsAtBoundaries (start_state v.start) v.log) c.self.view_is rests
+    let board : BoardView = view_of c.self.inside.roster c.self.inside.play.now c.self.inside.forks c.self.inside.start.now c.self.inside.vars.now c.self.inside.log.items in
+    subst (λ (v : BoardView). RestsAtBoundaries (roll_of v) v.log) c.self.view_is (legal_rest (roll_of board) board.log kept.rests kept.legal)
