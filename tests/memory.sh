@@ -144,7 +144,7 @@ while read -r crate name; do
 done <<'TESTS'
 domains_tests memory::a_call_that_was_refused_memory_answers_again
 down_ledger tests::memory::a_call_that_was_refused_memory_answers_again
-roll_core_tests one_batch::a_failed_host_blocks_its_rack
+roll_core_tests memory::a_batch_comes_to_its_end_whatever_is_refused
 cond_tests memory::a_condition_is_read_or_memory_is_wanting
 domain_counts_tests memory::a_call_that_was_refused_memory_answers_again
 batch_plan_tests memory::a_call_that_was_refused_memory_answers_again

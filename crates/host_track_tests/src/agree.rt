@@ -1,13 +1,11 @@
 //! The summary agrees with the slow program on plays that are drawn.
-use crate::dice::Dice;
-use crate::end::{End, PRINTED};
 use crate::hosts::hosts;
-use crate::made::{MadePlay, draw_ends, draw_play};
-use crate::playbook::playbook;
-use crate::slow::{Host, Row, slow_track};
-use crate::told::{one_more_if, whole_track};
+use crate::told::whole_track;
 use crate::walk::whole_walk;
 use host_vars::{Registered, Vars};
+use made_plays::{
+    Dice, End, Host, MadePlay, PRINTED, Row, draw_ends, draw_play, one_more_if, playbook, slow_track,
+};
 use outcome_results::Judged;
 use play_read::read_play;
 use std::alloc::{AllocError, Global};
@@ -98,7 +96,7 @@ fn made_plays_are_walked_as_the_slow_program_says(rt: HostRuntime) -> Result<(),
     for seed in 0..PLAYS {
         let mut dice = Dice { state: seed };
         let made = draw_play(alloc, &mut dice)?;
-        let text = playbook(alloc, &made)?;
+        let text = playbook(alloc, &made, "")?;
         let read = read_play(alloc, text.as_bytes())?;
         for (host, vars) in HOSTS.iter().zip(&fleet) {
             let ends = draw_ends(alloc, &mut dice, made.steps.len())?;

@@ -1,10 +1,9 @@
 //! A batch of four hosts, of which the first two fail at the first of two steps.
-use crate::end::End;
 use crate::hosts::hosts;
-use crate::shown::show_counts;
 use crate::walk::walk;
 use batch_outcome::{failed_by, is_past, status_after};
 use fleet_states::Status;
+use made_plays::{End, show_counts};
 use play_model::Play;
 use play_read::read_play;
 use std::alloc::Global;

@@ -1,46 +1,10 @@
 //! Hosts of one group, with their variables.
 use domains::Fleet;
-use group_tree::{Group, GroupFault, Scalar, Tree};
+use group_tree::Tree;
 use host_vars::{Vars, layered_all};
-use std::alloc::{Allocator, Global};
+use made_plays::{group, long_text};
+use std::alloc::Global;
 use std::test::Fail;
-
-/// So many bytes are in the variable `long` of the hosts: two of them are too many for a word.
-const LONG: usize = 40000;
-
-fn long_text(alloc: Global) -> Result<String, Fail> {
-    let mut text = String::new(alloc);
-    for _byte in 0..LONG {
-        text.push('x')?;
-    }
-    Ok(text)
-}
-
-fn add<A: Allocator + Clone>(
-    group: &mut Group<A>,
-    host: &str,
-    value: i64,
-) -> Result<(), GroupFault> {
-    if value < 0 {
-        group.add_host(host, &[])
-    } else {
-        group.add_host(host, &[("v", Scalar::Int(value))])
-    }
-}
-
-/// The group of these hosts, each with its own value of `v`, a value below 0 standing for none; and `long` for all.
-pub(crate) fn group<A: Allocator + Clone>(
-    alloc: A,
-    values: &[(&str, i64)],
-    long: &str,
-) -> Result<Group<A>, GroupFault> {
-    let shared = [("long", Scalar::Text(long))];
-    let mut all = Group::new(alloc, "all", None, &shared)?;
-    for (host, value) in values {
-        add(&mut all, host, *value)?;
-    }
-    Ok(all)
-}
 
 /// The hosts of these names, in the order of their names.
 pub(crate) fn hosts(alloc: Global, values: &[(&str, i64)]) -> Result<Vec<Vars>, Fail> {

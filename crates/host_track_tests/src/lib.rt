@@ -7,28 +7,12 @@ mod agree;
 #[cfg(test)]
 mod batch;
 #[cfg(test)]
-mod condition;
-#[cfg(test)]
-mod dice;
-#[cfg(test)]
-mod end;
-#[cfg(test)]
 mod hosts;
 #[cfg(test)]
-mod made;
-#[cfg(test)]
 mod memory;
-#[cfg(test)]
-mod playbook;
-#[cfg(test)]
-mod shown;
-#[cfg(test)]
-mod slow;
 #[cfg(test)]
 mod told;
 #[cfg(test)]
 mod walk;
-#[cfg(test)]
-mod word;
 #[cfg(test)]
 mod worked;

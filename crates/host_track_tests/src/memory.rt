@@ -6,13 +6,12 @@ ghost use Rattle.outcome_results.specs.Endings.{ending_of};
 ghost use Rattle.outcome_results.specs.Judging.{register_of};
 ghost use Rattle.play_model.specs.Plays.{HasPlainWords};
 
-use crate::end::End;
-use crate::hosts::group;
 use domains::{Fleet, FleetFault};
 use group_tree::{Group, GroupFault, Tree};
 use host_jobs::Asked;
 use host_track::{Summary, copy_for, step_at};
 use host_vars::{Registered, Vars, layered_all};
+use made_plays::{End, group};
 use outcome_results::Outcome;
 use play_faults::PlayFault;
 use play_model::{Play, Step};

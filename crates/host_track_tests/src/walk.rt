@@ -2,11 +2,10 @@
 ghost use Rattle.std.specs.Prelude.{◌≡◌, OnOk};
 ghost use Rattle.play_model.specs.Plays.{HasPlainWords};
 
-use crate::end::End;
-use crate::shown::{show_counts, show_result, show_row};
 use host_jobs::Asked;
 use host_track::{Summary, copy_for, step_at};
 use host_vars::Vars;
+use made_plays::{End, show_counts, show_result, show_row};
 use outcome_results::Judged;
 use play_model::{Play, Step};
 use std::alloc::Global;

@@ -1,8 +1,7 @@
 //! Worked tracks, in full.
-use crate::end::End;
 use crate::hosts::hosts;
-use crate::shown::show_counts;
 use crate::walk::walk;
+use made_plays::{End, show_counts};
 use play_read::read_play;
 use std::alloc::Global;
 use std::test::Fail;

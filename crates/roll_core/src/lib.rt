@@ -14,6 +14,7 @@ mod trial;
 mod way;
 
 pub use batch::Batch;
+pub use batch_work::Stage;
 pub use board::Board;
 pub use claim::{Claim, Claimed};
 pub use done::Done;
@@ -22,4 +23,4 @@ pub use fault::{Busy, HoldFault, OpenFault, Stranger};
 pub use fleet_states::Status;
 pub use job::Job;
 pub use next::Next;
-pub use outcome_results::Outcome;
+pub use outcome_results::{Counts, Outcome};

@@ -1,10 +1,18 @@
-//! What no clause of `roll_core` says: that the calls succeed where there is memory, what a roll of a region comes to, and want of
-//! memory.
+//! What no clause of `roll_core` says: that the calls succeed where there is memory, worked plays in full, a board that is driven in made
+//! order against a plain slow program, thousands of hosts, and want of memory.
 #![tactic(auto)]
 
 #[cfg(test)]
-mod fleets;
+mod driven;
 #[cfg(test)]
-mod one_batch;
+mod memory;
+#[cfg(test)]
+mod opened;
+#[cfg(test)]
+mod rolled;
+#[cfg(test)]
+mod setting;
 #[cfg(test)]
 mod thousands;
+#[cfg(test)]
+mod worked;

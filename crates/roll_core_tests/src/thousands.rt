@@ -1,80 +1,39 @@
 //! A batch of thousands of hosts, where there is memory.
-ghost use Rattle.std.specs.Prelude.{◌≡◌, OnOk};
-ghost use Rattle.roll_core.specs.declared.stage.Stage.TheVariants.{Working};
-ghost use Rattle.roll_core.specs.Views.{state_of};
-
-use crate::fleets::board_again;
+use crate::setting::{board_again, set_up};
+use crate::opened::ONE_STEP;
+use crate::rolled::roll;
 use group_tree::{Group, HostId, Limit};
-use roll_core::{Board, OpenFault};
-use sample_fleets::fleet_of;
-use std::alloc::{AllocError, Allocator, Global};
+use roll_core::Stage;
+use std::alloc::{Allocator, Global};
 use std::test::Fail;
 
 const HOSTS: usize = 4096;
 
-fn numbered(alloc: Global, count: usize) -> Result<Vec<HostId>, AllocError> {
-    let mut hosts = Vec::with_capacity(alloc, count)?;
-    for index in 0..count {
-        hosts.push(HostId { index })?;
-    }
-    Ok(hosts)
-}
-
-fn add_hosts<A: Allocator + Clone>(
-    group: &mut Group<A>,
-    alloc: A,
-    count: usize,
-) -> Result<(), Fail> {
-    for number in 0..count {
-        let name = format!(in alloc.clone()?; "h{number}")?;
-        group.add_host(name.as_str(), &[])?;
-    }
-    Ok(())
-}
-
 /// All hosts in one group, which has room for them.
-fn one_group<A: Allocator + Clone + Drop>(alloc: A) -> Result<Group<A>, Fail> {
+fn one_group<A: Allocator + Clone>(alloc: A) -> Result<Group<A>, Fail> {
     let mut all = Group::new(alloc.clone()?, "all", Some(Limit::Count(u16::MAX)), &[])?;
-    add_hosts(&mut all, alloc, HOSTS)?;
+    for number in 0..HOSTS {
+        let name = format!(in alloc.clone()?; "h{number}")?;
+        all.add_host(name.as_str(), &[])?;
+    }
     Ok(all)
 }
 
-/// Opens the hosts as a batch, where there are any.
-fn open(board: &mut Board<'_>, alloc: Global, hosts: &[HostId]) -> Result<(), OpenFault>
-    ensures { OnOk result ((state_of board.new).stage ≡ Working) }
-{
-    if hosts.is_empty() {
-        return Err(OpenFault::Memory);
-    }
-    board.open(alloc, hosts)
-}
-
-/// Claims a host and reports it, so many times, as long as one is due.
-fn work(board: &mut Board<'_>, alloc: Global, times: usize) -> Result<(), AllocError>
-    requires { (state_of board.old).stage ≡ Working }
-    ensures { OnOk result ((state_of board.new).stage ≡ Working) }
-{
-    for _turn in 0..times {
-        match board.claim(alloc)? {
-            Some(claim) => board.report(claim, false),
-            None => break,
-        }
-    }
-    Ok(())
-}
-
 #[test]
-fn thousands_of_hosts_are_opened_and_claimed(rt: HostRuntime) -> Result<(), Fail> {
-    let alloc = rt.alloc();
-    let hosts = numbered(alloc, HOSTS)?;
-    let fleet = fleet_of(alloc, one_group(alloc)?)?;
-    let mut board = board_again(alloc, &fleet)?;
-    let Ok(()) = open(&mut board, alloc, hosts.as_slice()) else {
-        panic!(rt; "the batch was not opened");
-    };
-    work(&mut board, alloc, HOSTS)?;
-    assert!(rt; board.barrier().is_ok());
-    assert!(rt; board.claim(alloc)?.is_none());
-    assert_eq!(rt; board.log().len(), 2 * HOSTS + 2);
+fn thousands_of_hosts_are_claimed_and_reported(rt: HostRuntime) -> Result<(), Fail> {
+    let alloc: Global = rt.alloc();
+    let setting = set_up(alloc, one_group(alloc)?, ONE_STEP)?;
+    let mut board = board_again(alloc, &setting, 64)?;
+    let mut hosts = Vec::new(alloc);
+    for index in 0..HOSTS {
+        hosts.push(HostId { index })?;
+    }
+    if hosts.is_empty() || board.open(alloc, hosts.as_slice()).is_err() {
+        return Err(Fail::new("the batch was not opened"));
+    }
+    assert_eq!(rt; board.due(), HOSTS);
+    roll(alloc, &mut board, &[])?;
+    assert!(rt; board.stage() == Stage::Between);
+    assert_eq!(rt; board.log().len(), 2 * HOSTS + 3);
     Ok(())
 }

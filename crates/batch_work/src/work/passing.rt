@@ -28,6 +28,13 @@ impl<'p> BatchWork<'p> {
         first_of(self.batch.as_slice(), self.turns.as_slice())
     }
 
+    /// How many hosts of the batch have not reported the present step, which is due on them. Time linear in the batch.
+    pub fn awaited(&self) -> usize
+        ensures { result ≡ count_by (λ host. awaits (turn_at self.now.turns.items host)) (host_numbers self.now.batch.items) }
+    {
+        awaited_of(self.batch.as_slice(), self.turns.as_slice())
+    }
+
     /// Passes the present step: the batch halts, ends, or begins the next. Time linear in the batch; it takes no memory.
     pub fn pass(&mut self, step: usize)
         requires working { self.old.stage ≡ Working step }
@@ -55,6 +62,15 @@ fn first_of(hosts: &[HostId], turns: &[Turn]) -> Option<HostId>
     ensures { result ≡ find (λ host. awaits (turn_at turns.now host.index)) hosts.now }
 {
     hosts.iter().copied().find(|host| is_awaited(turns, *host))
+}
+
+fn awaited_of(hosts: &[HostId], turns: &[Turn]) -> usize
+    ensures { result ≡ count_by (λ host. awaits (turn_at turns.now host.index)) hosts.now }
+{
+    hosts
+        .iter()
+        .filter(|host| is_awaited(turns, **host))
+        .count()
 }
 
 fn is_awaited(turns: &[Turn], host: HostId) -> bool

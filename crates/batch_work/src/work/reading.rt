@@ -1,5 +1,5 @@
 //! What others see of the work.
-ghost use Rattle.std.specs.Prelude.{◌≡◌, ◌<◌, false, MatchOption, IfOk, Some, length, slice_get};
+ghost use Rattle.std.specs.Prelude.{◌≡◌, ◌≤◌, false, MatchOption, Some, length, slice_get};
 ghost use Rattle.batch_work.specs.declared.turn.Turn.TheVariants.{Out};
 ghost use Rattle.batch_work.specs.Turns.{is_out, turn_at};
 
@@ -8,6 +8,7 @@ use crate::turn::Turn;
 use crate::work::BatchWork;
 use group_tree::HostId;
 use host_jobs::Asked;
+use host_track::Summary;
 
 impl<'p> BatchWork<'p> {
     pub fn stage(&self) -> Stage
@@ -28,6 +29,14 @@ impl<'p> BatchWork<'p> {
         ensures { result ≡ self.now.out }
     {
         self.out
+    }
+
+    /// What is kept of a host's rows; nothing of a number that no host has.
+    pub fn summary(&self, host: HostId) -> Option<&Summary>
+        ensures { MatchOption result (length self.now.summaries.items ≤ host.index)
+            (λ summary. slice_get self.now.summaries.items host.index ≡ Some summary.now) }
+    {
+        self.summaries.get(host.index)
     }
 
     /// What was given out for a host that is taken and has not reported.

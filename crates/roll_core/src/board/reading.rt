@@ -1,9 +1,11 @@
 //! What others see of a board.
-ghost use Rattle.std.specs.Prelude.{◌≡◌, length};
+ghost use Rattle.std.specs.Prelude.{◌≡◌, ◌<◌, ◌^◌, count_by, length};
 ghost use Rattle.fleet_states.specs.Statuses.{status_at};
 ghost use Rattle.down_ledger.specs.Ledgers.{down_in, ledger_of};
+ghost use Rattle.host_track.specs.Tracks.{counts_in};
 ghost use Rattle.roll_logs.specs.States.{start_state};
 ghost use Rattle.roll_logs.specs.Logs.{IsLegal};
+ghost use Rattle.batch_work.specs.Works.{is_awaited_in, phase_of};
 ghost use Rattle.roll_core.specs.Views.{FrontsAreSafe, RestsAtBoundaries, events_of, roll_of, state_of};
 ghost use Rattle.roll_core.specs.Inside.{owed_by};
 
@@ -14,6 +16,7 @@ use domains::Fleet;
 use fleet_states::Status;
 use group_tree::{GroupId, HostId};
 use host_vars::Vars;
+use outcome_results::Counts;
 use play_model::Play;
 
 impl<'f> Board<'f> {
@@ -68,6 +71,31 @@ impl<'f> Board<'f> {
         ensures { result ≡ down_in (ledger_of self.now.fleet (state_of self.now).statuses) group.index }
     {
         self.roster.down(group)
+    }
+
+    /// How far the roll is: between two batches, at a step of the open one, or at its end.
+    pub fn stage(&self) -> Stage
+        ensures { phase_of result ≡ (state_of self.now).phase }
+    {
+        self.work.stage()
+    }
+
+    /// How the rows of a host are judged until now; no row of a number that no host has.
+    pub fn counts(&self, host: HostId) -> Counts
+        ensures { host.index < length self.now.start → length ((state_of self.now).rows host.index) < 2 ^ 32
+            → result ≡ counts_in ((state_of self.now).rows host.index) }
+    {
+        match self.work.summary(host) {
+            Some(summary) => summary.counts(),
+            None => Counts::none(),
+        }
+    }
+
+    /// How many hosts of the batch have not reported the present step, which is due on them. Time linear in the batch.
+    pub fn due(&self) -> usize
+        ensures { result ≡ count_by (is_awaited_in (roll_of self.now) (state_of self.now)) (state_of self.now).batch }
+    {
+        self.work.awaited()
     }
 
     /// How many claims are out.

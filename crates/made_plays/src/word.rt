@@ -5,7 +5,7 @@ use std::alloc::Global;
 use std::test::Fail;
 
 #[derive(Clone, Copy, Debug)]
-pub(crate) enum Word {
+pub enum Word {
     Plain,
     Hostname,
     Value,
@@ -17,7 +17,7 @@ pub(crate) enum Word {
 }
 
 impl Word {
-    pub(crate) fn text(self, alloc: Global) -> Result<String, Fail> {
+    pub fn text(self, alloc: Global) -> Result<String, Fail> {
         Ok(match self {
             Word::Plain => String::from_str(alloc, "w")?,
             Word::Hostname => String::from_str(alloc, "{{ inventory_hostname }}")?,
@@ -31,7 +31,7 @@ impl Word {
     }
 
     /// Its text on the host behind these rows, or how the step ends for want of one.
-    pub(crate) fn rendered(
+    pub fn rendered(
         self,
         alloc: Global,
         host: Host,

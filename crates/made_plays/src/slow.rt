@@ -10,29 +10,29 @@ use std::test::Fail;
 
 /// A host: whether `v` is 1 on it, and the result `r` of an earlier play, if there is one.
 #[derive(Clone, Copy)]
-pub(crate) struct Host {
-    pub(crate) name: &'static str,
-    pub(crate) has_value: bool,
-    pub(crate) earlier: Option<Row>,
+pub struct Host {
+    pub name: &'static str,
+    pub has_value: bool,
+    pub earlier: Option<Row>,
 }
 
 /// A step's row: how it ended, what is registered of that and under which name, and whom it may notify.
 #[derive(Clone, Copy)]
-pub(crate) struct Row {
-    pub(crate) end: End,
-    pub(crate) register: Option<&'static str>,
-    pub(crate) changed: bool,
-    pub(crate) failed: bool,
-    pub(crate) judged: Judged,
-    pub(crate) notify: &'static [usize],
+pub struct Row {
+    pub end: End,
+    pub register: Option<&'static str>,
+    pub changed: bool,
+    pub failed: bool,
+    pub judged: Judged,
+    pub notify: &'static [usize],
 }
 
 impl Row {
-    pub(crate) fn is_skipped(self) -> bool {
+    pub fn is_skipped(self) -> bool {
         self.end == End::Skipped
     }
 
-    pub(crate) fn code(self) -> Option<i32> {
+    pub fn code(self) -> Option<i32> {
         match self.end {
             End::Ran(code) => Some(code),
             _ => None,
@@ -46,7 +46,7 @@ impl Row {
 }
 
 /// The result of this name: that of the last row that registered it, else that of an earlier play.
-pub(crate) fn result(host: Host, rows: &[Row], name: &str) -> Option<Row> {
+pub fn result(host: Host, rows: &[Row], name: &str) -> Option<Row> {
     let mut found = match host.earlier {
         Some(row) if row.register == Some(name) => Some(row),
         _ => None,
@@ -172,13 +172,13 @@ fn judged(alloc: Global, step: MadeStep, host: Host, rows: &[Row], end: End) -> 
 
 /// The host's rows, and how each is shown.
 #[derive(Drop)]
-pub(crate) struct Track {
-    pub(crate) rows: Vec<Row>,
-    pub(crate) shown: String,
+pub struct Track {
+    pub rows: Vec<Row>,
+    pub shown: String,
 }
 
 /// The host's rows where the programs end as the table says, and well where it says nothing.
-pub(crate) fn slow_track(
+pub fn slow_track(
     alloc: Global,
     made: &MadePlay,
     host: Host,

@@ -5,7 +5,7 @@ use std::test::Fail;
 
 /// A condition on a result, on the variable `v`, or on a name that has no value.
 #[derive(Clone, Copy, Debug)]
-pub(crate) enum Condition {
+pub enum Condition {
     Never,
     Failed(&'static str),
     NotFailed(&'static str),
@@ -19,7 +19,7 @@ pub(crate) enum Condition {
 }
 
 impl Condition {
-    pub(crate) fn text(self, alloc: Global) -> Result<String, Fail> {
+    pub fn text(self, alloc: Global) -> Result<String, Fail> {
         Ok(match self {
             Condition::Never => String::from_str(alloc, "false")?,
             Condition::Failed(name) => format!(in alloc; "{name} is failed")?,
@@ -37,7 +37,7 @@ impl Condition {
     }
 
     /// Whether it holds on the host behind these rows, or the name that has no value.
-    pub(crate) fn holds(self, host: Host, rows: &[Row]) -> Result<bool, &'static str> {
+    pub fn holds(self, host: Host, rows: &[Row]) -> Result<bool, &'static str> {
         match self {
             Condition::Never => Ok(false),
             Condition::Failed(name) => match result(host, rows, name) {

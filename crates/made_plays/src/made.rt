@@ -7,21 +7,21 @@ use std::alloc::{AllocError, Global};
 
 /// A step: what it runs, under which name it registers its result, and the handlers that it notifies, in this order.
 #[derive(Clone, Copy, Debug)]
-pub(crate) struct MadeStep {
-    pub(crate) words: [Word; 2],
-    pub(crate) register: Option<&'static str>,
-    pub(crate) when: Option<Condition>,
-    pub(crate) changed_when: Option<Condition>,
-    pub(crate) failed_when: Option<Condition>,
-    pub(crate) ignores_errors: bool,
-    pub(crate) notify: &'static [usize],
+pub struct MadeStep {
+    pub words: [Word; 2],
+    pub register: Option<&'static str>,
+    pub when: Option<Condition>,
+    pub changed_when: Option<Condition>,
+    pub failed_when: Option<Condition>,
+    pub ignores_errors: bool,
+    pub notify: &'static [usize],
 }
 
 /// The tasks and then the handlers.
 #[derive(Drop)]
-pub(crate) struct MadePlay {
-    pub(crate) steps: Vec<MadeStep>,
-    pub(crate) tasks: usize,
+pub struct MadePlay {
+    pub steps: Vec<MadeStep>,
+    pub tasks: usize,
 }
 
 fn draw_name(dice: &mut Dice) -> &'static str {
@@ -98,7 +98,7 @@ fn draw_step(dice: &mut Dice, handlers: usize) -> MadeStep {
 }
 
 /// A play of 1 to 4 tasks and up to 2 handlers, which notify nobody.
-pub(crate) fn draw_play(alloc: Global, dice: &mut Dice) -> Result<MadePlay, AllocError> {
+pub fn draw_play(alloc: Global, dice: &mut Dice) -> Result<MadePlay, AllocError> {
     let tasks = dice.below(4).saturating_add(1) as usize;
     let handlers = dice.below(3) as usize;
     let mut steps = Vec::new(alloc);
@@ -122,7 +122,7 @@ fn draw_end(dice: &mut Dice) -> End {
 }
 
 /// How the program of each step ends.
-pub(crate) fn draw_ends(
+pub fn draw_ends(
     alloc: Global,
     dice: &mut Dice,
     steps: usize,

@@ -3,10 +3,10 @@ use outcome_results::Outcome;
 use std::alloc::{AllocError, Global};
 
 /// The text that each program of a table prints.
-pub(crate) const PRINTED: &str = "out";
+pub const PRINTED: &str = "out";
 
 #[derive(Clone, Copy, Debug, PartialEq, Eq)]
-pub(crate) enum End {
+pub enum End {
     Ran(i32),
     NotStarted,
     Lost,
@@ -15,7 +15,7 @@ pub(crate) enum End {
 }
 
 impl End {
-    pub(crate) fn outcome(self, alloc: Global) -> Result<Outcome, AllocError> {
+    pub fn outcome(self, alloc: Global) -> Result<Outcome, AllocError> {
         Ok(match self {
             End::Ran(rc) => Outcome::Ran {
                 rc,

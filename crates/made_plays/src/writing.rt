@@ -47,8 +47,9 @@ fn write_step(text: &mut String, alloc: Global, step: MadeStep) -> Result<(), Fa
     write_condition(text, alloc, "failed_when", step.failed_when)
 }
 
-pub(crate) fn playbook(alloc: Global, made: &MadePlay) -> Result<String, Fail> {
-    let mut text = String::from_str(alloc, "[{\"hosts\":\"all\",\"tasks\":[")?;
+/// `settings` are keys of the play with their values, each with a comma behind it.
+pub fn playbook(alloc: Global, made: &MadePlay, settings: &str) -> Result<String, Fail> {
+    let mut text = format!(in alloc; "[{{\"hosts\":\"all\",{settings}\"tasks\":[")?;
     for (place, step) in made.steps.iter().enumerate() {
         if place == made.tasks {
             text.push_str("],\"handlers\":[")?;

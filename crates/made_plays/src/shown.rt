@@ -6,7 +6,7 @@ use std::fmt::Write;
 use std::test::Fail;
 
 /// How the step ended, and how that is judged.
-pub(crate) fn show_row(shown: &mut String, outcome: &Outcome, judged: Judged) -> Result<(), Fail> {
+pub fn show_row(shown: &mut String, outcome: &Outcome, judged: Judged) -> Result<(), Fail> {
     match outcome {
         Outcome::Ran { rc, .. } => write!(shown, "rc={rc}")?,
         Outcome::NotStarted => shown.push_str("not-started")?,
@@ -29,7 +29,7 @@ fn judged_as(judged: Judged) -> &'static str {
     }
 }
 
-pub(crate) fn show_counts(shown: &mut String, counts: Counts) -> Result<(), Fail> {
+pub fn show_counts(shown: &mut String, counts: Counts) -> Result<(), Fail> {
     write!(
         shown,
         "{} {} {} {} {}",
@@ -39,7 +39,7 @@ pub(crate) fn show_counts(shown: &mut String, counts: Counts) -> Result<(), Fail
 }
 
 /// The result of this name: each of its fields, or `-`.
-pub(crate) fn show_result(shown: &mut String, vars: &Vars, name: &str) -> Result<(), Fail> {
+pub fn show_result(shown: &mut String, vars: &Vars, name: &str) -> Result<(), Fail> {
     write!(shown, " {name}:")?;
     for field in [
         Field::Rc,

@@ -1,0 +1,214 @@
+//! A board that is driven in an order that is drawn, against a plain slow program that looks at each host by itself.
+use crate::setting::{board_again, set_up};
+use crate::rolled::{Table, finish, show_hosts};
+use group_tree::HostId;
+use made_plays::{
+    Dice, End, Host, MadePlay, Track, draw_ends, draw_play, group, long_text, playbook,
+    show_counted, slow_track,
+};
+use outcome_results::Judged;
+use roll_core::{Board, Done, Stage};
+use std::alloc::{AllocError, Global};
+use std::fmt::Write;
+use std::test::Fail;
+
+const PLAYS: u32 = 900;
+
+const VALUES: [(&str, i64); 3] = [("a", 1), ("b", -1), ("c", 1)];
+
+const BATCH: [HostId; 3] = [HostId { index: 0 }, HostId { index: 1 }, HostId { index: 2 }];
+
+fn host_of(name: &'static str, value: i64) -> Host {
+    Host {
+        name,
+        has_value: value > 0,
+        earlier: None,
+    }
+}
+
+/// The host's rows of the first steps, by the slow program.
+fn track(
+    alloc: Global,
+    made: &MadePlay,
+    host: Host,
+    ends: &[End],
+    steps: usize,
+) -> Result<Track, Fail> {
+    let mut first = Vec::new(alloc);
+    for step in made.steps.iter().take(steps) {
+        first.push(*step)?;
+    }
+    let tasks = made.tasks;
+    slow_track(alloc, &MadePlay { steps: first, tasks }, host, ends)
+}
+
+fn has_failed(track: &Track) -> bool {
+    track.rows.iter().any(|row| row.judged == Judged::Failed)
+}
+
+/// Behind how many steps the batch halts, or all of them, and whether it does.
+fn end_of_batch(
+    alloc: Global,
+    made: &MadePlay,
+    ends: &[Vec<End>],
+    percentage: Option<u32>,
+) -> Result<(usize, bool), Fail> {
+    let Some(percentage) = percentage else {
+        return Ok((made.steps.len(), false));
+    };
+    for place in 0..made.steps.len() {
+        let steps = place.saturating_add(1);
+        let mut failed = 0u32;
+        for ((name, value), ends) in VALUES.iter().zip(ends) {
+            if has_failed(&track(alloc, made, host_of(name, *value), ends, steps)?) {
+                failed = failed.saturating_add(1);
+            }
+        }
+        if failed.saturating_mul(100) > percentage.saturating_mul(3) {
+            return Ok((steps, true));
+        }
+    }
+    Ok((made.steps.len(), false))
+}
+
+/// Each host with its counts and its status, by the slow program.
+fn wanted(
+    alloc: Global,
+    made: &MadePlay,
+    ends: &[Vec<End>],
+    percentage: Option<u32>,
+) -> Result<String, Fail> {
+    let (steps, halted) = end_of_batch(alloc, made, ends, percentage)?;
+    let mut shown = String::new(alloc);
+    for ((name, value), ends) in VALUES.iter().zip(ends) {
+        if !shown.is_empty() {
+            shown.push_str(" / ")?;
+        }
+        let track = track(alloc, made, host_of(name, *value), ends, steps)?;
+        write!(shown, "{name} ")?;
+        show_counted(&mut shown, &track.rows)?;
+        shown.push_str(if has_failed(&track) {
+            " failed"
+        } else if halted {
+            " halted"
+        } else {
+            " updated"
+        })?;
+    }
+    Ok(shown)
+}
+
+/// Passes a step or closes a batch that is over; a barrier is busy only where somebody is awaited.
+fn move_on(board: &mut Board<'_>) -> Result<(), Fail> {
+    match board.stage() {
+        Stage::Between => Ok(()),
+        Stage::Working(_) => match board.barrier() {
+            Ok(_next) => Ok(()),
+            Err(_busy) if board.due() > 0 => Ok(()),
+            Err(_busy) => Err(Fail::new("busy, and nobody is due")),
+        },
+        Stage::Ended(_) => {
+            board.close();
+            Ok(())
+        }
+    }
+}
+
+/// Reports one of those that are out, whichever is drawn.
+fn report_one(board: &mut Board<'_>, dice: &mut Dice, out: &mut Vec<Done>) -> Result<(), Fail> {
+    let place = dice.below(64) as usize;
+    if place >= out.len() {
+        return Ok(());
+    }
+    match board.report(out.swap_remove(place)) {
+        Ok(()) => Ok(()),
+        Err(_stranger) => Err(Fail::new("a stranger")),
+    }
+}
+
+fn drive(
+    alloc: Global,
+    board: &mut Board<'_>,
+    dice: &mut Dice,
+    table: Table<'_>,
+) -> Result<(), Fail> {
+    let mut out = Vec::new(alloc);
+    for _turn in 0..20000u32 {
+        if board.stage() == Stage::Between {
+            return Ok(());
+        }
+        match dice.below(4) {
+            0 => move_on(board)?,
+            1 => match board.claim(alloc)? {
+                Some(claimed) => out.push(finish(alloc, claimed, table)?)?,
+                None => {}
+            },
+            _ => report_one(board, dice, &mut out)?,
+        }
+    }
+    Err(Fail::new("the batch does not end"))
+}
+
+fn draw_all_ends(
+    alloc: Global,
+    dice: &mut Dice,
+    steps: usize,
+) -> Result<Vec<Vec<End>>, AllocError> {
+    let mut all = Vec::new(alloc);
+    for _host in VALUES {
+        all.push(draw_ends(alloc, dice, steps)?)?;
+    }
+    Ok(all)
+}
+
+/// The hosts behind a batch that is driven at so many forks.
+fn driven(
+    alloc: Global,
+    long: &str,
+    text: &str,
+    dice: &mut Dice,
+    table: Table<'_>,
+    forks: usize,
+) -> Result<String, Fail> {
+    let setting = set_up(alloc, group(alloc, &VALUES, long)?, text)?;
+    let mut board = board_again(alloc, &setting, forks.max(1))?;
+    if board.open(alloc, &BATCH).is_err() {
+        return Err(Fail::new("the batch was not opened"));
+    }
+    drive(alloc, &mut board, dice, table)?;
+    show_hosts(alloc, &board)
+}
+
+#[test]
+fn a_board_that_is_driven_in_any_order_ends_as_its_hosts_do_by_themselves(
+    rt: HostRuntime,
+) -> Result<(), Fail> {
+    let alloc = rt.alloc();
+    let long = long_text(alloc)?;
+    let mut halted = 0usize;
+    for seed in 0..PLAYS {
+        let mut dice = Dice { state: seed };
+        let made = draw_play(alloc, &mut dice)?;
+        let percentage = if dice.one_in(2) { Some(dice.below(101)) } else { None };
+        let settings = match percentage {
+            Some(percentage) => format!(in alloc; "\"max_fail_percentage\":{percentage},")?,
+            None => String::new(alloc),
+        };
+        let ends = draw_all_ends(alloc, &mut dice, made.steps.len())?;
+        let mut table = Vec::new(alloc);
+        for (host, ends) in ends.iter().enumerate() {
+            table.push((host, ends.as_slice()))?;
+        }
+        let text = playbook(alloc, &made, settings.as_str())?;
+        let wanted = wanted(alloc, &made, &ends, percentage)?;
+        if wanted.contains("halted") {
+            halted = halted.saturating_add(1);
+        }
+        for forks in [1, 2, 5] {
+            let shown = driven(alloc, long.as_str(), text.as_str(), &mut dice, &table, forks)?;
+            assert_eq!(rt; shown.as_str(), wanted.as_str(), "{text} {ends:?} {forks}");
+        }
+    }
+    assert!(rt; halted > 50, "halted {halted} times");
+    Ok(())
+}

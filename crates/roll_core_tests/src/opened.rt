@@ -1,0 +1,79 @@
+//! Which batches are opened, and which hosts are set aside.
+use crate::setting::{board_again, set_up};
+use crate::rolled::{roll, show_hosts};
+use group_tree::{Group, GroupFault, GroupId, HostId};
+use made_plays::End;
+use roll_core::{Busy, HoldFault, OpenFault};
+use sample_fleets::{group, with};
+use std::alloc::{Allocator, Global};
+use std::test::Fail;
+
+pub const ONE_STEP: &str = r#"[{"hosts":"all","tasks":[{"command":"x"}]}]"#;
+
+/// A region of two racks: of its five hosts three may be down, of the first rack's three one, of the other's two both.
+fn region<A: Allocator + Clone>(alloc: A) -> Result<Group<A>, GroupFault> {
+    let r1 = group(alloc.clone()?, "r1", Some(1), &["a", "b", "c"])?;
+    let r2 = group(alloc.clone()?, "r2", Some(2), &["d", "e"])?;
+    let eu = with(with(group(alloc.clone()?, "eu", Some(3), &[])?, r1)?, r2)?;
+    with(group(alloc, "all", None, &[])?, eu)
+}
+
+fn region_again(alloc: Global) -> Result<Group<Global>, GroupFault> {
+    match region(alloc) {
+        Err(GroupFault::Memory) => region(alloc),
+        answer => answer,
+    }
+}
+
+fn host(index: usize) -> HostId {
+    HostId { index }
+}
+
+fn group_id(index: usize) -> GroupId {
+    GroupId { index }
+}
+
+#[test]
+fn a_failed_host_blocks_its_rack(rt: HostRuntime) -> Result<(), Fail> {
+    let alloc = rt.alloc();
+    let setting = set_up(alloc, region_again(alloc)?, ONE_STEP)?;
+    let mut board = board_again(alloc, &setting, 5)?;
+    // `b` finds `r1` full before `eu` is
+    assert_eq!(rt;
+        board.open(alloc, &[host(3), host(0), host(1), host(4)]),
+        Err(OpenFault::Full { group: group_id(2) })
+    );
+    assert_eq!(rt; board.log().len(), 0);
+    assert_eq!(rt; board.open(alloc, &[host(0), host(3)]), Ok(()));
+    assert_eq!(rt; board.open(alloc, &[host(1)]), Err(OpenFault::NotBoundary));
+    assert_eq!(rt; board.hold(alloc, &[host(1)]), Err(HoldFault::NotBoundary));
+    assert_eq!(rt; board.due(), 2);
+    roll(alloc, &mut board, &[(0, &[End::Ran(1)])])?;
+    assert_eq!(rt;
+        show_hosts(alloc, &board)?.as_str(),
+        "a 0 0 1 0 0 failed / b 0 0 0 0 0 waiting / c 0 0 0 0 0 waiting / d 1 1 0 0 0 updated / e 0 0 0 0 0 waiting"
+    );
+    assert_eq!(rt;
+        board.open(alloc, &[host(0)]),
+        Err(OpenFault::NotWaiting { host: host(0) })
+    );
+    assert_eq!(rt;
+        board.open(alloc, &[host(4), host(4)]),
+        Err(OpenFault::NotWaiting { host: host(4) })
+    );
+    assert_eq!(rt;
+        board.open(alloc, &[host(1)]),
+        Err(OpenFault::Full { group: group_id(2) })
+    );
+    assert_eq!(rt;
+        board.hold(alloc, &[host(0)]),
+        Err(HoldFault::NotWaiting { host: host(0) })
+    );
+    assert_eq!(rt;
+        board.hold(alloc, &[host(1), host(4)]),
+        Err(HoldFault::HasRoom { host: host(4) })
+    );
+    assert_eq!(rt; board.hold(alloc, &[host(1), host(2)]), Ok(()));
+    assert_eq!(rt; board.down(group_id(2)), 1);
+    Ok(())
+}

@@ -1,0 +1,108 @@
+//! Fleets with a play and variables, and boards over them on which all hosts wait. A call that was refused memory is made again.
+ghost use Rattle.std.specs.Prelude.{◌≡◌, ◌<◌, IfOk, length, replicate};
+ghost use Rattle.domains.specs.Fleets.{IsFleetOf};
+ghost use Rattle.fleet_states.specs.declared.status.Status.TheVariants.{Waiting};
+
+use domains::{Fleet, FleetFault};
+use group_tree::{Group, Tree};
+use host_vars::{Vars, layered_all};
+use play_faults::PlayFault;
+use play_model::Play;
+use play_read::read_play;
+use roll_core::{Board, Status};
+use std::alloc::{AllocError, Global};
+use std::test::Fail;
+
+/// A fleet all of whose hosts wait, and a play.
+#[derive(Drop)]
+pub struct Setting {
+    pub fleet: Fleet,
+    pub play: Play,
+    pub vars: Vec<Vars>,
+    pub statuses: Vec<Status>,
+    ghost wait: { statuses.items ≡ replicate (length fleet.hosts) Waiting },
+    ghost each: { length vars.items ≡ length fleet.hosts },
+}
+
+fn waiting(alloc: Global, count: usize) -> Result<Vec<Status>, AllocError>
+    ensures { IfOk result (λ statuses. statuses.items ≡ replicate count Waiting) }
+{
+    vec![in alloc; Status::Waiting; count]
+}
+
+fn fleet_again(alloc: Global, tree: &Tree<Global>) -> Result<Fleet, FleetFault>
+    ensures { IfOk result (IsFleetOf tree.now) }
+{
+    match Fleet::build(alloc, tree) {
+        Err(FleetFault::Memory) => Fleet::build(alloc, tree),
+        answer => answer,
+    }
+}
+
+fn vars_again(alloc: Global, tree: &Tree<Global>, fleet: &Fleet) -> Result<Vec<Vars>, AllocError>
+    requires { IsFleetOf tree.now fleet.now }
+{
+    match layered_all(alloc, tree, fleet) {
+        Err(AllocError) => layered_all(alloc, tree, fleet),
+        answer => answer,
+    }
+}
+
+fn play_again(alloc: Global, playbook: &str) -> Result<Play, PlayFault> {
+    match read_play(alloc, playbook.as_bytes()) {
+        Err(PlayFault::Memory) => read_play(alloc, playbook.as_bytes()),
+        answer => answer,
+    }
+}
+
+fn waiting_again(alloc: Global, count: usize) -> Result<Vec<Status>, AllocError>
+    ensures { IfOk result (λ statuses. statuses.items ≡ replicate count Waiting) }
+{
+    match waiting(alloc, count) {
+        Err(AllocError) => waiting(alloc, count),
+        answer => answer,
+    }
+}
+
+/// The fleet of a group, and the play of a playbook.
+pub fn set_up(alloc: Global, all: Group<Global>, playbook: &str) -> Result<Setting, Fail> {
+    let Ok(tree) = Tree::new(all) else {
+        return Err(Fail::new("no tree"));
+    };
+    let fleet = fleet_again(alloc, &tree)?;
+    let vars = vars_again(alloc, &tree, &fleet)?;
+    let play = play_again(alloc, playbook)?;
+    let statuses = waiting_again(alloc, fleet.hosts())?;
+    if vars.len() != fleet.hosts() {
+        return Err(Fail::new("not one list of variables a host"));
+    }
+    Ok(Setting {
+        fleet,
+        play,
+        vars,
+        statuses,
+    })
+}
+
+fn board_of(alloc: Global, setting: &Setting, forks: usize) -> Result<Board<'_>, AllocError>
+    requires { 0 < forks }
+{
+    Board::new(
+        alloc,
+        &setting.fleet,
+        &setting.play,
+        forks,
+        setting.statuses.as_slice(),
+        setting.vars.as_slice(),
+    )
+}
+
+/// A board on which nothing has happened.
+pub fn board_again(alloc: Global, setting: &Setting, forks: usize) -> Result<Board<'_>, AllocError>
+    requires { 0 < forks }
+{
+    match board_of(alloc, setting, forks) {
+        Err(AllocError) => board_of(alloc, setting, forks),
+        answer => answer,
+    }
+}
