@@ -21,3 +21,4 @@ pub mod BuildLemmas
 pub mod BreachLemmas
 pub mod ReaderLemmas
 pub mod MarkLemmas
+pub mod ListedLemmas

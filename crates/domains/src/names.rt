@@ -1,6 +1,7 @@
 //! The distinct hosts of a tree, and its rows by the numbers of hosts and groups.
-ghost use Rattle.std.specs.Prelude.{◌≡◌, ℕ, List, ◌<◌, IfOk, All, length, map, slice_index_or, []};
+ghost use Rattle.std.specs.Prelude.{◌≡◌, ℕ, List, ◌<◌, ◌||◌, IfOk, IfSome, IsTrue, OnOk, All, length, map, slice_index_or, []};
 ghost use Rattle.std.specs.String.{string_bytes};
+ghost use Rattle.inventory_model.specs.Names.{Name, same_name, is_among};
 ghost use Rattle.fleet_numbers.specs.SortedNames.{sorted_names};
 
 use crate::rows::HostRow;
@@ -17,16 +18,53 @@ fn own_names(alloc: Global, names: &[&str]) -> Result<Vec<String>, AllocError>
     Ok(own)
 }
 
+/// Where the name stands, if that is `near` or the front: a group that lists hosts of an earlier one most often lists them
+/// in its order.
+fn find_listed(names: &[&str], near: usize, name: &str) -> Option<usize>
+    ensures { IfSome result (λ place. (place < length names.now) × (slice_index_or (map (λ name. name.now) names.now) place [] ≡ name.now)) }
+{
+    if has_name(names, near, name) {
+        return Some(near);
+    }
+    if has_name(names, 0, name) {
+        return Some(0);
+    }
+    None
+}
+
+fn has_name(names: &[&str], place: usize, name: &str) -> bool
+    ensures { IsTrue result → (place < length names.now) × (slice_index_or (map (λ name. name.now) names.now) place [] ≡ name.now) }
+{
+    match names.get(place) {
+        Some(own) => *own == name,
+        None => false,
+    }
+}
+
+/// Adds a name that is not found near to those before it, and says where the next is likely to stand.
+fn note_name<'a>(names: &mut Vec<&'a str>, near: usize, name: &'a str) -> Result<usize, AllocError>
+    ensures { OnOk result ((other : Name) → is_among other (map (λ name. name.now) names.new.items)
+        ≡ (is_among other (map (λ name. name.now) names.old.items) || same_name other name.now)) }
+{
+    if let Some(place) = find_listed(names.as_slice(), near, name) {
+        return Ok(place + 1);
+    }
+    names.push(name)?;
+    Ok(names.len())
+}
+
+/// The names of the rows, but for most that stood before, so that fewer are to be sorted.
 fn names_of<'a, A: Allocator>(
     alloc: Global,
     rows: &[HostRow<'a, A>],
 ) -> Result<Vec<&'a str>, AllocError>
-    ensures { IfOk result (λ names. map (λ name. name.now) names.items ≡ map (λ row. row.host.now.name) rows.now) }
+    ensures { IfOk result (λ names. (other : Name) → is_among other (map (λ name. name.now) names.items) ≡ is_among other (map (λ row. row.host.now.name) rows.now)) }
 {
-    let mut names = Vec::with_capacity(alloc, rows.len())?;
+    let mut names = Vec::new(alloc);
+    let mut near = 0;
     for row in rows {
         let host = row.host;
-        names.push(host.name())?;
+        near = note_name(&mut names, near, host.name())?;
     }
     Ok(names)
 }

@@ -7,4 +7,7 @@ pub mod LoopLemmas
 pub mod DealLemmas
 pub mod PathLemmas
 pub mod SplitLemmas
+pub mod RunLemmas
+pub mod CountLemmas
+pub mod PlacedLemmas
 pub mod HeldLemmas

@@ -1,9 +1,8 @@
 -- Lists of lists by their numbers: what one of them is, and a write to one of them.
-use Rattle.std.proofs.Common.{◌≡◌, ℕ, ◌<◌, length, List, [], ◌∷◌, ◌++◌, map, set, get_or, replicate, zero, suc, sym, ap, ◌∙◌, refl, arith, Result, Ok, Err, OnErr}
+use Rattle.std.proofs.Common.{◌≡◌, ℕ, ◌<◌, length, List, [], ◌∷◌, ◌++◌, map, set, get_or, replicate, zero, suc, sym, ap, ◌∙◌, refl, arith}
 use Rattle.std.proofs.Common.{Global, Vec}
 use Rattle.std.proofs.lemmas.List.{map-set, map-id, map-append, get_or-map, length-map}
 use Rattle.std.proofs.lemmas.Simd.{map-map}
-use Rattle.std.proofs.Math.Seq.{map-set_same}
 use Rattle.fleet_numbers.specs.NumberLists.{list_at}
 use Rattle.fleet_numbers.specs.Ids.{lists_by}
 
@@ -17,13 +16,6 @@ extended shown_of lists shown place old new more is inside here grown =
     let read' : get_or shown place [] ≡ shown_of old = sym (ap (λ (l : List (List ℕ)). get_or l place []) is) ∙ read ∙ sym (ap shown_of here) in
     let wrote : map shown_of (set lists place new) ≡ set (map shown_of lists) place (shown_of new) = map-set shown_of lists place new in
     wrote ∙ ap (λ (l : List (List ℕ)). set l place (shown_of new)) is ∙ ap (λ (l : List ℕ). set shown place l) (grown ∙ sym (ap (λ (l : List ℕ). l ++ more) read'))
-
--- a list that was written back as it was leaves all lists as they are, whatever the answer
-pub rewritten : {T E L : Type 0} (shown_of : L → List ℕ) (result : Result T E) (lists : List L) (shown : List (List ℕ)) (place : ℕ) (old new : L)
-    → map shown_of lists ≡ shown → old ≡ get_or lists place old → shown_of new ≡ shown_of old → OnErr result (map shown_of (set lists place new) ≡ shown)
-rewritten shown_of (Ok done) lists shown place old new is here same = tt
-rewritten shown_of (Err fault) lists shown place old new is here same =
-    map-set_same shown_of lists place new old (same ∙ ap shown_of here) ∙ is
 
 -- a list that is lent, by its numbers
 pub lent_list : {X : Type 0} (number : X → ℕ) (lists : List (Vec X Global)) (place : ℕ) (own : Vec X Global) (lent : List X) → place < length lists

@@ -9,6 +9,10 @@ paths_from path number [] = []
 paths_from path number (depth ∷ depths) =
     (take depth path ++ number ∷ []) ∷ paths_from (take depth path ++ number ∷ []) (suc number) depths
 
+-- one of these groups has the group on its path
+abbrev pub is_above : List (List ℕ) → List ℕ → ℕ → Bool
+is_above paths groups group = list_any (λ own. has_number group (list_at paths own)) groups
+
 -- a row of the host stands in a group whose path has the group; a row is a host's and a group's number
 abbrev pub is_member : List (List ℕ) → List (ℕ × ℕ) → ℕ → ℕ → Bool
 is_member paths rows group host =

@@ -1,5 +1,6 @@
 pub mod SortedNames
 pub mod NumberLists
+pub mod Runs
 pub mod Ids
 pub mod GroupPaths
 pub mod Chains

@@ -23,9 +23,13 @@ fn limited_of(
 ) -> Result<Vec<GroupId>, AllocError>
     ensures { IfOk result (λ limited. group_numbers limited.items ≡ filter (is_limited limits.now) groups.now) }
 {
-    let mut limited = Vec::with_capacity(alloc, groups.len())?;
-    for group in groups {
+    let mut limited = Vec::new(alloc);
+    for (index, group) in groups.iter().enumerate() {
         if is_limited(limits, *group) {
+            if limited.is_empty() {
+                // one block, and none for a host without limited groups
+                limited.reserve(groups.len() - index)?;
+            }
             limited.push(GroupId { index: *group })?;
         }
     }

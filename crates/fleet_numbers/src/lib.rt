@@ -8,6 +8,7 @@ mod members;
 mod names;
 mod number;
 mod paths;
+mod runs;
 
 pub use chains::{first_crossing, list_chains, list_subtree_ends};
 pub use deal::{list_deal_order, list_deal_places};

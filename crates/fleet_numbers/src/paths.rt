@@ -16,7 +16,7 @@ pub fn list_paths(alloc: Global, depths: &[usize]) -> Result<NumberLists, AllocE
     for (number, depth) in depths.iter().enumerate() {
         path.truncate(*depth);
         path.push(number)?;
-        paths.push(Vec::from_slice(alloc, path.as_slice())?)?;
+        paths.add(path.as_slice())?;
     }
     Ok(paths)
 }
