@@ -4,7 +4,8 @@ use crate::told::whole_track;
 use crate::walk::whole_walk;
 use host_vars::{Registered, Vars};
 use made_plays::{
-    Dice, End, Host, MadePlay, PRINTED, Row, draw_ends, draw_play, one_more_if, playbook, slow_track,
+    Dice, End, Host, MadePlay, PRINTED, Row, draw_ends, draw_play, one_more_if, playbook,
+    slow_track,
 };
 use outcome_results::Judged;
 use play_read::read_play;

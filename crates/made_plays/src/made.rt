@@ -122,11 +122,7 @@ fn draw_end(dice: &mut Dice) -> End {
 }
 
 /// How the program of each step ends.
-pub fn draw_ends(
-    alloc: Global,
-    dice: &mut Dice,
-    steps: usize,
-) -> Result<Vec<End>, AllocError> {
+pub fn draw_ends(alloc: Global, dice: &mut Dice, steps: usize) -> Result<Vec<End>, AllocError> {
     let mut ends = Vec::new(alloc);
     for _step in 0..steps {
         ends.push(draw_end(dice))?;

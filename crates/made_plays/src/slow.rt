@@ -178,12 +178,7 @@ pub struct Track {
 }
 
 /// The host's rows where the programs end as the table says, and well where it says nothing.
-pub fn slow_track(
-    alloc: Global,
-    made: &MadePlay,
-    host: Host,
-    ends: &[End],
-) -> Result<Track, Fail> {
+pub fn slow_track(alloc: Global, made: &MadePlay, host: Host, ends: &[End]) -> Result<Track, Fail> {
     let mut rows = Vec::new(alloc);
     let mut shown = String::new(alloc);
     for (place, step) in made.steps.iter().enumerate() {

@@ -25,7 +25,7 @@ is_over (ended halt) = true
 abbrev pub first_busy : Roll → State → Option ℕ
 first_busy roll state = find (is_awaited_in roll state) state.batch
 
--- what is told of a batch that goes on so
+-- what is told of a batch that goes on so; one that passed a step is never between
 abbrev pub next_by : Phase → Next
 next_by between = BatchEnd
 next_by (working step) = Step

@@ -73,7 +73,7 @@ pub record IsDoneOf (claim : Claim) (outcome : Outcome) (done : Done) : Type 0 w
 abbrev pub event_in : Done → Event
 event_in done = reported done.share.host.index done.step (ending_of (outcome_in done.way))
 
--- the claim is out of which this is how it ended: of this host and step, with these words or this settled outcome
+-- the board waits for just this: the host is out, at this step, and was asked for these words or for this settled outcome
 pub record IsOut (roll : Roll) (state : State) (done : Done) : Type 0 where
   pub at : state.phase ≡ working done.step
   pub out : has_number done.share.host.index state.out ≡ true

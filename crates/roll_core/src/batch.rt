@@ -1,4 +1,4 @@
-//! The hosts of a batch.
+//! Hosts that are opened or set aside together.
 ghost use Rattle.std.specs.Prelude.{◌≡◌, IfOk};
 ghost use Rattle.domains.specs.Ids.{host_numbers};
 
@@ -6,7 +6,7 @@ use group_tree::HostId;
 use std::alloc::{AllocError, Global};
 use std::marker::Model;
 
-/// The hosts of a batch, in the order in which they are claimed. A clause sees their numbers.
+/// Hosts in the order in which they were handed in; those of a batch are claimed in it. A clause sees their numbers.
 #[derive(Debug, Drop)]
 pub struct Batch {
     hosts: Vec<HostId>,

@@ -22,8 +22,8 @@ use std::alloc::{AllocError, Global};
 use std::marker::Model;
 
 /// A roll of one play over a fleet, from its start on. Its log is legal, and no group is over its limit at any moment of it. The hosts
-/// that are down are those of the state after the log; the share of each that is at work rests here, or is in a `Claim` or `Done`
-/// that is out.
+/// that are down are those of the state after the log; the share of each host of the open batch rests here, or is in its `Claim` or
+/// `Done`; whoever drops one of these loses the share.
 #[derive(Drop)]
 pub struct Board<'f> {
     roster: Roster<'f>,

@@ -15,6 +15,7 @@ pub struct Claim {
 }
 
 impl Claim {
+    /// What is to be run, and on which host.
     pub fn job(&self) -> &Job
         ensures { result.now ≡ self.now.job }
     {
@@ -27,6 +28,6 @@ impl Claim {
 pub enum Claimed {
     /// A program is to run.
     Run(Claim),
-    /// None is: the step is skipped on the host, or has failed there. It may be reported.
+    /// None is: the step is skipped, a name has no value, or a word is too long. The step isn't passed until it is reported.
     Settled(Done),
 }

@@ -33,7 +33,7 @@ fn keep_down(roster: &mut Roster<'_>, host: HostId, status: Status)
     roster.keep_down(host);
 }
 
-/// Whoever is still running is updated, and up, or halted, and stays down. Any other stays down as it is. No share rests any more.
+/// Whoever is still running is updated, and up, or halted, and stays down. Any other stays down as it is. Its share rests no more.
 fn end_host(roster: &mut Roster<'_>, host: HostId, halt: Option<usize>)
     requires rests { seated_at roster.old.seated host.index ≡ true }
     requires was { is_down (status_at roster.old.statuses host.index) ≡ true }

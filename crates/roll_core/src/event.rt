@@ -6,7 +6,7 @@ use outcome_results::Outcome;
 /// One moment of a roll. Steps are counted from 0.
 #[derive(Debug, Drop)]
 pub enum Event {
-    /// These waiting hosts are set aside: a group without room holds each of them.
+    /// These waiting hosts are set aside: each is a member of a group without room.
     Hold(Batch),
     /// A batch begins: its hosts are down from now on.
     Open(Batch),

@@ -1,6 +1,6 @@
 //! A board that is driven in an order that is drawn, against a plain slow program that looks at each host by itself.
-use crate::setting::{board_again, set_up};
 use crate::rolled::{Table, finish, show_hosts};
+use crate::setting::{board_again, set_up};
 use group_tree::HostId;
 use made_plays::{
     Dice, End, Host, MadePlay, Track, draw_ends, draw_play, group, long_text, playbook,
@@ -16,7 +16,11 @@ const PLAYS: u32 = 900;
 
 const VALUES: [(&str, i64); 3] = [("a", 1), ("b", -1), ("c", 1)];
 
-const BATCH: [HostId; 3] = [HostId { index: 0 }, HostId { index: 1 }, HostId { index: 2 }];
+const BATCH: [HostId; 3] = [
+    HostId { index: 0 },
+    HostId { index: 1 },
+    HostId { index: 2 },
+];
 
 fn host_of(name: &'static str, value: i64) -> Host {
     Host {
@@ -39,7 +43,15 @@ fn track(
         first.push(*step)?;
     }
     let tasks = made.tasks;
-    slow_track(alloc, &MadePlay { steps: first, tasks }, host, ends)
+    slow_track(
+        alloc,
+        &MadePlay {
+            steps: first,
+            tasks,
+        },
+        host,
+        ends,
+    )
 }
 
 fn has_failed(track: &Track) -> bool {
@@ -189,7 +201,11 @@ fn a_board_that_is_driven_in_any_order_ends_as_its_hosts_do_by_themselves(
     for seed in 0..PLAYS {
         let mut dice = Dice { state: seed };
         let made = draw_play(alloc, &mut dice)?;
-        let percentage = if dice.one_in(2) { Some(dice.below(101)) } else { None };
+        let percentage = if dice.one_in(2) {
+            Some(dice.below(101))
+        } else {
+            None
+        };
         let settings = match percentage {
             Some(percentage) => format!(in alloc; "\"max_fail_percentage\":{percentage},")?,
             None => String::new(alloc),
@@ -205,7 +221,14 @@ fn a_board_that_is_driven_in_any_order_ends_as_its_hosts_do_by_themselves(
             halted = halted.saturating_add(1);
         }
         for forks in [1, 2, 5] {
-            let shown = driven(alloc, long.as_str(), text.as_str(), &mut dice, &table, forks)?;
+            let shown = driven(
+                alloc,
+                long.as_str(),
+                text.as_str(),
+                &mut dice,
+                &table,
+                forks,
+            )?;
             assert_eq!(rt; shown.as_str(), wanted.as_str(), "{text} {ends:?} {forks}");
         }
     }

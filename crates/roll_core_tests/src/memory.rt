@@ -1,15 +1,16 @@
 //! Want of memory changes nothing: this test holds whatever one request is refused.
 ghost use Rattle.std.specs.Prelude.{◌<◌, length};
 
-use crate::setting::{board_again, set_up};
 use crate::rolled::{end_of, move_on};
+use crate::setting::{board_again, set_up};
 use group_tree::{Group, GroupFault, HostId};
 use made_plays::{End, group};
 use roll_core::{Board, Claim, Claimed, Done, OpenFault, Outcome, Stage, Status};
 use std::alloc::{AllocError, Global};
 use std::test::Fail;
 
-const PLAY: &str = r#"[{"hosts":"all","tasks":[{"command":"one {{ v }}","register":"r","notify":"h"},
+const PLAY: &str =
+    r#"[{"hosts":"all","tasks":[{"command":"one {{ v }}","register":"r","notify":"h"},
     {"command":"two","when":"r.rc == 3"}],"handlers":[{"name":"h","command":"three {{ r.stdout }}"}]}]"#;
 
 fn group_again(alloc: Global) -> Result<Group<Global>, GroupFault> {
@@ -32,7 +33,9 @@ fn open_again(board: &mut Board<'_>, alloc: Global, hosts: &[HostId]) -> Result<
 fn claim_again(board: &mut Board<'_>, alloc: Global) -> Result<Option<Claimed>, AllocError> {
     let before = (board.log().len(), board.out(), board.due());
     match board.claim(alloc) {
-        Err(AllocError) if before == (board.log().len(), board.out(), board.due()) => board.claim(alloc),
+        Err(AllocError) if before == (board.log().len(), board.out(), board.due()) => board.claim(
+            alloc,
+        ),
         answer => answer,
     }
 }
@@ -67,7 +70,11 @@ fn step_on(alloc: Global, board: &mut Board<'_>) -> Result<bool, Fail> {
         None => return Ok(false),
         Some(Claimed::Settled(done)) => done,
         Some(Claimed::Run(claim)) => {
-            let end = end_of(&[(1, &[End::Ran(0), End::Ran(7)])], claim.job().host.index, claim.job().step);
+            let end = end_of(
+                &[(1, &[End::Ran(0), End::Ran(7)])],
+                claim.job().host.index,
+                claim.job().step,
+            );
             done_again(alloc, claim, end)?
         }
     };
@@ -82,7 +89,14 @@ fn a_batch_comes_to_its_end_whatever_is_refused(rt: HostRuntime) -> Result<(), F
     let alloc = rt.alloc();
     let setting = set_up(alloc, group_again(alloc)?, PLAY)?;
     let mut board = board_again(alloc, &setting, 2)?;
-    assert_eq!(rt; open_again(&mut board, alloc, &[HostId { index: 0 }, HostId { index: 1 }]), Ok(()));
+    assert_eq!(rt;
+        open_again(
+            &mut board,
+            alloc,
+            &[HostId { index: 0 }, HostId { index: 1 }]
+        ),
+        Ok(())
+    );
     for _turn in 0..100u32 {
         if board.stage() == Stage::Between {
             break;
@@ -94,7 +108,10 @@ fn a_batch_comes_to_its_end_whatever_is_refused(rt: HostRuntime) -> Result<(), F
     for index in 0..2usize {
         let host = HostId { index };
         let counts = board.counts(host);
-        assert_eq!(rt; (counts.ok, counts.changed, counts.failed, counts.skipped), (2, 2, 0, 1));
+        assert_eq!(rt;
+            (counts.ok, counts.changed, counts.failed, counts.skipped),
+            (2, 2, 0, 1)
+        );
         assert_eq!(rt; board.status(host), Status::Updated);
     }
     Ok(())

@@ -1,6 +1,6 @@
 //! Which batches are opened, and which hosts are set aside.
-use crate::setting::{board_again, set_up};
 use crate::rolled::{roll, show_hosts};
+use crate::setting::{board_again, set_up};
 use group_tree::{Group, GroupFault, GroupId, HostId};
 use made_plays::End;
 use roll_core::{Busy, HoldFault, OpenFault};
@@ -8,7 +8,7 @@ use sample_fleets::{group, with};
 use std::alloc::{Allocator, Global};
 use std::test::Fail;
 
-pub const ONE_STEP: &str = r#"[{"hosts":"all","tasks":[{"command":"x"}]}]"#;
+const ONE_STEP: &str = r#"[{"hosts":"all","tasks":[{"command":"x"}]}]"#;
 
 /// A region of two racks: of its five hosts three may be down, of the first rack's three one, of the other's two both.
 fn region<A: Allocator + Clone>(alloc: A) -> Result<Group<A>, GroupFault> {

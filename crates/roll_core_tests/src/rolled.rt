@@ -1,6 +1,6 @@
 //! A batch that is rolled in order, and its log as a text.
-use made_plays::{End, show_counts};
 use group_tree::HostId;
+use made_plays::{End, show_counts};
 use roll_core::{Batch, Board, Claimed, Done, Event, Outcome, Stage, Status};
 use std::alloc::Global;
 use std::fmt::Write;
@@ -34,7 +34,9 @@ pub fn finish(alloc: Global, claimed: Claimed, table: Table<'_>) -> Result<Done,
             let job = claim.job();
             let end = end_of(table, job.host.index, job.step);
             match outcome_of(alloc, end)? {
-                Outcome::Skipped | Outcome::Undefined { .. } => Err(Fail::new("no program ends so")),
+                Outcome::Skipped | Outcome::Undefined { .. } => Err(Fail::new(
+                    "no program ends so",
+                )),
                 outcome => match Done::new(alloc, claim, outcome) {
                     Ok(done) => Ok(done),
                     Err(_refused) => Err(Fail::new("no memory")),

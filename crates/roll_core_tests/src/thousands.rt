@@ -1,13 +1,14 @@
 //! A batch of thousands of hosts, where there is memory.
-use crate::setting::{board_again, set_up};
-use crate::opened::ONE_STEP;
 use crate::rolled::roll;
+use crate::setting::{board_again, set_up};
 use group_tree::{Group, HostId, Limit};
 use roll_core::Stage;
 use std::alloc::{Allocator, Global};
 use std::test::Fail;
 
 const HOSTS: usize = 4096;
+
+const TWO_STEPS: &str = r#"[{"hosts":"all","tasks":[{"command":"x"},{"command":"y"}]}]"#;
 
 /// All hosts in one group, which has room for them.
 fn one_group<A: Allocator + Clone>(alloc: A) -> Result<Group<A>, Fail> {
@@ -22,7 +23,7 @@ fn one_group<A: Allocator + Clone>(alloc: A) -> Result<Group<A>, Fail> {
 #[test]
 fn thousands_of_hosts_are_claimed_and_reported(rt: HostRuntime) -> Result<(), Fail> {
     let alloc: Global = rt.alloc();
-    let setting = set_up(alloc, one_group(alloc)?, ONE_STEP)?;
+    let setting = set_up(alloc, one_group(alloc)?, TWO_STEPS)?;
     let mut board = board_again(alloc, &setting, 64)?;
     let mut hosts = Vec::new(alloc);
     for index in 0..HOSTS {
@@ -34,6 +35,6 @@ fn thousands_of_hosts_are_claimed_and_reported(rt: HostRuntime) -> Result<(), Fa
     assert_eq!(rt; board.due(), HOSTS);
     roll(alloc, &mut board, &[])?;
     assert!(rt; board.stage() == Stage::Between);
-    assert_eq!(rt; board.log().len(), 2 * HOSTS + 3);
+    assert_eq!(rt; board.log().len(), 4 * HOSTS + 4);
     Ok(())
 }

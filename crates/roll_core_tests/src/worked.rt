@@ -1,6 +1,6 @@
 //! Worked plays in full: the log, and each host with its counts and its status.
-use crate::setting::{board_again, set_up};
 use crate::rolled::{Table, roll, show_hosts, show_log};
+use crate::setting::{board_again, set_up};
 use group_tree::HostId;
 use made_plays::{End, group};
 use std::alloc::Global;
@@ -19,7 +19,8 @@ const TWO_FAIL: Table<'static> = &[(0, &[End::Ran(1)]), (1, &[End::Ran(1)])];
 
 const FOUR: &[(&str, i64)] = &[("a", -1), ("b", -1), ("c", -1), ("d", -1)];
 
-const FIRST_STEP: &str = "open a b c d / claim a 0 / claim b 0 / report a 0 rc=1 / report b 0 rc=1 / \
+const FIRST_STEP: &str =
+    "open a b c d / claim a 0 / claim b 0 / report a 0 rc=1 / report b 0 rc=1 / \
     claim c 0 / claim d 0 / report c 0 rc=0 / report d 0 rc=0 / barrier 0 / ";
 
 /// As many failures as the percentage allows don't halt a batch; more do. Handlers run in the order in which they are written, and not

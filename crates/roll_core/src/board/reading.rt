@@ -1,5 +1,5 @@
 //! What others see of a board.
-ghost use Rattle.std.specs.Prelude.{◌≡◌, ◌<◌, ◌^◌, count_by, length};
+ghost use Rattle.std.specs.Prelude.{◌≡◌, ◌<◌, ◌≤◌, ◌^◌, [], count_by, length};
 ghost use Rattle.fleet_states.specs.Statuses.{status_at};
 ghost use Rattle.down_ledger.specs.Ledgers.{down_in, ledger_of};
 ghost use Rattle.host_track.specs.Tracks.{counts_in};
@@ -73,7 +73,7 @@ impl<'f> Board<'f> {
         self.roster.down(group)
     }
 
-    /// How far the roll is: between two batches, at a step of the open one, or at its end.
+    /// How far the roll is: no batch is open, or the open one is at a step, or at its end.
     pub fn stage(&self) -> Stage
         ensures { phase_of result ≡ (state_of self.now).phase }
     {
@@ -82,8 +82,9 @@ impl<'f> Board<'f> {
 
     /// How the rows of a host are judged until now; no row of a number that no host has.
     pub fn counts(&self, host: HostId) -> Counts
-        ensures { host.index < length self.now.start → length ((state_of self.now).rows host.index) < 2 ^ 32
+        ensures value { host.index < length self.now.start → length ((state_of self.now).rows host.index) < 2 ^ 32
             → result ≡ counts_in ((state_of self.now).rows host.index) }
+        ensures none { length self.now.start ≤ host.index → result ≡ counts_in [] }
     {
         match self.work.summary(host) {
             Some(summary) => summary.counts(),

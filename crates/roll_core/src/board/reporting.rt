@@ -43,7 +43,7 @@ impl<'f> Board<'f> {
     }
 }
 
-/// Whether the claim is out of which this is how it ended.
+/// Whether the board waits for just this.
 fn is_out_for(work: &BatchWork<'_>, done: &Done) -> bool
     ensures { (roll : Roll) (state : State) → IsWorkOf roll state work.now → Decides result (IsOut roll state done.now) }
 {

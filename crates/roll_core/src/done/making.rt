@@ -35,6 +35,7 @@ impl Done {
         })
     }
 
+    /// The host of the claim.
     pub fn host(&self) -> HostId
         ensures { result ≡ self.now.share.host }
     {

@@ -1,4 +1,4 @@
-use Rattle.std.proofs.Common.{◌≡◌, ℕ, Bool, true, false, if◌then◌else◌, List, sym, ap, ◌∙◌, subst, refl, arith}
+use Rattle.std.proofs.Common.{◌≡◌, ℕ, Bool, true, false, if◌then◌else◌, List, sym, ap, ◌∙◌, subst, refl, arith, Option}
 use Rattle.std.proofs.lemmas.List.{length-map}
 use Rattle.fleet_numbers.specs.NumberLists.{has_number}
 use Rattle.domains.specs.Ids.{host_numbers}
@@ -7,8 +7,10 @@ use Rattle.fleet_states.specs.declared.status.Status.TheVariants.{Running, Faile
 use Rattle.fleet_states.specs.Statuses.{is_down, status_at}
 use Rattle.host_track.specs.Tracks.{has_failed}
 use Rattle.roster.specs.Rosters.{HasChanged}
+use Rattle.roll_logs.specs.Columns.{Columns, EndsByColumns, Tells}
 use Rattle.roll_logs.specs.Events.{closed}
-use Rattle.roll_logs.specs.States.{at_rest}
+use Rattle.roll_logs.specs.States.{at_rest, ended}
+use Rattle.roll_logs.proofs.ColumnFronts.{ends_by_columns}
 use Rattle.batch_work.specs.declared.stage.Stage.TheVariants.{Ended}
 use Rattle.roll_core.specs.declared.event.Event.TheVariants.{Close}
 use Rattle.roll_core.specs.Views.{BoardView, event_of, roll_of, state_of, view_of}
@@ -47,3 +49,8 @@ invariant_of-self c =
     kept_grown old c.finish.new.roster c.self.inside.play.now c.self.inside.forks c.self.inside.start.now c.self.inside.vars.now log c.keep.new.log.items Close closed work c.end.new.self _ _ kept refl c.finish.ensures.fleet c.keep.ensures.items (record { halt = halt; at = at })
     (held_closed (roll_of board) (state_of board) old work kept.held halt c.finish.new.roster c.end.new.self at changes over)
     (omega (arith, owes, kept.places, length-map log event_of, c.keep.ensures.capacity))
+
+pub returns-clause-tracks : goal.returns-clause-tracks
+returns-clause-tracks c =
+    let board : BoardView = view_of c.self.inside.roster c.self.inside.play.now c.self.inside.forks c.self.inside.start.now c.self.inside.vars.now c.self.inside.log.items in
+    subst (λ (v : BoardView). (columns : Columns) (halt : Option ℕ) → Tells columns v.log → (state_of v).phase ≡ ended halt → EndsByColumns (roll_of v) columns (state_of v) halt) c.self.view_is (λ columns halt tells at. ends_by_columns (roll_of board) board.log columns halt c.self.invariant.legal tells at)

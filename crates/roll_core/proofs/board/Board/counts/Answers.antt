@@ -1,11 +1,17 @@
-use Rattle.std.proofs.Common.{◌≡◌, ◌<◌, length, ◌∙◌, subst}
+use Rattle.std.proofs.Common.{◌≡◌, ◌<◌, length, ap, ◌∙◌, subst, arith}
+use Rattle.std.proofs.lemmas.Option.{slice_get_within}
 use Rattle.host_track.specs.Tracks.{counts_in}
 use Rattle.roll_core.specs.Views.{BoardView, state_of}
 use Rattle.roll_core.proofs.board.Board.counts.Goals as goal
 
-pub returns-in-Some : goal.returns-in-Some
-returns-in-Some c =
+pub returns-in-Some-clause-value : goal.returns-in-Some-clause-value
+returns-in-Some-clause-value c =
     let host = c.args.host.index in
     let shows = c.self.invariant.held.works.summaries host c.in-Some.summary.now c.in-Some.ensures in
     λ within.
     subst (λ (v : BoardView). length ((state_of v).rows host) < 4294967296 → c.counts.result ≡ counts_in ((state_of v).rows host)) c.self.view_is (λ few. c.counts.ensures ∙ shows.counts few)
+
+pub returns-in-Some-clause-none : goal.returns-in-Some-clause-none
+returns-in-Some-clause-none c =
+    let inside = slice_get_within c.self.inside.work.summaries.items c.args.host.index c.in-Some.summary.now c.in-Some.ensures in
+    λ past. absurd (omega (arith, inside, past, c.self.invariant.held.works.hosts, ap (λ (v : BoardView). length v.start) c.self.view_is))
