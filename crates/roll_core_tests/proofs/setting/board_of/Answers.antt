@@ -1,4 +1,4 @@
-use Rattle.std.proofs.Common.{List, length, sym, refl, subst}
+use Rattle.std.proofs.Common.{List, length, sym, ◌∙◌, refl, subst}
 use Rattle.fleet_states.specs.declared.status.Status.{Status}
 use Rattle.fleet_states.specs.declared.status.Status.TheVariants.{Waiting}
 use Rattle.fleet_states.specs.Groups.{IsSafe, groups_of}
@@ -9,4 +9,4 @@ pub new-requires-clause-safe : goal.new-requires-clause-safe
 new-requires-clause-safe c =
     let setting = c.args.setting.now in
     let groups = groups_of setting.fleet in
-    subst (λ (l : List Status). IsSafe groups l) (sym setting.wait) (safe_replicate groups (length setting.fleet.hosts) Waiting refl)
+    subst (λ (l : List Status). IsSafe groups l) (sym (c.as_slice.ensures.value ∙ setting.wait)) (safe_replicate groups (length setting.fleet.hosts) Waiting refl)
