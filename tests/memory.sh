@@ -143,7 +143,6 @@ while read -r crate name; do
     echo "$crate $name: $((number - 1)) allocations refused in turn"
 done <<'TESTS'
 domains_tests memory::a_call_that_was_refused_memory_answers_again
-down_ledger tests::memory::a_call_that_was_refused_memory_answers_again
 roll_core_tests memory::a_batch_comes_to_its_end_whatever_is_refused
 cond_tests memory::a_condition_is_read_or_memory_is_wanting
 domain_counts_tests memory::a_call_that_was_refused_memory_answers_again

@@ -18,7 +18,6 @@ use Rattle.roll_logs.specs.Events.{passed}
 use Rattle.roll_logs.specs.States.{State, between, working, ended, failures, has_row, is_awaited, is_dead, is_last, phase_after}
 use Rattle.roll_logs.specs.Logs.{MayPass, next}
 use Rattle.roll_logs.proofs.OutLemmas.{any_none}
-use Rattle.roll_logs.proofs.WorkLemmas.{step_of}
 use Rattle.batch_work.specs.declared.stage.Stage.{Stage}
 use Rattle.batch_work.specs.declared.stage.Stage.TheVariants.{Between, Working, Ended}
 use Rattle.batch_work.specs.declared.turn.Turn.{Turn}
@@ -210,17 +209,6 @@ module _ (roll : Roll) (state : State) (old new : BatchWork) (step : ℕ) (work 
           free = lined_free roll now later old.turns.items new.turns.items (rest_of new) were goes_on nobody fresh lined;
           count = stays.out ∙ work.count;
         }
-
--- the step that a batch goes on with
-pub later_is : (play : Play) (state : State) (step later : ℕ) → phase_after play state step ≡ working later → later ≡ suc step
-later_is play state step later at =
-    by_case (is_past play.max_fail (failures state) (length state.batch)) (is_last play step) (is_dead state) at
-  where
-    by_case : (past last dead : Bool) → (if past then ended (Some step) else (if last then ended None else (if dead then ended None else working (suc step)))) ≡ working later → later ≡ suc step
-    by_case true last dead at = absurd (cc)
-    by_case false true dead at = absurd (cc)
-    by_case false false true at = absurd (cc)
-    by_case false false false at = sym (step_of (suc step) later at)
 
 -- the halt of one that goes on with none
 pub ends_with : (play : Play) (state : State) (step : ℕ) (stage : Stage) → phase_of stage ≡ phase_after play state step → ((later : ℕ) → stage ≡ Working later → ⊥) → (halt : Option ℕ) × (phase_after play state step ≡ ended halt)

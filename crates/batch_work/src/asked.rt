@@ -1,10 +1,8 @@
 //! What a step asks of a host, twice.
 ghost use Rattle.std.specs.Prelude.{◌≡◌, IfOk, map, string_bytes};
-ghost use Rattle.outcome_results.specs.Endings.{ending_of};
 ghost use Rattle.host_jobs.specs.Asking.{asked_as};
 
 use host_jobs::Asked;
-use outcome_results::Outcome;
 use std::alloc::{AllocError, Global};
 
 /// An equal one. It fails for want of memory alone.
@@ -15,7 +13,7 @@ pub(crate) fn copy_of(alloc: Global, asked: &Asked) -> Result<Asked, AllocError>
         Asked::Job { words } => Ok(Asked::Job {
             words: words_again(alloc, words.as_slice())?,
         }),
-        Asked::Settled(outcome) => Ok(Asked::Settled(outcome_again(alloc, outcome)?)),
+        Asked::Settled(outcome) => Ok(Asked::Settled(outcome.copy(alloc)?)),
     }
 }
 
@@ -27,22 +25,4 @@ fn words_again(alloc: Global, words: &[String]) -> Result<Vec<String>, AllocErro
         copy.push(String::from_str(alloc, word.as_str())?)?;
     }
     Ok(copy)
-}
-
-fn outcome_again(alloc: Global, outcome: &Outcome) -> Result<Outcome, AllocError>
-    ensures { IfOk result (λ copy. ending_of copy ≡ ending_of outcome.now) }
-{
-    match outcome {
-        Outcome::Ran { rc, stdout, stderr } => Ok(Outcome::Ran {
-            rc: *rc,
-            stdout: String::from_str(alloc, stdout.as_str())?,
-            stderr: String::from_str(alloc, stderr.as_str())?,
-        }),
-        Outcome::NotStarted => Ok(Outcome::NotStarted),
-        Outcome::Lost => Ok(Outcome::Lost),
-        Outcome::Skipped => Ok(Outcome::Skipped),
-        Outcome::Undefined { name } => Ok(Outcome::Undefined {
-            name: String::from_str(alloc, name.as_str())?,
-        }),
-    }
 }

@@ -4,6 +4,7 @@
 mod asked;
 mod given;
 mod line;
+mod room;
 mod stage;
 mod taken;
 mod turn;

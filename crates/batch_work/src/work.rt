@@ -1,5 +1,5 @@
 //! What a roll keeps of its hosts and of the open batch.
-ghost use Rattle.std.specs.Prelude.{◌≡◌, true, length};
+ghost use Rattle.std.specs.Prelude.{◌≡◌, ◌≤◌, true, length, vec_capacity};
 ghost use Rattle.fleet_numbers.specs.NumberLists.{are_below};
 ghost use Rattle.domains.specs.Ids.{host_numbers};
 ghost use Rattle.batch_work.specs.Turns.{is_within};
@@ -8,10 +8,12 @@ mod beginning;
 mod claiming;
 mod closing;
 mod entering;
+mod finishing;
 mod passing;
 mod reading;
 mod starting;
 
+use crate::room::Room;
 use crate::stage::Stage;
 use crate::turn::Turn;
 use group_tree::HostId;
@@ -31,9 +33,12 @@ pub struct BatchWork<'p> {
     next: usize,
     /// How many hosts are taken and have not reported.
     out: usize,
+    room: Room,
     ghost all: { length turns.items ≡ length summaries.items },
     ghost places: { length line.items ≡ length batch.items },
     ghost within: { are_below (length summaries.items) (host_numbers batch.items) ≡ true },
     ghost queued: { are_below (length summaries.items) (host_numbers line.items) ≡ true },
+    ghost vars_fit: { length summaries.items ≤ vec_capacity room.vars },
+    ghost counts_fit: { length summaries.items ≤ vec_capacity room.counts },
     ghost step: { is_within (length play.now.steps.items) stage ≡ true },
 }

@@ -8,6 +8,3 @@ mod share;
 
 pub use ledger::DownLedger;
 pub use share::{Full, Share};
-
-#[cfg(test)]
-mod tests;

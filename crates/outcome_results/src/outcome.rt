@@ -27,6 +27,25 @@ pub enum Outcome {
 }
 
 impl Outcome {
+    /// An equal one. It fails for want of memory alone.
+    pub fn copy(&self, alloc: Global) -> Result<Outcome, AllocError>
+        ensures { IfOk result (λ copy. ending_of copy ≡ ending_of self.now) }
+    {
+        match self {
+            Outcome::Ran { rc, stdout, stderr } => Ok(Outcome::Ran {
+                rc: *rc,
+                stdout: String::from_str(alloc, stdout.as_str())?,
+                stderr: String::from_str(alloc, stderr.as_str())?,
+            }),
+            Outcome::NotStarted => Ok(Outcome::NotStarted),
+            Outcome::Lost => Ok(Outcome::Lost),
+            Outcome::Skipped => Ok(Outcome::Skipped),
+            Outcome::Undefined { name } => Ok(Outcome::Undefined {
+                name: String::from_str(alloc, name.as_str())?,
+            }),
+        }
+    }
+
     /// A copy of what the outcome says, before any condition of the step changes it.
     pub fn row(&self, alloc: Global) -> Result<Registered, AllocError>
         ensures { IfOk result (λ row. row_of row ≡ table_row (ending_of self.now)) }

@@ -1,9 +1,2 @@
-mod FewLemmas
-mod LogLemmas
-mod PlaceLemmas
-mod HeldLemmas
-mod ReportLemmas
-mod StepLemmas
-mod KeptLemmas
-mod WayLemmas
-mod ClosingLemmas
+mod GrowLemmas
+mod GivingLemmas

@@ -1,56 +1,19 @@
--- What only the proofs need: what the board keeps between its calls.
-use Rattle.std.specs.Prelude.{◌≡◌, ℕ, suc, ◌+◌, ◌-◌, ◌<◌, ◌≤◌, Bool, ◌&&◌, not, length}
-use Rattle.fleet_numbers.specs.NumberLists.{has_number}
-use Rattle.fleet_states.specs.Statuses.{NobodyRuns}
-use Rattle.fleet_states.specs.Groups.{IsSafe, groups_of}
-use Rattle.roster.specs.Rosters.{RosterView, seated_at}
-use Rattle.roll_logs.specs.Rolls.{Roll}
-use Rattle.roll_logs.specs.States.{Phase, State, between, working, ended, start_state}
-use Rattle.roll_logs.specs.Logs.{IsLegal}
-use Rattle.host_jobs.specs.Asking.{asked_as}
-use Rattle.host_jobs.specs.declared.asked.Asked.{Asked}
-use Rattle.batch_work.specs.declared.turn.Turn.TheVariants.{Out}
-use Rattle.batch_work.specs.declared.work.BatchWork.{BatchWork}
-use Rattle.batch_work.specs.Turns.{turn_at}
-use Rattle.batch_work.specs.Works.{IsWorkOf}
-use Rattle.roll_core.specs.declared.done.Done.{Done}
-use Rattle.roll_core.specs.Ways.{request_of}
-use Rattle.roll_core.specs.Views.{BoardView, roll_of, state_of}
+-- What only the proofs need: what a board keeps between its calls.
+use Rattle.std.specs.Prelude.{◌≡◌, ℕ, ◌+◌, ◌<◌}
+use Rattle.outcome_results.specs.Endings.{Ending}
+use Rattle.roll_logs.specs.States.{start_state}
+use Rattle.roll_kernel.specs.Views.{KernelView, roll_of}
+use Rattle.roll_core.specs.Boards.{reports_in}
+use Rattle.roll_core.specs.Runners.{AreTold, Work}
 
--- whose share rests: those hosts of the open batch whose claim is not out
-abbrev pub rests : State → ℕ → Bool
-rests state host = has_number host state.batch && not (has_number host state.out)
-
--- how many events are still to come but for claims and their reports: the barriers and the closing of an open batch
-abbrev pub events_left : ℕ → Phase → ℕ
-events_left steps between = 0
-events_left steps (working step) = suc (steps - step)
-events_left steps (ended halt) = 1
-
--- and those with a report for each claim that is out
-abbrev pub owed_by : Roll → State → ℕ
-owed_by roll state = events_left (length roll.play.steps.items) state.phase + length state.out
-
--- the hosts and the work on them are those of this state
-pub record IsHeld (roll : Roll) (state : State) (roster : RosterView) (work : BatchWork) : Type 0 where
-  pub statuses : roster.statuses ≡ state.statuses
-  pub seats : length roster.seated ≡ length roster.statuses
-  pub shares : (host : ℕ) → seated_at roster.seated host ≡ rests state host
-  pub works : IsWorkOf roll state work
-
--- a legal log from a safe start at rest has led here, and has places for the events to come
-pub record IsKept (board : BoardView) (roster : RosterView) (work : BatchWork) (capacity : ℕ) : Type 0 where
-  pub all : length board.start ≡ length board.fleet.hosts
-  pub safe : IsSafe (groups_of board.fleet) board.start
-  pub rests : NobodyRuns board.start
-  pub some : 0 < board.forks
-  pub few : length board.fleet.hosts ≤ 4096
-  pub legal : IsLegal (roll_of board) (start_state (roll_of board)) board.log
-  pub held : IsHeld (roll_of board) (state_of board) roster work
-  pub places : length board.log + owed_by (roll_of board) (state_of board) ≤ capacity
-
--- the host is out, and was asked for what ended in this way
-pub record IsGivenOut (work : BatchWork) (done : Done) : Type 0 where
-  pub asked : Asked
-  pub turn : turn_at work.turns.items done.share.host.index ≡ Out asked
-  pub same : asked_as asked ≡ request_of done.way
+-- the log tells what the runner may tell; the ledger has counted its reports, and is cut into 129 parts: one a tally that is out, the others
+-- here, with what the tallies that came back had counted; a log has fewer than 2^63 events
+pub record IsKept (may : Work → Ending → Type 0) (kernel : KernelView) (tallies total parts rest_parts rest_amount joined : ℕ) : Type 0 where
+  pub told : AreTold may (roll_of kernel) (start_state (roll_of kernel)) kernel.log
+  pub counted : total ≡ reports_in kernel.log
+  pub cut : parts ≡ 129
+  pub out : tallies + rest_parts ≡ 129
+  pub some : 0 < rest_parts
+  pub held : rest_amount ≡ joined
+  pub few : reports_in kernel.log < 9223372036854775808
+  pub all : tallies ≡ 0 → joined ≡ reports_in kernel.log

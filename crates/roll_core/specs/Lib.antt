@@ -1,7 +1,7 @@
-pub mod Ways
-pub mod Views
-pub mod Claims
-pub mod Barriers
-pub mod Refusals
-pub mod HoldRefusals
+pub mod Runners
+pub mod Boards
+pub mod Dones
+pub mod Leaves
+pub mod Givings
+pub mod Reports
 pub mod Inside

@@ -1,100 +1,95 @@
-//! The log of a roll, and the state after it.
-ghost use Rattle.std.specs.Prelude.{◌≡◌, ◌<◌, ◌≤◌, ◌++◌, ◌∷◌, [], IfOk, length, vec_capacity, vec_len};
-ghost use Rattle.fleet_states.specs.Statuses.{NobodyRuns};
+//! The board of a roll.
+ghost use Rattle.std.specs.Prelude.{◌≡◌, ◌<◌, [], IfOk, length};
 ghost use Rattle.fleet_states.specs.Groups.{IsSafe, groups_of};
+ghost use Rattle.fleet_states.specs.Statuses.{NobodyRuns};
 
-mod barrier;
-mod claiming;
 mod closing;
-mod holding;
+mod finishing;
+mod giving;
 mod opening;
 mod reading;
 mod reporting;
+mod tallying;
 
-use crate::event::Event;
-use batch_work::BatchWork;
+use crate::runner::Runner;
 use domains::Fleet;
 use fleet_states::Status;
 use host_vars::Vars;
 use play_model::Play;
-use roster::Roster;
+use roll_kernel::Kernel;
 use std::alloc::{AllocError, Global};
 use std::marker::Model;
+use std::sync::ledger::{Blank, Book, Ledger, Share};
 
-/// A roll of one play over a fleet, from its start on. Its log is legal, and no group is over its limit at any moment of it. The hosts
-/// that are down are those of the state after the log; the share of each host of the open batch rests here, or is in its `Claim` or
-/// `Done`; whoever drops one of these loses the share.
+/// A roll of one play over a fleet, whose programs one runner runs. Its log is legal, at no moment of it is a group over its limit, and
+/// what it tells of a program is what the runner may tell of it. Up to 128 workers count the reports that they make, each in its tally;
+/// `L` names the ledger that ties these to the board.
 #[derive(Drop)]
-pub struct Board<'f> {
-    roster: Roster<'f>,
-    work: BatchWork<'f>,
-    play: &'f Play,
-    forks: usize,
-    start: &'f [Status],
-    vars: &'f [Vars],
-    /// There is room for a report of each claim that is out, and for the barriers and the closing of an open batch.
-    log: Vec<Event>,
+pub struct Board<'f, R: Runner, L: Ledger> {
+    kernel: Kernel<'f>,
+    runner: &'f R,
+    reports: Book<L>,
+    /// What is in no tally.
+    rest: Share<L>,
+    tallies: usize,
+    joined: usize,
 }
 
-impl<'f> Model for Board<'f> {
-    ghost use Rattle.std.specs.Prelude.{vec_capacity};
+impl<'f, R: Runner, L: Ledger> Model for Board<'f, R, L> {
     ghost use Rattle.std.specs.Coded.{codes};
     ghost use Rattle.host_vars.specs.contracts.vars.Vars as variables;
     ghost use Rattle.play_model.specs.contracts.play.Play as plays;
-    ghost use Rattle.roll_core.specs.Views.{BoardView, view_of};
+    ghost use Rattle.roll_core.specs.Boards.{BoardView};
     ghost use Rattle.roll_core.specs.Inside.{IsKept};
 
-    ghost Value = { BoardView };
+    ghost Value = { BoardView R };
 
-    ghost coded = { Prim.hlevel (codes, plays.the_row.coded, variables.the_row.coded) };
+    ghost coded = { Prim.hlevel (codes, plays.the_row.coded, variables.the_row.coded, R.code) };
 
-    ghost view = { λ b. view_of b.roster b.play.now b.forks b.start.now b.vars.now b.log.items };
+    ghost view = { λ b. record { kernel = b.kernel; runner = b.runner.now; tallies = b.tallies; joined = b.joined } };
 
-    ghost invariant = { λ b. IsKept (view_of b.roster b.play.now b.forks b.start.now b.vars.now b.log.items) b.roster b.work (vec_capacity b.log) };
+    ghost invariant = { λ b. IsKept (R.may b.runner.now) b.kernel b.tallies b.reports.total L.parts b.rest.parts b.rest.amount b.joined };
 }
 
-impl<'f> Board<'f> {
-    /// A roll at its first boundary: each host begins with its status and its variables. At most `forks` claims are out at once.
+impl<'f, R: Runner, L: Ledger> Board<'f, R, L> {
+    /// A roll at its first boundary: each host begins with its status and its variables. At most `forks` claims are out at once. `blank`
+    /// is of 129 parts: one for each tally that may be out, and one for the board.
+    #[allow(clippy::too_many_arguments)]
     pub fn new(
         alloc: Global,
         fleet: &'f Fleet,
         play: &'f Play,
+        runner: &'f R,
         forks: usize,
         start: &'f [Status],
         vars: &'f [Vars],
-    ) -> Result<Board<'f>, AllocError>
+        blank: Blank,
+    ) -> Result<Board<'f, R, L>, AllocError>
         requires all { length start.now ≡ length fleet.now.hosts }
         requires each { length vars.now ≡ length fleet.now.hosts }
         requires at_rest { NobodyRuns start.now }
         requires safe { IsSafe (groups_of fleet.now) start.now }
         requires some { 0 < forks }
+        requires name { blank.name ≡ L.name }
+        requires parts { blank.parts ≡ L.parts }
+        requires many { blank.parts ≡ 129 }
         ensures { IfOk result (λ board. board
-            ≡ record { fleet = fleet.now; play = play.now; forks = forks; start = start.now; vars = vars.now; log = [] }) }
+            ≡ record {
+              kernel = record { fleet = fleet.now; play = play.now; forks = forks; start = start.now; vars = vars.now; log = [] };
+              runner = runner.now;
+              tallies = 0;
+              joined = 0;
+            }) }
     {
-        let statuses = Vec::from_slice(alloc, start)?;
-        let roster = Roster::new(alloc, fleet, statuses)?;
-        let work = BatchWork::new(alloc, play, vars)?;
-        let log = Vec::new(alloc);
+        let kernel = Kernel::new(alloc, fleet, play, forks, start, vars)?;
+        let (reports, rest) = blank.open::<L>();
         Ok(Board {
-            roster,
-            work,
-            play,
-            forks,
-            start,
-            vars,
-            log,
+            kernel,
+            runner,
+            reports,
+            rest,
+            tallies: 0,
+            joined: 0,
         })
-    }
-}
-
-/// Puts an event at the end, where there is room.
-fn keep(log: &mut Vec<Event>, event: Event)
-    requires { vec_len log.old < vec_capacity log.old }
-    ensures items { log.new.items ≡ log.old.items ++ event ∷ [] }
-    ensures capacity { vec_capacity log.old ≤ vec_capacity log.new }
-{
-    match log.push(event) {
-        Ok(()) => {}
-        Err(_refused) => {}
     }
 }

@@ -1,23 +1,68 @@
 //! A step that is over on a host.
-ghost use Rattle.std.specs.Prelude.{◌≡◌, true};
-ghost use Rattle.registered_results.specs.Results.{row_of};
-ghost use Rattle.outcome_results.specs.Endings.{ending_of, table_row};
-ghost use Rattle.roll_core.specs.Ways.{is_end, outcome_in};
+ghost use Rattle.std.specs.Prelude.{◌≡◌, IfErr, IfOk, true};
+ghost use Rattle.outcome_results.specs.Endings.{ending_of};
+ghost use Rattle.roll_logs.specs.Rolls.{is_of_program};
+ghost use Rattle.roll_core.specs.Dones.{IsDoneOf, MayComplete};
+ghost use Rattle.roll_core.specs.Runners.{work_of};
 
-mod making;
+use crate::runner::Runner;
+use group_tree::HostId;
+use outcome_results::Outcome;
+use roll_kernel::{Claim, Completion};
+use std::alloc::{AllocError, Global};
+use std::marker::Model;
 
-use crate::way::Way;
-use down_ledger::Share;
-use registered_results::Registered;
+/// How a step ended on the host of a claim, to be reported, and the runner that says so, which may say it. It can't be copied: no step is
+/// reported twice. Whoever drops it leaves its host down and its batch open.
+#[derive(Drop)]
+pub struct Done<'r, R: Runner> {
+    pub(crate) completion: Completion,
+    pub(crate) runner: &'r R,
+}
 
-/// How a step ended on the host of a claim, to be reported, with the row that this leaves, so that a report takes no memory. It can't
-/// be copied: no step is reported twice. Whoever drops it leaves its host down and its batch open.
-#[derive(Debug, Drop)]
-pub struct Done {
-    pub(crate) share: Share,
-    pub(crate) step: usize,
-    pub(crate) way: Way,
-    pub(crate) row: Registered,
-    ghost copy: { row_of row ≡ table_row (ending_of (outcome_in way)) },
-    ghost ends: { is_end way ≡ true },
+impl<'r, R: Runner> Model for Done<'r, R> {
+    ghost use Rattle.std.specs.Coded.{codes};
+    ghost use Rattle.roll_kernel.specs.contracts.completion.Completion as completions;
+    ghost use Rattle.roll_core.specs.Dones.{DoneView, MayComplete};
+
+    ghost Value = { DoneView R };
+
+    ghost coded = { Prim.hlevel (codes, completions.the_row.coded, R.code) };
+
+    ghost view = { λ d. record { completion = d.completion; runner = d.runner.now } };
+
+    ghost invariant = { λ d. MayComplete (R.may d.runner.now) d.completion };
+}
+
+impl<'r, R: Runner> Done<'r, R> {
+    /// The program of the claim ended so, as this runner may tell. Want of memory hands the claim back, and drops the outcome.
+    pub fn new(
+        alloc: Global,
+        runner: &'r R,
+        claim: Claim,
+        outcome: Outcome,
+    ) -> Result<Done<'r, R>, (Claim, AllocError)>
+        requires program { is_of_program (ending_of outcome) ≡ true }
+        requires allowed { R.may runner.now (work_of claim.job) (ending_of outcome) }
+        ensures ok { IfOk result (IsDoneOf runner.now claim outcome) }
+        ensures err { IfErr result (λ refused. refused.0 ≡ claim) }
+    {
+        let completion = Completion::new(alloc, claim, outcome)?;
+        Ok(Done { completion, runner })
+    }
+
+    /// What ended may have ended so, by this runner.
+    pub(crate) fn of(completion: Completion, runner: &'r R) -> Done<'r, R>
+        requires { MayComplete (R.may runner.now) completion }
+        ensures { result ≡ record { completion = completion; runner = runner.now } }
+    {
+        Done { completion, runner }
+    }
+
+    /// The host of the claim.
+    pub fn host(&self) -> HostId
+        ensures { result ≡ self.now.completion.share.host }
+    {
+        self.completion.host()
+    }
 }

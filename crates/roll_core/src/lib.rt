@@ -1,26 +1,23 @@
-//! The core of a roll: batches of hosts that go through the steps of a play, the log, and the limits that each moment of it keeps.
+//! The board of a roll: batches of hosts go through the steps of a play, programs are run by a runner, and at no moment is a group over
+//! its limit.
 #![tactic(auto)]
 
-mod batch;
 mod board;
-mod claim;
-mod closing;
+mod claimed;
 mod done;
-mod event;
 mod fault;
-mod job;
-mod next;
-mod trial;
-mod way;
+mod go;
+mod runner;
+mod tally;
 
-pub use batch::Batch;
-pub use batch_work::Stage;
 pub use board::Board;
-pub use claim::{Claim, Claimed};
+pub use claimed::Claimed;
 pub use done::Done;
-pub use event::Event;
-pub use fault::{Busy, HoldFault, OpenFault, Stranger};
-pub use fleet_states::Status;
-pub use job::Job;
-pub use next::Next;
-pub use outcome_results::{Counts, Outcome};
+pub use fault::Stranger;
+pub use go::Go;
+pub use roll_kernel::{
+    Batch, Busy, Claim, Counts, Event, Finished, HoldFault, Job, Next, OpenFault, Outcome, Stage,
+    Status,
+};
+pub use runner::Runner;
+pub use tally::Tally;

@@ -1,6 +1,8 @@
 //! A board that is driven in an order that is drawn, against a plain slow program that looks at each host by itself.
-use crate::rolled::{Table, finish, show_hosts};
-use crate::setting::{board_again, set_up};
+ghost use Rattle.std.specs.Prelude.{◌≡◌};
+
+use crate::rolled::{done_of, report, script_of, show_hosts};
+use crate::setting::{Setting, board_of, set_up};
 use group_tree::HostId;
 use made_plays::{
     Dice, End, Host, MadePlay, Track, draw_ends, draw_play, group, long_text, playbook,
@@ -8,9 +10,15 @@ use made_plays::{
 };
 use outcome_results::Judged;
 use roll_core::{Board, Done, Stage};
+use script_runner::Script;
 use std::alloc::{AllocError, Global};
 use std::fmt::Write;
+use std::marker::Brand;
+use std::process::{Processes, SystemProcess};
+use std::sync::Wait;
+use std::sync::ledger::{Blank, Ledger};
 use std::test::Fail;
+use std::thread::Threads;
 
 const PLAYS: u32 = 900;
 
@@ -111,7 +119,7 @@ fn wanted(
 }
 
 /// Passes a step or closes a batch that is over; a barrier is busy only where somebody is awaited.
-fn move_on(board: &mut Board<'_>) -> Result<(), Fail> {
+fn move_on<L: Ledger>(board: &mut Board<'_, Script, L>) -> Result<(), Fail> {
     match board.stage() {
         Stage::Between => Ok(()),
         Stage::Working(_) => match board.barrier() {
@@ -127,23 +135,25 @@ fn move_on(board: &mut Board<'_>) -> Result<(), Fail> {
 }
 
 /// Reports one of those that are out, whichever is drawn.
-fn report_one(board: &mut Board<'_>, dice: &mut Dice, out: &mut Vec<Done>) -> Result<(), Fail> {
+fn report_one<'s, L: Ledger>(
+    board: &mut Board<'s, Script, L>,
+    dice: &mut Dice,
+    out: &mut Vec<Done<'s, Script>>,
+) -> Result<(), Fail> {
     let place = dice.below(64) as usize;
     if place >= out.len() {
         return Ok(());
     }
-    match board.report(out.swap_remove(place)) {
-        Ok(()) => Ok(()),
-        Err(_stranger) => Err(Fail::new("a stranger")),
-    }
+    report(board, out.swap_remove(place))
 }
 
-fn drive(
+fn drive<'s, L: Ledger, H: Threads + Wait + Processes<Started = SystemProcess> + Sync>(
+    rt: &H,
     alloc: Global,
-    board: &mut Board<'_>,
+    board: &mut Board<'s, Script, L>,
     dice: &mut Dice,
-    table: Table<'_>,
 ) -> Result<(), Fail> {
+    let script = board.runner();
     let mut out = Vec::new(alloc);
     for _turn in 0..20000u32 {
         if board.stage() == Stage::Between {
@@ -152,7 +162,7 @@ fn drive(
         match dice.below(4) {
             0 => move_on(board)?,
             1 => match board.claim(alloc)? {
-                Some(claimed) => out.push(finish(alloc, claimed, table)?)?,
+                Some(claimed) => out.push(done_of(rt, alloc, script, claimed)?)?,
                 None => {}
             },
             _ => report_one(board, dice, &mut out)?,
@@ -174,20 +184,24 @@ fn draw_all_ends(
 }
 
 /// The hosts behind a batch that is driven at so many forks.
-fn driven(
+fn driven<L: Ledger, H: Threads + Wait + Processes<Started = SystemProcess> + Sync>(
+    rt: &H,
     alloc: Global,
-    long: &str,
-    text: &str,
+    setting: &Setting,
+    script: &Script,
     dice: &mut Dice,
-    table: Table<'_>,
     forks: usize,
-) -> Result<String, Fail> {
-    let setting = set_up(alloc, group(alloc, &VALUES, long)?, text)?;
-    let mut board = board_again(alloc, &setting, forks.max(1))?;
+    blank: Blank,
+) -> Result<String, Fail>
+    requires name { blank.name ≡ L.name }
+    requires parts { blank.parts ≡ L.parts }
+    requires many { blank.parts ≡ 129 }
+{
+    let mut board = board_of::<L>(alloc, setting, script, forks.max(1), blank)?;
     if board.open(alloc, &BATCH).is_err() {
         return Err(Fail::new("the batch was not opened"));
     }
-    drive(alloc, &mut board, dice, table)?;
+    drive(rt, alloc, &mut board, dice)?;
     show_hosts(alloc, &board)
 }
 
@@ -220,14 +234,17 @@ fn a_board_that_is_driven_in_any_order_ends_as_its_hosts_do_by_themselves(
         if wanted.contains("halted") {
             halted = halted.saturating_add(1);
         }
+        let setting = set_up(alloc, group(alloc, &VALUES, long.as_str())?, text.as_str())?;
+        let script = script_of(alloc, &table)?;
         for forks in [1, 2, 5] {
-            let shown = driven(
+            let shown = driven::<Brand, HostRuntime>(
+                &rt,
                 alloc,
-                long.as_str(),
-                text.as_str(),
+                &setting,
+                &script,
                 &mut dice,
-                &table,
                 forks,
+                Blank::new(129),
             )?;
             assert_eq!(rt; shown.as_str(), wanted.as_str(), "{text} {ends:?} {forks}");
         }

@@ -1,36 +1,91 @@
-//! Want of memory changes nothing: this test holds whatever one request is refused.
-ghost use Rattle.std.specs.Prelude.{◌<◌, length};
+//! Want of memory changes nothing, and a worker that finds none strands its claim: this test holds whatever one request is refused.
+ghost use Rattle.std.specs.Prelude.{◌≡◌, IfOk, IfSome, true};
+ghost use Rattle.outcome_results.specs.Endings.{ending_of};
+ghost use Rattle.roll_core.specs.Givings.{HasItsGo};
+ghost use Rattle.roll_logs.specs.Rolls.{is_of_program};
 
-use crate::rolled::{end_of, move_on};
-use crate::setting::{board_again, set_up};
+use crate::rolled::{move_on, report};
+use crate::setting::{Setting, board_of, set_up};
 use group_tree::{Group, GroupFault, HostId};
-use made_plays::{End, group};
-use roll_core::{Board, Claim, Claimed, Done, OpenFault, Outcome, Stage, Status};
+use roll_core::{Board, Claimed, Done, HoldFault, OpenFault, Outcome, Runner, Stage, Status};
+use sample_fleets::{group, with};
+use script_runner::Script;
 use std::alloc::{AllocError, Global};
+use std::marker::Brand;
+use std::process::{Processes, SystemProcess};
+use std::sync::Wait;
+use std::sync::ledger::{Blank, Ledger};
 use std::test::Fail;
+use std::thread::Threads;
 
 const PLAY: &str =
-    r#"[{"hosts":"all","tasks":[{"command":"one {{ v }}","register":"r","notify":"h"},
+    r#"[{"hosts":"all","tasks":[{"command":"one {{ inventory_hostname }}","register":"r","notify":"h"},
     {"command":"two","when":"r.rc == 3"}],"handlers":[{"name":"h","command":"three {{ r.stdout }}"}]}]"#;
 
-fn group_again(alloc: Global) -> Result<Group<Global>, GroupFault> {
-    match group(alloc, &[("a", 1), ("b", 2)], "") {
-        Err(GroupFault::Memory) => group(alloc, &[("a", 1), ("b", 2)], ""),
+const BATCH: [HostId; 2] = [HostId { index: 0 }, HostId { index: 1 }];
+
+/// It is in a group that has no room.
+const SHUT_OUT: [HostId; 1] = [HostId { index: 2 }];
+
+/// Two hosts that may be down, and one that may not.
+fn region(alloc: Global) -> Result<Group<Global>, GroupFault> {
+    let shut = group(alloc, "shut", Some(0), &["c"])?;
+    with(group(alloc, "all", None, &["a", "b"])?, shut)
+}
+
+fn region_again(alloc: Global) -> Result<Group<Global>, GroupFault> {
+    match region(alloc) {
+        Err(GroupFault::Memory) => region(alloc),
         answer => answer,
     }
 }
 
-fn open_again(board: &mut Board<'_>, alloc: Global, hosts: &[HostId]) -> Result<(), OpenFault>
-    requires { 0 < length hosts.now }
+fn printed(alloc: Global, rc: i32) -> Result<Outcome, AllocError>
+    ensures { IfOk result (λ outcome. is_of_program (ending_of outcome) ≡ true) }
 {
-    match board.open(alloc, hosts) {
-        Err(OpenFault::Memory) => board.open(alloc, hosts),
+    Ok(Outcome::Ran {
+        rc,
+        stdout: String::from_str(alloc, "out")?,
+        stderr: String::new(alloc),
+    })
+}
+
+fn script(alloc: Global) -> Result<Script, AllocError> {
+    let mut script = Script::new(alloc);
+    script.push(BATCH[0], 0, printed(alloc, 0)?)?;
+    script.push(BATCH[1], 0, printed(alloc, 0)?)?;
+    script.push(BATCH[1], 1, printed(alloc, 7)?)?;
+    Ok(script)
+}
+
+fn script_again(alloc: Global) -> Result<Script, AllocError> {
+    match script(alloc) {
+        Err(AllocError) => script(alloc),
+        answer => answer,
+    }
+}
+
+fn open_again<L: Ledger>(board: &mut Board<'_, Script, L>, alloc: Global) -> Result<(), OpenFault> {
+    match board.open(alloc, &BATCH) {
+        Err(OpenFault::Memory) if board.log().len() == 1 => board.open(alloc, &BATCH),
+        answer => answer,
+    }
+}
+
+fn hold_again<L: Ledger>(board: &mut Board<'_, Script, L>, alloc: Global) -> Result<(), HoldFault> {
+    match board.hold(alloc, &SHUT_OUT) {
+        Err(HoldFault::Memory) if board.log().len() == 0 => board.hold(alloc, &SHUT_OUT),
         answer => answer,
     }
 }
 
 /// Where memory is refused, the board is as before, and claims again.
-fn claim_again(board: &mut Board<'_>, alloc: Global) -> Result<Option<Claimed>, AllocError> {
+fn claim_again<'s, L: Ledger>(
+    board: &mut Board<'s, Script, L>,
+    alloc: Global,
+) -> Result<Option<Claimed<'s, Script>>, AllocError>
+    ensures { IfOk result (λ out. IfSome out HasItsGo) }
+{
     let before = (board.log().len(), board.out(), board.due());
     match board.claim(alloc) {
         Err(AllocError) if before == (board.log().len(), board.out(), board.due()) => board.claim(
@@ -40,79 +95,118 @@ fn claim_again(board: &mut Board<'_>, alloc: Global) -> Result<Option<Claimed>, 
     }
 }
 
-fn outcome_again(alloc: Global, end: End) -> Result<Outcome, AllocError> {
-    match end.outcome(alloc) {
-        Err(AllocError) => end.outcome(alloc),
-        answer => answer,
-    }
+#[derive(Clone, Copy, Debug, PartialEq, Eq, Drop)]
+enum Turn {
+    Reported,
+    /// Nobody is free.
+    Idle,
+    Stranded(HostId),
 }
 
-fn done_of(alloc: Global, claim: Claim, outcome: Outcome) -> Result<Done, (Claim, AllocError)> {
-    match outcome {
-        Outcome::Skipped | Outcome::Undefined { .. } => Err((claim, AllocError)),
-        outcome => Done::new(alloc, claim, outcome),
-    }
-}
-
-/// The claim comes back where memory is refused.
-fn done_again(alloc: Global, claim: Claim, end: End) -> Result<Done, Fail> {
-    match done_of(alloc, claim, outcome_again(alloc, end)?) {
-        Ok(done) => Ok(done),
-        Err((claim, _refused)) => match done_of(alloc, claim, outcome_again(alloc, end)?) {
-            Ok(done) => Ok(done),
-            Err(_refused) => Err(Fail::new("no memory twice")),
-        },
-    }
-}
-
-fn step_on(alloc: Global, board: &mut Board<'_>) -> Result<bool, Fail> {
+/// One claim: a worker that finds no memory strands it.
+fn take<'s, L: Ledger, H: Threads + Wait + Processes<Started = SystemProcess> + Sync>(
+    rt: &H,
+    alloc: Global,
+    board: &mut Board<'s, Script, L>,
+) -> Result<Turn, Fail> {
+    let script = board.runner();
     let done = match claim_again(board, alloc)? {
-        None => return Ok(false),
+        None => return Ok(Turn::Idle),
         Some(Claimed::Settled(done)) => done,
-        Some(Claimed::Run(claim)) => {
-            let end = end_of(
-                &[(1, &[End::Ran(0), End::Ran(7)])],
-                claim.job().host.index,
-                claim.job().step,
-            );
-            done_again(alloc, claim, end)?
+        Some(Claimed::Run(claim, go)) => {
+            let host = claim.job().host;
+            let Ok(outcome) = script.run(rt, alloc, go, claim.job()) else {
+                board.strand(claim);
+                return Ok(Turn::Stranded(host));
+            };
+            match Done::new(alloc, script, claim, outcome) {
+                Ok(done) => done,
+                Err((claim, _refused)) => {
+                    board.strand(claim);
+                    return Ok(Turn::Stranded(host));
+                }
+            }
         }
     };
-    match board.report(done) {
-        Ok(()) => Ok(true),
-        Err(_stranger) => Err(Fail::new("a stranger")),
+    report(board, done)?;
+    Ok(Turn::Reported)
+}
+
+/// The batch to its end, or until a host that was stranded holds it up.
+fn work<'s, L: Ledger, H: Threads + Wait + Processes<Started = SystemProcess> + Sync>(
+    rt: &H,
+    alloc: Global,
+    board: &mut Board<'s, Script, L>,
+) -> Result<Option<HostId>, Fail> {
+    let mut stranded = None;
+    for _turn in 0..100u32 {
+        if board.stage() == Stage::Between {
+            return Ok(None);
+        }
+        match take(rt, alloc, board)? {
+            Turn::Reported => {}
+            Turn::Idle if stranded.is_some() => return Ok(stranded),
+            Turn::Idle => move_on(board)?,
+            Turn::Stranded(host) => stranded = Some(host),
+        }
     }
+    Err(Fail::new("the batch does not end"))
+}
+
+/// Whether there was memory for the board.
+fn rolled<L: Ledger, H: Threads + Wait + Processes<Started = SystemProcess> + Sync>(
+    rt: &H,
+    alloc: Global,
+    setting: &Setting,
+    script: &Script,
+    blank: Blank,
+) -> Result<bool, Fail>
+    requires name { blank.name ≡ L.name }
+    requires parts { blank.parts ≡ L.parts }
+    requires many { blank.parts ≡ 129 }
+{
+    let Ok(mut board) = board_of::<L>(alloc, setting, script, 2, blank) else {
+        return Ok(false);
+    };
+    hold_again(&mut board, alloc)?;
+    open_again(&mut board, alloc)?;
+    match work(rt, alloc, &mut board)? {
+        Some(host) => {
+            let awaited = board.out() == 1 && board.status(host) == Status::Running;
+            match board.stage() {
+                Stage::Working(_) if awaited => match board.barrier() {
+                    Err(busy) if busy.host == host => {}
+                    _ => return Err(Fail::new("a stranded host is passed over")),
+                },
+                _ => return Err(Fail::new("a stranded host isn't out")),
+            }
+        }
+        None => {
+            for host in BATCH {
+                let counts = board.counts(host);
+                let shown = (counts.ok, counts.changed, counts.failed, counts.skipped);
+                if shown != (2, 2, 0, 1) || board.status(host) != Status::Updated {
+                    return Err(Fail::new("other counts"));
+                }
+            }
+        }
+    }
+    let left = board.finish();
+    if left.statuses.len() != 3 || left.vars.len() != 3 || left.counts.len() != 3 {
+        return Err(Fail::new("not one of each a host"));
+    }
+    Ok(true)
 }
 
 #[test]
 fn a_batch_comes_to_its_end_whatever_is_refused(rt: HostRuntime) -> Result<(), Fail> {
     let alloc = rt.alloc();
-    let setting = set_up(alloc, group_again(alloc)?, PLAY)?;
-    let mut board = board_again(alloc, &setting, 2)?;
-    assert_eq!(rt;
-        open_again(
-            &mut board,
-            alloc,
-            &[HostId { index: 0 }, HostId { index: 1 }]
-        ),
-        Ok(())
-    );
-    for _turn in 0..100u32 {
-        if board.stage() == Stage::Between {
-            break;
-        }
-        if !step_on(alloc, &mut board)? {
-            move_on(&mut board)?;
-        }
+    let setting = set_up(alloc, region_again(alloc)?, PLAY)?;
+    let script = script_again(alloc)?;
+    if rolled::<Brand, HostRuntime>(&rt, alloc, &setting, &script, Blank::new(129))? {
+        return Ok(());
     }
-    for index in 0..2usize {
-        let host = HostId { index };
-        let counts = board.counts(host);
-        assert_eq!(rt;
-            (counts.ok, counts.changed, counts.failed, counts.skipped),
-            (2, 2, 0, 1)
-        );
-        assert_eq!(rt; board.status(host), Status::Updated);
-    }
+    let again = rolled::<Brand, HostRuntime>(&rt, alloc, &setting, &script, Blank::new(129))?;
+    assert!(rt; again);
     Ok(())
 }

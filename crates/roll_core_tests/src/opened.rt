@@ -1,12 +1,19 @@
 //! Which batches are opened, and which hosts are set aside.
-use crate::rolled::{roll, show_hosts};
-use crate::setting::{board_again, set_up};
+ghost use Rattle.std.specs.Prelude.{◌≡◌};
+
+use crate::rolled::{roll, script_of, show_hosts};
+use crate::setting::{board_of, set_up};
 use group_tree::{Group, GroupFault, GroupId, HostId};
 use made_plays::End;
-use roll_core::{Busy, HoldFault, OpenFault};
+use roll_core::{HoldFault, OpenFault};
 use sample_fleets::{group, with};
 use std::alloc::{Allocator, Global};
+use std::marker::Brand;
+use std::process::{Abort, Processes, SystemProcess};
+use std::sync::Wait;
+use std::sync::ledger::{Blank, Ledger};
 use std::test::Fail;
+use std::thread::Threads;
 
 const ONE_STEP: &str = r#"[{"hosts":"all","tasks":[{"command":"x"}]}]"#;
 
@@ -18,13 +25,6 @@ fn region<A: Allocator + Clone>(alloc: A) -> Result<Group<A>, GroupFault> {
     with(group(alloc, "all", None, &[])?, eu)
 }
 
-fn region_again(alloc: Global) -> Result<Group<Global>, GroupFault> {
-    match region(alloc) {
-        Err(GroupFault::Memory) => region(alloc),
-        answer => answer,
-    }
-}
-
 fn host(index: usize) -> HostId {
     HostId { index }
 }
@@ -33,11 +33,18 @@ fn group_id(index: usize) -> GroupId {
     GroupId { index }
 }
 
-#[test]
-fn a_failed_host_blocks_its_rack(rt: HostRuntime) -> Result<(), Fail> {
-    let alloc = rt.alloc();
-    let setting = set_up(alloc, region_again(alloc)?, ONE_STEP)?;
-    let mut board = board_again(alloc, &setting, 5)?;
+fn rolled<L: Ledger, H: Threads + Wait + Processes<Started = SystemProcess> + Abort + Sync>(
+    rt: &H,
+    alloc: Global,
+    blank: Blank,
+) -> Result<(), Fail>
+    requires name { blank.name ≡ L.name }
+    requires parts { blank.parts ≡ L.parts }
+    requires many { blank.parts ≡ 129 }
+{
+    let setting = set_up(alloc, region(alloc)?, ONE_STEP)?;
+    let script = script_of(alloc, &[(0, &[End::Ran(1)])])?;
+    let mut board = board_of::<L>(alloc, &setting, &script, 5, blank)?;
     // `b` finds `r1` full before `eu` is
     assert_eq!(rt;
         board.open(alloc, &[host(3), host(0), host(1), host(4)]),
@@ -48,7 +55,7 @@ fn a_failed_host_blocks_its_rack(rt: HostRuntime) -> Result<(), Fail> {
     assert_eq!(rt; board.open(alloc, &[host(1)]), Err(OpenFault::NotBoundary));
     assert_eq!(rt; board.hold(alloc, &[host(1)]), Err(HoldFault::NotBoundary));
     assert_eq!(rt; board.due(), 2);
-    roll(alloc, &mut board, &[(0, &[End::Ran(1)])])?;
+    roll(rt, alloc, &mut board)?;
     assert_eq!(rt;
         show_hosts(alloc, &board)?.as_str(),
         "a 0 0 1 0 0 failed / b 0 0 0 0 0 waiting / c 0 0 0 0 0 waiting / d 1 1 0 0 0 updated / e 0 0 0 0 0 waiting"
@@ -76,4 +83,9 @@ fn a_failed_host_blocks_its_rack(rt: HostRuntime) -> Result<(), Fail> {
     assert_eq!(rt; board.hold(alloc, &[host(1), host(2)]), Ok(()));
     assert_eq!(rt; board.down(group_id(2)), 1);
     Ok(())
+}
+
+#[test]
+fn a_failed_host_blocks_its_rack(rt: HostRuntime) -> Result<(), Fail> {
+    rolled::<Brand, HostRuntime>(&rt, rt.alloc(), Blank::new(129))
 }

@@ -1,71 +1,100 @@
 //! A batch that is rolled in order, and its log as a text.
+ghost use Rattle.roll_core.specs.Givings.{HasItsGo};
+
 use group_tree::HostId;
 use made_plays::{End, show_counts};
-use roll_core::{Batch, Board, Claimed, Done, Event, Outcome, Stage, Status};
+use roll_core::{Batch, Board, Claimed, Done, Event, Finished, Outcome, Runner, Stage, Status};
+use script_runner::Script;
 use std::alloc::Global;
 use std::fmt::Write;
+use std::process::{Processes, SystemProcess};
+use std::sync::Wait;
+use std::sync::ledger::Ledger;
 use std::test::Fail;
+use std::thread::Threads;
 
 /// How the programs of a host end, step by step, and well where it says nothing.
 pub type Table<'t> = &'t [(usize, &'t [End])];
 
-pub fn end_of(table: Table<'_>, host: usize, step: usize) -> End {
-    for (named, ends) in table {
-        if *named == host {
-            return ends.get(step).copied().unwrap_or(End::Ran(0));
-        }
-    }
-    End::Ran(0)
-}
-
-/// How a program ends that ends so.
-fn outcome_of(alloc: Global, end: End) -> Result<Outcome, Fail> {
-    match end.outcome(alloc)? {
-        Outcome::Skipped | Outcome::Undefined { .. } => Err(Fail::new("no program ends so")),
-        outcome => Ok(outcome),
-    }
-}
-
-/// What was handed out is over, as the table says.
-pub fn finish(alloc: Global, claimed: Claimed, table: Table<'_>) -> Result<Done, Fail> {
-    match claimed {
-        Claimed::Settled(done) => Ok(done),
-        Claimed::Run(claim) => {
-            let job = claim.job();
-            let end = end_of(table, job.host.index, job.step);
-            match outcome_of(alloc, end)? {
-                Outcome::Skipped | Outcome::Undefined { .. } => Err(Fail::new(
+/// The same as a runner.
+pub fn script_of(alloc: Global, table: Table<'_>) -> Result<Script, Fail> {
+    let mut script = Script::new(alloc);
+    for (host, ends) in table {
+        for (step, end) in ends.iter().enumerate() {
+            match end.outcome(alloc)? {
+                Outcome::Skipped | Outcome::Undefined { .. } => return Err(Fail::new(
                     "no program ends so",
                 )),
-                outcome => match Done::new(alloc, claim, outcome) {
-                    Ok(done) => Ok(done),
-                    Err(_refused) => Err(Fail::new("no memory")),
-                },
+                outcome => script.push(HostId { index: *host }, step, outcome)?,
+            }
+        }
+    }
+    Ok(script)
+}
+
+/// What was handed out is over, as the script says.
+pub fn done_of<'s, H: Threads + Wait + Processes<Started = SystemProcess> + Sync>(
+    rt: &H,
+    alloc: Global,
+    script: &'s Script,
+    claimed: Claimed<'s, Script>,
+) -> Result<Done<'s, Script>, Fail>
+    requires { HasItsGo claimed }
+{
+    match claimed {
+        Claimed::Settled(done) => Ok(done),
+        Claimed::Run(claim, go) => {
+            let outcome = script.run(rt, alloc, go, claim.job())?;
+            match Done::new(alloc, script, claim, outcome) {
+                Ok(done) => Ok(done),
+                Err(_refused) => Err(Fail::new("no memory")),
             }
         }
     }
 }
 
+/// Reports it in a tally of its own.
+pub fn report<'s, L: Ledger>(
+    board: &mut Board<'s, Script, L>,
+    done: Done<'s, Script>,
+) -> Result<(), Fail> {
+    if board.tallies() > 0 {
+        return Err(Fail::new("a tally is out"));
+    }
+    let mut tally = board.split_tally();
+    let answer = board.report(done, &mut tally);
+    let count = tally.count();
+    board.join_tally(tally);
+    match answer {
+        Ok(()) if count == 1 => Ok(()),
+        Ok(()) => Err(Fail::new("a report that isn't counted")),
+        Err(_stranger) => Err(Fail::new("a stranger")),
+    }
+}
+
 /// Claims as many hosts as it can, and reports them in this order; true where there was one.
-fn step_on(alloc: Global, board: &mut Board<'_>, table: Table<'_>) -> Result<bool, Fail> {
+fn step_on<'s, L: Ledger, H: Threads + Wait + Processes<Started = SystemProcess> + Sync>(
+    rt: &H,
+    alloc: Global,
+    board: &mut Board<'s, Script, L>,
+) -> Result<bool, Fail> {
+    let script = board.runner();
     let mut all = Vec::new(alloc);
     for _fork in 0..board.forks() {
         match board.claim(alloc)? {
-            Some(claimed) => all.push(finish(alloc, claimed, table)?)?,
+            Some(claimed) => all.push(done_of(rt, alloc, script, claimed)?)?,
             None => break,
         }
     }
     let some = !all.is_empty();
     for done in all {
-        if board.report(done).is_err() {
-            return Err(Fail::new("a stranger"));
-        }
+        report(board, done)?;
     }
     Ok(some)
 }
 
 /// Passes the step, or closes the batch.
-pub fn move_on(board: &mut Board<'_>) -> Result<(), Fail> {
+pub fn move_on<L: Ledger>(board: &mut Board<'_, Script, L>) -> Result<(), Fail> {
     match board.stage() {
         Stage::Between => Ok(()),
         Stage::Working(_) => match board.barrier() {
@@ -80,12 +109,16 @@ pub fn move_on(board: &mut Board<'_>) -> Result<(), Fail> {
 }
 
 /// Rolls the open batch to its end.
-pub fn roll(alloc: Global, board: &mut Board<'_>, table: Table<'_>) -> Result<(), Fail> {
+pub fn roll<'s, L: Ledger, H: Threads + Wait + Processes<Started = SystemProcess> + Sync>(
+    rt: &H,
+    alloc: Global,
+    board: &mut Board<'s, Script, L>,
+) -> Result<(), Fail> {
     for _turn in 0..1000u32 {
         if board.stage() == Stage::Between {
             return Ok(());
         }
-        if !step_on(alloc, board, table)? {
+        if !step_on(rt, alloc, board)? {
             move_on(board)?;
         }
     }
@@ -139,9 +172,9 @@ fn show_event(shown: &mut String, event: &Event) -> Result<(), Fail> {
 }
 
 /// The events, steps counted from 0.
-pub fn show_log(alloc: Global, board: &Board<'_>) -> Result<String, Fail> {
+pub fn show_log(alloc: Global, log: &[Event]) -> Result<String, Fail> {
     let mut shown = String::new(alloc);
-    for (place, event) in board.log().iter().enumerate() {
+    for (place, event) in log.iter().enumerate() {
         if place > 0 {
             shown.push_str(" / ")?;
         }
@@ -164,7 +197,7 @@ fn word_of(status: Status) -> &'static str {
 }
 
 /// Each host with its counts and its status.
-pub fn show_hosts(alloc: Global, board: &Board<'_>) -> Result<String, Fail> {
+pub fn show_hosts<L: Ledger>(alloc: Global, board: &Board<'_, Script, L>) -> Result<String, Fail> {
     let mut shown = String::new(alloc);
     for index in 0..board.fleet().hosts() {
         let host = HostId { index };
@@ -174,6 +207,20 @@ pub fn show_hosts(alloc: Global, board: &Board<'_>) -> Result<String, Fail> {
         write!(shown, "{} ", name_of(host))?;
         show_counts(&mut shown, board.counts(host))?;
         write!(shown, " {}", word_of(board.status(host)))?;
+    }
+    Ok(shown)
+}
+
+/// The same of what a roll leaves.
+pub fn show_left(alloc: Global, left: &Finished) -> Result<String, Fail> {
+    let mut shown = String::new(alloc);
+    for (index, (status, counts)) in left.statuses.iter().zip(left.counts.as_slice()).enumerate() {
+        if index > 0 {
+            shown.push_str(" / ")?;
+        }
+        write!(shown, "{} ", name_of(HostId { index }))?;
+        show_counts(&mut shown, *counts)?;
+        write!(shown, " {}", word_of(*status))?;
     }
     Ok(shown)
 }

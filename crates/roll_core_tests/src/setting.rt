@@ -10,7 +10,9 @@ use play_faults::PlayFault;
 use play_model::Play;
 use play_read::read_play;
 use roll_core::{Board, Status};
+use script_runner::Script;
 use std::alloc::{AllocError, Global};
+use std::sync::ledger::{Blank, Ledger};
 use std::test::Fail;
 
 /// A fleet all of whose hosts wait, and a play.
@@ -84,25 +86,27 @@ pub fn set_up(alloc: Global, all: Group<Global>, playbook: &str) -> Result<Setti
     })
 }
 
-fn board_of(alloc: Global, setting: &Setting, forks: usize) -> Result<Board<'_>, AllocError>
-    requires { 0 < forks }
+/// A board on which nothing has happened.
+pub fn board_of<'s, L: Ledger>(
+    alloc: Global,
+    setting: &'s Setting,
+    script: &'s Script,
+    forks: usize,
+    blank: Blank,
+) -> Result<Board<'s, Script, L>, AllocError>
+    requires some { 0 < forks }
+    requires name { blank.name ≡ L.name }
+    requires parts { blank.parts ≡ L.parts }
+    requires many { blank.parts ≡ 129 }
 {
     Board::new(
         alloc,
         &setting.fleet,
         &setting.play,
+        script,
         forks,
         setting.statuses.as_slice(),
         setting.vars.as_slice(),
+        blank,
     )
-}
-
-/// A board on which nothing has happened.
-pub fn board_again(alloc: Global, setting: &Setting, forks: usize) -> Result<Board<'_>, AllocError>
-    requires { 0 < forks }
-{
-    match board_of(alloc, setting, forks) {
-        Err(AllocError) => board_of(alloc, setting, forks),
-        answer => answer,
-    }
 }

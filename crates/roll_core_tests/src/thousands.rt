@@ -1,10 +1,18 @@
 //! A batch of thousands of hosts, where there is memory.
+ghost use Rattle.std.specs.Prelude.{◌≡◌};
+
 use crate::rolled::roll;
-use crate::setting::{board_again, set_up};
+use crate::setting::{board_of, set_up};
 use group_tree::{Group, HostId, Limit};
 use roll_core::Stage;
+use script_runner::Script;
 use std::alloc::{Allocator, Global};
+use std::marker::Brand;
+use std::process::{Abort, Processes, SystemProcess};
+use std::sync::Wait;
+use std::sync::ledger::{Blank, Ledger};
 use std::test::Fail;
+use std::thread::Threads;
 
 const HOSTS: usize = 4096;
 
@@ -20,11 +28,18 @@ fn one_group<A: Allocator + Clone>(alloc: A) -> Result<Group<A>, Fail> {
     Ok(all)
 }
 
-#[test]
-fn thousands_of_hosts_are_claimed_and_reported(rt: HostRuntime) -> Result<(), Fail> {
-    let alloc: Global = rt.alloc();
+fn rolled<L: Ledger, H: Threads + Wait + Processes<Started = SystemProcess> + Abort + Sync>(
+    rt: &H,
+    alloc: Global,
+    blank: Blank,
+) -> Result<(), Fail>
+    requires name { blank.name ≡ L.name }
+    requires parts { blank.parts ≡ L.parts }
+    requires many { blank.parts ≡ 129 }
+{
     let setting = set_up(alloc, one_group(alloc)?, TWO_STEPS)?;
-    let mut board = board_again(alloc, &setting, 64)?;
+    let script = Script::new(alloc);
+    let mut board = board_of::<L>(alloc, &setting, &script, 64, blank)?;
     let mut hosts = Vec::new(alloc);
     for index in 0..HOSTS {
         hosts.push(HostId { index })?;
@@ -33,8 +48,13 @@ fn thousands_of_hosts_are_claimed_and_reported(rt: HostRuntime) -> Result<(), Fa
         return Err(Fail::new("the batch was not opened"));
     }
     assert_eq!(rt; board.due(), HOSTS);
-    roll(alloc, &mut board, &[])?;
+    roll(rt, alloc, &mut board)?;
     assert!(rt; board.stage() == Stage::Between);
     assert_eq!(rt; board.log().len(), 4 * HOSTS + 4);
     Ok(())
+}
+
+#[test]
+fn thousands_of_hosts_are_claimed_and_reported(rt: HostRuntime) -> Result<(), Fail> {
+    rolled::<Brand, HostRuntime>(&rt, rt.alloc(), Blank::new(129))
 }

@@ -1,10 +1,17 @@
 //! Worked plays in full: the log, and each host with its counts and its status.
-use crate::rolled::{Table, roll, show_hosts, show_log};
-use crate::setting::{board_again, set_up};
+ghost use Rattle.std.specs.Prelude.{◌≡◌};
+
+use crate::rolled::{Table, roll, script_of, show_hosts, show_left, show_log};
+use crate::setting::{board_of, set_up};
 use group_tree::HostId;
 use made_plays::{End, group};
 use std::alloc::Global;
+use std::marker::Brand;
+use std::process::{Processes, SystemProcess};
+use std::sync::Wait;
+use std::sync::ledger::{Blank, Ledger};
 use std::test::Fail;
+use std::thread::Threads;
 
 /// Hosts with their values of `v`, a play, how programs end, the log, and the hosts behind it.
 struct Row {
@@ -68,10 +75,20 @@ const ROWS: [Row; 5] = [
     },
 ];
 
-/// All hosts of the row in one batch, with two forks.
-fn rolled(alloc: Global, row: &Row) -> Result<(String, String), Fail> {
+/// All hosts of the row in one batch, with two forks: the log and the hosts, by the board and by what it leaves.
+fn rolled<L: Ledger, H: Threads + Wait + Processes<Started = SystemProcess> + Sync>(
+    rt: &H,
+    alloc: Global,
+    row: &Row,
+    blank: Blank,
+) -> Result<(String, String, String), Fail>
+    requires name { blank.name ≡ L.name }
+    requires parts { blank.parts ≡ L.parts }
+    requires many { blank.parts ≡ 129 }
+{
     let setting = set_up(alloc, group(alloc, row.hosts, "")?, row.play)?;
-    let mut board = board_again(alloc, &setting, 2)?;
+    let script = script_of(alloc, row.table)?;
+    let mut board = board_of::<L>(alloc, &setting, &script, 2, blank)?;
     let mut batch = Vec::new(alloc);
     for index in 0..row.hosts.len() {
         batch.push(HostId { index })?;
@@ -79,8 +96,14 @@ fn rolled(alloc: Global, row: &Row) -> Result<(String, String), Fail> {
     if batch.is_empty() || board.open(alloc, batch.as_slice()).is_err() {
         return Err(Fail::new("the batch was not opened"));
     }
-    roll(alloc, &mut board, row.table)?;
-    Ok((show_log(alloc, &board)?, show_hosts(alloc, &board)?))
+    roll(rt, alloc, &mut board)?;
+    let hosts = show_hosts(alloc, &board)?;
+    let left = board.finish();
+    Ok((
+        show_log(alloc, left.log.as_slice())?,
+        hosts,
+        show_left(alloc, &left)?,
+    ))
 }
 
 #[test]
@@ -89,9 +112,10 @@ fn worked_plays_have_their_logs_and_counts(rt: HostRuntime) -> Result<(), Fail> 
     for (place, row) in ROWS.iter().enumerate() {
         let first = if place < 2 { FIRST_STEP } else { "" };
         let wanted = format!(in alloc; "{first}{}", row.log)?;
-        let (log, after) = rolled(alloc, row)?;
+        let (log, hosts, left) = rolled::<Brand, HostRuntime>(&rt, alloc, row, Blank::new(129))?;
         assert_eq!(rt; log.as_str(), wanted.as_str());
-        assert_eq!(rt; after.as_str(), row.after);
+        assert_eq!(rt; hosts.as_str(), row.after);
+        assert_eq!(rt; left.as_str(), row.after);
     }
     Ok(())
 }

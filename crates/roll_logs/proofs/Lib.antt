@@ -4,6 +4,7 @@ pub mod WorkLemmas
 pub mod SafeFronts
 pub mod RestFronts
 pub mod ClaimFronts
+pub mod FewRows
 pub mod ColumnLemmas
 pub mod ColumnFronts
 pub mod OnceFronts

@@ -11,9 +11,10 @@ use Rattle.fleet_states.proofs.ReadyLemmas.{ready_waits, ready_within}
 use Rattle.fleet_states.proofs.StatusLemmas.{status_at-changed, status_at-changed_past, status_at-set, status_at-set_other, within_from}
 use Rattle.play_model.specs.declared.play.Play.{Play}
 use Rattle.host_track.specs.Tracks.{Entry, has_failed, is_due}
+use Rattle.batch_outcome.specs.Batches.{is_past}
 use Rattle.roll_logs.specs.Rolls.{Roll}
 use Rattle.roll_logs.specs.Events.{Event, set_aside, opened, claimed, reported, passed, closed}
-use Rattle.roll_logs.specs.States.{State, Phase, between, working, ended, start_state, is_awaited, has_row, rows_with, with_rows, with_failure, at_rest}
+use Rattle.roll_logs.specs.States.{State, Phase, between, working, ended, failures, is_dead, is_last, phase_after, start_state, is_awaited, has_row, rows_with, with_rows, with_failure, at_rest}
 use Rattle.roll_logs.specs.Logs.{Allowed, next, closed_state}
 use Rattle.roll_logs.proofs.OutLemmas.{has_without, none_listed, any_of}
 
@@ -77,6 +78,17 @@ rest_waits (Some step) Held e = e
 
 pub step_of : (a b : ℕ) → working a ≡ working b → a ≡ b
 step_of a b same = cc
+
+-- the step that a batch goes on with
+pub later_is : (play : Play) (state : State) (step later : ℕ) → phase_after play state step ≡ working later → later ≡ suc step
+later_is play state step later at =
+    by_case (is_past play.max_fail (failures state) (length state.batch)) (is_last play step) (is_dead state) at
+  where
+    by_case : (past last dead : Bool) → (if past then ended (Some step) else (if last then ended None else (if dead then ended None else working (suc step)))) ≡ working later → later ≡ suc step
+    by_case true last dead at = absurd (cc)
+    by_case false true dead at = absurd (cc)
+    by_case false false true at = absurd (cc)
+    by_case false false false at = sym (step_of (suc step) later at)
 
 -- a host on which a step is awaited has not failed
 pub awaited_lives : (play : Play) (rows : List Entry) (step : ℕ) → is_awaited play rows step ≡ true → has_failed rows ≡ false

@@ -25,3 +25,8 @@ LegalLogsRestBetweenBatches =
 abbrev pub ForksBoundTheClaims : Type 0
 ForksBoundTheClaims =
     (roll : Roll) (log : List Event) → IsLegal roll (start_state roll) log → (n : ℕ) → length (front roll log n).out ≤ roll.forks
+
+-- at no front has a host more rows than its play has steps
+abbrev pub RowsAreFew : Type 0
+RowsAreFew =
+    (roll : Roll) (log : List Event) → IsLegal roll (start_state roll) log → (n host : ℕ) → length ((front roll log n).rows host) ≤ length roll.play.steps.items

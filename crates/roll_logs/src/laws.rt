@@ -3,7 +3,7 @@ ghost use Rattle.roll_logs.specs.Changes.{BatchesAreOnTrack, EventsLeaveOtherHos
 ghost use Rattle.roll_logs.specs.Columns.{BatchesEndByColumns};
 ghost use Rattle.roll_logs.specs.Once.{NoHostIsClaimedTwice, NoHostReportsTwice, ReportsFollowClaims};
 ghost use Rattle.roll_logs.specs.Progress.{DeadBatchesEnd, OpenBatchesGoOn};
-ghost use Rattle.roll_logs.specs.Laws.{ForksBoundTheClaims, LegalLogsAreSafe, LegalLogsRestBetweenBatches};
+ghost use Rattle.roll_logs.specs.Laws.{ForksBoundTheClaims, LegalLogsAreSafe, LegalLogsRestBetweenBatches, RowsAreFew};
 
 /// From a safe start no group is over its limit after any number of the events.
 pub fn legal_logs_are_safe()
@@ -20,6 +20,12 @@ pub fn legal_logs_rest_between_batches()
 #[tactic(auto, using(crate::proofs::ClaimFronts::legal_bounded))]
 pub fn forks_bound_the_claims()
     ensures { ForksBoundTheClaims }
+{}
+
+/// After any number of the events no host has more rows than the play has steps.
+#[tactic(auto, using(crate::proofs::FewRows::rows_are_few))]
+pub fn rows_are_few()
+    ensures { RowsAreFew }
 {}
 
 /// A batch ends as each of its hosts does by itself on the ends that were reported: in whatever order workers claimed and

@@ -175,6 +175,18 @@ impl<'f> Roster<'f> {
         self.statuses[host.index] = status;
         self.seats[host.index] = Some(share);
     }
+
+    /// The status of each host. The shares that rest are gone: whoever is down stays down.
+    pub fn into_statuses(self) -> Vec<Status>
+        ensures { result.items ≡ self.entry.statuses }
+    {
+        let Roster {
+            ledger: _,
+            statuses,
+            seats: _,
+        } = self;
+        statuses
+    }
 }
 
 /// So many seats, on each of which no share rests.

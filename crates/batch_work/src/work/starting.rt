@@ -6,6 +6,7 @@ ghost use Rattle.host_track.specs.Tracks.{Entry};
 ghost use Rattle.batch_work.specs.declared.turn.Turn.TheVariants.{Over};
 ghost use Rattle.batch_work.specs.Works.{IsWorkOf, ShowEach, known_at};
 
+use crate::room::Room;
 use crate::stage::Stage;
 use crate::turn::Turn;
 use crate::work::BatchWork;
@@ -23,6 +24,7 @@ impl<'p> BatchWork<'p> {
     {
         let summaries = summaries_of(alloc, play, vars)?;
         let turns = nobody_due(alloc, vars.len())?;
+        let room = Room::new(alloc, vars.len())?;
         Ok(BatchWork {
             play,
             summaries,
@@ -32,6 +34,7 @@ impl<'p> BatchWork<'p> {
             line: Vec::new(alloc),
             next: 0,
             out: 0,
+            room,
         })
     }
 }

@@ -1,72 +1,41 @@
-//! A batch begins.
-ghost use Rattle.std.specs.Prelude.{◌≡◌, ◌<◌, IfErr, IsTrue, MatchResult, OnErr, OnOk, length, true};
+//! A batch begins, and hosts are set aside.
+ghost use Rattle.std.specs.Prelude.{◌≡◌, ◌<◌, IfErr, OnErr, OnOk, length};
 ghost use Rattle.domains.specs.Ids.{host_numbers};
-ghost use Rattle.fleet_states.specs.declared.status.Status.TheVariants.{Running};
-ghost use Rattle.fleet_states.specs.Statuses.{are_ready};
-ghost use Rattle.fleet_states.specs.Groups.{Fits, IsSafe, groups_of};
-ghost use Rattle.roster.specs.Rosters.{HasChanged, NobodyRests};
-ghost use Rattle.roll_logs.specs.Events.{opened};
-ghost use Rattle.roll_logs.specs.Logs.{MayOpen};
-ghost use Rattle.roll_core.specs.Refusals.{IsRefusalOf};
-ghost use Rattle.roll_core.specs.Views.{roll_of, state_of, with_event};
+ghost use Rattle.roll_logs.specs.Events.{opened, set_aside};
+ghost use Rattle.roll_logs.specs.Logs.{MayOpen, MaySetAside};
+ghost use Rattle.roll_kernel.specs.HoldRefusals.{IsHoldRefusalOf};
+ghost use Rattle.roll_kernel.specs.Refusals.{IsRefusalOf};
+ghost use Rattle.roll_kernel.specs.Views.{roll_of, state_of};
+ghost use Rattle.roll_core.specs.Boards.{with_event};
 
-use crate::batch::Batch;
-use crate::board::{Board, keep};
-use crate::event::Event;
-use crate::fault::OpenFault;
-use crate::trial::try_batch;
-use batch_work::Stage;
+use crate::board::Board;
+use crate::runner::Runner;
 use group_tree::HostId;
-use roster::Roster;
+use roll_kernel::{HoldFault, OpenFault};
 use std::alloc::Global;
+use std::sync::ledger::Ledger;
 
-impl<'f> Board<'f> {
-    /// Begins a batch: its hosts are down until they are closed. A refusal leaves everything as it was.
+impl<'f, R: Runner, L: Ledger> Board<'f, R, L> {
+    /// Begins a batch: its hosts are down from now on, and the closing brings those up that neither failed nor were halted. A refusal
+    /// leaves everything as it was.
     pub fn open(&mut self, alloc: Global, hosts: &[HostId]) -> Result<(), OpenFault>
         requires { 0 < length hosts.now }
         ensures ok { OnOk result (self.new ≡ with_event self.old (opened (host_numbers hosts.now))) }
-        ensures allowed { OnOk result (MayOpen (roll_of self.old) (state_of self.old) (host_numbers hosts.now)) }
-        ensures err { IfErr result (IsRefusalOf (roll_of self.old) (state_of self.old) (host_numbers hosts.now)) }
+        ensures allowed { OnOk result (MayOpen (roll_of self.old.kernel) (state_of self.old.kernel) (host_numbers hosts.now)) }
+        ensures err { IfErr result (IsRefusalOf (roll_of self.old.kernel) (state_of self.old.kernel) (host_numbers hosts.now)) }
         ensures unchanged { OnErr result (self.new ≡ self.old) }
     {
-        self.test_batch(hosts)?;
-        let batch = Batch::from_slice(alloc, hosts)?;
-        let members = Vec::from_slice(alloc, hosts)?;
-        let line = Vec::from_slice(alloc, hosts)?;
-        // The opening, a barrier a step, and the closing.
-        self.log.reserve(self.play.steps().len() + 2)?;
-        take_down(&mut self.roster, hosts);
-        self.work.begin(members, line);
-        keep(&mut self.log, Event::Open(batch));
-        Ok(())
+        self.kernel.open(alloc, hosts)
     }
 
-    /// Whether the hosts may be opened as a batch.
-    fn test_batch(&mut self, hosts: &[HostId]) -> Result<(), OpenFault>
+    /// Sets hosts aside: they are up, and wait no more. A refusal leaves everything as it was.
+    pub fn hold(&mut self, alloc: Global, hosts: &[HostId]) -> Result<(), HoldFault>
         requires { 0 < length hosts.now }
-        ensures same { self.new ≡ self.old }
-        ensures tells { MatchResult result
-            (λ _. MayOpen (roll_of self.old) (state_of self.old) (host_numbers hosts.now))
-            (IsRefusalOf (roll_of self.old) (state_of self.old) (host_numbers hosts.now)) }
+        ensures ok { OnOk result (self.new ≡ with_event self.old (set_aside (host_numbers hosts.now))) }
+        ensures allowed { OnOk result (MaySetAside (roll_of self.old.kernel) (state_of self.old.kernel) (host_numbers hosts.now)) }
+        ensures err { IfErr result (IsHoldRefusalOf (roll_of self.old.kernel) (state_of self.old.kernel) (host_numbers hosts.now)) }
+        ensures unchanged { OnErr result (self.new ≡ self.old) }
     {
-        match self.work.stage() {
-            Stage::Between => try_batch(&mut self.roster, hosts),
-            Stage::Working(_) | Stage::Ended(_) => Err(OpenFault::NotBoundary),
-        }
-    }
-}
-
-/// Takes hosts down for which there is room.
-fn take_down(roster: &mut Roster<'_>, hosts: &[HostId])
-    requires all { length roster.old.seated ≡ length roster.old.statuses }
-    requires rest { NobodyRests roster.old }
-    requires safe { IsSafe (groups_of roster.old.fleet) roster.old.statuses }
-    requires ready { IsTrue (are_ready roster.old.statuses (host_numbers hosts.now)) }
-    requires fits { Fits (groups_of roster.old.fleet) roster.old.statuses (host_numbers hosts.now) }
-    ensures { HasChanged roster.old roster.new (host_numbers hosts.now) (λ _. Running) true }
-{
-    match roster.take_all(hosts) {
-        Ok(()) => {}
-        Err(_group) => unreachable!(),
+        self.kernel.hold(alloc, hosts)
     }
 }

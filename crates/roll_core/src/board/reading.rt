@@ -1,121 +1,129 @@
 //! What others see of a board.
-ghost use Rattle.std.specs.Prelude.{◌≡◌, ◌<◌, ◌≤◌, ◌^◌, [], count_by, length};
+ghost use Rattle.std.specs.Prelude.{◌≡◌, ◌<◌, ◌≤◌, [], count_by, length};
 ghost use Rattle.fleet_states.specs.Statuses.{status_at};
 ghost use Rattle.down_ledger.specs.Ledgers.{down_in, ledger_of};
 ghost use Rattle.host_track.specs.Tracks.{counts_in};
 ghost use Rattle.roll_logs.specs.States.{start_state};
 ghost use Rattle.roll_logs.specs.Logs.{IsLegal};
 ghost use Rattle.batch_work.specs.Works.{is_awaited_in, phase_of};
-ghost use Rattle.roll_core.specs.Views.{FrontsAreSafe, RestsAtBoundaries, events_of, roll_of, state_of};
-ghost use Rattle.roll_core.specs.Inside.{owed_by};
+ghost use Rattle.roll_kernel.specs.Views.{FrontsAreSafe, RestsAtBoundaries, events_of, roll_of, state_of};
+ghost use Rattle.roll_core.specs.Boards.{reports_in};
+ghost use Rattle.roll_core.specs.Runners.{AreTold};
 
 use crate::board::Board;
-use crate::event::Event;
-use batch_work::Stage;
+use crate::runner::Runner;
 use domains::Fleet;
 use fleet_states::Status;
 use group_tree::{GroupId, HostId};
 use host_vars::Vars;
 use outcome_results::Counts;
 use play_model::Play;
+use roll_kernel::{Event, Stage};
+use std::sync::ledger::Ledger;
 
-impl<'f> Board<'f> {
+impl<'f, R: Runner, L: Ledger> Board<'f, R, L> {
     /// All events, the oldest first.
     pub fn log(&self) -> &[Event]
-        ensures value { events_of result.now ≡ self.now.log }
-        ensures all { length self.now.start ≡ length self.now.fleet.hosts }
-        ensures legal { IsLegal (roll_of self.now) (start_state (roll_of self.now)) self.now.log }
-        ensures safe { FrontsAreSafe (roll_of self.now) self.now.log }
-        ensures rests { RestsAtBoundaries (roll_of self.now) self.now.log }
+        ensures value { events_of result.now ≡ self.now.kernel.log }
+        ensures all { length self.now.kernel.start ≡ length self.now.kernel.fleet.hosts }
+        ensures legal { IsLegal (roll_of self.now.kernel) (start_state (roll_of self.now.kernel)) self.now.kernel.log }
+        ensures safe { FrontsAreSafe (roll_of self.now.kernel) self.now.kernel.log }
+        ensures rests { RestsAtBoundaries (roll_of self.now.kernel) self.now.kernel.log }
+        ensures told { AreTold (R.may self.now.runner) (roll_of self.now.kernel) (start_state (roll_of self.now.kernel)) self.now.kernel.log }
     {
-        self.log.as_slice()
+        self.kernel.log()
     }
 
     pub fn fleet(&self) -> &'f Fleet
-        ensures { result.now ≡ self.now.fleet }
+        ensures { result.now ≡ self.now.kernel.fleet }
     {
-        self.roster.fleet()
+        self.kernel.fleet()
     }
 
     pub fn play(&self) -> &'f Play
-        ensures { result.now ≡ self.now.play }
+        ensures { result.now ≡ self.now.kernel.play }
     {
-        self.play
+        self.kernel.play()
+    }
+
+    pub fn runner(&self) -> &'f R
+        ensures { result.now ≡ self.now.runner }
+    {
+        self.runner
     }
 
     /// How many claims may be out at once.
     pub fn forks(&self) -> usize
-        ensures { result ≡ self.now.forks }
+        ensures { result ≡ self.now.kernel.forks }
     {
-        self.forks
+        self.kernel.forks()
     }
 
     /// The status of each host at the start, and its variables then.
     pub fn opening(&self) -> (&'f [Status], &'f [Vars])
-        ensures start { result.0.now ≡ self.now.start }
-        ensures vars { result.1.now ≡ self.now.vars }
+        ensures start { result.0.now ≡ self.now.kernel.start }
+        ensures vars { result.1.now ≡ self.now.kernel.vars }
     {
-        (self.start, self.vars)
+        self.kernel.opening()
     }
 
     /// The status of a host now; a number that no host has is idle.
     pub fn status(&self, host: HostId) -> Status
-        ensures { result ≡ status_at (state_of self.now).statuses host.index }
+        ensures { result ≡ status_at (state_of self.now.kernel).statuses host.index }
     {
-        self.roster.status(host)
+        self.kernel.status(host)
     }
 
     /// How many of the group's members are down now. Near-constant time for a group that has a limit; the members of another are
     /// counted.
     pub fn down(&self, group: GroupId) -> u32
-        ensures { result ≡ down_in (ledger_of self.now.fleet (state_of self.now).statuses) group.index }
+        ensures { result ≡ down_in (ledger_of self.now.kernel.fleet (state_of self.now.kernel).statuses) group.index }
     {
-        self.roster.down(group)
+        self.kernel.down(group)
     }
 
     /// How far the roll is: no batch is open, or the open one is at a step, or at its end.
     pub fn stage(&self) -> Stage
-        ensures { phase_of result ≡ (state_of self.now).phase }
+        ensures { phase_of result ≡ (state_of self.now.kernel).phase }
     {
-        self.work.stage()
+        self.kernel.stage()
     }
 
-    /// How the rows of a host are judged until now; no row of a number that no host has.
+    /// How the rows of a host are judged until now; a number that no host has has none.
     pub fn counts(&self, host: HostId) -> Counts
-        ensures value { host.index < length self.now.start → length ((state_of self.now).rows host.index) < 2 ^ 32
-            → result ≡ counts_in ((state_of self.now).rows host.index) }
-        ensures none { length self.now.start ≤ host.index → result ≡ counts_in [] }
+        ensures value { host.index < length self.now.kernel.start → result ≡ counts_in ((state_of self.now.kernel).rows host.index) }
+        ensures none { length self.now.kernel.start ≤ host.index → result ≡ counts_in [] }
     {
-        match self.work.summary(host) {
-            Some(summary) => summary.counts(),
-            None => Counts::none(),
-        }
+        self.kernel.counts(host)
     }
 
     /// How many hosts of the batch have not reported the present step, which is due on them. Time linear in the batch.
     pub fn due(&self) -> usize
-        ensures { result ≡ count_by (is_awaited_in (roll_of self.now) (state_of self.now)) (state_of self.now).batch }
+        ensures { result ≡ count_by (is_awaited_in (roll_of self.now.kernel) (state_of self.now.kernel)) (state_of self.now.kernel).batch }
     {
-        self.work.awaited()
+        self.kernel.due()
     }
 
     /// How many claims are out.
     pub fn out(&self) -> usize
-        ensures { result ≡ length (state_of self.now).out }
+        ensures { result ≡ length (state_of self.now.kernel).out }
     {
-        self.work.out()
+        self.kernel.out()
     }
 
-    /// How many events are still to come in the open batch but for claims and their reports: its barriers and its closing; and the
-    /// reports of the claims that are out.
-    pub(crate) fn owed(&self) -> usize
-        ensures { result ≡ owed_by (roll_of self.now) (state_of self.now) }
+    /// How many tallies are out. Where none is, those that came back have counted each report of the log.
+    pub fn tallies(&self) -> usize
+        ensures value { result ≡ self.now.tallies }
+        ensures few { result ≤ 128 }
+        ensures all { self.now.tallies ≡ 0 → self.now.joined ≡ reports_in self.now.kernel.log }
     {
-        let left = match self.work.stage() {
-            Stage::Between => 0,
-            Stage::Working(step) => self.play.steps().len() - step + 1,
-            Stage::Ended(_) => 1,
-        };
-        left + self.work.out()
+        self.tallies
+    }
+
+    /// How many reports the tallies had counted that came back.
+    pub fn joined(&self) -> usize
+        ensures { result ≡ self.now.joined }
+    {
+        self.joined
     }
 }

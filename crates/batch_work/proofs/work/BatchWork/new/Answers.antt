@@ -8,4 +8,4 @@ pub returns : goal.returns
 returns c =
     λ roll play hosts known.
     let shows = subst (λ (p : Play). ShowEach p (known_at c.args.vars.now) (λ host. []) c.in_ok-summaries.summaries.items) (sym play) c.in_ok-summaries.ensures.show in
-    work_starts roll c.args.vars.now _ (sym play) hosts known c.in_ok-summaries.ensures.all shows c.in_ok-turns.ensures refl c.new.ensures.items c.new-2.ensures.items refl
+    work_starts roll c.args.vars.now _ (sym play) hosts known c.in_ok-summaries.ensures.all shows c.in_ok-turns.ensures refl c.new-2.ensures.items c.new-3.ensures.items refl

@@ -11,7 +11,8 @@ use Rattle.batch_work.specs.Turns.{failed_at, is_within}
 use Rattle.batch_work.specs.Works.{phase_by, phase_of}
 use Rattle.batch_work.proofs.DueLemmas.{failures_alike, lined_in_batch}
 use Rattle.batch_work.proofs.LineUpLemmas.{lined_moved}
-use Rattle.batch_work.proofs.PassLemmas.{ends_with, later_is, phase_alike, work_ended, work_goes_on}
+use Rattle.roll_logs.proofs.WorkLemmas.{later_is}
+use Rattle.batch_work.proofs.PassLemmas.{ends_with, phase_alike, work_ended, work_goes_on}
 use Rattle.batch_work.proofs.work.BatchWork.pass.Goals as goal
 
 pub returns-in_default : goal.returns-in_default

@@ -1,62 +1,33 @@
-use Rattle.std.proofs.Common.{◌++◌, ◌∷◌, [], Option, List, sym, ap, ◌∙◌, subst, refl, arith}
-use Rattle.host_jobs.specs.Asking.{Request}
-use Rattle.roster.specs.Rosters.{RosterView}
+use Rattle.std.proofs.Common.{Option, rules, sym, subst, refl}
 use Rattle.roll_logs.specs.Events.{claimed}
-use Rattle.batch_work.specs.declared.taken.Taken.{Taken}
-use Rattle.batch_work.specs.Works.{IsClaim, IsTaken}
-use Rattle.roll_core.specs.declared.event.Event.{Event}
-use Rattle.roll_core.specs.declared.event.Event.TheVariants.{Claim}
-use Rattle.roll_core.specs.Claims.{IsClaimedAs, IsHandedOut}
-use Rattle.roll_core.specs.Views.{BoardView, roll_of, state_of, view_of}
-use Rattle.roll_core.specs.Inside.{owed_by}
-use Rattle.roll_core.proofs.HeldLemmas.{held_claimed}
-use Rattle.roll_core.proofs.KeptLemmas.{kept_grown, view_more}
-use Rattle.roll_core.proofs.PlaceLemmas.{owed_claimed}
-use Rattle.roll_core.proofs.StepLemmas.{stage_at, task_at}
+use Rattle.roll_kernel.specs.declared.claim.Handed.{Handed}
+use Rattle.roll_kernel.specs.Claims.{IsClaim, IsHandedOut}
+use Rattle.roll_kernel.specs.Views.{KernelView}
+use Rattle.roll_core.specs.Boards.{BoardView}
+use Rattle.roll_core.specs.Givings.{IsGiven}
+use Rattle.roll_core.specs.Inside.{IsKept}
+use Rattle.roll_core.proofs.GivingLemmas.{of_no_program}
+use Rattle.roll_core.proofs.GrowLemmas.{kept_quiet}
 use Rattle.roll_core.proofs.board.Board.claim.Goals as goal
 
+pub given_out-requires : goal.given_out-requires
+given_out-requires g c =
+    let out : IsHandedOut c.self.inside.kernel c.claim.new.self c.in-Some.handed = subst (λ (o : Option Handed). IsClaim c.self.inside.kernel c.claim.new.self o) c.in-Some.is c.in_ok-handed.ensures.ok in
+    (search rules, of_no_program out.host out.step _ c.in-Some.handed out.handed)
+
 pub invariant_of-self-2 : goal.invariant_of-self-2
-invariant_of-self-2 c =
-    let old = c.self.inside.roster in
-    let work = c.self.inside.work in
-    let new = c.lend-share.new.self in
-    let log = c.self.inside.log.items in
-    let board : BoardView = view_of old c.self.inside.play.now c.self.inside.forks c.self.inside.start.now c.self.inside.vars.now log in
-    let kept = c.self.invariant in
-    let taken = c.in-Some.taken in
-    let takes : IsTaken (roll_of board) (state_of board) c.claim.new.self taken = subst (λ (o : Option Taken). IsClaim (roll_of board) (state_of board) c.claim.new.self o) c.in-Some.is (c.in_ok-taken.ensures.ok (roll_of board) (state_of board) kept.held.works refl) in
-    let owes = owed_claimed (roll_of board) (state_of board) taken.host.index taken.step in
-    let owed = c.owed-owed.ensures ∙ ap (λ (v : BoardView). owed_by (roll_of v) (state_of v)) (sym c.self.view_is) in
-    let reserves = c.in_ok-reserve.ensures in
-    let grown = c.keep.ensures.items ∙ ap (λ (l : List Event). l ++ Claim taken.host taken.step ∷ []) reserves.items in
-    kept_grown old new c.self.inside.play.now c.self.inside.forks c.self.inside.start.now c.self.inside.vars.now log c.keep.new.log.items (Claim taken.host taken.step) (claimed taken.host.index taken.step) work c.claim.new.self _ _ kept refl (ap (λ (r : RosterView). r.fleet) c.lend-share.ensures.rest) grown takes.may
-    (held_claimed (roll_of board) (state_of board) old work kept.held taken.host.index taken.step new c.claim.new.self c.lend-share.ensures.rest takes.work)
-    (omega (arith, owes, owed, reserves.ok, reserves.len, c.self.inside.log.ok, c.keep.ensures.capacity))
+invariant_of-self-2 g c =
+    let out : IsHandedOut c.self.inside.kernel c.claim.new.self c.in-Some.handed = subst (λ (o : Option Handed). IsClaim c.self.inside.kernel c.claim.new.self o) c.in-Some.is c.in_ok-handed.ensures.ok in
+    let kept = kept_quiet (g.R.Runner.may c.self.inside.runner.now) c.self.inside.kernel c.self.inside.tallies c.self.inside.reports.total g.L.Ledger.parts c.self.inside.rest.parts c.self.inside.rest.amount c.self.inside.joined c.self.invariant (claimed out.host out.step) tt refl in
+    subst (λ (k : KernelView). IsKept (g.R.Runner.may c.self.inside.runner.now) k c.self.inside.tallies c.self.inside.reports.total g.L.Ledger.parts c.self.inside.rest.parts c.self.inside.rest.amount c.self.inside.joined) (sym out.grown) kept
 
 pub returns-clause-ok : goal.returns-clause-ok
-returns-clause-ok c =
-    let old = c.self.inside.roster in
-    let work = c.self.inside.work in
-    let new = c.lend-share.new.self in
-    let log = c.self.inside.log.items in
-    let view : RosterView → List Event → BoardView = λ r l. view_of r c.self.inside.play.now c.self.inside.forks c.self.inside.start.now c.self.inside.vars.now l in
-    let board : BoardView = view old log in
-    let kept = c.self.invariant in
-    let taken = c.in-Some.taken in
-    let takes : IsTaken (roll_of board) (state_of board) c.claim.new.self taken = subst (λ (o : Option Taken). IsClaim (roll_of board) (state_of board) c.claim.new.self o) c.in-Some.is (c.in_ok-taken.ensures.ok (roll_of board) (state_of board) kept.held.works refl) in
-    let at = stage_at work.stage taken.step (kept.held.works.phase ∙ takes.may.at) in
-    let task = task_at (roll_of board) (state_of board) work kept.held.works taken.step at in
-    let reserves = c.in_ok-reserve.ensures in
-    let grown = c.keep.ensures.items ∙ ap (λ (l : List Event). l ++ Claim taken.host taken.step ∷ []) reserves.items in
-    let seen = view_more old new c.self.inside.play.now c.self.inside.forks c.self.inside.start.now c.self.inside.vars.now log c.keep.new.log.items (Claim taken.host taken.step) (ap (λ (r : RosterView). r.fleet) c.lend-share.ensures.rest) grown in
-    let made : IsHandedOut board (view new c.keep.new.log.items) c.claimed.result = record {
-      host = taken.host.index;
-      step = taken.step;
-      task = task.0;
-      first = takes.first;
-      may = takes.may;
-      at = task.1;
-      handed = subst (λ (r : Request). IsClaimedAs taken.host.index taken.step r c.claimed.result) (takes.asks task.0 task.1) c.claimed.ensures;
-      grown = seen;
+returns-clause-ok g c =
+    let view : KernelView → BoardView g.row.R.Denot = λ k. record { kernel = k; runner = c.self.inside.runner.now; tallies = c.self.inside.tallies; joined = c.self.inside.joined } in
+    let made : IsGiven (view c.self.inside.kernel) (view c.claim.new.self) c.given_out.result = record {
+      handed = c.in-Some.handed;
+      claim = subst (λ (o : Option Handed). IsClaim c.self.inside.kernel c.claim.new.self o) c.in-Some.is c.in_ok-handed.ensures.ok;
+      as_given = c.given_out.ensures.same;
+      rest = refl;
     } in
-    subst (λ (v : BoardView). IsHandedOut v (view new c.keep.new.log.items) c.claimed.result) c.self.view_is made
+    subst (λ (v : BoardView g.row.R.Denot). IsGiven v (view c.claim.new.self) c.given_out.result) c.self.view_is made

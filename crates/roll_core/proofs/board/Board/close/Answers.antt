@@ -1,56 +1,18 @@
-use Rattle.std.proofs.Common.{◌≡◌, ℕ, Bool, true, false, if◌then◌else◌, List, sym, ap, ◌∙◌, subst, refl, arith, Option}
-use Rattle.std.proofs.lemmas.List.{length-map}
-use Rattle.fleet_numbers.specs.NumberLists.{has_number}
-use Rattle.domains.specs.Ids.{host_numbers}
-use Rattle.fleet_states.specs.declared.status.Status.{Status}
-use Rattle.fleet_states.specs.declared.status.Status.TheVariants.{Running, Failed}
-use Rattle.fleet_states.specs.Statuses.{is_down, status_at}
-use Rattle.host_track.specs.Tracks.{has_failed}
-use Rattle.roster.specs.Rosters.{HasChanged}
+use Rattle.std.proofs.Common.{◌≡◌, ℕ, Option, sym, subst, refl}
 use Rattle.roll_logs.specs.Columns.{Columns, EndsByColumns, Tells}
 use Rattle.roll_logs.specs.Events.{closed}
-use Rattle.roll_logs.specs.States.{at_rest, ended}
-use Rattle.roll_logs.proofs.ColumnFronts.{ends_by_columns}
-use Rattle.batch_work.specs.declared.stage.Stage.TheVariants.{Ended}
-use Rattle.roll_core.specs.declared.event.Event.TheVariants.{Close}
-use Rattle.roll_core.specs.Views.{BoardView, event_of, roll_of, state_of, view_of}
-use Rattle.roll_core.proofs.HeldLemmas.{held_closed}
-use Rattle.roll_core.proofs.KeptLemmas.{kept_at_work, kept_grown, kept_over_out, kept_phase}
-use Rattle.roll_core.proofs.PlaceLemmas.{owed_closed}
+use Rattle.roll_logs.specs.States.{ended}
+use Rattle.roll_kernel.specs.Views.{KernelView, roll_of, state_of}
+use Rattle.roll_core.specs.Boards.{BoardView}
+use Rattle.roll_core.specs.Inside.{IsKept}
+use Rattle.roll_core.proofs.GrowLemmas.{kept_quiet}
 use Rattle.roll_core.proofs.board.Board.close.Goals as goal
 
-down_in_batch : (failed : Bool) → is_down (if failed then Failed else Running) ≡ true
-down_in_batch true = refl
-down_in_batch false = refl
-
-pub finish-requires-clause-down : goal.finish-requires-clause-down
-finish-requires-clause-down c =
-    let board : BoardView = view_of c.self.inside.roster c.self.inside.play.now c.self.inside.forks c.self.inside.start.now c.self.inside.vars.now c.self.inside.log.items in
-    let state = state_of board in
-    let kept = c.self.invariant in
-    let members = ap host_numbers c.batch.ensures ∙ kept.held.works.batch in
-    λ host here.
-    let works = (kept_at_work board c.self.inside.roster c.self.inside.work _ kept).works host (sym (ap (has_number host) members) ∙ here) in
-    ap (λ (l : List Status). is_down (status_at l host)) kept.held.statuses ∙ ap is_down works ∙ down_in_batch (has_failed (state.rows host))
-
 pub invariant_of-self : goal.invariant_of-self
-invariant_of-self c =
-    let old = c.self.inside.roster in
-    let work = c.self.inside.work in
-    let log = c.self.inside.log.items in
-    let board : BoardView = view_of old c.self.inside.play.now c.self.inside.forks c.self.inside.start.now c.self.inside.vars.now log in
-    let kept = c.self.invariant in
-    let halt = c.in-Ended.halt in
-    let at = kept_phase board old work _ kept (Ended halt) (sym c.stage.ensures ∙ c.in-Ended.is) in
-    let members = ap host_numbers c.batch.ensures ∙ kept.held.works.batch in
-    let changes = subst (λ (l : List ℕ). HasChanged old c.finish.new.roster l (at_rest halt) false) members c.finish.ensures in
-    let over = c.end.ensures (roll_of board) (state_of board) halt kept.held.works at (kept_over_out board old work _ kept halt at) in
-    let owes = owed_closed (roll_of board) (state_of board) halt at in
-    kept_grown old c.finish.new.roster c.self.inside.play.now c.self.inside.forks c.self.inside.start.now c.self.inside.vars.now log c.keep.new.log.items Close closed work c.end.new.self _ _ kept refl c.finish.ensures.fleet c.keep.ensures.items (record { halt = halt; at = at })
-    (held_closed (roll_of board) (state_of board) old work kept.held halt c.finish.new.roster c.end.new.self at changes over)
-    (omega (arith, owes, kept.places, length-map log event_of, c.keep.ensures.capacity))
+invariant_of-self g c =
+    let kept = kept_quiet (g.R.Runner.may c.self.inside.runner.now) c.self.inside.kernel c.self.inside.tallies c.self.inside.reports.total g.L.Ledger.parts c.self.inside.rest.parts c.self.inside.rest.amount c.self.inside.joined c.self.invariant closed tt refl in
+    subst (λ (k : KernelView). IsKept (g.R.Runner.may c.self.inside.runner.now) k c.self.inside.tallies c.self.inside.reports.total g.L.Ledger.parts c.self.inside.rest.parts c.self.inside.rest.amount c.self.inside.joined) (sym c.close.ensures.event) kept
 
 pub returns-clause-tracks : goal.returns-clause-tracks
-returns-clause-tracks c =
-    let board : BoardView = view_of c.self.inside.roster c.self.inside.play.now c.self.inside.forks c.self.inside.start.now c.self.inside.vars.now c.self.inside.log.items in
-    subst (λ (v : BoardView). (columns : Columns) (halt : Option ℕ) → Tells columns v.log → (state_of v).phase ≡ ended halt → EndsByColumns (roll_of v) columns (state_of v) halt) c.self.view_is (λ columns halt tells at. ends_by_columns (roll_of board) board.log columns halt c.self.invariant.legal tells at)
+returns-clause-tracks g c =
+    subst (λ (v : BoardView g.row.R.Denot). (columns : Columns) (halt : Option ℕ) → Tells columns v.kernel.log → (state_of v.kernel).phase ≡ ended halt → EndsByColumns (roll_of v.kernel) columns (state_of v.kernel) halt) c.self.view_is c.close.ensures.tracks

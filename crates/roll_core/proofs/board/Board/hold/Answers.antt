@@ -1,27 +1,18 @@
-use Rattle.std.proofs.Common.{ℕ, ◌++◌, ◌∷◌, [], List, sym, ap, ◌∙◌, subst, arith}
+use Rattle.std.proofs.Common.{subst, refl}
+use Rattle.std.specs.Prelude.{IfErr}
 use Rattle.domains.specs.Ids.{host_numbers}
-use Rattle.roster.specs.Rosters.{RosterView}
 use Rattle.roll_logs.specs.Events.{set_aside}
-use Rattle.roll_logs.specs.Logs.{MaySetAside}
-use Rattle.roll_core.specs.declared.event.Event.{Event}
-use Rattle.roll_core.specs.declared.event.Event.TheVariants.{Hold}
-use Rattle.roll_core.specs.Views.{BoardView, roll_of, state_of, view_of}
-use Rattle.roll_core.proofs.HeldLemmas.{held_aside}
-use Rattle.roll_core.proofs.KeptLemmas.{kept_grown, kept_none_out}
-use Rattle.roll_core.proofs.PlaceLemmas.{owed_between}
+use Rattle.roll_kernel.specs.HoldRefusals.{IsHoldRefusalOf}
+use Rattle.roll_kernel.specs.Views.{roll_of, state_of}
+use Rattle.roll_core.specs.Boards.{BoardView}
+use Rattle.roll_core.proofs.GrowLemmas.{kept_either}
 use Rattle.roll_core.proofs.board.Board.hold.Goals as goal
 
-pub invariant_of-self-2 : goal.invariant_of-self-2
-invariant_of-self-2 c =
-    let old = c.self.inside.roster in
-    let new = c.set_all_aside.new.self in
-    let log = c.self.inside.log.items in
-    let board : BoardView = view_of old c.self.inside.play.now c.self.inside.forks c.self.inside.start.now c.self.inside.vars.now log in
-    let kept = c.self.invariant in
-    let numbers : List ℕ = host_numbers c.args.hosts.now in
-    let may = subst (λ (v : BoardView). MaySetAside (roll_of v) (state_of v) numbers) (sym (c.self.view_is ∙ c.in_ok-test_hold.ensures.same)) c.in_ok-test_hold.ensures.tells in
-    let none = owed_between (roll_of board) (state_of board) may.boundary (kept_none_out board old c.self.inside.work _ kept may.boundary) in
-    let reserves = c.in_ok-reserve.ensures in
-    let grown = c.keep.ensures.items ∙ ap (λ (l : List Event). l ++ Hold c.in_ok-batch.batch ∷ []) reserves.items in
-    kept_grown old new c.self.inside.play.now c.self.inside.forks c.self.inside.start.now c.self.inside.vars.now log c.keep.new.log.items (Hold c.in_ok-batch.batch) (set_aside numbers) c.self.inside.work c.self.inside.work _ _ kept (ap set_aside c.in_ok-batch.ensures) (ap (λ (r : RosterView). r.fleet) c.set_all_aside.ensures) grown may
-    (held_aside (roll_of board) (state_of board) old c.self.inside.work kept.held numbers new c.set_all_aside.ensures) (omega (arith, none, reserves.ok, reserves.len, c.self.inside.log.ok, c.keep.ensures.capacity))
+pub invariant_of-self : goal.invariant_of-self
+invariant_of-self g c =
+    kept_either (g.R.Runner.may c.self.inside.runner.now) c.self.inside.kernel c.self.inside.tallies c.self.inside.reports.total g.L.Ledger.parts c.self.inside.rest.parts c.self.inside.rest.amount c.self.inside.joined c.self.invariant
+    c.hold.result (set_aside (host_numbers c.args.hosts.now)) c.hold.new.self tt refl c.hold.ensures.ok c.hold.ensures.unchanged
+
+pub returns-clause-err : goal.returns-clause-err
+returns-clause-err g c =
+    subst (λ (v : BoardView g.row.R.Denot). IfErr c.hold.result (IsHoldRefusalOf (roll_of v.kernel) (state_of v.kernel) (host_numbers c.args.hosts.now))) c.self.view_is c.hold.ensures.err

@@ -1,17 +1,8 @@
 use Rattle.std.proofs.Common.{subst}
-use Rattle.roll_logs.proofs.RestFronts.{legal_rest}
-use Rattle.roll_logs.proofs.SafeFronts.{legal_fronts}
-use Rattle.roll_core.specs.Views.{BoardView, FrontsAreSafe, RestsAtBoundaries, roll_of, view_of}
+use Rattle.roll_kernel.specs.Views.{FrontsAreSafe, roll_of}
+use Rattle.roll_core.specs.Boards.{BoardView}
 use Rattle.roll_core.proofs.board.Board.log.Goals as goal
 
 pub returns-clause-safe : goal.returns-clause-safe
-returns-clause-safe c =
-    let kept = c.self.invariant in
-    let board : BoardView = view_of c.self.inside.roster c.self.inside.play.now c.self.inside.forks c.self.inside.start.now c.self.inside.vars.now c.self.inside.log.items in
-    subst (λ (v : BoardView). FrontsAreSafe (roll_of v) v.log) c.self.view_is (legal_fronts (roll_of board) board.log kept.safe kept.legal)
-
-pub returns-clause-rests : goal.returns-clause-rests
-returns-clause-rests c =
-    let kept = c.self.invariant in
-    let board : BoardView = view_of c.self.inside.roster c.self.inside.play.now c.self.inside.forks c.self.inside.start.now c.self.inside.vars.now c.self.inside.log.items in
-    subst (λ (v : BoardView). RestsAtBoundaries (roll_of v) v.log) c.self.view_is (legal_rest (roll_of board) board.log kept.rests kept.legal)
+returns-clause-safe g c =
+    subst (λ (v : BoardView g.row.R.Denot). FrontsAreSafe (roll_of v.kernel) v.kernel.log) c.self.view_is c.log.ensures.safe

@@ -1,72 +1,23 @@
-use Rattle.std.proofs.Common.{◌≡◌, true, Some, cond, sym, ap, ◌∙◌, subst, refl, arith}
-use Rattle.std.specs.List.{slice_get}
-use Rattle.std.proofs.lemmas.List.{length-map}
-use Rattle.group_tree.specs.declared.ids.HostId.{HostId}
-use Rattle.fleet_states.specs.declared.status.Status.{Status}
-use Rattle.fleet_states.specs.declared.status.Status.TheVariants.{Running, Failed}
-use Rattle.fleet_states.specs.Statuses.{is_down, status_at}
-use Rattle.play_model.specs.declared.play.Play.{Play}
-use Rattle.host_track.specs.Tracks.{step_at}
-use Rattle.outcome_results.specs.declared.outcome.Outcome.{Outcome}
+use Rattle.std.proofs.Common.{◌<◌, length, sym, subst, refl}
 use Rattle.outcome_results.specs.Endings.{ending_of}
-use Rattle.roster.specs.Rosters.{RosterView, with_host}
-use Rattle.roll_logs.specs.Events.{reported}
-use Rattle.roll_logs.specs.Logs.{MayReport}
-use Rattle.roll_logs.proofs.WorkLemmas.{runs}
-use Rattle.roll_core.specs.declared.event.Event.TheVariants.{Report}
-use Rattle.roll_core.specs.Claims.{IsOut}
-use Rattle.roll_core.specs.Views.{BoardView, event_of, roll_of, state_of, view_of}
-use Rattle.roll_core.specs.Ways.{outcome_in}
-use Rattle.roll_core.proofs.KeptLemmas.{kept_at_work, kept_grown}
-use Rattle.roll_core.proofs.PlaceLemmas.{owed_reported}
-use Rattle.roll_core.proofs.ReportLemmas.{held_reported}
-use Rattle.roll_core.proofs.StepLemmas.{may_report, out_given}
+use Rattle.roll_kernel.specs.Claims.{event_in}
+use Rattle.roll_kernel.specs.Views.{KernelView, roll_of, state_of}
+use Rattle.roll_kernel.specs.Ways.{outcome_in, request_of}
+use Rattle.roll_core.specs.Inside.{IsKept}
+use Rattle.roll_core.proofs.GrowLemmas.{end_by, kept_report, tells}
 use Rattle.roll_core.proofs.board.Board.report.Goals as goal
 
-pub enter-failed-requires-clause-place : goal.enter-failed-requires-clause-place
-enter-failed-requires-clause-place c =
-    let work = c.self.inside.work in
-    let board : BoardView = view_of c.self.inside.roster c.self.inside.play.now c.self.inside.forks c.self.inside.start.now c.self.inside.vars.now c.self.inside.log.items in
-    let works = c.self.invariant.held.works in
-    let out : IsOut (roll_of board) (state_of board) c.args.done = (c.is_out_for.ensures (roll_of board) (state_of board) works).0 c.if-not-is_out_for.false in
-    let given = out_given (roll_of board) (state_of board) work works c.args.done.share.host.index out.out in
-    λ summary task got named.
-    let here : slice_get work.summaries.items c.args.done.share.host.index ≡ Some summary = sym (ap (λ (h : HostId). slice_get work.summaries.items h.index) c.host-host.ensures) ∙ got in
-    let asks = sym (ap (λ (p : Play). step_at p c.args.done.step) works.play) ∙ named in
-    (works.given c.args.done.share.host.index c.args.done.step given.0 summary task given.1 here out.at asks).place
-
-pub rest-requires-clause-was : goal.rest-requires-clause-was
-rest-requires-clause-was c =
-    let work = c.self.inside.work in
-    let board : BoardView = view_of c.self.inside.roster c.self.inside.play.now c.self.inside.forks c.self.inside.start.now c.self.inside.vars.now c.self.inside.log.items in
-    let kept = c.self.invariant in
-    let out : IsOut (roll_of board) (state_of board) c.args.done = (c.is_out_for.ensures (roll_of board) (state_of board) kept.held.works).0 c.if-not-is_out_for.false in
-    let host = c.args.done.share.host.index in
-    ap is_down (ap (λ l. status_at l host) kept.held.statuses ∙ runs (roll_of board) (state_of board) host c.args.done.step (kept_at_work board c.self.inside.roster work _ kept) out.out out.at)
-
-pub invariant_of-self : goal.invariant_of-self
-invariant_of-self c =
-    let old = c.self.inside.roster in
-    let work = c.self.inside.work in
-    let log = c.self.inside.log.items in
-    let board : BoardView = view_of old c.self.inside.play.now c.self.inside.forks c.self.inside.start.now c.self.inside.vars.now log in
-    let kept = c.self.invariant in
-    let done = c.args.done in
-    let host : HostId = c.host-host.result in
-    let outcome : Outcome = c.into_outcome-outcome.result in
-    let out : IsOut (roll_of board) (state_of board) done = (c.is_out_for.ensures (roll_of board) (state_of board) kept.held.works).0 c.if-not-is_out_for.false in
-    let of_host = subst (λ (h : HostId). MayReport (roll_of board) (state_of board) h.index done.step (ending_of (outcome_in done.way))) (sym c.host-host.ensures) (may_report (roll_of board) (state_of board) done out) in
-    let may = subst (λ (o : Outcome). MayReport (roll_of board) (state_of board) host.index done.step (ending_of o)) (sym c.into_outcome-outcome.ensures) of_host in
-    let entered = c.enter-failed.ensures.work (roll_of board) (state_of board) kept.held.works may in
-    let failed = c.enter-failed.ensures.failed (roll_of board) (state_of board) kept.held.works may in
-    let shown : c.rest.new.self ≡ with_host old host.index (cond c.enter-failed.result Failed Running) true = c.rest.ensures ∙ ap (λ (h : HostId). with_host old h.index c.status_after.result true) (sym c.host-host.ensures) ∙ ap (λ (s : Status). with_host old host.index s true) c.status_after.ensures in
-    let owes = owed_reported (roll_of board) (state_of board) host.index done.step (ending_of outcome) kept.held.works.single may.claimed in
-    kept_grown old c.rest.new.self c.self.inside.play.now c.self.inside.forks c.self.inside.start.now c.self.inside.vars.now log c.keep.new.log.items (Report host done.step outcome) (reported host.index done.step (ending_of outcome)) work c.enter-failed.new.self _ _ kept refl (ap (λ (r : RosterView). r.fleet) c.rest.ensures) c.keep.ensures.items may
-    (held_reported (roll_of board) (state_of board) old work kept.held (kept_at_work board old work _ kept) host.index done.step (ending_of outcome) may c.enter-failed.result c.rest.new.self c.enter-failed.new.self failed shown entered)
-    (omega (arith, owes, kept.places, length-map log event_of, c.keep.ensures.capacity))
-
-pub returns-clause-allowed : goal.returns-clause-allowed
-returns-clause-allowed c =
-    let board : BoardView = view_of c.self.inside.roster c.self.inside.play.now c.self.inside.forks c.self.inside.start.now c.self.inside.vars.now c.self.inside.log.items in
-    let out : IsOut (roll_of board) (state_of board) c.args.done = (c.is_out_for.ensures (roll_of board) (state_of board) c.self.invariant.held.works).0 c.if-not-is_out_for.false in
-    subst (λ (v : BoardView). IsOut (roll_of v) (state_of v) c.args.done) c.self.view_is out
+pub invariant_of-self-2 : goal.invariant_of-self-2
+invariant_of-self-2 g c =
+    let old = c.self.inside in
+    let completion = c.done.inside.completion in
+    let may = g.R.Runner.may old.runner.now in
+    -- what the runner keeps it keeps in this world
+    let laws = g.met.R.Runner g.world.𝓛 g.world.𝓜 g.world.𝓡 ((λ s x. x), (λ x. x), (λ x. x), λ x. x) in
+    let alike = c.same.ensures.0 c.if-not-same.false in
+    let mine = end_by (g.R.Runner.may c.done.inside.runner.now) may (λ work ending. (laws.one_relation old.runner.now c.done.inside.runner.now alike work ending).1) completion.share.host.index completion.step (request_of completion.way) (ending_of (outcome_in completion.way)) c.done.invariant in
+    let told = tells may (roll_of old.kernel) (state_of old.kernel) completion c.in-Ok.ensures.allowed mine in
+    let counted = c.count_one.ensures in
+    let now = c.count_one.new in
+    let kept = kept_report may old.kernel old.tallies old.reports.total g.L.Ledger.parts old.rest.parts old.rest.amount old.joined c.self.invariant (event_in completion) now.reports.total now.rest.parts now.rest.amount told refl counted.total counted.parts counted.amount counted.apart (subst (λ (k : KernelView). length k.log < 9223372036854775808) c.in-Ok.ensures.ok c.in-Ok.ensures.few) in
+    subst (λ (k : KernelView). IsKept may k old.tallies now.reports.total g.L.Ledger.parts now.rest.parts now.rest.amount old.joined) (sym c.in-Ok.ensures.ok) kept

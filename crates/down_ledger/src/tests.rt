@@ -1,4 +1,0 @@
-//! Ledgers that are worked by hand, and want of memory.
-mod memory;
-mod text;
-mod worked;

@@ -1,0 +1,36 @@
+//! A roll is over.
+ghost use Rattle.std.specs.Prelude.{◌≡◌, length};
+ghost use Rattle.roll_logs.specs.Logs.{IsLegal};
+ghost use Rattle.roll_logs.specs.States.{start_state};
+ghost use Rattle.roll_kernel.specs.Leavings.{AreCounted, AreKnown};
+ghost use Rattle.roll_kernel.specs.Views.{FrontsAreSafe, RestsAtBoundaries, events_of, roll_of, state_of};
+ghost use Rattle.roll_core.specs.Runners.{AreTold};
+
+use crate::board::Board;
+use crate::runner::Runner;
+use roll_kernel::Finished;
+use std::sync::ledger::Ledger;
+
+impl<'f, R: Runner, L: Ledger> Board<'f, R, L> {
+    /// Hands out the log and what is left of each host, also while a batch is open: its hosts are down then. It takes no memory.
+    pub fn finish(self) -> Finished
+        ensures log { events_of result.log.items ≡ self.entry.kernel.log }
+        ensures legal { IsLegal (roll_of self.entry.kernel) (start_state (roll_of self.entry.kernel)) self.entry.kernel.log }
+        ensures safe { FrontsAreSafe (roll_of self.entry.kernel) self.entry.kernel.log }
+        ensures rests { RestsAtBoundaries (roll_of self.entry.kernel) self.entry.kernel.log }
+        ensures told { AreTold (R.may self.entry.runner) (roll_of self.entry.kernel) (start_state (roll_of self.entry.kernel)) self.entry.kernel.log }
+        ensures statuses { result.statuses.items ≡ (state_of self.entry.kernel).statuses }
+        ensures vars { AreKnown (roll_of self.entry.kernel) (state_of self.entry.kernel) result.vars.items }
+        ensures counts { AreCounted (roll_of self.entry.kernel) (state_of self.entry.kernel) result.counts.items }
+    {
+        let Board {
+            kernel,
+            runner: _,
+            reports: _,
+            rest: _,
+            tallies: _,
+            joined: _,
+        } = self;
+        kernel.finish()
+    }
+}

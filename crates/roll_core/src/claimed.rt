@@ -1,0 +1,31 @@
+//! What a worker is given.
+ghost use Rattle.roll_core.specs.Givings.{HasItsGo, IsGivenAs, IsOfNoProgram};
+
+use crate::done::Done;
+use crate::go::Go;
+use crate::runner::Runner;
+use roll_kernel::{Claim, Handed};
+
+/// What a board hands out.
+#[derive(Drop)]
+pub enum Claimed<'r, R: Runner> {
+    /// A program is to run, once.
+    Run(Claim, Go),
+    /// None is: the step is skipped, a name has no value, or a word is too long. The step isn't passed until it is reported.
+    Settled(Done<'r, R>),
+}
+
+/// What is handed out, with the leave to run its program, or with the runner of the board.
+pub(crate) fn given_out<'r, R: Runner>(handed: Handed, runner: &'r R) -> Claimed<'r, R>
+    requires { IsOfNoProgram handed }
+    ensures same { IsGivenAs runner.now handed result }
+    ensures leave { HasItsGo result }
+{
+    match handed {
+        Handed::Run(claim) => {
+            let go = Go::of(claim.job());
+            Claimed::Run(claim, go)
+        }
+        Handed::Settled(completion) => Claimed::Settled(Done::of(completion, runner)),
+    }
+}

@@ -1,0 +1,46 @@
+//! Whoever runs programs.
+ghost use Rattle.std.specs.Prelude.{◌≡◌, Decides, true, IfOk};
+ghost use Rattle.outcome_results.specs.Endings.{Ending, ending_of};
+ghost use Rattle.roll_logs.specs.Rolls.{is_of_program};
+ghost use Rattle.roll_core.specs.Leaves.{IsGoOf};
+ghost use Rattle.roll_core.specs.Runners.{Work, work_of};
+
+use crate::go::Go;
+use outcome_results::Outcome;
+use roll_kernel::Job;
+use std::alloc::{AllocError, Global};
+use std::process::{Processes, SystemProcess};
+use std::sync::Wait;
+use std::thread::Threads;
+
+/// Runs the programs of a roll, from many threads at once. How a program may end, by this runner, is its relation `may`; runners that are
+/// `alike` have the same.
+pub trait Runner: Sync {
+    /// This work may end so.
+    ghost may: { Self → Work → Ending → Type 0 };
+
+    /// The two may tell the same of each work.
+    ghost alike: { Self → Self → Type 0 };
+
+    /// Runs the program of the job and waits for its end, which is `Ran`, `NotStarted` or `Lost`. A board makes one `go` for a host
+    /// and step, and it is used up here.
+    fn run<H: Threads + Wait + Processes<Started = SystemProcess> + Sync>(
+        &self,
+        rt: &H,
+        alloc: Global,
+        go: Go,
+        job: &Job,
+    ) -> Result<Outcome, AllocError>
+        requires { IsGoOf go job.now }
+        ensures program { IfOk result (λ outcome. is_of_program (ending_of outcome) ≡ true) }
+        ensures allowed { IfOk result (λ outcome. may self.now (work_of job.now) (ending_of outcome)) };
+
+    /// Whether the two are alike. It takes no memory.
+    fn same(&self, other: &Self) -> bool
+        ensures { Decides result (alike self.now other.now) };
+
+    ghost itself: { (runner : Self) → alike runner runner };
+
+    ghost one_relation: { (one other : Self) → alike one other → (work : Work) (ending : Ending)
+        → (may one work ending → may other work ending) × (may other work ending → may one work ending) };
+}

@@ -1,0 +1,10 @@
+mod FewLemmas
+mod LogLemmas
+mod PlaceLemmas
+mod HeldLemmas
+mod ReportLemmas
+mod StepLemmas
+mod KeptLemmas
+mod WayLemmas
+mod ClosingLemmas
+mod LeavingLemmas

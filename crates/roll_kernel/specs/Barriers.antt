@@ -1,0 +1,40 @@
+-- A step of a batch is over.
+use Rattle.std.specs.Prelude.{◌≡◌, ℕ, Bool, true, false, Option, Some, None, find}
+use Rattle.batch_work.specs.Works.{is_awaited_in}
+use Rattle.roll_logs.specs.Rolls.{Roll}
+use Rattle.roll_logs.specs.Events.{passed}
+use Rattle.roll_logs.specs.States.{Phase, State, between, working, ended}
+use Rattle.roll_logs.specs.Logs.{MayPass}
+use Rattle.roll_kernel.specs.declared.next.Next.{Next}
+use Rattle.roll_kernel.specs.declared.next.Next.TheVariants.{Step, BatchEnd, Halt}
+use Rattle.roll_kernel.specs.Views.{KernelView, roll_of, state_of, with_event}
+
+-- a batch is at a step
+abbrev pub is_working : Phase → Bool
+is_working between = false
+is_working (working step) = true
+is_working (ended halt) = false
+
+-- a batch has ended, and is not closed
+abbrev pub is_over : Phase → Bool
+is_over between = false
+is_over (working step) = false
+is_over (ended halt) = true
+
+-- the first host of the batch on which the present step is due and that has not reported it
+abbrev pub first_busy : Roll → State → Option ℕ
+first_busy roll state = find (is_awaited_in roll state) state.batch
+
+-- what is told of a batch that goes on so; one that passed a step is never between
+abbrev pub next_by : Phase → Next
+next_by between = BatchEnd
+next_by (working step) = Step
+next_by (ended None) = BatchEnd
+next_by (ended (Some halt)) = Halt
+
+-- the batch has passed its step, and this comes next
+pub record HasPassed (old new : KernelView) (told : Next) : Type 0 where
+  pub step : ℕ
+  pub may : MayPass (roll_of old) (state_of old) step
+  pub grown : new ≡ with_event old (passed step)
+  pub next : told ≡ next_by (state_of new).phase

@@ -1,0 +1,86 @@
+-- What a kernel hands out, and what it takes back.
+use Rattle.std.specs.Prelude.{◌≡◌, ℕ, ◌≤◌, ◌⊎◌, true, Option, Some, None, find, length, map, string_bytes}
+use Rattle.fleet_numbers.specs.NumberLists.{has_number}
+use Rattle.play_model.specs.declared.step.Step.{Step}
+use Rattle.outcome_results.specs.declared.outcome.Outcome.{Outcome}
+use Rattle.outcome_results.specs.Endings.{ending_of}
+use Rattle.host_jobs.specs.Asking.{Request, asks, job, settled}
+use Rattle.host_track.specs.Tracks.{known_after, step_at}
+use Rattle.roll_logs.specs.Rolls.{Roll}
+use Rattle.roll_logs.specs.Events.{Event, claimed, reported}
+use Rattle.roll_logs.specs.States.{State, working}
+use Rattle.roll_logs.specs.Logs.{MayClaim}
+use Rattle.batch_work.specs.Works.{is_free}
+use Rattle.roll_kernel.specs.declared.claim.Claim.{Claim}
+use Rattle.roll_kernel.specs.declared.claim.Handed.{Handed}
+use Rattle.roll_kernel.specs.declared.claim.Handed.TheVariants.{Run, Settled}
+use Rattle.roll_kernel.specs.declared.completion.Completion.{Completion}
+use Rattle.roll_kernel.specs.declared.way.Way.TheVariants.{Program}
+use Rattle.roll_kernel.specs.Ways.{outcome_in, request_of}
+use Rattle.roll_kernel.specs.Views.{KernelView, roll_of, state_of, with_event}
+
+-- what a step asks of a host as its rows stand
+abbrev pub asked_of : Roll → State → ℕ → Step → Request
+asked_of roll state host task =
+    asks (known_after roll.play (roll.known host) (state.rows host)) task
+
+-- a claim of the host for the step, whose program this request asks for
+pub record IsRun (host step : ℕ) (request : Request) (claim : Claim) : Type 0 where
+  pub of_host : claim.job.host.index ≡ host
+  pub of_step : claim.job.step ≡ step
+  pub words : request ≡ job (map string_bytes claim.job.words.items)
+
+-- how the step ended on the host by itself, as this request has it
+pub record IsSettled (host step : ℕ) (request : Request) (completion : Completion) : Type 0 where
+  pub of_host : completion.share.host.index ≡ host
+  pub of_step : completion.step ≡ step
+  pub outcome : request ≡ settled (ending_of (outcome_in completion.way))
+  pub asked : request_of completion.way ≡ request
+
+abbrev pub IsClaimedAs : ℕ → ℕ → Request → Handed → Type 0
+IsClaimedAs host step request (Run claim) = IsRun host step request claim
+IsClaimedAs host step request (Settled completion) = IsSettled host step request completion
+
+-- the first host of the batch on which the present step is due and that nobody has taken was handed out, with what the step
+-- asks of it
+pub record IsHandedOut (old new : KernelView) (out : Handed) : Type 0 where
+  pub host : ℕ
+  pub step : ℕ
+  pub task : Step
+  pub first : find (is_free (roll_of old) (state_of old)) (state_of old).batch ≡ Some host
+  pub may : MayClaim (roll_of old) (state_of old) host step
+  pub at : step_at old.play step ≡ Some task
+  pub handed : IsClaimedAs host step (asked_of (roll_of old) (state_of old) host task) out
+  pub grown : new ≡ with_event old (claimed host step)
+
+-- nothing was: no host is free, or as many claims are out as there are forks
+pub record IsNobody (old new : KernelView) : Type 0 where
+  pub same : new ≡ old
+  pub why : (find (is_free (roll_of old) (state_of old)) (state_of old).batch ≡ None) ⊎ (old.forks ≤ length (state_of old).out)
+
+abbrev pub IsClaim : KernelView → KernelView → Option Handed → Type 0
+IsClaim old new None = IsNobody old new
+IsClaim old new (Some out) = IsHandedOut old new out
+
+-- the program of the claim ended so
+pub record IsCompletionOf (claim : Claim) (outcome : Outcome) (completion : Completion) : Type 0 where
+  pub share : completion.share ≡ claim.share
+  pub step : completion.step ≡ claim.job.step
+  pub way : completion.way ≡ Program claim.job.words outcome
+
+-- the report that it is
+abbrev pub event_in : Completion → Event
+event_in completion = reported completion.share.host.index completion.step (ending_of (outcome_in completion.way))
+
+-- the kernel waits for just this: the host is out, at this step, and was asked for these words or for this settled outcome
+pub record IsOut (roll : Roll) (state : State) (completion : Completion) : Type 0 where
+  pub at : state.phase ≡ working completion.step
+  pub out : has_number completion.share.host.index state.out ≡ true
+  pub task : Step
+  pub is : step_at roll.play completion.step ≡ Some task
+  pub asked : request_of completion.way ≡ asked_of roll state completion.share.host.index task
+
+-- it is handed back, since no such claim is out
+pub record IsStranger (roll : Roll) (state : State) (completion back : Completion) : Type 0 where
+  pub same : back ≡ completion
+  pub why : IsOut roll state completion → ⊥

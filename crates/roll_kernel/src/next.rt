@@ -1,0 +1,27 @@
+//! What comes after a barrier.
+ghost use Rattle.std.specs.Prelude.{◌≡◌};
+ghost use Rattle.batch_work.specs.Works.{phase_of};
+ghost use Rattle.roll_kernel.specs.Barriers.{next_by};
+
+use batch_work::Stage;
+
+#[derive(Clone, Copy, Debug, PartialEq, Eq)]
+pub enum Next {
+    /// The next step of the play.
+    Step,
+    /// The batch is over, and is to be closed: it passed the last step, or each of its hosts has failed.
+    BatchEnd,
+    /// More hosts of the batch have failed than the play allows: it is to be closed, and its live hosts are halted.
+    Halt,
+}
+
+/// What a batch does that has passed a step.
+pub(crate) fn next_of(stage: Stage) -> Next
+    ensures { result ≡ next_by (phase_of stage) }
+{
+    match stage {
+        Stage::Between | Stage::Ended(None) => Next::BatchEnd,
+        Stage::Working(_) => Next::Step,
+        Stage::Ended(Some(_)) => Next::Halt,
+    }
+}

@@ -1,0 +1,101 @@
+#!/bin/sh
+# What a worker may do once alone: a second use of a leave, a claim or a `Done`, and a tally that is forgotten, are refused before any proof.
+# It needs `rt`; nothing has to be built.
+set -u
+top=$(cd "$(dirname "$0")/.." && pwd)
+work=$(mktemp -d)
+trap 'rm -rf "$work"' EXIT
+passed=0
+failed=0
+
+# A repository of roll_core, of what it stands on, and of a crate that uses it.
+mkdir -p "$work/crates/once/src"
+cp "$top/HANDLES" "$work"
+(cd "$work" && git init -q .)
+: >"$work/crates.txt"
+add() {
+    [ -e "$work/crates/$1" ] && return
+    line=$(grep "^$1:" "$top/crates.txt") || return
+    mkdir "$work/crates/$1"
+    for part in src specs proofs; do
+        [ -d "$top/crates/$1/$part" ] && cp -r "$top/crates/$1/$part" "$work/crates/$1"
+    done
+    echo "$line" >>"$work/crates.txt"
+    for below in ${line#*:}; do
+        add "$below"
+    done
+}
+add roll_core
+echo 'once: roll_core' >>"$work/crates.txt"
+
+# tried WANTED: what `rt` says first of a crate with the function on standard input
+tried() {
+    {
+        cat <<'SOURCE'
+//! A worker.
+#![tactic(auto)]
+
+ghost use Rattle.roll_core.specs.Leaves.{IsGoOf};
+
+use roll_core::{Claim, Done, Go, Job, Outcome, Runner, Tally};
+use std::alloc::{AllocError, Global};
+use std::process::{Processes, SystemProcess};
+use std::sync::Wait;
+use std::sync::ledger::Ledger;
+use std::thread::Threads;
+
+#[cfg(test)]
+mod tests {
+    #[test]
+    fn it_is_read() {}
+}
+
+SOURCE
+        cat
+    } >"$work/crates/once/src/lib.rt"
+    said=$(cd "$work/crates/once" && rt try --test 2>&1)
+    if echo "$said" | grep -q "$1"; then
+        passed=$((passed + 1))
+    else
+        failed=$((failed + 1))
+        echo "FAILED: $1 is not said"
+        echo "$said" | tail -5
+    fi
+}
+
+tried 'test tests::it_is_read ... ok' <<'E2'
+pub fn report_once<R: Runner>(done: Done<'_, R>) -> Done<'_, R> {
+    done
+}
+E2
+tried 'error\[borrow-e0382\]: use of moved value: `go`' <<'E2'
+pub fn run_twice<R: Runner, H: Threads + Wait + Processes<Started = SystemProcess> + Sync>(
+    runner: &R,
+    rt: &H,
+    alloc: Global,
+    go: Go,
+    job: &Job,
+) -> Result<(Outcome, Outcome), AllocError>
+    requires { IsGoOf go job.now }
+{
+    let first = runner.run(rt, alloc, go, job)?;
+    let second = runner.run(rt, alloc, go, job)?;
+    Ok((first, second))
+}
+E2
+tried 'error\[borrow-e0382\]: use of moved value: `claim`' <<'E2'
+pub fn claim_twice(claim: Claim) -> (Claim, Claim) {
+    (claim, claim)
+}
+E2
+tried 'error\[borrow-e0382\]: use of moved value: `done`' <<'E2'
+pub fn report_twice<'r, R: Runner>(done: Done<'r, R>) -> (Done<'r, R>, Done<'r, R>) {
+    (done, done)
+}
+E2
+tried 'error\[linear-value-let-go\]: `_tally` is let go where its block ends, and `Tally<L>` is not `Drop`' <<'E2'
+pub fn forget<L: Ledger>(_tally: Tally<L>) {}
+E2
+
+echo "$passed passed, $failed failed"
+[ "$failed" -eq 0 ]
