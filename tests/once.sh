@@ -1,5 +1,6 @@
 #!/bin/sh
-# What a worker may do once alone: a second use of a leave, a claim or a `Done`, and a tally that is forgotten, are refused before any proof.
+# What a worker may do once alone, or not at all: a second use of a leave, a claim or a `Done`, a tally that is forgotten, and a job with other
+# words are refused before any proof.
 # It needs `rt`; nothing has to be built.
 set -u
 top=$(cd "$(dirname "$0")/.." && pwd)
@@ -95,6 +96,11 @@ pub fn report_twice<'r, R: Runner>(done: Done<'r, R>) -> (Done<'r, R>, Done<'r, 
 E2
 tried 'error\[linear-value-let-go\]: `_tally` is let go where its block ends, and `Tally<L>` is not `Drop`' <<'E2'
 pub fn forget<L: Ledger>(_tally: Tally<L>) {}
+E2
+tried 'error\[private-field\]: field `words` of struct `Job` is private' <<'E2'
+pub fn run_other_words(alloc: Global, job: &Job) -> Job {
+    Job { host: job.host(), step: job.step(), words: Vec::new(alloc) }
+}
 E2
 
 echo "$passed passed, $failed failed"

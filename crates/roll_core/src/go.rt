@@ -17,8 +17,8 @@ impl Go {
         ensures { IsGoOf result job.now }
     {
         Go {
-            host: job.host,
-            step: job.step,
+            host: job.host(),
+            step: job.step(),
         }
     }
 }

@@ -114,7 +114,7 @@ fn take<'s, L: Ledger, H: Threads + Wait + Processes<Started = SystemProcess> + 
         None => return Ok(Turn::Idle),
         Some(Claimed::Settled(done)) => done,
         Some(Claimed::Run(claim, go)) => {
-            let host = claim.job().host;
+            let host = claim.job().host();
             let Ok(outcome) = script.run(rt, alloc, go, claim.job()) else {
                 board.strand(claim);
                 return Ok(Turn::Stranded(host));

@@ -30,7 +30,7 @@ impl Runner for Script {
         _go: Go,
         job: &Job,
     ) -> Result<Outcome, AllocError> {
-        outcome_of(alloc, self.rows.as_slice(), job.host, job.step)
+        outcome_of(alloc, self.rows.as_slice(), job.host(), job.step())
     }
 
     fn same(&self, other: &Script) -> bool {

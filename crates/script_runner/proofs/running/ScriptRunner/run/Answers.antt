@@ -9,4 +9,4 @@ pub returns-clause-program : goal.returns-clause-program
 returns-clause-program g c =
     let rows = c.as_slice.result.now in
     let run = subst (λ (l : List Row). AreRun (lines_of l)) (sym c.as_slice.ensures.value) c.self.invariant in
-    if_ok c.outcome_of.result (λ outcome told. ap is_of_program told ∙ told_run (lines_of rows) c.args.job.now.host.index c.args.job.now.step run) c.outcome_of.ensures
+    if_ok c.outcome_of.result (λ outcome told. ap is_of_program told ∙ told_run (lines_of rows) c.host.result.index c.step.result run) c.outcome_of.ensures
