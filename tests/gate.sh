@@ -25,7 +25,7 @@ counted() {
 
 if [ $# -eq 0 ]; then
     counted rt ci
-    set -- cli memory once readme
+    set -- cli broken memory once readme
 fi
 for script in "$@"; do
     [ -e "tests/$script.sh" ] || continue

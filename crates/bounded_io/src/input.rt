@@ -6,9 +6,6 @@ use crate::input_fault::InputFault;
 use crate::reader::Input;
 use std::alloc::Global;
 
-#[cfg(test)]
-mod tests;
-
 /// The longest input, in bytes.
 pub const MAX_INPUT: usize = 16_777_216;
 

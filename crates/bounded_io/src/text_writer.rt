@@ -8,9 +8,6 @@ use crate::write_fault::WriteFault;
 use itoa::Buffer;
 use std::io::Write;
 
-#[cfg(test)]
-mod tests;
-
 /// Writes a text piece by piece, and tells at the end how much of it went out. Pieces are held back, so that they go
 /// out in large writes; it takes no memory. After a fault it drops what comes, so no piece has to be looked after by
 /// itself. It can't be dropped, so that no fault gets lost: `finish` ends the text.

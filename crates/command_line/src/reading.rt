@@ -14,9 +14,6 @@ use clap::error::ErrorKind;
 use clap::{ArgMatches, Error};
 use std::alloc::{AllocError, Global};
 
-#[cfg(test)]
-mod tests;
-
 /// The line that the words say, the program's name left out. No words at all say `limits` with the inventory on
 /// standard input.
 pub fn line(alloc: Global, words: &[String]) -> Result<Line, LineFault>

@@ -10,8 +10,6 @@ mod run;
 mod source;
 mod status;
 mod system;
-#[cfg(test)]
-mod tests;
 mod words;
 
 use crate::run::run;
