@@ -5,6 +5,8 @@ use crate::rolled::{Table, roll, script_of, show_hosts, show_left, show_log};
 use crate::setting::{board_of, set_up};
 use group_tree::HostId;
 use made_plays::{End, group};
+use roll_core::Board;
+use script_runner::Script;
 use std::alloc::Global;
 use std::marker::Brand;
 use std::process::{Processes, SystemProcess};
@@ -75,7 +77,38 @@ const ROWS: [Row; 5] = [
     },
 ];
 
-/// All hosts of the row in one batch, with two forks: the log and the hosts, by the board and by what it leaves.
+/// Opens a batch of all hosts and brings it to its end.
+fn run_batch<'s, L: Ledger, H: Threads + Wait + Processes<Started = SystemProcess> + Sync>(
+    rt: &H,
+    alloc: Global,
+    board: &mut Board<'s, Script, L>,
+    hosts: usize,
+) -> Result<(), Fail> {
+    let mut batch = Vec::new(alloc);
+    for index in 0..hosts {
+        batch.push(HostId { index })?;
+    }
+    if batch.is_empty() || board.open(alloc, batch.as_slice()).is_err() {
+        return Err(Fail::new("the batch was not opened"));
+    }
+    roll(rt, alloc, board)
+}
+
+/// The log and the hosts, by the board and by what it leaves.
+fn show_end<'s, L: Ledger>(
+    alloc: Global,
+    board: Board<'s, Script, L>,
+) -> Result<(String, String, String), Fail> {
+    let hosts = show_hosts(alloc, &board)?;
+    let left = board.finish();
+    Ok((
+        show_log(alloc, left.log.as_slice())?,
+        hosts,
+        show_left(alloc, &left)?,
+    ))
+}
+
+/// All hosts of the row in one batch, with two forks.
 fn rolled<L: Ledger, H: Threads + Wait + Processes<Started = SystemProcess> + Sync>(
     rt: &H,
     alloc: Global,
@@ -89,21 +122,8 @@ fn rolled<L: Ledger, H: Threads + Wait + Processes<Started = SystemProcess> + Sy
     let setting = set_up(alloc, group(alloc, row.hosts, "")?, row.play)?;
     let script = script_of(alloc, row.table)?;
     let mut board = board_of::<L>(alloc, &setting, &script, 2, blank)?;
-    let mut batch = Vec::new(alloc);
-    for index in 0..row.hosts.len() {
-        batch.push(HostId { index })?;
-    }
-    if batch.is_empty() || board.open(alloc, batch.as_slice()).is_err() {
-        return Err(Fail::new("the batch was not opened"));
-    }
-    roll(rt, alloc, &mut board)?;
-    let hosts = show_hosts(alloc, &board)?;
-    let left = board.finish();
-    Ok((
-        show_log(alloc, left.log.as_slice())?,
-        hosts,
-        show_left(alloc, &left)?,
-    ))
+    run_batch(rt, alloc, &mut board, row.hosts.len())?;
+    show_end(alloc, board)
 }
 
 #[test]
