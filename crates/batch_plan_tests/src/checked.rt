@@ -44,31 +44,40 @@ fn is_forced(
     Ok(check_plan(fleet, statuses.as_slice(), None, &plan))
 }
 
+const WHOLE: &[&[usize]] = &[&[0, 3], &[1, 4], &[2]];
+
+const PAST: usize = usize::MAX;
+
 #[test]
 fn a_plan_is_forced_whatever_the_order_of_its_hosts(rt: HostRuntime) -> Result<(), Fail> {
     let fleet = fleet_of(rt.alloc(), region(rt.alloc(), 1, 2)?)?;
-    let three = rack_bound(3);
-    assert!(rt; is_forced(rt.alloc(), &fleet, &[&[0, 3], &[1, 4], &[2]], three)?);
-    assert!(rt; is_forced(rt.alloc(), &fleet, &[&[3, 0], &[4, 1], &[2]], three)?);
-    assert!(rt; !is_forced(rt.alloc(), &fleet, &[&[0, 3], &[1, 2], &[4]], three)?);
-    assert!(rt; !is_forced(rt.alloc(), &fleet, &[&[0, 3], &[1, 4], &[2]], rack_bound(4))?);
+    for (batches, bound, forced) in [
+        (WHOLE, rack_bound(3), true),
+        (&[&[3, 0][..], &[4, 1], &[2]][..], rack_bound(3), true),
+        (&[&[0, 3][..], &[1, 2], &[4]][..], rack_bound(3), false),
+        (WHOLE, rack_bound(4), false),
+    ] {
+        assert!(rt; is_forced(rt.alloc(), &fleet, batches, bound)? == forced);
+    }
     Ok(())
 }
 
 #[test]
 fn what_no_host_has_is_no_plan(rt: HostRuntime) -> Result<(), Fail> {
     let fleet = fleet_of(rt.alloc(), region(rt.alloc(), 1, 2)?)?;
-    let three = rack_bound(3);
-    let past = usize::MAX;
-    assert!(rt; !is_forced(rt.alloc(), &fleet, &[&[0, 3], &[1, 4], &[2, 5]], three)?);
-    assert!(rt; !is_forced(rt.alloc(), &fleet, &[&[0, 3], &[1, 4], &[2, past]], three)?);
-    assert!(rt; !is_forced(rt.alloc(), &fleet, &[&[0, 3], &[1, 4], &[]], three)?);
-    assert!(rt; !is_forced(rt.alloc(), &fleet, &[&[0, 3], &[1, 4], &[2, 3]], three)?);
     let nowhere = Bound::Group {
-        group: GroupId { index: past },
+        group: GroupId { index: PAST },
         waiting: 3,
         room: 1,
     };
-    assert!(rt; !is_forced(rt.alloc(), &fleet, &[&[0, 3], &[1, 4], &[2]], nowhere)?);
+    for (batches, bound) in [
+        (&[&[0, 3][..], &[1, 4], &[2, 5]][..], rack_bound(3)),
+        (&[&[0, 3][..], &[1, 4], &[2, PAST]][..], rack_bound(3)),
+        (&[&[0, 3][..], &[1, 4], &[]][..], rack_bound(3)),
+        (&[&[0, 3][..], &[1, 4], &[2, 3]][..], rack_bound(3)),
+        (WHOLE, nowhere),
+    ] {
+        assert!(rt; !is_forced(rt.alloc(), &fleet, batches, bound)?);
+    }
     Ok(())
 }

@@ -76,19 +76,33 @@ fn count_again(alloc: Global, fleet: &Fleet, statuses: &[Status]) -> Result<usiz
     }
 }
 
-#[test]
-fn a_call_that_was_refused_memory_answers_again(rt: HostRuntime) -> Result<(), Fail> {
-    let Ok(tree) = Tree::new(region_again(rt.alloc())?) else {
-        return Err(Fail::new("no tree"));
-    };
-    let fleet = build_again(rt.alloc(), &tree)?;
-    let statuses = start_again(rt.alloc(), &fleet)?;
-    assert_eq!(rt; count_again(rt.alloc(), &fleet, statuses.as_slice())?, 3);
-    let mut statuses = restart_again(rt.alloc(), &fleet, statuses.as_slice())?;
+/// How many hosts are set aside once one of five has failed.
+fn aside_again(alloc: Global, fleet: &Fleet, statuses: &[Status]) -> Result<usize, AllocError> {
+    let mut statuses = restart_again(alloc, fleet, statuses)?;
     if let Some(first) = statuses.as_mut_slice().get_mut(0) {
         *first = Status::Failed;
     }
-    let aside = held_again(rt.alloc(), &fleet, statuses.as_slice())?;
-    assert_eq!(rt; aside.len(), 2);
+    Ok(held_again(alloc, fleet, statuses.as_slice())?.len())
+}
+
+/// How many batches there are at the start, and how many hosts are set aside later.
+fn answers_again(alloc: Global, fleet: &Fleet) -> Result<(usize, usize), AllocError> {
+    let statuses = start_again(alloc, fleet)?;
+    let batches = count_again(alloc, fleet, statuses.as_slice())?;
+    Ok((batches, aside_again(alloc, fleet, statuses.as_slice())?))
+}
+
+fn tree_again(alloc: Global) -> Result<Tree<Global>, Fail> {
+    match Tree::new(region_again(alloc)?) {
+        Ok(tree) => Ok(tree),
+        Err((_, _)) => Err(Fail::new("no tree")),
+    }
+}
+
+#[test]
+fn a_call_that_was_refused_memory_answers_again(rt: HostRuntime) -> Result<(), Fail> {
+    let tree = tree_again(rt.alloc())?;
+    let fleet = build_again(rt.alloc(), &tree)?;
+    assert!(rt; answers_again(rt.alloc(), &fleet)? == (3, 2));
     Ok(())
 }

@@ -2,6 +2,7 @@
 use crate::text::{fleet_of, group, with};
 use crate::tried::{Case, HOSTS, Tried};
 use batch_plan::{Answer, Status, plan};
+use domains::Fleet;
 use group_tree::{Group, GroupFault};
 use std::alloc::{AllocError, Allocator, Global};
 use std::test::Fail;
@@ -69,11 +70,13 @@ fn nested<A: Allocator + Clone>(
     homes: &[usize; HOSTS],
     limits: &[u16; 3],
 ) -> Result<Group<A>, GroupFault> {
-    let all = listed(alloc.clone()?, "all", None, homes, 0)?;
-    let outer = listed(alloc.clone()?, "outer", limit_of(limits, 0), homes, 1)?;
     let middle = listed(alloc.clone()?, "middle", limit_of(limits, 1), homes, 2)?;
-    let inner = listed(alloc, "inner", limit_of(limits, 2), homes, 3)?;
-    with(all, with(outer, with(middle, inner)?)?)
+    let middle = with(
+        middle,
+        listed(alloc.clone()?, "inner", limit_of(limits, 2), homes, 3)?,
+    )?;
+    let outer = listed(alloc.clone()?, "outer", limit_of(limits, 0), homes, 1)?;
+    with(listed(alloc, "all", None, homes, 0)?, with(outer, middle)?)
 }
 
 /// Whether no plan has fewer batches than the answer, none is there where it is blocked, and the checker agrees.
@@ -98,26 +101,39 @@ fn is_right(alloc: Global, case: &Case<'_>) -> Result<bool, AllocError> {
     Ok(right && tried.checks)
 }
 
+/// Whether the answers for the fleet are right whatever the statuses, with each cap.
+fn are_right(
+    alloc: Global,
+    fleet: &Fleet,
+    homes: &[usize; HOSTS],
+    limits: &[u16; 3],
+) -> Result<bool, AllocError> {
+    for kinds in 0..729u32 {
+        let mut statuses = [Status::Idle; HOSTS];
+        set_all(&mut statuses, kinds);
+        for cap in CAPS {
+            let case = Case {
+                fleet,
+                homes,
+                limits,
+                statuses: &statuses,
+                cap,
+            };
+            if !is_right(alloc, &case)? {
+                return Ok(false);
+            }
+        }
+    }
+    Ok(true)
+}
+
 #[test]
 fn no_plan_has_fewer_batches(rt: HostRuntime) -> Result<(), Fail> {
     for homes in HOMES {
         for limits in LIMITS {
             let fleet = fleet_of(rt.alloc(), nested(rt.alloc(), &homes, &limits)?)?;
-            for kinds in 0..729u32 {
-                let mut statuses = [Status::Idle; HOSTS];
-                set_all(&mut statuses, kinds);
-                for cap in CAPS {
-                    let case = Case {
-                        fleet: &fleet,
-                        homes: &homes,
-                        limits: &limits,
-                        statuses: &statuses,
-                        cap,
-                    };
-                    let right = is_right(rt.alloc(), &case)?;
-                    assert!(rt; right, "{homes:?} {limits:?} {kinds} {cap:?}");
-                }
-            }
+            let right = are_right(rt.alloc(), &fleet, &homes, &limits)?;
+            assert!(rt; right, "{homes:?} {limits:?}");
         }
     }
     Ok(())

@@ -34,10 +34,19 @@ pub fn region<A: Allocator + Clone>(
     first: u16,
     second: u16,
 ) -> Result<Group<A>, GroupFault> {
-    let r1 = group(alloc.clone()?, "r1", Some(first), &["a", "b", "c"])?;
-    let r2 = group(alloc.clone()?, "r2", Some(second), &["d", "e"])?;
+    with(
+        group(alloc.clone()?, "all", None, &[])?,
+        eu(alloc, first, second)?,
+    )
+}
+
+fn eu<A: Allocator + Clone>(alloc: A, first: u16, second: u16) -> Result<Group<A>, GroupFault> {
     let eu = group(alloc.clone()?, "eu", Some(3), &[])?;
-    with(group(alloc, "all", None, &[])?, with(with(eu, r1)?, r2)?)
+    let eu = with(
+        eu,
+        group(alloc.clone()?, "r1", Some(first), &["a", "b", "c"])?,
+    )?;
+    with(eu, group(alloc, "r2", Some(second), &["d", "e"])?)
 }
 
 /// The fleet of a group that is accepted.

@@ -118,16 +118,38 @@ fn listed<A: Allocator + Clone>(
 
 /// The groups as they stand in the case's shape.
 fn arranged<A: Allocator + Clone>(alloc: A, case: Case) -> Result<Group<A>, GroupFault> {
-    let p = listed(alloc.clone()?, case, 0, "p")?;
-    let q = listed(alloc.clone()?, case, 1, "q")?;
-    let r = listed(alloc.clone()?, case, 2, "r")?;
-    let all = listed(alloc, case, 3, "all")?;
+    let all = with(
+        listed(alloc.clone()?, case, 3, "all")?,
+        p_and_below(alloc.clone()?, case)?,
+    )?;
     match case.shape {
-        0 => with(with(with(all, p)?, q)?, r),
-        1 => with(with(all, with(p, q)?)?, r),
-        2 => with(all, with(with(p, q)?, r)?),
-        3 => with(all, with(p, with(q, r)?)?),
-        _ => with(with(all, p)?, with(q, r)?),
+        0 => with(
+            with(all, q_and_below(alloc.clone()?, case)?)?,
+            listed(alloc.clone()?, case, 2, "r")?,
+        ),
+        1 => with(all, listed(alloc.clone()?, case, 2, "r")?),
+        2 | 3 => Ok(all),
+        _ => with(all, q_and_below(alloc, case)?),
+    }
+}
+
+fn p_and_below<A: Allocator + Clone>(alloc: A, case: Case) -> Result<Group<A>, GroupFault> {
+    let p = listed(alloc.clone()?, case, 0, "p")?;
+    match case.shape {
+        1 | 3 => with(p, q_and_below(alloc.clone()?, case)?),
+        2 => with(
+            with(p, q_and_below(alloc.clone()?, case)?)?,
+            listed(alloc, case, 2, "r")?,
+        ),
+        _ => Ok(p),
+    }
+}
+
+fn q_and_below<A: Allocator + Clone>(alloc: A, case: Case) -> Result<Group<A>, GroupFault> {
+    let q = listed(alloc.clone()?, case, 1, "q")?;
+    match case.shape {
+        0 | 1 | 2 => Ok(q),
+        _ => with(q, listed(alloc, case, 2, "r")?),
     }
 }
 
@@ -135,18 +157,22 @@ fn arranged<A: Allocator + Clone>(alloc: A, case: Case) -> Result<Group<A>, Grou
 fn holds_true(alloc: Global, case: Case, paths: &[&str; 4]) -> Result<bool, Fail> {
     let fleet = fleet_of(alloc, arranged(alloc, case)?)?;
     let mut domains = Domains::new(alloc, &fleet)?;
+    Ok(stays_true(case, paths, &mut domains))
+}
+
+fn stays_true(case: Case, paths: &[&str; 4], domains: &mut Domains<'_, Global>) -> bool {
     let mut places = [Place::Up; 3];
     for step in 0..12u32 {
-        if !agree(case, paths, &places, &domains) {
-            return Ok(false);
+        if !agree(case, paths, &places, domains) {
+            return false;
         }
         let (host, place) = change(case, step);
         if let (Some(name), Some(own)) = (HOSTS.get(host), places.get_mut(host)) {
             *own = place;
-            set(&mut domains, name, place);
+            set(domains, name, place);
         }
     }
-    Ok(agree(case, paths, &places, &domains))
+    agree(case, paths, &places, domains)
 }
 
 #[test]

@@ -1,7 +1,7 @@
 //! The largest inputs, with ample memory: no contract says that memory is enough.
 use domains::Fleet;
-use group_tree::{Group, GroupFault, GroupId, HostId, Limit};
-use sample_fleets::{deepest, fleet_of, with};
+use group_tree::{Group, GroupId, HostId, Limit};
+use sample_fleets::{deepest, fleet_of, group, with};
 use std::alloc::{AllocError, Allocator, Global};
 use std::test::Fail;
 
@@ -24,49 +24,67 @@ fn pattern(alloc: Global, fleet: &Fleet) -> Result<String, AllocError> {
     Ok(pattern)
 }
 
+fn is_the_largest(fleet: &Fleet) -> bool {
+    // the hosts of `all` alone are in no limited group and come first
+    fleet.hosts() == HOSTS
+        && fleet.groups() == 1024
+        && fleet.deal_order().len() == HOSTS
+        && fleet.deal_order().first() == Some(&HostId { index: 4032 })
+}
+
+fn has_the_outermost_region(fleet: &Fleet) -> bool {
+    match fleet.group("region17") {
+        Some(group) => {
+            group.index == 1
+                && fleet.members(group).len() == 4032
+                && fleet.limit(group) == Some(2016)
+        }
+        None => false,
+    }
+}
+
+fn has_a_host_in_all_regions(fleet: &Fleet) -> bool {
+    match fleet.host("h1000") {
+        Some(host) => fleet.chain(host).len() == REGIONS,
+        None => false,
+    }
+}
+
 #[test]
 fn the_largest_inventory_is_a_fleet(rt: HostRuntime) -> Result<(), Fail> {
     let fleet = fleet_of(rt.alloc(), deepest(rt.alloc())?)?;
-    assert_eq!(rt; fleet.hosts(), HOSTS);
-    assert_eq!(rt; fleet.groups(), 1024);
-    assert_eq!(rt; fleet.deal_order().len(), HOSTS);
-    // the hosts of `all` alone are in no limited group and come first
-    assert!(rt; fleet.deal_order().first() == Some(&HostId { index: 4032 }));
-    let outermost = fleet.group("region17");
-    assert!(rt; outermost == Some(GroupId { index: 1 }));
-    if let Some(group) = outermost {
-        assert_eq!(rt; fleet.members(group).len(), 4032);
-        assert!(rt; fleet.limit(group) == Some(2016));
-    }
-    if let Some(host) = fleet.host("h1000") {
-        assert_eq!(rt; fleet.chain(host).len(), REGIONS);
-    }
+    assert!(rt; is_the_largest(&fleet));
+    assert!(rt; has_the_outermost_region(&fleet));
+    assert!(rt; has_a_host_in_all_regions(&fleet));
     Ok(())
+}
+
+/// How many hosts the pattern of all names names.
+fn targets(alloc: Global, fleet: &Fleet) -> Result<usize, Fail> {
+    let pattern = pattern(alloc, fleet)?;
+    let hosts = fleet.target(alloc, pattern.as_str())?;
+    Ok(hosts.as_slice().len())
 }
 
 #[test]
 fn a_pattern_of_thousands_of_parts_names_each_host_once(rt: HostRuntime) -> Result<(), Fail> {
     let fleet = fleet_of(rt.alloc(), deepest(rt.alloc())?)?;
-    let pattern = pattern(rt.alloc(), &fleet)?;
-    let hosts = fleet.target(rt.alloc(), pattern.as_str())?;
-    assert_eq!(rt; hosts.as_slice().len(), HOSTS);
+    assert!(rt; targets(rt.alloc(), &fleet)? == HOSTS);
     Ok(())
 }
 
 /// One host that is listed in as many groups as there may be.
-fn everywhere<A: Allocator + Clone + Drop>(alloc: A) -> Result<Group<A>, Fail> {
+fn everywhere<A: Allocator + Clone>(alloc: A) -> Result<Group<A>, Fail> {
     let mut all = Group::new(alloc.clone()?, "all", Some(Limit::Count(1)), &[])?;
     for number in 1..1024usize {
-        let name = format!(in alloc.clone()?; "g{number}")?;
-        let group = Group::new(alloc.clone()?, name.as_str(), None, &[])?;
-        all = with(all, group_with_a(group)?)?;
+        all = with(all, numbered(alloc.clone()?, number)?)?;
     }
     Ok(all)
 }
 
-fn group_with_a<A: Allocator + Clone>(mut group: Group<A>) -> Result<Group<A>, GroupFault> {
-    group.add_host("a", &[])?;
-    Ok(group)
+fn numbered<A: Allocator + Clone>(alloc: A, number: usize) -> Result<Group<A>, Fail> {
+    let name = format!(in alloc.clone()?; "g{number}")?;
+    Ok(group(alloc, name.as_str(), None, &["a"])?)
 }
 
 #[test]

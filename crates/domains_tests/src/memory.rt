@@ -3,6 +3,7 @@ use crate::text::region;
 use domains::{Fleet, FleetFault, PatternFault};
 use group_tree::{Group, GroupFault, HostId, Tree};
 use std::alloc::Global;
+use std::process::Abort;
 use std::test::Fail;
 
 /// A call that was refused memory is made again.
@@ -35,18 +36,33 @@ fn are(hosts: &[HostId], wanted: &[usize]) -> bool {
             .all(|(host, wanted)| host.index == *wanted)
 }
 
+/// The targets of two patterns over the fleet.
+fn targets_again(rt: &impl Abort, alloc: Global, fleet: &Fleet) -> Result<(), PatternFault> {
+    let hosts = target_again(fleet, alloc, "r1:d")?;
+    assert!(rt; are(hosts.as_slice(), &[0, 1, 2, 3]));
+    Ok(())
+}
+
+fn names_nobody(alloc: Global, fleet: &Fleet) -> bool {
+    match target_again(fleet, alloc, "r1:x*") {
+        Err(PatternFault::NoSuchName { name }) => name.as_str() == "x*",
+        _ => false,
+    }
+}
+
+fn tree_again(alloc: Global) -> Result<Tree<Global>, Fail> {
+    match Tree::new(region_again(alloc)?) {
+        Ok(tree) => Ok(tree),
+        Err((_, _)) => Err(Fail::new("no tree")),
+    }
+}
+
 #[test]
 fn a_call_that_was_refused_memory_answers_again(rt: HostRuntime) -> Result<(), Fail> {
-    let Ok(tree) = Tree::new(region_again(rt.alloc())?) else {
-        return Err(Fail::new("no tree"));
-    };
+    let tree = tree_again(rt.alloc())?;
     let fleet = build_again(rt.alloc(), &tree)?;
     assert!(rt; are(fleet.deal_order(), &[0, 1, 2, 3, 4]));
-    let hosts = target_again(&fleet, rt.alloc(), "r1:d")?;
-    assert!(rt; are(hosts.as_slice(), &[0, 1, 2, 3]));
-    match target_again(&fleet, rt.alloc(), "r1:x*") {
-        Err(PatternFault::NoSuchName { name }) => assert_eq!(rt; name.as_str(), "x*"),
-        _ => return Err(Fail::new("x* names a host")),
-    }
+    targets_again(&rt, rt.alloc(), &fleet)?;
+    assert!(rt; names_nobody(rt.alloc(), &fleet));
     Ok(())
 }

@@ -262,16 +262,38 @@ fn listed<A: Allocator + Clone>(
 
 /// The groups as they stand in the case's shape.
 fn arranged<A: Allocator + Clone>(alloc: A, case: Case) -> Result<Group<A>, GroupFault> {
-    let p = listed(alloc.clone()?, case, 0, "p")?;
-    let q = listed(alloc.clone()?, case, 1, "q")?;
-    let r = listed(alloc.clone()?, case, 2, "r")?;
-    let all = group(alloc, "all", None, &[])?;
+    let all = with(
+        group(alloc.clone()?, "all", None, &[])?,
+        p_and_below(alloc.clone()?, case)?,
+    )?;
     match case.shape {
-        0 => with(with(with(all, p)?, q)?, r),
-        1 => with(with(all, with(p, q)?)?, r),
-        2 => with(all, with(with(p, q)?, r)?),
-        3 => with(all, with(p, with(q, r)?)?),
-        _ => with(with(all, p)?, with(q, r)?),
+        0 => with(
+            with(all, q_and_below(alloc.clone()?, case)?)?,
+            listed(alloc.clone()?, case, 2, "r")?,
+        ),
+        1 => with(all, listed(alloc.clone()?, case, 2, "r")?),
+        2 | 3 => Ok(all),
+        _ => with(all, q_and_below(alloc, case)?),
+    }
+}
+
+fn p_and_below<A: Allocator + Clone>(alloc: A, case: Case) -> Result<Group<A>, GroupFault> {
+    let p = listed(alloc.clone()?, case, 0, "p")?;
+    match case.shape {
+        1 | 3 => with(p, q_and_below(alloc.clone()?, case)?),
+        2 => with(
+            with(p, q_and_below(alloc.clone()?, case)?)?,
+            listed(alloc, case, 2, "r")?,
+        ),
+        _ => Ok(p),
+    }
+}
+
+fn q_and_below<A: Allocator + Clone>(alloc: A, case: Case) -> Result<Group<A>, GroupFault> {
+    let q = listed(alloc.clone()?, case, 1, "q")?;
+    match case.shape {
+        0 | 1 | 2 => Ok(q),
+        _ => with(q, listed(alloc, case, 2, "r")?),
     }
 }
 

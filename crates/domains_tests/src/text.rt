@@ -6,10 +6,13 @@ use std::alloc::{AllocError, Allocator, Global};
 
 /// Two racks of a region: the hosts are `a` to `e`, the groups `all`, `eu`, `r1` and `r2`.
 pub fn region<A: Allocator + Clone>(alloc: A) -> Result<Group<A>, GroupFault> {
-    let r1 = group(alloc.clone()?, "r1", Some(1), &["a", "b", "c"])?;
-    let r2 = group(alloc.clone()?, "r2", Some(2), &["d", "e"])?;
+    with(group(alloc.clone()?, "all", None, &[])?, eu(alloc)?)
+}
+
+fn eu<A: Allocator + Clone>(alloc: A) -> Result<Group<A>, GroupFault> {
     let eu = group(alloc.clone()?, "eu", Some(3), &[])?;
-    with(group(alloc, "all", None, &[])?, with(with(eu, r1)?, r2)?)
+    let eu = with(eu, group(alloc.clone()?, "r1", Some(1), &["a", "b", "c"])?)?;
+    with(eu, group(alloc, "r2", Some(2), &["d", "e"])?)
 }
 
 /// The hosts in deal order, each with its chain, then the groups, each with its members; or why there is no fleet.
@@ -21,14 +24,16 @@ pub fn fleet_text<A: Allocator + Drop>(
         return String::from_str(alloc, "no tree");
     };
     match Fleet::build(alloc, &tree) {
-        Ok(fleet) => {
-            let mut text = String::new(alloc);
-            push_hosts(&mut text, &fleet)?;
-            push_groups(&mut text, &fleet)?;
-            Ok(text)
-        }
+        Ok(fleet) => text_of(alloc, &fleet),
         Err(fault) => fault.to_string(alloc),
     }
+}
+
+fn text_of(alloc: Global, fleet: &Fleet) -> Result<String, AllocError> {
+    let mut text = String::new(alloc);
+    push_hosts(&mut text, fleet)?;
+    push_groups(&mut text, fleet)?;
+    Ok(text)
 }
 
 fn push_hosts(text: &mut String, fleet: &Fleet) -> Result<(), AllocError> {

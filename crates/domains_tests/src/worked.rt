@@ -12,19 +12,18 @@ fn row_of_racks<A: Allocator + Clone>(
     row: &str,
     limit: Option<u16>,
 ) -> Result<Group<A>, GroupFault> {
-    let rack9 = group(alloc.clone()?, "rack9", Some(1), &["x"])?;
-    let rb = group(alloc.clone()?, "rb", Some(1), &[])?;
-    let row = group(alloc.clone()?, row, limit, &["x"])?;
-    let all = group(alloc, "all", None, &[])?;
-    with(with(with(all, rack9)?, rb)?, row)
+    let all = group(alloc.clone()?, "all", None, &[])?;
+    let all = with(all, group(alloc.clone()?, "rack9", Some(1), &["x"])?)?;
+    let all = with(all, group(alloc.clone()?, "rb", Some(1), &[])?)?;
+    with(all, group(alloc, row, limit, &["x"])?)
 }
 
 /// One host in two groups, below a third.
 fn one_member<A: Allocator + Clone>(alloc: A) -> Result<Group<A>, GroupFault> {
-    let p = group(alloc.clone()?, "p", None, &["a"])?;
-    let q = group(alloc.clone()?, "q", None, &["a"])?;
     let g = group(alloc.clone()?, "g", Some(1), &[])?;
-    with(group(alloc, "all", None, &[])?, with(with(g, p)?, q)?)
+    let g = with(g, group(alloc.clone()?, "p", None, &["a"])?)?;
+    let g = with(g, group(alloc.clone()?, "q", None, &["a"])?)?;
+    with(group(alloc, "all", None, &[])?, g)
 }
 
 /// Both hosts of a group are down.
@@ -69,12 +68,16 @@ fn above<'a>(fleet: &'a Fleet, name: &str) -> &'a str {
 #[test]
 fn a_group_is_found_by_its_name(rt: HostRuntime) -> Result<(), Fail> {
     let fleet = fleet_of(rt.alloc(), region(rt.alloc())?)?;
-    assert_eq!(rt; above(&fleet, "all"), "nothing");
-    assert_eq!(rt; above(&fleet, "eu"), "all");
-    assert_eq!(rt; above(&fleet, "r1"), "eu");
-    assert_eq!(rt; above(&fleet, "r2"), "eu");
-    assert_eq!(rt; above(&fleet, "a"), "no group");
-    assert_eq!(rt; above(&fleet, "r"), "no group");
+    for (name, group) in [
+        ("all", "nothing"),
+        ("eu", "all"),
+        ("r1", "eu"),
+        ("r2", "eu"),
+        ("a", "no group"),
+        ("r", "no group"),
+    ] {
+        assert!(rt; above(&fleet, name) == group, "{name}");
+    }
     Ok(())
 }
 

@@ -16,29 +16,35 @@ pub(crate) fn group<A: Allocator + Clone>(
     Ok(group)
 }
 
-/// A region with two racks, and beside it a group without hosts and without a limit.
-pub(crate) fn region<A: Allocator + Clone>(alloc: A) -> Result<Group<A>, GroupFault> {
+/// A rack with a host that has variables.
+fn second_rack<A: Allocator + Clone>(alloc: A) -> Result<Group<A>, GroupFault> {
     let half = Percentage::new(50).map(Limit::Percent);
+    let mut rack = group(alloc, "r2", half, &["d"])?;
+    rack.add_host(
+        "e",
+        &[("down", Scalar::Bool(true)), ("rank", Scalar::Int(-7))],
+    )?;
+    Ok(rack)
+}
+
+fn eu<A: Allocator + Clone>(alloc: A) -> Result<Group<A>, GroupFault> {
     let mut eu = group(alloc.clone()?, "eu", Some(Limit::Count(3)), &[])?;
-    eu.add_child(group(
+    let rack = group(
         alloc.clone()?,
         "r1",
         Some(Limit::Count(1)),
         &["a", "b", "c"],
-    )?)?;
-    let mut r2 = group(alloc.clone()?, "r2", half, &["d"])?;
-    r2.add_host(
-        "e",
-        &[("down", Scalar::Bool(true)), ("rank", Scalar::Int(-7))],
     )?;
-    eu.add_child(r2)?;
-    let mut all = Group::new(
-        alloc.clone()?,
-        "all",
-        None,
-        &[("tier", Scalar::Text("web"))],
-    )?;
-    all.add_child(eu)?;
+    eu.add_child(rack)?;
+    eu.add_child(second_rack(alloc)?)?;
+    Ok(eu)
+}
+
+/// A region with two racks, and beside it a group without hosts and without a limit.
+pub(crate) fn region<A: Allocator + Clone>(alloc: A) -> Result<Group<A>, GroupFault> {
+    let tier = ("tier", Scalar::Text("web"));
+    let mut all = Group::new(alloc.clone()?, "all", None, &[tier])?;
+    all.add_child(eu(alloc.clone()?)?)?;
     all.add_child(group(alloc, "spare", None, &[])?)?;
     Ok(all)
 }

@@ -1,7 +1,8 @@
 //! Each allocation refused in turn, by heaps of every size up to one that is large enough.
 use crate::fleet::{group, tree};
-use group_tree::{GroupFault, Limit, Scalar};
+use group_tree::{Group, GroupFault, Limit, Scalar, Tree};
 use linked_list_allocator::LocalHeap;
+use std::alloc::{Allocator, Global};
 use std::test::Fail;
 
 /// Heaps of 0, 8, 16 bytes and so on, the last of them large enough.
@@ -24,19 +25,29 @@ fn a_tree_is_built_or_memory_is_wanting(rt: HostRuntime) -> Result<(), Fail> {
     Ok(())
 }
 
+/// Whether a copy into the heap has the groups and hosts of the tree; true where memory is refused.
+fn copies_whole(heap: &LocalHeap, tree: &Tree<Global>, copied: &mut usize) -> bool {
+    match tree.copy_to(heap) {
+        Ok(copy) => {
+            *copied = copied.saturating_add(1);
+            is_whole(&copy)
+        }
+        Err(_refused) => true,
+    }
+}
+
+fn is_whole<A: Allocator>(tree: &Tree<A>) -> bool {
+    tree.groups() == 5 && tree.holds("eu", "e")
+}
+
 #[test]
 fn a_refused_copy_leaves_its_source(rt: HostRuntime) -> Result<(), Fail> {
     let tree = tree(rt.alloc())?;
     let mut copied = 0usize;
     for step in 0..STEPS {
         let heap = LocalHeap::new(rt.alloc(), 8 * step)?;
-        if let Ok(copy) = tree.copy_to(&heap) {
-            copied = copied.saturating_add(1);
-            assert_eq!(rt; copy.groups(), 5);
-            assert!(rt; copy.holds("eu", "e"));
-        }
-        assert_eq!(rt; tree.groups(), 5);
-        assert!(rt; tree.holds("eu", "e"));
+        assert!(rt; copies_whole(&heap, &tree, &mut copied), "at {step}");
+        assert!(rt; is_whole(&tree), "at {step}");
     }
     assert!(rt; copied > 0);
     Ok(())
@@ -70,24 +81,35 @@ fn a_refused_host_leaves_the_group(rt: HostRuntime) -> Result<(), Fail> {
     Ok(())
 }
 
+/// Whether a child that is added stands in its group, and one that is refused comes back whole. The refused ones are counted.
+fn child_stands_or_comes_back<A: Allocator + Clone>(
+    parent: &mut Group<A>,
+    child: Group<A>,
+    refused: &mut usize,
+) -> bool {
+    match parent.add_child(child) {
+        Ok(()) => parent.children().len() == 1,
+        Err(back) => {
+            *refused = refused.saturating_add(1);
+            back.value.name() == "c" && parent.children().len() == 0
+        }
+    }
+}
+
+/// The same of two groups on the heap; none where it is too small for both.
+fn child_is_kept(heap: &LocalHeap, refused: &mut usize) -> Option<bool> {
+    let mut parent = group(heap, "g", Some(Limit::Count(1)), &[]).ok()?;
+    let child = group(heap, "c", None, &["x"]).ok()?;
+    Some(child_stands_or_comes_back(&mut parent, child, refused))
+}
+
 #[test]
 fn a_refused_child_comes_back(rt: HostRuntime) -> Result<(), Fail> {
     let mut refused = 0usize;
     for step in 0..STEPS {
         let heap = LocalHeap::new(rt.alloc(), 8 * step)?;
-        let mut parent = group(&heap, "g", Some(Limit::Count(1)), &[]);
-        let child = group(&heap, "c", None, &["x"]);
-        let (Ok(parent), Ok(child)) = (&mut parent, child) else {
-            continue;
-        };
-        match parent.add_child(child) {
-            Ok(()) => assert_eq!(rt; parent.children().len(), 1),
-            Err(back) => {
-                refused = refused.saturating_add(1);
-                assert_eq!(rt; back.value.name(), "c");
-                assert_eq!(rt; parent.children().len(), 0);
-            }
-        }
+        let answer = child_is_kept(&heap, &mut refused);
+        assert!(rt; answer != Some(false), "at {step}");
     }
     assert!(rt; refused > 0);
     Ok(())

@@ -8,6 +8,7 @@ use made_plays::{
     slow_track,
 };
 use outcome_results::Judged;
+use play_model::Play;
 use play_read::read_play;
 use std::alloc::{AllocError, Global};
 use std::test::Fail;
@@ -89,6 +90,56 @@ impl Seen {
     }
 }
 
+/// The host's track by the slow program, which is counted among what was seen.
+fn wanted(
+    alloc: Global,
+    made: &MadePlay,
+    host: Host,
+    ends: &[End],
+    seen: &mut Seen,
+) -> Result<String, Fail> {
+    let slow = slow_track(alloc, made, host, ends)?;
+    seen.add(made, &slow.rows);
+    Ok(whole_track(host, slow)?)
+}
+
+/// Whether the summary walks the play as the slow program does.
+fn agrees(
+    alloc: Global,
+    read: &Play,
+    start: Vars,
+    ends: &[End],
+    wanted: &str,
+) -> Result<bool, Fail> {
+    let walked = whole_walk(alloc, read, start, ends)?;
+    Ok(walked.as_str() == wanted)
+}
+
+fn read(alloc: Global, made: &MadePlay) -> Result<Play, Fail> {
+    let text = playbook(alloc, made, "")?;
+    Ok(read_play(alloc, text.as_bytes())?)
+}
+
+/// Whether both hosts agree, whose programs end as the dice say.
+fn hosts_agree(
+    alloc: Global,
+    made: &MadePlay,
+    fleet: &[Vars],
+    dice: &mut Dice,
+    seen: &mut Seen,
+) -> Result<bool, Fail> {
+    let read = read(alloc, made)?;
+    for (host, vars) in HOSTS.iter().zip(fleet) {
+        let ends = draw_ends(alloc, dice, made.steps.len())?;
+        let wanted = wanted(alloc, made, *host, &ends, seen)?;
+        let start = with_earlier(alloc, vars, host.earlier)?;
+        if !agrees(alloc, &read, start, &ends, wanted.as_str())? {
+            return Ok(false);
+        }
+    }
+    Ok(true)
+}
+
 #[test]
 fn made_plays_are_walked_as_the_slow_program_says(rt: HostRuntime) -> Result<(), Fail> {
     let alloc = rt.alloc();
@@ -97,17 +148,8 @@ fn made_plays_are_walked_as_the_slow_program_says(rt: HostRuntime) -> Result<(),
     for seed in 0..PLAYS {
         let mut dice = Dice { state: seed };
         let made = draw_play(alloc, &mut dice)?;
-        let text = playbook(alloc, &made, "")?;
-        let read = read_play(alloc, text.as_bytes())?;
-        for (host, vars) in HOSTS.iter().zip(&fleet) {
-            let ends = draw_ends(alloc, &mut dice, made.steps.len())?;
-            let slow = slow_track(alloc, &made, *host, &ends)?;
-            seen.add(&made, &slow.rows);
-            let wanted = whole_track(*host, slow)?;
-            let start = with_earlier(alloc, vars, host.earlier)?;
-            let walked = whole_walk(alloc, &read, start, &ends)?;
-            assert_eq!(rt; walked.as_str(), wanted.as_str(), "{text} {ends:?}");
-        }
+        let agree = hosts_agree(alloc, &made, &fleet, &mut dice, &mut seen)?;
+        assert!(rt; agree, "the play of seed {seed}");
     }
     assert_eq!(rt; seen.tracks, 5000);
     for (what, times) in [

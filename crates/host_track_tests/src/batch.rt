@@ -1,8 +1,9 @@
 //! A batch of four hosts, of which the first two fail at the first of two steps.
 use crate::hosts::hosts;
-use crate::walk::walk;
+use crate::walk::{Walked, walk};
 use batch_outcome::{failed_by, is_past, status_after};
 use fleet_states::Status;
+use host_vars::Vars;
 use made_plays::{End, show_counts};
 use play_model::Play;
 use play_read::read_play;
@@ -39,30 +40,49 @@ fn state(status: Status) -> &'static str {
     }
 }
 
-/// Of each host its rows up to the halt, its counts, and what becomes of it.
-fn batch(alloc: Global, percentage: &str) -> Result<String, Fail> {
+fn read(alloc: Global, percentage: &str) -> Result<Play, Fail> {
     let play = format!(in alloc;
         "[{{\"hosts\":\"all\",\"max_fail_percentage\":{percentage},
         \"tasks\":[{{\"command\":\"x\"}},{{\"command\":\"y\"}}]}}]"
     )?;
-    let play = read_play(alloc, play.as_bytes())?;
-    let hosts = hosts(alloc, &[("a", -1), ("b", -1), ("c", -1), ("d", -1)])?;
+    Ok(read_play(alloc, play.as_bytes())?)
+}
+
+/// The step at which each host would fail.
+fn failing(alloc: Global, play: &Play, hosts: &[Vars]) -> Result<Vec<Option<usize>>, Fail> {
     let mut failing = Vec::new(alloc);
     for (host, vars) in hosts.iter().enumerate() {
         let steps = play.steps().len();
-        let walked = walk(alloc, &play, vars.copy(alloc)?, ends(host), steps)?;
+        let walked = walk(alloc, play, vars.copy(alloc)?, ends(host), steps)?;
         failing.push(walked.failing)?;
     }
-    let halt = halt(alloc, &play, &failing)?;
+    Ok(failing)
+}
+
+/// Adds the host's rows of so many steps, its counts, and what becomes of it.
+fn push_host(shown: &mut String, walked: &Walked, halt: Option<usize>) -> Result<(), Fail> {
+    write!(shown, "{}", walked.rows)?;
+    show_counts(shown, walked.summary.counts())?;
+    shown.push_str(state(status_after(halt, walked.failing)))?;
+    Ok(())
+}
+
+/// Of each host its rows up to the halt, its counts, and what becomes of it.
+fn batch_of(alloc: Global, play: &Play, hosts: &[Vars]) -> Result<String, Fail> {
+    let halt = halt(alloc, play, &failing(alloc, play, hosts)?)?;
     let steps = halt.map_or(play.steps().len(), |place| place.saturating_add(1));
     let mut shown = String::new(alloc);
     for (host, vars) in hosts.iter().enumerate() {
-        let walked = walk(alloc, &play, vars.copy(alloc)?, ends(host), steps)?;
-        write!(shown, "{}", walked.rows)?;
-        show_counts(&mut shown, walked.summary.counts())?;
-        shown.push_str(state(status_after(halt, walked.failing)))?;
+        let walked = walk(alloc, play, vars.copy(alloc)?, ends(host), steps)?;
+        push_host(&mut shown, &walked, halt)?;
     }
     Ok(shown)
+}
+
+fn batch(alloc: Global, percentage: &str) -> Result<String, Fail> {
+    let play = read(alloc, percentage)?;
+    let hosts = hosts(alloc, &[("a", -1), ("b", -1), ("c", -1), ("d", -1)])?;
+    batch_of(alloc, &play, &hosts)
 }
 
 #[test]

@@ -6,12 +6,21 @@ use made_plays::{group, long_text};
 use std::alloc::Global;
 use std::test::Fail;
 
+fn tree(alloc: Global, values: &[(&str, i64)]) -> Result<Tree<Global>, Fail> {
+    let long = long_text(alloc)?;
+    match Tree::new(group(alloc, values, long.as_str())?) {
+        Ok(tree) => Ok(tree),
+        Err((_, _)) => Err(Fail::new("no tree")),
+    }
+}
+
+fn hosts_in(alloc: Global, tree: &Tree<Global>) -> Result<Vec<Vars>, Fail> {
+    let fleet = Fleet::build(alloc, tree)?;
+    Ok(layered_all(alloc, tree, &fleet)?)
+}
+
 /// The hosts of these names, in the order of their names.
 pub(crate) fn hosts(alloc: Global, values: &[(&str, i64)]) -> Result<Vec<Vars>, Fail> {
-    let long = long_text(alloc)?;
-    let Ok(tree) = Tree::new(group(alloc, values, long.as_str())?) else {
-        return Err(Fail::new("no tree"));
-    };
-    let fleet = Fleet::build(alloc, &tree)?;
-    Ok(layered_all(alloc, &tree, &fleet)?)
+    let tree = tree(alloc, values)?;
+    hosts_in(alloc, &tree)
 }

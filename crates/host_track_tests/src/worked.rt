@@ -1,23 +1,32 @@
 //! Worked tracks, in full.
 use crate::hosts::hosts;
 use crate::walk::walk;
+use host_vars::Vars;
 use made_plays::{End, show_counts};
+use play_model::Play;
 use play_read::read_play;
 use std::alloc::Global;
 use std::test::Fail;
 
-/// The rows and counts of the first host, with this value of `v`, in a play with these tasks and handlers.
-fn track(alloc: Global, value: i64, steps: &str, ends: &[End]) -> Result<String, Fail> {
+fn read(alloc: Global, steps: &str) -> Result<Play, Fail> {
     let play = format!(in alloc; "[{{\"hosts\":\"all\",{steps}}}]")?;
-    let play = read_play(alloc, play.as_bytes())?;
-    let mut hosts = hosts(alloc, &[("a", value)])?;
-    let Some(vars) = hosts.pop() else {
-        return Err(Fail::new("no host"));
-    };
-    let walked = walk(alloc, &play, vars, ends, play.steps().len())?;
+    Ok(read_play(alloc, play.as_bytes())?)
+}
+
+fn track_of(alloc: Global, play: &Play, vars: &Vars, ends: &[End]) -> Result<String, Fail> {
+    let walked = walk(alloc, play, vars.copy(alloc)?, ends, play.steps().len())?;
     let mut shown = walked.rows;
     show_counts(&mut shown, walked.summary.counts())?;
     Ok(shown)
+}
+
+/// The rows and counts of the first host, with this value of `v`, in a play with these tasks and handlers.
+fn track(alloc: Global, value: i64, steps: &str, ends: &[End]) -> Result<String, Fail> {
+    let play = read(alloc, steps)?;
+    match hosts(alloc, &[("a", value)])?.first() {
+        Some(vars) => track_of(alloc, &play, vars, ends),
+        None => Err(Fail::new("no host")),
+    }
 }
 
 const HANDLERS: &str =

@@ -153,6 +153,51 @@ fn work<'s, L: Ledger, H: Threads + Wait + Processes<Started = SystemProcess> + 
     Err(Fail::new("the batch does not end"))
 }
 
+/// A host that was stranded is waited for; where nobody was, the hosts are counted.
+fn ends_so<L: Ledger>(
+    board: &mut Board<'_, Script, L>,
+    stranded: Option<HostId>,
+) -> Result<(), Fail> {
+    match stranded {
+        Some(host) if is_awaited(board, host) => Ok(()),
+        Some(_host) => Err(Fail::new("a stranded host isn't waited for")),
+        None if are_counted(board) => Ok(()),
+        None => Err(Fail::new("other counts")),
+    }
+}
+
+fn is_awaited<L: Ledger>(board: &mut Board<'_, Script, L>, host: HostId) -> bool {
+    if board.out() != 1 || board.status(host) != Status::Running {
+        return false;
+    }
+    match board.stage() {
+        Stage::Working(_) => matches!(board.barrier(), Err(busy) if busy.host == host),
+        _ => false,
+    }
+}
+
+fn are_counted<L: Ledger>(board: &Board<'_, Script, L>) -> bool {
+    for host in BATCH {
+        let counts = board.counts(host);
+        let shown = (counts.ok, counts.changed, counts.failed, counts.skipped);
+        if shown != (2, 2, 0, 1) || board.status(host) != Status::Updated {
+            return false;
+        }
+    }
+    true
+}
+
+fn run_batch<L: Ledger, H: Threads + Wait + Processes<Started = SystemProcess> + Sync>(
+    rt: &H,
+    alloc: Global,
+    board: &mut Board<'_, Script, L>,
+) -> Result<(), Fail> {
+    hold_again(board, alloc)?;
+    open_again(board, alloc)?;
+    let stranded = work(rt, alloc, board)?;
+    ends_so(board, stranded)
+}
+
 /// Whether there was memory for the board.
 fn rolled<L: Ledger, H: Threads + Wait + Processes<Started = SystemProcess> + Sync>(
     rt: &H,
@@ -168,29 +213,7 @@ fn rolled<L: Ledger, H: Threads + Wait + Processes<Started = SystemProcess> + Sy
     let Ok(mut board) = board_of::<L>(alloc, setting, script, 2, blank) else {
         return Ok(false);
     };
-    hold_again(&mut board, alloc)?;
-    open_again(&mut board, alloc)?;
-    match work(rt, alloc, &mut board)? {
-        Some(host) => {
-            let awaited = board.out() == 1 && board.status(host) == Status::Running;
-            match board.stage() {
-                Stage::Working(_) if awaited => match board.barrier() {
-                    Err(busy) if busy.host == host => {}
-                    _ => return Err(Fail::new("a stranded host is passed over")),
-                },
-                _ => return Err(Fail::new("a stranded host isn't out")),
-            }
-        }
-        None => {
-            for host in BATCH {
-                let counts = board.counts(host);
-                let shown = (counts.ok, counts.changed, counts.failed, counts.skipped);
-                if shown != (2, 2, 0, 1) || board.status(host) != Status::Updated {
-                    return Err(Fail::new("other counts"));
-                }
-            }
-        }
-    }
+    run_batch(rt, alloc, &mut board)?;
     let left = board.finish();
     if left.statuses.len() != 3 || left.vars.len() != 3 || left.counts.len() != 3 {
         return Err(Fail::new("not one of each a host"));
