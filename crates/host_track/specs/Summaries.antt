@@ -1,5 +1,6 @@
 -- What a summary of a host's rows says of them.
 use Rattle.std.specs.Prelude.{◌≡◌, ℕ, ◌-◌, ◌<◌, nat_lt, not, ◌&&◌, ◌||◌, Bool, false, IsTrue, Option, Some, None, List, length, slice_index_or}
+use Rattle.std.specs.List.{list_any}
 use Rattle.registered_results.specs.Results.{row_of}
 use Rattle.registered_results.specs.declared.registered.Registered.{Registered}
 use Rattle.host_vars.specs.HostVars.{has_place_in}
@@ -7,7 +8,7 @@ use Rattle.host_vars.specs.declared.vars.Vars.{Vars}
 use Rattle.inventory_model.specs.Names.{Name}
 use Rattle.play_model.specs.declared.step.Step.{Step}
 use Rattle.play_model.specs.declared.play.Play.{Play}
-use Rattle.outcome_results.specs.Hosts.{Known, known_of}
+use Rattle.outcome_results.specs.Hosts.{Known, known_of, is_called}
 use Rattle.outcome_results.specs.Endings.{Ending, table_row}
 use Rattle.outcome_results.specs.Judging.{register_of}
 use Rattle.host_track.specs.Tracks.{Entry, step_at, known_after, has_failed, is_notified, counts_in}
@@ -28,6 +29,14 @@ pub record Shows (play : Play) (start : Known) (entries : List Entry) (summary :
   pub handlers : length summary.notified.items ≡ length play.steps.items - play.tasks
   pub notified : (handler : ℕ) → handler < length summary.notified.items → mark_at summary.notified.items handler ≡ is_notified play entries handler
   pub counts : length entries < 4294967296 → summary.counts ≡ counts_in entries
+
+-- the step registers its result under the name
+abbrev pub does_register : Name → Step → Bool
+does_register name step = is_called (register_of step) name
+
+-- a step of the play does
+abbrev pub does_play_register : Play → Name → Bool
+does_play_register play name = list_any (does_register name) play.steps.items
 
 -- a place is kept for the step's result, where it has a name
 abbrev pub HasPlaceFor : Vars → Option Name → Type 0

@@ -4,6 +4,7 @@
 mod entering;
 mod laws;
 mod place;
+mod registers;
 mod summary;
 
 pub use entering::copy_for;
@@ -13,4 +14,5 @@ pub use laws::{
     columns_that_agree_where_due_give_one_track, each_row_is_due,
 };
 pub use place::step_at;
+pub use registers::registers_of;
 pub use summary::Summary;

@@ -1,8 +1,8 @@
 //! The summary agrees with the slow program on plays that are drawn.
-use crate::hosts::hosts;
+use crate::hosts::{begun, hosts};
 use crate::told::whole_track;
 use crate::walk::whole_walk;
-use host_vars::{Registered, Vars};
+use host_vars::{Registered, Registers, Vars};
 use made_plays::{
     Dice, End, Host, MadePlay, PRINTED, Row, draw_ends, draw_play, one_more_if, playbook,
     slow_track,
@@ -11,6 +11,7 @@ use outcome_results::Judged;
 use play_model::Play;
 use play_read::read_play;
 use std::alloc::{AllocError, Global};
+use std::sync::Arc;
 use std::test::Fail;
 
 const PLAYS: u32 = 2500;
@@ -39,7 +40,8 @@ const HOSTS: [Host; 2] = [
 ];
 
 fn with_earlier(alloc: Global, vars: &Vars, earlier: Option<Row>) -> Result<Vars, AllocError> {
-    let mut vars = vars.copy(alloc)?;
+    let nothing = Arc::new(alloc, Registers::new(alloc))?;
+    let mut vars = vars.begin_play(alloc, &nothing)?;
     if let Some(row) = earlier {
         vars.reserve(alloc, "r")?;
         let result = Registered {
@@ -107,11 +109,11 @@ fn wanted(
 fn agrees(
     alloc: Global,
     read: &Play,
-    start: Vars,
+    start: &Vars,
     ends: &[End],
     wanted: &str,
 ) -> Result<bool, Fail> {
-    let walked = whole_walk(alloc, read, start, ends)?;
+    let walked = whole_walk(alloc, read, begun(alloc, read, start)?, ends)?;
     Ok(walked.as_str() == wanted)
 }
 
@@ -133,7 +135,7 @@ fn hosts_agree(
         let ends = draw_ends(alloc, dice, made.steps.len())?;
         let wanted = wanted(alloc, made, *host, &ends, seen)?;
         let start = with_earlier(alloc, vars, host.earlier)?;
-        if !agrees(alloc, &read, start, &ends, wanted.as_str())? {
+        if !agrees(alloc, &read, &start, &ends, wanted.as_str())? {
             return Ok(false);
         }
     }

@@ -1,5 +1,5 @@
 //! A batch of four hosts, of which the first two fail at the first of two steps.
-use crate::hosts::hosts;
+use crate::hosts::{begun, hosts};
 use crate::walk::{Walked, walk};
 use batch_outcome::{failed_by, is_past, status_after};
 use fleet_states::Status;
@@ -53,7 +53,7 @@ fn failing(alloc: Global, play: &Play, hosts: &[Vars]) -> Result<Vec<Option<usiz
     let mut failing = Vec::new(alloc);
     for (host, vars) in hosts.iter().enumerate() {
         let steps = play.steps().len();
-        let walked = walk(alloc, play, vars.copy(alloc)?, ends(host), steps)?;
+        let walked = walk(alloc, play, begun(alloc, play, vars)?, ends(host), steps)?;
         failing.push(walked.failing)?;
     }
     Ok(failing)
@@ -73,7 +73,7 @@ fn batch_of(alloc: Global, play: &Play, hosts: &[Vars]) -> Result<String, Fail> 
     let steps = halt.map_or(play.steps().len(), |place| place.saturating_add(1));
     let mut shown = String::new(alloc);
     for (host, vars) in hosts.iter().enumerate() {
-        let walked = walk(alloc, play, vars.copy(alloc)?, ends(host), steps)?;
+        let walked = walk(alloc, play, begun(alloc, play, vars)?, ends(host), steps)?;
         push_host(&mut shown, &walked, halt)?;
     }
     Ok(shown)

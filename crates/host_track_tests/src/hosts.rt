@@ -1,9 +1,11 @@
 //! Hosts of one group, with their variables.
 use domains::Fleet;
 use group_tree::Tree;
+use host_track::registers_of;
 use host_vars::{Vars, layered_all};
 use made_plays::{group, long_text};
-use std::alloc::Global;
+use play_model::Play;
+use std::alloc::{AllocError, Global};
 use std::test::Fail;
 
 fn tree(alloc: Global, values: &[(&str, i64)]) -> Result<Tree<Global>, Fail> {
@@ -23,4 +25,10 @@ fn hosts_in(alloc: Global, tree: &Tree<Global>) -> Result<Vec<Vars>, Fail> {
 pub(crate) fn hosts(alloc: Global, values: &[(&str, i64)]) -> Result<Vec<Vars>, Fail> {
     let tree = tree(alloc, values)?;
     hosts_in(alloc, &tree)
+}
+
+/// The host as it begins the play.
+pub(crate) fn begun(alloc: Global, play: &Play, vars: &Vars) -> Result<Vars, AllocError> {
+    let registers = registers_of(alloc, play)?;
+    vars.begin_play(alloc, &registers)
 }

@@ -9,14 +9,15 @@ ghost use Rattle.play_model.specs.Plays.{HasPlainWords};
 use domains::{Fleet, FleetFault};
 use group_tree::{Group, GroupFault, Tree};
 use host_jobs::Asked;
-use host_track::{Summary, copy_for, step_at};
-use host_vars::{Registered, Vars, layered_all};
+use host_track::{Summary, copy_for, registers_of, step_at};
+use host_vars::{Registered, Registers, Vars, layered_all};
 use made_plays::{End, group};
 use outcome_results::Outcome;
 use play_faults::PlayFault;
 use play_model::{Play, Step};
 use play_read::read_play;
 use std::alloc::{AllocError, Global};
+use std::sync::Arc;
 use std::test::Fail;
 
 const PLAYBOOK: &str = r#"[{"hosts":"all","tasks":[
@@ -57,16 +58,24 @@ fn play_again(alloc: Global) -> Result<Play, PlayFault> {
     }
 }
 
-fn copy_again(alloc: Global, vars: &Vars) -> Result<Vars, AllocError> {
-    match vars.copy(alloc) {
-        Err(AllocError) => vars.copy(alloc),
+fn registers_again(alloc: Global, play: &Play) -> Result<Arc<Registers>, AllocError> {
+    match registers_of(alloc, play) {
+        Err(AllocError) => registers_of(alloc, play),
+        answer => answer,
+    }
+}
+
+fn begin_again(alloc: Global, play: &Play, vars: &Vars) -> Result<Vars, AllocError> {
+    let registers = registers_again(alloc, play)?;
+    match vars.begin_play(alloc, &registers) {
+        Err(AllocError) => vars.begin_play(alloc, &registers),
         answer => answer,
     }
 }
 
 fn summary_again(alloc: Global, play: &Play, vars: &Vars) -> Result<Summary, AllocError> {
-    match Summary::new(alloc, play, copy_again(alloc, vars)?) {
-        Err(AllocError) => Summary::new(alloc, play, copy_again(alloc, vars)?),
+    match Summary::new(alloc, play, begin_again(alloc, play, vars)?) {
+        Err(AllocError) => Summary::new(alloc, play, begin_again(alloc, play, vars)?),
         answer => answer,
     }
 }

@@ -1,5 +1,5 @@
 //! Worked tracks, in full.
-use crate::hosts::hosts;
+use crate::hosts::{begun, hosts};
 use crate::walk::walk;
 use host_vars::Vars;
 use made_plays::{End, show_counts};
@@ -14,7 +14,13 @@ fn read(alloc: Global, steps: &str) -> Result<Play, Fail> {
 }
 
 fn track_of(alloc: Global, play: &Play, vars: &Vars, ends: &[End]) -> Result<String, Fail> {
-    let walked = walk(alloc, play, vars.copy(alloc)?, ends, play.steps().len())?;
+    let walked = walk(
+        alloc,
+        play,
+        begun(alloc, play, vars)?,
+        ends,
+        play.steps().len(),
+    )?;
     let mut shown = walked.rows;
     show_counts(&mut shown, walked.summary.counts())?;
     Ok(shown)

@@ -1,8 +1,10 @@
 -- What a host's variables and registered results say.
-use Rattle.std.specs.Prelude.{◌≡◌, ℤ, Bool, false, Option, Some, None, option_and_then}
+use Rattle.std.specs.Prelude.{◌≡◌, ℤ, Bool, false, IsTrue, Option, Some, None, option_and_then}
 use Rattle.std.specs.Arc.{arc_value}
 use Rattle.inventory_model.specs.Names.{Name}
 use Rattle.inventory_model.specs.Variables.{Scalar, Text, Int, Truth}
+use Rattle.registered_results.specs.Registers.{is_register}
+use Rattle.registered_results.specs.declared.registers.Registers.{Registers}
 use Rattle.registered_results.specs.Results.{Row, has_place, result_of}
 use Rattle.variable_layers.specs.Layers.{HostView}
 use Rattle.variable_layers.specs.Shown.{shown}
@@ -54,11 +56,11 @@ values_of vars (whole name) = plain_in vars name
 values_of vars (part name field) = field_in vars name field
 values_of vars hostname = Some (Text (variables_of vars).name)
 
--- two hosts have the same variables, places and results
-pub record IsSame (copy vars : Vars) : Type 0 where
-  pub variables : variables_of copy ≡ variables_of vars
-  pub places : (name : Name) → has_place_in copy name ≡ has_place_in vars name
-  pub results : (name : Name) → result_in copy name ≡ result_in vars name
+-- the host as it begins a play with these registers: it has its variables and results, and a place for each register
+pub record BeginsPlay (registers : Registers) (begun vars : Vars) : Type 0 where
+  pub variables : variables_of begun ≡ variables_of vars
+  pub places : (name : Name) → IsTrue (is_register registers name) → IsTrue (has_place_in begun name)
+  pub results : (name : Name) → result_in begun name ≡ result_in vars name
 
 -- no name has a place or a result
 pub record HasNoResult (vars : Vars) : Type 0 where

@@ -9,7 +9,7 @@ mod vars;
 mod words;
 
 pub use building::{layered, layered_all};
-pub use registered_results::Registered;
+pub use registered_results::{Registered, Registers};
 pub use vars::Vars;
 pub use word_parts::{BadBraces, check_word};
 pub use word_render::{MAX_RENDERED, RenderFault};

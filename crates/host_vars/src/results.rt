@@ -1,11 +1,12 @@
 //! The registered results of a host.
 ghost use Rattle.std.specs.Prelude.{◌≡◌, Some, cond, ◌||◌, IfOk, IsTrue, OnErr, OnOk};
+ghost use Rattle.std.specs.Arc.{arc_value};
 ghost use Rattle.inventory_model.specs.Names.{Name, same_name};
 ghost use Rattle.registered_results.specs.Results.{row_of};
-ghost use Rattle.host_vars.specs.HostVars.{variables_of, has_place_in, result_in, IsSame};
+ghost use Rattle.host_vars.specs.HostVars.{variables_of, has_place_in, result_in, BeginsPlay};
 
 use crate::vars::Vars;
-use registered_results::Registered;
+use registered_results::{Registered, Registers};
 use std::alloc::{AllocError, Global};
 use std::sync::Arc;
 
@@ -33,13 +34,14 @@ impl Vars {
         self.results.register(name, registered);
     }
 
-    /// The same variables, which are shared and not copied, and a copy of each result.
-    pub fn copy(&self, alloc: Global) -> Result<Vars, AllocError>
-        ensures { IfOk result (λ copy. IsSame copy self.now) }
+    /// The host as it begins a play with these registers: its variables, which are shared and not copied, a copy of each result, and a
+    /// place for each register. It fails for want of memory alone.
+    pub fn begin_play(&self, alloc: Global, registers: &Arc<Registers>) -> Result<Vars, AllocError>
+        ensures { IfOk result (λ begun. BeginsPlay (arc_value registers.now) begun self.now) }
     {
         Ok(Vars {
             variables: Arc::try_clone(&self.variables)?,
-            results: self.results.copy(alloc)?,
+            results: self.results.begin_play(alloc, registers)?,
         })
     }
 }

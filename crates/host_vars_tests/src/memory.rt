@@ -3,10 +3,12 @@ ghost use Rattle.std.specs.Prelude.{◌<◌, IfOk, length};
 ghost use Rattle.domains.specs.Fleets.{IsFleetOf};
 
 use crate::fleets::{nested, tree_of};
+use crate::rows::registers;
 use domains::{Fleet, FleetFault};
 use group_tree::{GroupFault, HostId, Tree};
-use host_vars::{Registered, RenderFault, Vars, layered, layered_all};
+use host_vars::{Registered, Registers, RenderFault, Vars, layered, layered_all};
 use std::alloc::{AllocError, Global};
+use std::sync::Arc;
 use std::test::Fail;
 
 /// A call that was refused memory is made again.
@@ -75,9 +77,17 @@ fn with_result_again(vars: &mut Vars, alloc: Global) -> Result<(), AllocError> {
     }
 }
 
-fn copy_again(vars: &Vars, alloc: Global) -> Result<Vars, AllocError> {
-    match vars.copy(alloc) {
-        Err(AllocError) => vars.copy(alloc),
+fn registers_again(alloc: Global) -> Result<Arc<Registers>, AllocError> {
+    match registers(alloc, "x") {
+        Err(AllocError) => registers(alloc, "x"),
+        answer => answer,
+    }
+}
+
+fn begin_again(vars: &Vars, alloc: Global) -> Result<Vars, AllocError> {
+    let registers = registers_again(alloc)?;
+    match vars.begin_play(alloc, &registers) {
+        Err(AllocError) => vars.begin_play(alloc, &registers),
         answer => answer,
     }
 }
@@ -98,13 +108,13 @@ fn renders(vars: &Vars, alloc: Global) -> Result<bool, Fail> {
     Ok(render_again(vars, alloc)?.as_str() == "h-3-up")
 }
 
-fn copy_renders(vars: &Vars, alloc: Global) -> Result<bool, Fail> {
-    let copy = copy_again(vars, alloc)?;
-    renders(&copy, alloc)
+fn begun_renders(vars: &Vars, alloc: Global) -> Result<bool, Fail> {
+    let begun = begin_again(vars, alloc)?;
+    renders(&begun, alloc)
 }
 
-/// Whether the host with a result and a copy of it render the word.
-fn host_and_copy_render(
+/// Whether the host with a result renders the word, and still does where it begins a play.
+fn host_and_begun_render(
     alloc: Global,
     tree: &Tree<Global>,
     fleet: &Fleet,
@@ -115,7 +125,7 @@ fn host_and_copy_render(
 {
     let mut vars = layered_again(alloc, tree, fleet, host)?;
     with_result_again(&mut vars, alloc)?;
-    Ok(copy_renders(&vars, alloc)? && renders(&vars, alloc)?)
+    Ok(begun_renders(&vars, alloc)? && renders(&vars, alloc)?)
 }
 
 #[test]
@@ -126,7 +136,7 @@ fn a_call_that_was_refused_memory_answers_again(rt: HostRuntime) -> Result<(), F
     let Some(host) = fleet.host("h") else {
         return Err(Fail::new("no host"));
     };
-    assert!(rt; host_and_copy_render(alloc, &tree, &fleet, host)?);
+    assert!(rt; host_and_begun_render(alloc, &tree, &fleet, host)?);
     assert!(rt; layered_all_again(alloc, &tree, &fleet)?.as_slice().len() == 1);
     Ok(())
 }

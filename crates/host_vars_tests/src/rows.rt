@@ -2,8 +2,9 @@
 use crate::fleets::{Row, nested, region, tree_of, with_its_own};
 use cond::{eval, parse};
 use domains::Fleet;
-use host_vars::{Registered, RenderFault, Vars, check_word, layered};
-use std::alloc::Global;
+use host_vars::{Registered, Registers, RenderFault, Vars, check_word, layered};
+use std::alloc::{AllocError, Global};
+use std::sync::Arc;
 use std::test::Fail;
 
 fn host(alloc: Global, groups: &[Row], name: &str) -> Result<Vars, Fail> {
@@ -13,6 +14,14 @@ fn host(alloc: Global, groups: &[Row], name: &str) -> Result<Vars, Fail> {
         Some(host) => Ok(layered(alloc, &tree, &fleet, host)?),
         None => Err(Fail::new("no such host")),
     }
+}
+
+/// Of a play with one register.
+pub(crate) fn registers(alloc: Global, name: &str) -> Result<Arc<Registers>, AllocError> {
+    let mut registers = Registers::new(alloc);
+    registers.add(alloc, name)?;
+    let shared = Arc::new(alloc, registers)?;
+    Ok(shared)
 }
 
 fn skipped(alloc: Global) -> Registered {
@@ -71,7 +80,7 @@ fn conditions_see_groups_and_results(rt: HostRuntime) -> Result<(), Fail> {
     let before = parse(alloc, "x is defined")?;
     assert!(rt; matches!(eval(&before, &host), Ok(false)));
     host.register("x", skipped(alloc));
-    let copy = host.copy(alloc)?;
+    let begun = host.begin_play(alloc, &registers(alloc, "y")?)?;
     for (text, wanted) in [
         ("'r1' in group_names", true),
         ("'eu' in group_names", true),
@@ -84,7 +93,7 @@ fn conditions_see_groups_and_results(rt: HostRuntime) -> Result<(), Fail> {
     ] {
         let condition = parse(alloc, text)?;
         assert!(rt; eval(&condition, &host) == Ok(wanted), "{text}");
-        assert!(rt; eval(&condition, &copy) == Ok(wanted), "{text}");
+        assert!(rt; eval(&condition, &begun) == Ok(wanted), "{text}");
     }
     Ok(())
 }

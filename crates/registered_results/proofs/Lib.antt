@@ -1,2 +1,4 @@
+pub mod ListLemmas
+pub mod NumberLemmas
 pub mod PlaceLemmas
-pub mod CopyLemmas
+pub mod BeginLemmas

@@ -1,16 +1,18 @@
 -- What a write at one name makes of all names.
-use Rattle.std.proofs.Common.{◌≡◌, Bool, true, false, ◌||◌, cond, Option, Some, None, is_some, refl, sym, ap, ◌∙◌}
-use Rattle.std.specs.Option.{option_map, option_and_then}
+use Rattle.std.proofs.Common.{◌≡◌, ℕ, ◌<◌, Bool, true, false, ◌||◌, cond, Option, Some, None, is_some, List, length, set, refl, sym, ap, ◌∙◌}
+use Rattle.std.specs.List.{slice_get}
+use Rattle.std.specs.Option.{option_map, option_and_then, option_or}
 use Rattle.std.specs.Str.{bytes_eq}
 use Rattle.std.proofs.lemmas.Slice.Eq.{bytes_eq-Decides}
 use Rattle.inventory_model.specs.Names.{Name}
 use Rattle.registered_results.specs.Results.{Row, row_of}
 use Rattle.registered_results.specs.declared.registered.Registered.{Registered}
+use Rattle.registered_results.proofs.ListLemmas.{at_set, beside_set}
 
 abbrev pub Places : Type 0
 Places = Name → Option (Option Registered)
 
-abbrev result : Option (Option Registered) → Option Row
+abbrev pub result : Option (Option Registered) → Option Row
 result place = option_and_then (λ (held : Option Registered). option_map row_of held) place
 
 -- the new places are the old ones, and at this name the value
@@ -21,44 +23,65 @@ none_there : (place : Option (Option Registered)) → is_some place ≡ false �
 none_there (Some held) e = absurd (cc)
 none_there None e = refl
 
-some-choice : (test : Bool) (value : Option Registered) (old : Option (Option Registered)) → is_some (cond test (Some value) old) ≡ (test || is_some old)
-some-choice true value old = refl
-some-choice false value old = refl
+-- a place without a result for a name that has none, behind places that stay
+module _ (before old new : Places) (name : Name) (sets : SetsAt old new name None) where
+  pub place_more : (other : Name) → is_some (option_or (before other) (new other)) ≡ (bytes_eq name other || is_some (option_or (before other) (old other)))
+  place_more other = by_case (before other) (bytes_eq name other) (sets other)
+    where
+      by_case : (first : Option (Option Registered)) (b : Bool) → new other ≡ cond b (Some None) (old other) → is_some (option_or first (new other)) ≡ (b || is_some (option_or first (old other)))
+      by_case (Some held) true e = refl
+      by_case (Some held) false e = refl
+      by_case None true e = ap is_some e
+      by_case None false e = ap is_some e
 
--- a place more
-pub place-more : (old new : Places) (name : Name) (value : Option Registered) → SetsAt old new name value → (other : Name) → is_some (new other) ≡ (bytes_eq name other || is_some (old other))
-place-more old new name value sets other =
-    ap is_some (sets other) ∙ some-choice (bytes_eq name other) value (old other)
-
--- the same name, where the test says so
-module _ (old : Places) (name other : Name) where
-  same-place : bytes_eq name other ≡ true → old other ≡ old name
-  same-place e = ap old (sym ((bytes_eq-Decides name other).0 e))
-
-  unchanged : (test : Bool) → bytes_eq name other ≡ test → is_some (old name) ≡ false → result (cond test (Some None) (old other)) ≡ result (old other)
-  unchanged true e absent =
-      sym (none_there (old other) (ap is_some (same-place e) ∙ absent))
-  unchanged false e absent = refl
-
-  kept : (test : Bool) (value : Option Registered) → bytes_eq name other ≡ test → is_some (old name) ≡ true → is_some (cond test (Some value) (old other)) ≡ is_some (old other)
-  kept true value e there = sym (ap is_some (same-place e) ∙ there)
-  kept false value e there = refl
-
--- a place without a result changes no result
-pub results-stay : (old new : Places) (name : Name) → SetsAt old new name None → is_some (old name) ≡ false → (other : Name) → result (new other) ≡ result (old other)
-results-stay old new name sets absent other =
-    ap result (sets other) ∙ unchanged old name other (bytes_eq name other) refl absent
-
--- a result where there is a place makes no place
-pub places-stay : (old new : Places) (name : Name) (value : Option Registered) → SetsAt old new name value → is_some (old name) ≡ true → (other : Name) → is_some (new other) ≡ is_some (old other)
-places-stay old new name value sets there other =
-    ap is_some (sets other) ∙ kept old name other (bytes_eq name other) value refl there
+  pub results_stay : is_some (option_or (before name) (old name)) ≡ false → (other : Name) → result (option_or (before other) (new other)) ≡ result (option_or (before other) (old other))
+  results_stay absent other =
+      by_case (before other) (bytes_eq name other) refl (sets other)
+    where
+      by_case : (first : Option (Option Registered)) (b : Bool) → bytes_eq name other ≡ b → new other ≡ cond b (Some None) (old other) → result (option_or first (new other)) ≡ result (option_or first (old other))
+      by_case (Some held) b same e = refl
+      by_case None false same e = ap result e
+      by_case None true same e =
+          ap result e ∙ sym (none_there (old other) (alone (before name) (old other) (ap (λ (n : Name). is_some (option_or (before name) (old n))) (sym ((bytes_eq-Decides name other).0 same)) ∙ absent)))
+        where
+          alone : (first second : Option (Option Registered)) → is_some (option_or first second) ≡ false → is_some second ≡ false
+          alone (Some held) second gone = absurd (cc)
+          alone None second gone = gone
 
 result-choice : (test : Bool) (registered : Registered) (old : Option (Option Registered)) → result (cond test (Some (Some registered)) old) ≡ cond test (Some (row_of registered)) (result old)
 result-choice true registered old = refl
 result-choice false registered old = refl
 
--- the result is that of its name
-pub result-set : (old new : Places) (name : Name) (registered : Registered) → SetsAt old new name (Some registered) → (other : Name) → result (new other) ≡ cond (bytes_eq name other) (Some (row_of registered)) (result (old other))
-result-set old new name registered sets other =
-    ap result (sets other) ∙ result-choice (bytes_eq name other) registered (old other)
+-- a result behind places that stay, of which none is its name's
+pub result_set : (before old new : Places) (name : Name) (registered : Registered) → SetsAt old new name (Some registered) → before name ≡ None → (other : Name) → result (option_or (before other) (new other)) ≡ cond (bytes_eq name other) (Some (row_of registered)) (result (option_or (before other) (old other)))
+result_set before old new name registered sets none other =
+    by_case (before other) (bytes_eq name other) refl refl (sets other)
+  where
+    by_case : (first : Option (Option Registered)) (b : Bool) → before other ≡ first → bytes_eq name other ≡ b → new other ≡ cond b (Some (Some registered)) (old other) → result (option_or first (new other)) ≡ cond b (Some (row_of registered)) (result (option_or first (old other)))
+    by_case (Some held) false is same e = refl
+    by_case (Some held) true is same e =
+        absurd (cc (sym is ∙ ap before (sym ((bytes_eq-Decides name other).0 same)) ∙ none))
+    by_case None b is same e = ap result e ∙ result-choice b registered (old other)
+
+-- a result at the name's number, where no other name has that number
+module _ (numbers : Name → Option ℕ) (rows : List (Option Registered)) (own : Places) (name : Name) (number : ℕ) (registered : Registered) where
+  abbrev held : List (Option Registered) → Name → Option (Option Registered)
+  held items other = option_or (option_and_then (slice_get items) (numbers other)) (own other)
+
+  pub result_at_number : ((a b : Name) (n : ℕ) → numbers a ≡ Some n → numbers b ≡ Some n → a ≡ b) → numbers name ≡ Some number → number < length rows → (other : Name) → result (held (set rows number (Some registered)) other) ≡ cond (bytes_eq name other) (Some (row_of registered)) (result (held rows other))
+  result_at_number one has within other = by_case (bytes_eq name other) refl
+    where
+      at : (items : List (Option Registered)) → Option (Option Registered)
+      at items = option_and_then (slice_get items) (numbers other)
+
+      apart : bytes_eq name other ≡ false → (found : Option ℕ) → numbers other ≡ found → option_and_then (slice_get (set rows number (Some registered))) found ≡ option_and_then (slice_get rows) found
+      apart differs None e = refl
+      apart differs (Some found) e =
+          beside_set rows number found (Some registered) (λ is. absurd (cc (sym ((bytes_eq-Decides name other).1 (one name other number has (e ∙ ap Some is))) ∙ differs)))
+
+      by_case : (b : Bool) → bytes_eq name other ≡ b → result (held (set rows number (Some registered)) other) ≡ cond b (Some (row_of registered)) (result (held rows other))
+      by_case true same =
+          let here : numbers other ≡ Some number = ap numbers (sym ((bytes_eq-Decides name other).0 same)) ∙ has in
+          ap (λ (place : Option (Option Registered)). result (option_or place (own other))) (ap (option_and_then (slice_get (set rows number (Some registered)))) here ∙ at_set rows number (Some registered) within)
+      by_case false differs =
+          ap (λ (place : Option (Option Registered)). result (option_or place (own other))) (apart differs (numbers other) refl)

@@ -1,7 +1,10 @@
 -- What the results of a host's steps say, under the names under which they are registered.
-use Rattle.std.specs.Prelude.{ℕ, ℤ, Bool, Option, option_map, option_and_then, is_some, List, string_bytes}
+use Rattle.std.specs.Prelude.{ℕ, ℤ, Bool, Option, option_map, option_and_then, is_some, List, slice_get, string_bytes}
+use Rattle.std.specs.Arc.{arc_value}
 use Rattle.std.specs.HashMap.{get_by_text}
+use Rattle.std.specs.Option.{option_or}
 use Rattle.inventory_model.specs.Names.{Name}
+use Rattle.registered_results.specs.Registers.{number_in}
 use Rattle.registered_results.specs.declared.registered.Registered.{Registered}
 use Rattle.registered_results.specs.declared.results.Results.{Results}
 
@@ -18,14 +21,22 @@ abbrev pub row_of : Registered → Row
 row_of registered =
     record { rc = registered.rc; stdout = string_bytes registered.stdout; stderr = string_bytes registered.stderr; changed = registered.changed; failed = registered.failed; skipped = registered.skipped }
 
+-- the number of the name among the registers that the hosts of a play share, where there are such
+abbrev pub shared_number : Results → Name → Option ℕ
+shared_number results name = option_and_then (λ registers. number_in (arc_value registers) name) results.registers
+
+-- the place that a shared name has by its number
+abbrev pub shared_at : Results → Name → Option (Option Registered)
+shared_at results name = option_and_then (slice_get results.rows.items) (shared_number results name)
+
+-- the place of a name, with a result or without one: that of its number, or else one under the host's own names
+abbrev pub held_at : Results → Name → Option (Option Registered)
+held_at results name = option_or (shared_at results name) (get_by_text results.own name)
+
 -- the name has a place, with a result or without one
 abbrev pub has_place : Results → Name → Bool
-has_place results name = is_some (get_by_text results.places name)
+has_place results name = is_some (held_at results name)
 
 -- the result that is registered under the name; a place without one is none
 abbrev pub result_of : Results → Name → Option Row
-result_of results name = option_and_then (λ place. option_map row_of place) (get_by_text results.places name)
-
--- what stands at the name: a place, and in it a result
-abbrev pub seen_at : Results → Name → Option (Option Row)
-seen_at results name = option_map (λ place. option_map row_of place) (get_by_text results.places name)
+result_of results name = option_and_then (λ place. option_map row_of place) (held_at results name)

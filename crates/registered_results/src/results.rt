@@ -1,30 +1,37 @@
-//! Names with a place for a result, in the order in which they were first used.
-ghost use Rattle.std.specs.Prelude.{◌≡◌, IsTrue, IfOk, OnErr, OnOk, Some, cond, ◌||◌, option_map, None, false};
+//! Names with a place for a result.
+ghost use Rattle.std.specs.Prelude.{◌≡◌, ◌<◌, IsTrue, IfNone, IfSome, OnErr, OnOk, Some, cond, ◌||◌, is_some, length, option_copied, option_map, None, false};
+ghost use Rattle.std.specs.HashMap.{get_by_text};
 ghost use Rattle.inventory_model.specs.Names.{Name, same_name};
-ghost use Rattle.registered_results.specs.Results.{row_of, has_place, result_of, seen_at};
-ghost use Rattle.std.specs.Option.{option_or};
+ghost use Rattle.registered_results.specs.Results.{row_of, has_place, result_of, held_at, shared_at, shared_number};
 
 use crate::registered::Registered;
+use crate::registers::Registers;
 use indexmap::IndexMap;
 use std::alloc::{AllocError, Global};
+use std::sync::Arc;
 
 #[cfg(test)]
 mod tests;
 
-/// A place for each name that was reserved; a place without a result counts as no result.
+/// A place for each register of the host's play and for each other name that was reserved; a place without a result counts as no
+/// result. The places of a play's registers stand by their numbers, so that a host is never asked for a name.
 #[derive(Drop)]
 pub struct Results {
-    places: IndexMap<String, Option<Registered>>,
+    pub(crate) registers: Option<Arc<Registers>>,
+    pub(crate) rows: Vec<Option<Registered>>,
+    pub(crate) own: IndexMap<String, Option<Registered>>,
 }
 
 impl Results {
+    /// Of a host that hasn't begun a play.
     pub fn new(alloc: Global) -> Results
         ensures places { (name : Name) → has_place result name ≡ false }
-        ensures nothing { (name : Name) → seen_at result name ≡ None }
         ensures results { (name : Name) → result_of result name ≡ None }
     {
         Results {
-            places: IndexMap::new(alloc),
+            registers: None,
+            rows: Vec::new(alloc),
+            own: IndexMap::new(alloc),
         }
     }
 
@@ -32,7 +39,7 @@ impl Results {
     pub fn is_reserved(&self, name: &str) -> bool
         ensures { result ≡ has_place self.now name.now }
     {
-        self.places.contains_key(name)
+        self.place(name).is_some()
     }
 
     /// Makes a place for a name that has none, so that registering takes no memory. No result is changed, and where memory
@@ -47,7 +54,7 @@ impl Results {
             return Ok(());
         }
         let key = String::from_str(alloc, name)?;
-        self.places.insert(key, None)?;
+        self.own.insert(key, None)?;
         Ok(())
     }
 
@@ -58,8 +65,9 @@ impl Results {
         ensures results { (other : Name) → result_of self.new other
             ≡ cond (same_name name.now other) (Some (row_of registered)) (result_of self.old other) }
     {
-        if let Some(place) = self.places.get_mut(name) {
-            *place = Some(registered);
+        match self.number(name) {
+            Some(number) => self.rows[number] = Some(registered),
+            None => set(&mut self.own, name, registered),
         }
     }
 
@@ -67,53 +75,46 @@ impl Results {
     pub fn get(&self, name: &str) -> Option<&Registered>
         ensures { option_map (λ registered. row_of registered.now) result ≡ result_of self.now name.now }
     {
-        match self.places.get(name) {
+        match self.place(name) {
             Some(Some(registered)) => Some(registered),
             _ => None,
         }
     }
 
-    /// A place for a name that has none, with this result or without one.
-    fn add(
-        &mut self,
-        alloc: Global,
-        name: &str,
-        place: &Option<Registered>,
-    ) -> Result<(), AllocError>
-        ensures { OnOk result ((other : Name) → seen_at self.new other
-            ≡ option_or (seen_at self.old other) (cond (same_name name.now other) (Some (option_map row_of place.now)) None)) }
+    /// The place of the name.
+    fn place(&self, name: &str) -> Option<&Option<Registered>>
+        ensures { option_copied result ≡ held_at self.now name.now }
     {
-        let standing = self.is_reserved(name);
-        if standing {
-            return Ok(());
+        match self.number(name) {
+            Some(number) => Some(&self.rows[number]),
+            None => self.own.get(name),
         }
-        let key = String::from_str(alloc, name)?;
-        let held = copy_place(alloc, place)?;
-        self.places.insert(key, held)?;
-        Ok(())
     }
 
-    /// The same places with the same results.
-    pub fn copy(&self, alloc: Global) -> Result<Results, AllocError>
-        ensures places { IfOk result (λ copy. (name : Name) → has_place copy name ≡ has_place self.now name) }
-        ensures results { IfOk result (λ copy. (name : Name) → result_of copy name ≡ result_of self.now name) }
+    /// The number of the name, where a place stands at it.
+    fn number(&self, name: &str) -> Option<usize>
+        ensures within { IfSome result (λ number. number < length self.now.rows.items) }
+        ensures number { IfSome result (λ number. shared_number self.now name.now ≡ Some number) }
+        ensures none { IfNone result (shared_at self.now name.now ≡ None) }
     {
-        let mut copy = Results::new(alloc);
-        for index in 0..self.places.len() {
-            let Some((name, place)) = self.places.get_index(index) else {
-                break;
-            };
-            copy.add(alloc, name.as_str(), place)?;
+        let number = match &self.registers {
+            Some(registers) => registers.number(name),
+            None => None,
+        };
+        match number {
+            Some(number) if number < self.rows.len() => Some(number),
+            _ => None,
         }
-        Ok(copy)
     }
 }
 
-fn copy_place(alloc: Global, place: &Option<Registered>) -> Result<Option<Registered>, AllocError>
-    ensures { IfOk result (λ copy. option_map row_of copy ≡ option_map row_of place.now) }
+/// Puts a result where a place stands.
+fn set(own: &mut IndexMap<String, Option<Registered>>, name: &str, registered: Registered)
+    requires { IsTrue (is_some (get_by_text own.old name.now)) }
+    ensures { (other : Name) → get_by_text own.new other
+        ≡ cond (same_name name.now other) (Some (Some registered)) (get_by_text own.old other) }
 {
-    match place {
-        Some(registered) => Ok(Some(registered.copy(alloc)?)),
-        None => Ok(None),
+    if let Some(place) = own.get_mut(name) {
+        *place = Some(registered);
     }
 }

@@ -10,7 +10,7 @@ use crate::room::Room;
 use crate::stage::Stage;
 use crate::turn::Turn;
 use crate::work::BatchWork;
-use host_track::Summary;
+use host_track::{Summary, registers_of};
 use host_vars::Vars;
 use play_model::Play;
 use std::alloc::{AllocError, Global};
@@ -39,14 +39,16 @@ impl<'p> BatchWork<'p> {
     }
 }
 
-/// A summary of no row for each.
+/// A summary of no row for each; they share the names of the play's registers.
 fn summaries_of(alloc: Global, play: &Play, vars: &[Vars]) -> Result<Vec<Summary>, AllocError>
     ensures all { IfOk result (λ summaries. length summaries.items ≡ length vars.now) }
     ensures show { IfOk result (λ summaries. ShowEach play.now (known_at vars.now) (λ host. []) summaries.items) }
 {
+    let registers = registers_of(alloc, play)?;
     let mut summaries = Vec::with_capacity(alloc, vars.len())?;
     for host in vars {
-        summaries.push(Summary::new(alloc, play, host.copy(alloc)?)?)?;
+        let begun = host.begin_play(alloc, &registers)?;
+        summaries.push(Summary::new(alloc, play, begun)?)?;
     }
     Ok(summaries)
 }

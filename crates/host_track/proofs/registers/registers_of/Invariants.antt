@@ -1,0 +1,10 @@
+use Rattle.std.proofs.Common.{◌≡◌, take}
+use Rattle.std.specs.List.{list_any}
+use Rattle.inventory_model.specs.Names.{Name}
+use Rattle.registered_results.specs.Registers.{is_register}
+use Rattle.host_track.specs.Summaries.{does_register}
+use Rattle.host_track.proofs.registers.registers_of.Given as goal
+
+abbrev pub invariant-loop-step : goal.invariant-loop-step
+invariant-loop-step l =
+    (name : Name) → is_register l.registers name ≡ list_any (does_register name) (take l.step-index l.step-items)

@@ -1,0 +1,16 @@
+use Rattle.std.proofs.Common.{Bool, None, false, ◌||◌, cond, ap, ◌∙◌}
+use Rattle.std.specs.HashMap.{keys}
+use Rattle.inventory_model.specs.Names.{Name}
+use Rattle.registered_results.specs.Registers.{stands_in}
+use Rattle.registered_results.specs.Results.{result_of}
+use Rattle.registered_results.proofs.BeginLemmas.{all_taken}
+use Rattle.registered_results.proofs.results.Results.begin_play.Goals as goal
+
+pub returns-clause-results : goal.returns-clause-results
+returns-clause-results c =
+    λ (name : Name).
+    let shared = c.in_ok-take_all.ensures.results (λ other. false) c.in_ok-copy.ensures.results in
+    let all = c.in_ok-take_all-2.ensures.results (λ other. stands_in other c.shared_names.result.now || false) shared name in
+    let own = ap (stands_in name) (c.as_slice.ensures ∙ c.keys.ensures.rest) in
+    let numbers = c.shared_names.ensures name in
+    all ∙ ap (λ (b : Bool). cond (b || (stands_in name c.shared_names.result.now || false)) (result_of c.args.self.now name) None) own ∙ ap (λ (b : Bool). cond (stands_in name (keys c.args.self.now.own) || (b || false)) (result_of c.args.self.now name) None) numbers ∙ all_taken c.args.self.now name
