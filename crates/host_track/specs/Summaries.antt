@@ -34,7 +34,7 @@ pub record Shows (play : Play) (start : Known) (entries : List Entry) (summary :
 abbrev pub does_register : Name → Step → Bool
 does_register name step = is_called (register_of step) name
 
--- a step of the play does
+-- a step of the play registers its result under the name
 abbrev pub does_play_register : Play → Name → Bool
 does_play_register play name = list_any (does_register name) play.steps.items
 

@@ -28,7 +28,8 @@ pub struct Summary {
 }
 
 impl Summary {
-    /// Of no row, for a host that begins the play so, best by `Vars::begin_play`. It fails for want of memory alone, and then drops `vars`.
+    /// Of no row, for a host that begins the play with these variables and results, as `Vars::begin_play` gives them. It fails for
+    /// want of memory alone, and then drops `vars`.
     pub fn new(alloc: Global, play: &Play, vars: Vars) -> Result<Summary, AllocError>
         ensures { IfOk result (Shows play.now (known_of vars) []) }
     {

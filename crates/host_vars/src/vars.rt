@@ -10,7 +10,7 @@ use std::sync::Arc;
 use variable_layers::HostVariables;
 use word_parts::Field;
 
-/// A host's name, the groups that hold it, its variables, and its registered results. Copies share the variables.
+/// A host's name, the groups that hold it, its variables, and its registered results. Who begins a play from it shares the variables.
 #[derive(Drop)]
 pub struct Vars {
     pub(crate) variables: Arc<HostVariables>,

@@ -1,18 +1,19 @@
 //! The names under which the steps of a play register results.
-ghost use Rattle.std.specs.Prelude.{◌≡◌, OnErr, OnOk, false, length, option_copied, slice_get, option_map, string_bytes, ◌||◌};
+ghost use Rattle.std.specs.Prelude.{◌≡◌, ◌||◌, OnErr, OnOk, false};
 ghost use Rattle.inventory_model.specs.Names.{Name, same_name};
 ghost use Rattle.registered_results.specs.Registers.{number_in, is_register};
 
 use indexmap::IndexSet;
 use std::alloc::{AllocError, Global};
 
-/// Names, each once, with their numbers from 0. The hosts of a play share them, and so keep no names of their own.
+/// Names, each once, with their numbers from 0. The hosts of a play share them, and keep no copies of these names.
 #[derive(Drop)]
 pub struct Registers {
     names: IndexSet<String>,
 }
 
 impl Registers {
+    /// No name. It takes no memory.
     pub fn new(alloc: Global) -> Registers
         ensures { (name : Name) → is_register result name ≡ false }
     {

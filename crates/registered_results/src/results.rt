@@ -14,7 +14,7 @@ use std::sync::Arc;
 mod tests;
 
 /// A place for each register of the host's play and for each other name that was reserved; a place without a result counts as no
-/// result. The places of a play's registers stand by their numbers, so that a host is never asked for a name.
+/// result. The places of registers stand by the numbers that the hosts of the play share: no table of this host is touched to find one.
 #[derive(Drop)]
 pub struct Results {
     pub(crate) registers: Option<Arc<Registers>>,

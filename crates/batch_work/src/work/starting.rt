@@ -16,8 +16,8 @@ use play_model::Play;
 use std::alloc::{AllocError, Global};
 
 impl<'p> BatchWork<'p> {
-    /// Of hosts that begin the play with these variables and results, of which it takes copies. It fails for want of memory
-    /// alone.
+    /// Of hosts that begin the play with these variables, which it shares, and these results, which it copies. It fails for want of
+    /// memory alone.
     pub fn new(alloc: Global, play: &'p Play, vars: &[Vars]) -> Result<BatchWork<'p>, AllocError>
         ensures { (roll : Roll) → roll.play ≡ play.now → length roll.start ≡ length vars.now → ((host : ℕ) → roll.known host ≡ known_at vars.now host)
             → IfOk result (IsWorkOf roll (start_state roll)) }

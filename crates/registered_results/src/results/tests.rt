@@ -37,3 +37,41 @@ fn a_place_is_no_result_until_one_is_registered(rt: HostRuntime) -> Result<(), F
     assert_eq!(rt; rc_of(&results, "r"), Some(0));
     Ok(())
 }
+
+fn registers_of(alloc: Global, names: &[&str]) -> Result<Arc<Registers>, AllocError> {
+    let mut registers = Registers::new(alloc);
+    for name in names {
+        registers.add(alloc, name)?;
+    }
+    let shared = Arc::new(alloc, registers)?;
+    Ok(shared)
+}
+
+/// Of a host that begins a play with these registers and has a result under each of these names.
+fn registered(alloc: Global, registers: &[&str], names: &[&str]) -> Result<Results, AllocError> {
+    let registers = registers_of(alloc, registers)?;
+    let before = Results::new(alloc);
+    let mut results = before.begin_play(alloc, &registers)?;
+    for name in names {
+        results.reserve(alloc, name)?;
+        results.register(name, result_of(alloc, 3, "out")?);
+    }
+    Ok(results)
+}
+
+#[test]
+fn a_play_begins_with_the_results_of_the_play_before_it(rt: HostRuntime) -> Result<(), Fail> {
+    let alloc = rt.alloc();
+    let first = registered(alloc, &["r", "s", "t"], &["r", "s", "u"])?;
+    let registers = registers_of(alloc, &["v", "s"])?;
+    let second = first.begin_play(alloc, &registers)?;
+    for name in ["r", "s", "u"] {
+        assert_eq!(rt; rc_of(&first, name), Some(3), "{name}");
+        assert_eq!(rt; rc_of(&second, name), Some(3), "{name}");
+    }
+    for name in ["t", "v"] {
+        assert!(rt; second.get(name).is_none(), "{name}");
+    }
+    assert!(rt; second.is_reserved("v"));
+    Ok(())
+}
