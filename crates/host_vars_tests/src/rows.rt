@@ -35,52 +35,92 @@ fn skipped(alloc: Global) -> Registered {
     }
 }
 
+fn is_rendered(
+    host: &Vars,
+    alloc: Global,
+    word: &str,
+    wanted: Result<&str, RenderFault<'_>>,
+) -> bool {
+    match host.render(alloc, word) {
+        Ok(text) => wanted == Ok(text.as_str()),
+        Err(fault) => wanted == Err(fault),
+    }
+}
+
+/// Whether the word is rendered so for this host of the groups.
+fn renders(
+    alloc: Global,
+    groups: &[Row],
+    name: &str,
+    word: &str,
+    wanted: Result<&str, RenderFault<'_>>,
+) -> Result<bool, Fail> {
+    let host = host(alloc, groups, name)?;
+    Ok(is_rendered(&host, alloc, word, wanted))
+}
+
 #[test]
-fn the_deepest_group_wins_and_the_hosts_own_before_it(rt: HostRuntime) -> Result<(), Fail> {
+fn words_are_rendered_or_refused_as_stated(rt: HostRuntime) -> Result<(), Fail> {
     let alloc = rt.alloc();
-    let of_groups = host(alloc, &nested(), "h")?;
-    let of_its_own = host(alloc, &with_its_own(), "h")?;
-    let regional = host(alloc, &region(), "a")?;
-    for (host, word, wanted) in [
-        (&of_groups, "{{v}}", "3"),
-        (&of_its_own, "{{v}}", "5"),
-        (&regional, "{{ inventory_hostname }}-{{v}}", "a-7"),
-        (&regional, "{ {v}}", "{ {v}}"),
+    assert!(rt; renders(alloc, &nested(), "h", "{{v}}", Ok("3"))?);
+    assert!(rt; renders(alloc, &with_its_own(), "h", "{{v}}", Ok("5"))?);
+    for (word, wanted) in [
+        ("{{ inventory_hostname }}-{{v}}", Ok("a-7")),
+        ("{ {v}}", Ok("{ {v}}")),
+        ("{{ v | x }}", Err(RenderFault::BadBraces)),
+        (
+            "{{ v | x }}{{ w.rc }}",
+            Err(RenderFault::Undefined { name: "w" }),
+        ),
     ] {
-        match host.render(alloc, word) {
-            Ok(text) => assert_eq!(rt; text.as_str(), wanted),
-            Err(_fault) => assert!(rt; false, "{word}"),
-        }
+        assert!(rt; check_word(word).is_err() == wanted.is_err(), "{word}");
+        assert!(rt; renders(alloc, &region(), "a", word, wanted)?, "{word}");
     }
     Ok(())
 }
 
-#[test]
-fn a_word_is_refused_with_its_fault(rt: HostRuntime) -> Result<(), Fail> {
-    let alloc = rt.alloc();
-    let host = host(alloc, &region(), "a")?;
-    for (word, wanted) in [
-        ("{{ v | x }}", RenderFault::BadBraces),
-        (
-            "{{ v | x }}{{ w.rc }}",
-            RenderFault::Undefined { name: "w" },
-        ),
-    ] {
-        assert!(rt; check_word(word).is_err());
-        assert!(rt; host.render(alloc, word).err() == Some(wanted), "{word}");
+fn verdict(alloc: Global, text: &str, host: &Vars) -> Result<Option<bool>, Fail> {
+    let condition = parse(alloc, text)?;
+    Ok(eval(&condition, host).ok())
+}
+
+/// A host of the region, on which a program was skipped whose result is registered as `x`.
+fn with_skipped(alloc: Global) -> Result<Vars, Fail> {
+    let mut host = host(alloc, &region(), "a")?;
+    host.reserve(alloc, "x")?;
+    host.register("x", skipped(alloc));
+    Ok(host)
+}
+
+/// The same where it begins a play with another register.
+fn begun(alloc: Global, host: &Vars) -> Result<Vars, Fail> {
+    let registers = registers(alloc, "y")?;
+    Ok(host.begin_play(alloc, &registers)?)
+}
+
+/// What a place without a result is to a condition.
+fn of_a_place(alloc: Global, text: &str) -> Result<Option<bool>, Fail> {
+    let mut host = host(alloc, &region(), "a")?;
+    host.reserve(alloc, "x")?;
+    verdict(alloc, text, &host)
+}
+
+/// The same verdict on the host with the result, and where it begins a play.
+fn of_the_result(alloc: Global, text: &str) -> Result<Option<bool>, Fail> {
+    let host = with_skipped(alloc)?;
+    let verdict_there = verdict(alloc, text, &host)?;
+    let begun = begun(alloc, &host)?;
+    if verdict(alloc, text, &begun)? == verdict_there {
+        Ok(verdict_there)
+    } else {
+        Err(Fail::new("another verdict in a play that was begun"))
     }
-    Ok(())
 }
 
 #[test]
 fn conditions_see_groups_and_results(rt: HostRuntime) -> Result<(), Fail> {
     let alloc = rt.alloc();
-    let mut host = host(alloc, &region(), "a")?;
-    host.reserve(alloc, "x")?;
-    let before = parse(alloc, "x is defined")?;
-    assert!(rt; matches!(eval(&before, &host), Ok(false)));
-    host.register("x", skipped(alloc));
-    let begun = host.begin_play(alloc, &registers(alloc, "y")?)?;
+    assert!(rt; of_a_place(alloc, "x is defined")? == Some(false));
     for (text, wanted) in [
         ("'r1' in group_names", true),
         ("'eu' in group_names", true),
@@ -91,9 +131,7 @@ fn conditions_see_groups_and_results(rt: HostRuntime) -> Result<(), Fail> {
         ("x.rc is defined", false),
         ("v == 7", true),
     ] {
-        let condition = parse(alloc, text)?;
-        assert!(rt; eval(&condition, &host) == Ok(wanted), "{text}");
-        assert!(rt; eval(&condition, &begun) == Ok(wanted), "{text}");
+        assert!(rt; of_the_result(alloc, text)? == Some(wanted), "{text}");
     }
     Ok(())
 }

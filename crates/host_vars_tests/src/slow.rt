@@ -1,8 +1,11 @@
 //! A slow program that looks at every group, against `layered` and `layered_all`.
+ghost use Rattle.std.specs.Prelude.{◌<◌, length};
+ghost use Rattle.domains.specs.Fleets.{IsFleetOf};
+
 use crate::fleets::{Row, listed, tree_of};
 use cond::{Env, Scalar, Value};
 use domains::Fleet;
-use group_tree::HostId;
+use group_tree::{HostId, Tree};
 use host_vars::{Vars, layered, layered_all};
 use std::alloc::Global;
 use std::test::Fail;
@@ -129,30 +132,53 @@ fn value(vars: &Vars) -> i64 {
     }
 }
 
+fn is_like(at_once: &[Vars], index: usize, number: i64) -> bool {
+    match at_once.get(index) {
+        Some(vars) => value(vars) == number,
+        None => false,
+    }
+}
+
+/// Whether both calls say of the host what the slow program does.
+fn agree_on(
+    alloc: Global,
+    tree: &Tree<Global>,
+    fleet: &Fleet,
+    host: HostId,
+    at_once: &[Vars],
+    wanted: i64,
+) -> Result<bool, Fail>
+    requires fleet { IsFleetOf tree.now fleet.now }
+    requires host { host.index < length fleet.now.hosts }
+{
+    let alone = layered(alloc, tree, fleet, host)?;
+    Ok(value(&alone) == wanted && is_like(at_once, host.index, wanted))
+}
+
 /// How many hosts the two calls and the slow program agree on, and none where they differ.
-fn agreed(alloc: Global, number: u32) -> Result<Option<usize>, Fail> {
-    let all = value_if(number % 3 > 0, 1);
-    let rows = groups_of(number);
-    let tree = tree_of(alloc, all, &rows)?;
-    let fleet = Fleet::build(alloc, &tree)?;
-    let at_once = layered_all(alloc, &tree, &fleet)?;
+fn agreed_in(
+    alloc: Global,
+    tree: &Tree<Global>,
+    all: i64,
+    rows: &[Row],
+) -> Result<Option<usize>, Fail> {
+    let fleet = Fleet::build(alloc, tree)?;
+    let at_once = layered_all(alloc, tree, &fleet)?;
     for index in 0..fleet.hosts() {
         let host = HostId { index };
-        let name = fleet.name(host);
-        let alone = layered(alloc, &tree, &fleet, host)?;
-        let number = wanted(all, &rows, name);
-        if value(&alone) != number || !is_like(at_once.as_slice(), index, number) {
+        let wanted = wanted(all, rows, fleet.name(host));
+        if !agree_on(alloc, tree, &fleet, host, at_once.as_slice(), wanted)? {
             return Ok(None);
         }
     }
     Ok(Some(fleet.hosts()))
 }
 
-fn is_like(at_once: &[Vars], index: usize, number: i64) -> bool {
-    match at_once.get(index) {
-        Some(vars) => value(vars) == number,
-        None => false,
-    }
+fn agreed(alloc: Global, number: u32) -> Result<Option<usize>, Fail> {
+    let all = value_if(number % 3 > 0, 1);
+    let rows = groups_of(number);
+    let tree = tree_of(alloc, all, &rows)?;
+    agreed_in(alloc, &tree, all, &rows)
 }
 
 #[test]
