@@ -9,15 +9,15 @@ use Rattle.roll_logs.specs.Rolls.{Roll}
 use Rattle.roll_logs.specs.Events.{Event}
 use Rattle.roll_logs.specs.States.{State, start_state}
 use Rattle.roll_logs.specs.Logs.{next, state_after}
+use Rattle.roll_logs.specs.Told.{AreTold, MayEnd, MayTell, Work, asked_of}
 use Rattle.roll_kernel.specs.declared.completion.Completion.{Completion}
-use Rattle.roll_kernel.specs.Claims.{IsOut, asked_of, event_in}
+use Rattle.roll_kernel.specs.Claims.{IsOut, event_in}
 use Rattle.roll_kernel.specs.Views.{KernelView, roll_of, state_of}
 use Rattle.roll_kernel.specs.Views as kernels
 use Rattle.roll_kernel.specs.Ways.{outcome_in}
 use Rattle.roll_core.specs.Boards.{is_report, reports_in}
 use Rattle.roll_core.specs.Dones.{MayComplete}
 use Rattle.roll_core.specs.Inside.{IsKept}
-use Rattle.roll_core.specs.Runners.{AreTold, MayEnd, MayTell, Work}
 
 some_same : {X : Type 0} (one other : X) → Some one ≡ Some other → one ≡ other
 some_same one other e = cc

@@ -6,7 +6,7 @@ use Rattle.roll_kernel.specs.declared.claim.Claim.{Claim}
 use Rattle.roll_kernel.specs.declared.completion.Completion.{Completion}
 use Rattle.roll_kernel.specs.Claims.{IsCompletionOf}
 use Rattle.roll_kernel.specs.Ways.{outcome_in, request_of}
-use Rattle.roll_core.specs.Runners.{MayEnd, Work}
+use Rattle.roll_logs.specs.Told.{MayEnd, Work}
 
 -- how a step ended on a host, and the runner that it was told by
 pub record DoneView (R : Type 0) : Type 0 where

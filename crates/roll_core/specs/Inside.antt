@@ -4,7 +4,7 @@ use Rattle.outcome_results.specs.Endings.{Ending}
 use Rattle.roll_logs.specs.States.{start_state}
 use Rattle.roll_kernel.specs.Views.{KernelView, roll_of}
 use Rattle.roll_core.specs.Boards.{reports_in}
-use Rattle.roll_core.specs.Runners.{AreTold, Work}
+use Rattle.roll_logs.specs.Told.{AreTold, Work}
 
 -- the log tells what the runner may tell; the ledger has counted its reports, and is cut into 129 parts: one a tally that is out, the others
 -- here, with what the tallies that came back had counted; a log has fewer than 2^63 events

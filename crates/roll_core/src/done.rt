@@ -59,9 +59,10 @@ impl<'r, R: Runner> Done<'r, R> {
         Done { completion, runner }
     }
 
-    /// The host of the claim.
+    /// The host of the claim. In every `Done` the program of the claim ended as its runner may tell.
     pub fn host(&self) -> HostId
-        ensures { result ≡ self.now.completion.share.host }
+        ensures host { result ≡ self.now.completion.share.host }
+        ensures told { MayComplete (R.may self.now.runner) self.now.completion }
     {
         self.completion.host()
     }

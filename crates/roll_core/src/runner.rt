@@ -2,8 +2,9 @@
 ghost use Rattle.std.specs.Prelude.{◌≡◌, Decides, true, IfOk};
 ghost use Rattle.outcome_results.specs.Endings.{Ending, ending_of};
 ghost use Rattle.roll_logs.specs.Rolls.{is_of_program};
+ghost use Rattle.roll_logs.specs.Told.{Work};
 ghost use Rattle.roll_core.specs.Leaves.{IsGoOf};
-ghost use Rattle.roll_core.specs.Runners.{Work, work_of};
+ghost use Rattle.roll_core.specs.Runners.{work_of};
 
 use crate::go::Go;
 use outcome_results::Outcome;

@@ -4,12 +4,13 @@ use Rattle.fleet_numbers.specs.NumberLists.{has_number}
 use Rattle.play_model.specs.declared.step.Step.{Step}
 use Rattle.outcome_results.specs.declared.outcome.Outcome.{Outcome}
 use Rattle.outcome_results.specs.Endings.{ending_of}
-use Rattle.host_jobs.specs.Asking.{Request, asks, job, settled}
-use Rattle.host_track.specs.Tracks.{known_after, step_at}
+use Rattle.host_jobs.specs.Asking.{Request, job, settled}
+use Rattle.host_track.specs.Tracks.{step_at}
 use Rattle.roll_logs.specs.Rolls.{Roll}
 use Rattle.roll_logs.specs.Events.{Event, claimed, reported}
 use Rattle.roll_logs.specs.States.{State, working}
 use Rattle.roll_logs.specs.Logs.{MayClaim}
+use Rattle.roll_logs.specs.Told.{asked_of}
 use Rattle.batch_work.specs.Works.{is_free}
 use Rattle.roll_kernel.specs.declared.claim.Claim.{Claim}
 use Rattle.roll_kernel.specs.declared.claim.Handed.{Handed}
@@ -18,11 +19,6 @@ use Rattle.roll_kernel.specs.declared.completion.Completion.{Completion}
 use Rattle.roll_kernel.specs.declared.way.Way.TheVariants.{Program}
 use Rattle.roll_kernel.specs.Ways.{outcome_in, request_of}
 use Rattle.roll_kernel.specs.Views.{KernelView, roll_of, state_of, with_event}
-
--- what a step asks of a host as its rows stand
-abbrev pub asked_of : Roll → State → ℕ → Step → Request
-asked_of roll state host task =
-    asks (known_after roll.play (roll.known host) (state.rows host)) task
 
 -- a claim of the host for the step, whose program this request asks for
 pub record IsRun (host step : ℕ) (request : Request) (claim : Claim) : Type 0 where

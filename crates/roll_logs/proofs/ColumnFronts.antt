@@ -11,7 +11,10 @@ use Rattle.fleet_states.proofs.ReadyLemmas.{ready_waits}
 use Rattle.fleet_states.proofs.StatusLemmas.{status_at-changed_idle}
 use Rattle.outcome_results.specs.Endings.{Ending}
 use Rattle.outcome_results.specs.Counting.{is_failed}
-use Rattle.host_track.specs.Tracks.{Entry, track, failing_step, has_failed, is_due, known_after, row_at, step_at}
+use Rattle.play_model.specs.declared.step.Step.{Step}
+use Rattle.outcome_results.specs.Hosts.{Known}
+use Rattle.host_jobs.specs.Asking.{Request, asks, end_of, job, settled}
+use Rattle.host_track.specs.Tracks.{Entry, track, entry_of, failing_step, has_failed, is_due, known_after, row_at, step_at}
 use Rattle.batch_outcome.specs.Batches.{halts_at, halt, is_failed_by, is_past, failed_count, status_after}
 use Rattle.batch_outcome.specs.Laws.{IsLeastHalt}
 use Rattle.batch_outcome.proofs.BatchLaws.{least}
@@ -19,7 +22,8 @@ use Rattle.roll_logs.specs.Rolls.{Roll}
 use Rattle.roll_logs.specs.Events.{Event, set_aside, opened, claimed, reported, passed, closed}
 use Rattle.roll_logs.specs.States.{State, Phase, between, working, ended, start_state, failures, is_awaited, is_dead, is_last, phase_after, rows_with, with_rows, at_rest}
 use Rattle.roll_logs.specs.Logs.{Allowed, IsLegal, MayReport, next, closed_state, state_after}
-use Rattle.roll_logs.specs.Columns.{Columns, Tells, TellsOf, fails_by, halt_by, steps_until, BatchesEndByColumns}
+use Rattle.roll_logs.specs.Told.{AreTold, MayEnd, MayTell}
+use Rattle.roll_logs.specs.Columns.{Columns, gives, fails_by, halt_by, steps_until, BatchesEndByColumns}
 use Rattle.roll_logs.proofs.OutLemmas.{count_same, any_none, all_in}
 use Rattle.roll_logs.proofs.ColumnLemmas.{failed_by, stays_failed, awaited_where_due, not_awaited, due_rows, other_rows, none_yet}
 use Rattle.roll_logs.proofs.WorkLemmas as work
@@ -243,7 +247,16 @@ module _ (roll : Roll) (columns : Columns) where
           end_of : (a b : Option ℕ) → ended a ≡ ended b → a ≡ b
           end_of a b same = cc
 
-  reported_on_track : (state : State) (host step : ℕ) (ending : Ending) → MayReport roll state host step ending → columns host step ≡ ending → IsKept state → OnTrack (next roll state (reported host step ending))
+  -- a program ends as its column says, and what is settled ends so in any column
+  same_end : (host step : ℕ) (request : Request) (ending : Ending) → MayEnd (gives columns) host step request ending → end_of request ending ≡ end_of request (columns host step)
+  same_end host step (job words) ending told = told
+  same_end host step (settled end) ending told = refl
+
+  same_row : (host step : ℕ) (known : Known) (task : Step) (ending : Ending) → MayEnd (gives columns) host step (asks known task) ending → row_at known (Some task) step ending ≡ row_at known (Some task) step (columns host step)
+  same_row host step known task ending told =
+      ap (λ end. entry_of known task step end ∷ []) (same_end host step (asks known task) ending told)
+
+  reported_on_track : (state : State) (host step : ℕ) (ending : Ending) → MayReport roll state host step ending → MayTell (gives columns) roll state (reported host step ending) → IsKept state → OnTrack (next roll state (reported host step ending))
   reported_on_track state host step ending may told (at_work, on) =
       record {
         rows = λ other now here e. by_case other now here e (cases_eq other host);
@@ -270,8 +283,11 @@ module _ (roll : Roll) (columns : Columns) where
       one_more (inr through) = absurd (not_through through)
       one_more (inl waits) =
           let due : is_due roll.play (rows_of host step) step ≡ true = due_as_awaited host step (state.rows host) waits ∙ awaited in
-          let row : List Entry → Ending → List Entry = λ rows end. rows ++ row_at (known_after roll.play (roll.known host) rows) (step_at roll.play step) step end in
-          ap (λ rows. row rows ending) waits ∙ ap (row (rows_of host step)) (sym told) ∙ sym (due_rows roll.play (roll.known host) (columns host) step due)
+          let given = columns host step in
+          let row : List Entry → Option Step → Ending → List Entry = λ rows task end. rows ++ row_at (known_after roll.play (roll.known host) rows) task step end in
+          let own = state.rows host in
+          let as_given : row own (Some may.task) ending ≡ row own (Some may.task) given = ap (λ rows. own ++ rows) (same_row host step (known_after roll.play (roll.known host) own) may.task ending (told may.task may.is)) in
+          ap (λ task. row own task ending) may.is ∙ as_given ∙ sym (ap (λ task. row own task given) may.is) ∙ ap (λ rows. row rows (step_at roll.play step) given) waits ∙ sym (due_rows roll.play (roll.known host) (columns host) step due)
 
       by_case : (other now : ℕ) → has_number other state.batch ≡ true → state.phase ≡ working now → (other ≡ host) ⊎ (other ≡ host → ⊥) → IsAt (with_rows host new state.rows other) other now
       by_case other now here e (inl same) =
@@ -296,7 +312,7 @@ module _ (roll : Roll) (columns : Columns) where
         ends = λ other at. absurd (cc);
       }
 
-  next_on_track : (state : State) (event : Event) → Allowed roll state event → TellsOf columns event → AtWork roll.play state → OnTrack state → OnTrack (next roll state event)
+  next_on_track : (state : State) (event : Event) → Allowed roll state event → MayTell (gives columns) roll state event → AtWork roll.play state → OnTrack state → OnTrack (next roll state event)
   next_on_track state (set_aside hosts) may told at_work on =
       record { rows = on.rows; inside = on.inside; goes_on = on.goes_on; ends = on.ends }
   next_on_track state (opened batch) may told at_work on =
@@ -377,7 +393,7 @@ module _ (roll : Roll) (columns : Columns) where
           let within : at < steps = halt_within state.batch at (sym is.0 ∙ e) in
           ap has_failed own ∙ sym (failed_by roll.play (roll.known host) (columns host) steps at within)
 
-  pub along_log : (state : State) (log : List Event) → IsLegal roll state log → Tells columns log → IsKept state → IsKept (state_after roll state log)
+  pub along_log : (state : State) (log : List Event) → IsLegal roll state log → AreTold (gives columns) roll state log → IsKept state → IsKept (state_after roll state log)
   along_log state [] legal told kept = kept
   along_log state (event ∷ log) legal told kept =
       along_log (next roll state event) log legal.1 told.1 (next_at_work roll state event legal.0 kept.0, next_on_track state event legal.0 told.0 kept.0 kept.1)

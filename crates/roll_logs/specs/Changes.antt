@@ -47,4 +47,4 @@ pub record IsOnTrack (roll : Roll) (columns : Columns) (state : State) (host ste
 
 abbrev pub BatchesAreOnTrack : Type 0
 BatchesAreOnTrack =
-    (roll : Roll) (log : List Event) (columns : Columns) (host step : ℕ) → IsLegal roll (start_state roll) log → Tells columns log → (end_state roll log).phase ≡ working step → has_number host (end_state roll log).batch ≡ true → IsOnTrack roll columns (end_state roll log) host step
+    (roll : Roll) (log : List Event) (columns : Columns) (host step : ℕ) → IsLegal roll (start_state roll) log → Tells columns roll log → (end_state roll log).phase ≡ working step → has_number host (end_state roll log).batch ≡ true → IsOnTrack roll columns (end_state roll log) host step

@@ -1,29 +1,26 @@
 -- What a log says of the hosts, against columns, which give each host and step an end for its program.
-use Rattle.std.specs.Prelude.{◌≡◌, ℕ, suc, true, Option, Some, None, List, [], ◌∷◌, length}
+use Rattle.std.specs.Prelude.{◌≡◌, ℕ, suc, true, Option, Some, None, List, length}
 use Rattle.fleet_numbers.specs.NumberLists.{has_number}
 use Rattle.fleet_states.specs.Statuses.{status_at}
+use Rattle.outcome_results.specs.Endings.{Ending}
 use Rattle.host_track.specs.Tracks.{Column, track, whole_track, failing_step}
 use Rattle.batch_outcome.specs.Batches.{Fails, halt, status_after}
 use Rattle.roll_logs.specs.Rolls.{Roll}
-use Rattle.roll_logs.specs.Events.{Event, set_aside, opened, claimed, reported, passed, closed}
+use Rattle.roll_logs.specs.Events.{Event, closed}
 use Rattle.roll_logs.specs.States.{State, ended, start_state}
 use Rattle.roll_logs.specs.Logs.{IsLegal, end_state, next}
+use Rattle.roll_logs.specs.Told.{AreTold, Work}
 
 abbrev pub Columns : Type 0
 Columns = ℕ → Column
 
-abbrev pub TellsOf : Columns → Event → Type 0
-TellsOf columns (set_aside hosts) = Unit {0}
-TellsOf columns (opened batch) = Unit {0}
-TellsOf columns (claimed host step) = Unit {0}
-TellsOf columns (reported host step ending) = columns host step ≡ ending
-TellsOf columns (passed step) = Unit {0}
-TellsOf columns closed = Unit {0}
+-- the columns give the program this end
+abbrev pub gives : Columns → Work → Ending → Type 0
+gives columns work ending = ending ≡ columns work.host work.step
 
--- the columns have the end of each report
-abbrev pub Tells : Columns → List Event → Type 0
-Tells columns [] = Unit {0}
-Tells columns (event ∷ log) = TellsOf columns event × Tells columns log
+-- the columns have the end of each program that the log reports; what is settled without one they need not say
+abbrev pub Tells : Columns → Roll → List Event → Type 0
+Tells columns roll log = AreTold (gives columns) roll (start_state roll) log
 
 -- the step that fails on each host by itself
 abbrev pub fails_by : Roll → Columns → Fails
@@ -50,4 +47,4 @@ pub record EndsByColumns (roll : Roll) (columns : Columns) (state : State) (halt
 -- a batch ends as its hosts do by themselves, whoever worked on them, in whatever order and beside whom
 abbrev pub BatchesEndByColumns : Type 0
 BatchesEndByColumns =
-    (roll : Roll) (log : List Event) (columns : Columns) (halt : Option ℕ) → IsLegal roll (start_state roll) log → Tells columns log → (end_state roll log).phase ≡ ended halt → EndsByColumns roll columns (end_state roll log) halt
+    (roll : Roll) (log : List Event) (columns : Columns) (halt : Option ℕ) → IsLegal roll (start_state roll) log → Tells columns roll log → (end_state roll log).phase ≡ ended halt → EndsByColumns roll columns (end_state roll log) halt

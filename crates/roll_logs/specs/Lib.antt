@@ -3,6 +3,7 @@ pub mod Events
 pub mod States
 pub mod Logs
 pub mod Laws
+pub mod Told
 pub mod Columns
 pub mod Once
 pub mod Changes

@@ -1,3 +1,4 @@
 pub mod Lines
 pub mod Scripts
 pub mod Same
+pub mod Laws

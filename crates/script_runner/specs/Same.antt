@@ -2,7 +2,7 @@
 use Rattle.std.specs.Prelude.{◌≡◌, List}
 use mathlib.Core.Path.{ap, sym, ◌∙◌}
 use Rattle.outcome_results.specs.Endings.{Ending}
-use Rattle.roll_core.specs.Runners.{Work}
+use Rattle.roll_logs.specs.Told.{Work}
 use Rattle.script_runner.specs.Lines.{Line, told_by}
 
 pub same_relation : (one other : List Line) → one ≡ other → (work : Work) (ending : Ending)

@@ -31,7 +31,7 @@ impl<'f, R: Runner, L: Ledger> Board<'f, R, L> {
     pub fn close(&mut self)
         requires { is_over (state_of self.old.kernel).phase ≡ true }
         ensures event { self.new ≡ with_event self.old closed }
-        ensures tracks { (columns : Columns) (halt : Option ℕ) → Tells columns self.old.kernel.log → (state_of self.old.kernel).phase ≡ ended halt
+        ensures tracks { (columns : Columns) (halt : Option ℕ) → Tells columns (roll_of self.old.kernel) self.old.kernel.log → (state_of self.old.kernel).phase ≡ ended halt
             → EndsByColumns (roll_of self.old.kernel) columns (state_of self.old.kernel) halt }
     {
         self.kernel.close();

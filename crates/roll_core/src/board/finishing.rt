@@ -4,7 +4,7 @@ ghost use Rattle.roll_logs.specs.Logs.{IsLegal};
 ghost use Rattle.roll_logs.specs.States.{start_state};
 ghost use Rattle.roll_kernel.specs.Leavings.{AreCounted, AreKnown};
 ghost use Rattle.roll_kernel.specs.Views.{FrontsAreSafe, RestsAtBoundaries, events_of, roll_of, state_of};
-ghost use Rattle.roll_core.specs.Runners.{AreTold};
+ghost use Rattle.roll_logs.specs.Told.{AreTold};
 
 use crate::board::Board;
 use crate::runner::Runner;

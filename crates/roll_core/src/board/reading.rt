@@ -8,7 +8,7 @@ ghost use Rattle.roll_logs.specs.Logs.{IsLegal};
 ghost use Rattle.batch_work.specs.Works.{is_awaited_in, phase_of};
 ghost use Rattle.roll_kernel.specs.Views.{FrontsAreSafe, RestsAtBoundaries, events_of, roll_of, state_of};
 ghost use Rattle.roll_core.specs.Boards.{reports_in};
-ghost use Rattle.roll_core.specs.Runners.{AreTold};
+ghost use Rattle.roll_logs.specs.Told.{AreTold};
 
 use crate::board::Board;
 use crate::runner::Runner;

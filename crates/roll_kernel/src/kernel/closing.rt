@@ -17,7 +17,7 @@ impl<'f> Kernel<'f> {
     pub fn close(&mut self)
         requires { is_over (state_of self.old).phase ≡ true }
         ensures event { self.new ≡ with_event self.old closed }
-        ensures tracks { (columns : Columns) (halt : Option ℕ) → Tells columns self.old.log → (state_of self.old).phase ≡ ended halt
+        ensures tracks { (columns : Columns) (halt : Option ℕ) → Tells columns (roll_of self.old) self.old.log → (state_of self.old).phase ≡ ended halt
             → EndsByColumns (roll_of self.old) columns (state_of self.old) halt }
     {
         let Stage::Ended(halt) = self.work.stage() else {

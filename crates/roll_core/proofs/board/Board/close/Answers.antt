@@ -15,4 +15,4 @@ invariant_of-self g c =
 
 pub returns-clause-tracks : goal.returns-clause-tracks
 returns-clause-tracks g c =
-    subst (λ (v : BoardView g.row.R.Denot). (columns : Columns) (halt : Option ℕ) → Tells columns v.kernel.log → (state_of v.kernel).phase ≡ ended halt → EndsByColumns (roll_of v.kernel) columns (state_of v.kernel) halt) c.self.view_is c.close.ensures.tracks
+    subst (λ (v : BoardView g.row.R.Denot). (columns : Columns) (halt : Option ℕ) → Tells columns (roll_of v.kernel) v.kernel.log → (state_of v.kernel).phase ≡ ended halt → EndsByColumns (roll_of v.kernel) columns (state_of v.kernel) halt) c.self.view_is c.close.ensures.tracks

@@ -53,4 +53,4 @@ invariant_of-self c =
 pub returns-clause-tracks : goal.returns-clause-tracks
 returns-clause-tracks c =
     let kernel : KernelView = view_of c.self.inside.roster c.self.inside.play.now c.self.inside.forks c.self.inside.start.now c.self.inside.vars.now c.self.inside.log.items in
-    subst (λ (v : KernelView). (columns : Columns) (halt : Option ℕ) → Tells columns v.log → (state_of v).phase ≡ ended halt → EndsByColumns (roll_of v) columns (state_of v) halt) c.self.view_is (λ columns halt tells at. ends_by_columns (roll_of kernel) kernel.log columns halt c.self.invariant.legal tells at)
+    subst (λ (v : KernelView). (columns : Columns) (halt : Option ℕ) → Tells columns (roll_of v) v.log → (state_of v).phase ≡ ended halt → EndsByColumns (roll_of v) columns (state_of v) halt) c.self.view_is (λ columns halt tells at. ends_by_columns (roll_of kernel) kernel.log columns halt c.self.invariant.legal tells at)
