@@ -14,7 +14,7 @@ use script_runner::Script;
 use std::alloc::{AllocError, Global};
 use std::fmt::Write;
 use std::marker::Brand;
-use std::process::{Processes, SystemProcess};
+use std::process::{Abort, Processes, SystemProcess};
 use std::sync::Wait;
 use std::sync::ledger::{Blank, Ledger};
 use std::test::Fail;
@@ -29,6 +29,15 @@ const BATCH: [HostId; 3] = [
     HostId { index: 1 },
     HostId { index: 2 },
 ];
+
+/// A play that was drawn, its playbook, and how its programs end on each host.
+#[derive(Drop)]
+struct Drawn {
+    made: MadePlay,
+    percentage: Option<u32>,
+    ends: Vec<Vec<End>>,
+    text: String,
+}
 
 fn host_of(name: &'static str, value: i64) -> Host {
     Host {
@@ -91,29 +100,34 @@ fn end_of_batch(
     Ok((made.steps.len(), false))
 }
 
+fn show_track(shown: &mut String, name: &str, track: &Track, halted: bool) -> Result<(), Fail> {
+    write!(shown, "{name} ")?;
+    show_counted(shown, &track.rows)?;
+    shown.push_str(if has_failed(track) {
+        " failed"
+    } else if halted {
+        " halted"
+    } else {
+        " updated"
+    })?;
+    Ok(())
+}
+
 /// Each host with its counts and its status, by the slow program.
-fn wanted(
-    alloc: Global,
-    made: &MadePlay,
-    ends: &[Vec<End>],
-    percentage: Option<u32>,
-) -> Result<String, Fail> {
-    let (steps, halted) = end_of_batch(alloc, made, ends, percentage)?;
+fn wanted(alloc: Global, drawn: &Drawn) -> Result<String, Fail> {
+    let (steps, halted) = end_of_batch(
+        alloc,
+        &drawn.made,
+        drawn.ends.as_slice(),
+        drawn.percentage,
+    )?;
     let mut shown = String::new(alloc);
-    for ((name, value), ends) in VALUES.iter().zip(ends) {
+    for ((name, value), ends) in VALUES.iter().zip(drawn.ends.as_slice()) {
         if !shown.is_empty() {
             shown.push_str(" / ")?;
         }
-        let track = track(alloc, made, host_of(name, *value), ends, steps)?;
-        write!(shown, "{name} ")?;
-        show_counted(&mut shown, &track.rows)?;
-        shown.push_str(if has_failed(&track) {
-            " failed"
-        } else if halted {
-            " halted"
-        } else {
-            " updated"
-        })?;
+        let track = track(alloc, &drawn.made, host_of(name, *value), ends, steps)?;
+        show_track(&mut shown, name, &track, halted)?;
     }
     Ok(shown)
 }
@@ -183,6 +197,38 @@ fn draw_all_ends(
     Ok(all)
 }
 
+fn text_of(alloc: Global, made: &MadePlay, percentage: Option<u32>) -> Result<String, Fail> {
+    let settings = match percentage {
+        Some(percentage) => format!(in alloc; "\"max_fail_percentage\":{percentage},")?,
+        None => String::new(alloc),
+    };
+    playbook(alloc, made, settings.as_str())
+}
+
+fn draw(alloc: Global, dice: &mut Dice) -> Result<Drawn, Fail> {
+    let made = draw_play(alloc, dice)?;
+    let percentage = if dice.one_in(2) {
+        Some(dice.below(101))
+    } else {
+        None
+    };
+    let text = text_of(alloc, &made, percentage)?;
+    Ok(Drawn {
+        ends: draw_all_ends(alloc, dice, made.steps.len())?,
+        made,
+        percentage,
+        text,
+    })
+}
+
+fn script_of_ends(alloc: Global, ends: &[Vec<End>]) -> Result<Script, Fail> {
+    let mut table = Vec::new(alloc);
+    for (host, ends) in ends.iter().enumerate() {
+        table.push((host, ends.as_slice()))?;
+    }
+    script_of(alloc, table.as_slice())
+}
+
 /// The hosts behind a batch that is driven at so many forks.
 fn driven<L: Ledger, H: Threads + Wait + Processes<Started = SystemProcess> + Sync>(
     rt: &H,
@@ -205,6 +251,57 @@ fn driven<L: Ledger, H: Threads + Wait + Processes<Started = SystemProcess> + Sy
     show_hosts(alloc, &board)
 }
 
+/// The board ends as wanted, whatever the number of forks.
+fn compare<H: Threads + Wait + Processes<Started = SystemProcess> + Abort + Sync>(
+    rt: &H,
+    alloc: Global,
+    setting: &Setting,
+    script: &Script,
+    drawn: &Drawn,
+    wanted: &str,
+    dice: &mut Dice,
+) -> Result<(), Fail> {
+    for forks in [1, 2, 5] {
+        let blank = Blank::new(129);
+        let shown = driven::<Brand, H>(rt, alloc, setting, script, dice, forks, blank)?;
+        assert_eq!(rt;
+            shown.as_str(),
+            wanted,
+            "{} {:?} {forks}",
+            drawn.text,
+            drawn.ends
+        );
+    }
+    Ok(())
+}
+
+fn on_boards<H: Threads + Wait + Processes<Started = SystemProcess> + Abort + Sync>(
+    rt: &H,
+    alloc: Global,
+    long: &str,
+    drawn: &Drawn,
+    wanted: &str,
+    dice: &mut Dice,
+) -> Result<(), Fail> {
+    let setting = set_up(alloc, group(alloc, &VALUES, long)?, drawn.text.as_str())?;
+    let script = script_of_ends(alloc, drawn.ends.as_slice())?;
+    compare(rt, alloc, &setting, &script, drawn, wanted, dice)
+}
+
+/// Whether a play that is drawn is halted.
+fn one_play<H: Threads + Wait + Processes<Started = SystemProcess> + Abort + Sync>(
+    rt: &H,
+    alloc: Global,
+    seed: u32,
+    long: &str,
+) -> Result<bool, Fail> {
+    let mut dice = Dice { state: seed };
+    let drawn = draw(alloc, &mut dice)?;
+    let wanted = wanted(alloc, &drawn)?;
+    on_boards(rt, alloc, long, &drawn, wanted.as_str(), &mut dice)?;
+    Ok(wanted.contains("halted"))
+}
+
 #[test]
 fn a_board_that_is_driven_in_any_order_ends_as_its_hosts_do_by_themselves(
     rt: HostRuntime,
@@ -213,40 +310,8 @@ fn a_board_that_is_driven_in_any_order_ends_as_its_hosts_do_by_themselves(
     let long = long_text(alloc)?;
     let mut halted = 0usize;
     for seed in 0..PLAYS {
-        let mut dice = Dice { state: seed };
-        let made = draw_play(alloc, &mut dice)?;
-        let percentage = if dice.one_in(2) {
-            Some(dice.below(101))
-        } else {
-            None
-        };
-        let settings = match percentage {
-            Some(percentage) => format!(in alloc; "\"max_fail_percentage\":{percentage},")?,
-            None => String::new(alloc),
-        };
-        let ends = draw_all_ends(alloc, &mut dice, made.steps.len())?;
-        let mut table = Vec::new(alloc);
-        for (host, ends) in ends.iter().enumerate() {
-            table.push((host, ends.as_slice()))?;
-        }
-        let text = playbook(alloc, &made, settings.as_str())?;
-        let wanted = wanted(alloc, &made, &ends, percentage)?;
-        if wanted.contains("halted") {
+        if one_play(&rt, alloc, seed, long.as_str())? {
             halted = halted.saturating_add(1);
-        }
-        let setting = set_up(alloc, group(alloc, &VALUES, long.as_str())?, text.as_str())?;
-        let script = script_of(alloc, &table)?;
-        for forks in [1, 2, 5] {
-            let shown = driven::<Brand, HostRuntime>(
-                &rt,
-                alloc,
-                &setting,
-                &script,
-                &mut dice,
-                forks,
-                Blank::new(129),
-            )?;
-            assert_eq!(rt; shown.as_str(), wanted.as_str(), "{text} {ends:?} {forks}");
         }
     }
     assert!(rt; halted > 50, "halted {halted} times");

@@ -5,8 +5,9 @@ use crate::rolled::{roll, script_of, show_hosts};
 use crate::setting::{board_of, set_up};
 use group_tree::{Group, GroupFault, GroupId, HostId};
 use made_plays::End;
-use roll_core::{HoldFault, OpenFault};
+use roll_core::{Board, HoldFault, OpenFault};
 use sample_fleets::{group, with};
+use script_runner::Script;
 use std::alloc::{Allocator, Global};
 use std::marker::Brand;
 use std::process::{Abort, Processes, SystemProcess};
@@ -33,19 +34,12 @@ fn group_id(index: usize) -> GroupId {
     GroupId { index }
 }
 
-fn rolled<L: Ledger, H: Threads + Wait + Processes<Started = SystemProcess> + Abort + Sync>(
+/// Of two hosts that may be down at once the first fails. `b` finds `r1` full before `eu` is.
+fn one_batch<'s, L: Ledger, H: Threads + Wait + Processes<Started = SystemProcess> + Abort + Sync>(
     rt: &H,
     alloc: Global,
-    blank: Blank,
-) -> Result<(), Fail>
-    requires name { blank.name ≡ L.name }
-    requires parts { blank.parts ≡ L.parts }
-    requires many { blank.parts ≡ 129 }
-{
-    let setting = set_up(alloc, region(alloc)?, ONE_STEP)?;
-    let script = script_of(alloc, &[(0, &[End::Ran(1)])])?;
-    let mut board = board_of::<L>(alloc, &setting, &script, 5, blank)?;
-    // `b` finds `r1` full before `eu` is
+    board: &mut Board<'s, Script, L>,
+) -> Result<(), Fail> {
     assert_eq!(rt;
         board.open(alloc, &[host(3), host(0), host(1), host(4)]),
         Err(OpenFault::Full { group: group_id(2) })
@@ -55,11 +49,29 @@ fn rolled<L: Ledger, H: Threads + Wait + Processes<Started = SystemProcess> + Ab
     assert_eq!(rt; board.open(alloc, &[host(1)]), Err(OpenFault::NotBoundary));
     assert_eq!(rt; board.hold(alloc, &[host(1)]), Err(HoldFault::NotBoundary));
     assert_eq!(rt; board.due(), 2);
-    roll(rt, alloc, &mut board)?;
+    roll(rt, alloc, board)
+}
+
+/// The hosts behind that batch.
+fn are_shown<'s, L: Ledger, H: Abort>(
+    rt: &H,
+    alloc: Global,
+    board: &Board<'s, Script, L>,
+) -> Result<(), Fail> {
+    let shown = show_hosts(alloc, board)?;
     assert_eq!(rt;
-        show_hosts(alloc, &board)?.as_str(),
+        shown.as_str(),
         "a 0 0 1 0 0 failed / b 0 0 0 0 0 waiting / c 0 0 0 0 0 waiting / d 1 1 0 0 0 updated / e 0 0 0 0 0 waiting"
     );
+    Ok(())
+}
+
+/// The failed host stays down, so no other of its rack is opened; those that find no room are set aside.
+fn behind_it<'s, L: Ledger, H: Abort>(
+    rt: &H,
+    alloc: Global,
+    board: &mut Board<'s, Script, L>,
+) -> Result<(), Fail> {
     assert_eq!(rt;
         board.open(alloc, &[host(0)]),
         Err(OpenFault::NotWaiting { host: host(0) })
@@ -83,6 +95,23 @@ fn rolled<L: Ledger, H: Threads + Wait + Processes<Started = SystemProcess> + Ab
     assert_eq!(rt; board.hold(alloc, &[host(1), host(2)]), Ok(()));
     assert_eq!(rt; board.down(group_id(2)), 1);
     Ok(())
+}
+
+fn rolled<L: Ledger, H: Threads + Wait + Processes<Started = SystemProcess> + Abort + Sync>(
+    rt: &H,
+    alloc: Global,
+    blank: Blank,
+) -> Result<(), Fail>
+    requires name { blank.name ≡ L.name }
+    requires parts { blank.parts ≡ L.parts }
+    requires many { blank.parts ≡ 129 }
+{
+    let setting = set_up(alloc, region(alloc)?, ONE_STEP)?;
+    let script = script_of(alloc, &[(0, &[End::Ran(1)])])?;
+    let mut board = board_of::<L>(alloc, &setting, &script, 5, blank)?;
+    one_batch(rt, alloc, &mut board)?;
+    are_shown(rt, alloc, &board)?;
+    behind_it(rt, alloc, &mut board)
 }
 
 #[test]

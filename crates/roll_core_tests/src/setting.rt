@@ -66,21 +66,25 @@ fn waiting_again(alloc: Global, count: usize) -> Result<Vec<Status>, AllocError>
     }
 }
 
-/// The fleet of a group, and the play of a playbook.
-pub fn set_up(alloc: Global, all: Group<Global>, playbook: &str) -> Result<Setting, Fail> {
+fn fleet_of(alloc: Global, all: Group<Global>) -> Result<(Fleet, Vec<Vars>), Fail> {
     let Ok(tree) = Tree::new(all) else {
         return Err(Fail::new("no tree"));
     };
     let fleet = fleet_again(alloc, &tree)?;
     let vars = vars_again(alloc, &tree, &fleet)?;
-    let play = play_again(alloc, playbook)?;
+    Ok((fleet, vars))
+}
+
+/// The fleet of a group, and the play of a playbook.
+pub fn set_up(alloc: Global, all: Group<Global>, playbook: &str) -> Result<Setting, Fail> {
+    let (fleet, vars) = fleet_of(alloc, all)?;
     let statuses = waiting_again(alloc, fleet.hosts())?;
     if vars.len() != fleet.hosts() {
         return Err(Fail::new("not one list of variables a host"));
     }
     Ok(Setting {
+        play: play_again(alloc, playbook)?,
         fleet,
-        play,
         vars,
         statuses,
     })

@@ -4,7 +4,7 @@ ghost use Rattle.std.specs.Prelude.{◌≡◌};
 use crate::rolled::roll;
 use crate::setting::{board_of, set_up};
 use group_tree::{Group, HostId, Limit};
-use roll_core::Stage;
+use roll_core::{Board, Stage};
 use script_runner::Script;
 use std::alloc::{Allocator, Global};
 use std::marker::Brand;
@@ -28,6 +28,30 @@ fn one_group<A: Allocator + Clone>(alloc: A) -> Result<Group<A>, Fail> {
     Ok(all)
 }
 
+fn open_all<'s, L: Ledger>(alloc: Global, board: &mut Board<'s, Script, L>) -> Result<(), Fail> {
+    let mut hosts = Vec::new(alloc);
+    for index in 0..HOSTS {
+        hosts.push(HostId { index })?;
+    }
+    if hosts.is_empty() || board.open(alloc, hosts.as_slice()).is_err() {
+        return Err(Fail::new("the batch was not opened"));
+    }
+    Ok(())
+}
+
+fn run_batch<'s, L: Ledger, H: Threads + Wait + Processes<Started = SystemProcess> + Abort + Sync>(
+    rt: &H,
+    alloc: Global,
+    board: &mut Board<'s, Script, L>,
+) -> Result<(), Fail> {
+    open_all(alloc, board)?;
+    assert_eq!(rt; board.due(), HOSTS);
+    roll(rt, alloc, board)?;
+    assert!(rt; board.stage() == Stage::Between);
+    assert_eq!(rt; board.log().len(), 4 * HOSTS + 4);
+    Ok(())
+}
+
 fn rolled<L: Ledger, H: Threads + Wait + Processes<Started = SystemProcess> + Abort + Sync>(
     rt: &H,
     alloc: Global,
@@ -40,18 +64,7 @@ fn rolled<L: Ledger, H: Threads + Wait + Processes<Started = SystemProcess> + Ab
     let setting = set_up(alloc, one_group(alloc)?, TWO_STEPS)?;
     let script = Script::new(alloc);
     let mut board = board_of::<L>(alloc, &setting, &script, 64, blank)?;
-    let mut hosts = Vec::new(alloc);
-    for index in 0..HOSTS {
-        hosts.push(HostId { index })?;
-    }
-    if hosts.is_empty() || board.open(alloc, hosts.as_slice()).is_err() {
-        return Err(Fail::new("the batch was not opened"));
-    }
-    assert_eq!(rt; board.due(), HOSTS);
-    roll(rt, alloc, &mut board)?;
-    assert!(rt; board.stage() == Stage::Between);
-    assert_eq!(rt; board.log().len(), 4 * HOSTS + 4);
-    Ok(())
+    run_batch(rt, alloc, &mut board)
 }
 
 #[test]
