@@ -3,12 +3,12 @@ use Rattle.std.proofs.Common.{◌≡◌, ℕ, ◌+◌, ◌<◌, ◌≤◌, max, 
 use Rattle.cond.specs.Tokens.{Token, Or, And, Closing}
 use Rattle.cond.specs.Grammar.{Any, all, or, All, neg, and, Neg, any_then, all_then, neg_then, any_depth, all_depth, neg_depth}
 use Rattle.cond.specs.Meaning.{Environment, Verdict, either, both, any_meaning, all_meaning, neg_meaning}
-use Rattle.cond.specs.Trees.{verdict_of, any_of, all_of}
+use Rattle.cond.specs.Trees.{tree_verdict, any_of, all_of}
 use Rattle.cond.specs.Heads.{first, behind}
 use Rattle.cond.specs.Readings.{Leaves}
 use Rattle.cond.specs.Readings.{ends_any, ends_all, ends_neg, Reads, Refuses}
 use Rattle.cond.specs.declared.stop.Stop.{Stop}
-use Rattle.cond.specs.declared.condition.Cond.{Cond}
+use Rattle.cond.specs.declared.tree.Tree.{Tree}
 use Rattle.cond.proofs.Unambiguous.{neg_same, all_ends_neg, no_and}
 use Rattle.cond.proofs.LeavesLaws.{more_leaves}
 
@@ -57,28 +57,28 @@ map_pushed f [] x = refl
 map_pushed f (y ∷ xs) x = ap (λ l. f y ∷ l) (map_pushed f xs x)
 
 -- the trees so far are those of the parts before the rest
-pub record Gathered (tokens rest : List Token) (room : ℕ) (trees : List Cond) : Type 0 where
+pub record Gathered (text : List ℕ) (tokens rest : List Token) (room : ℕ) (trees : List Tree) : Type 0 where
   pub parts : List Neg
   pub whole : tokens ≡ chain parts rest
   pub fits : FitsIn room parts
-  pub same : (e : Environment) → map (verdict_of e) trees ≡ map (neg_meaning e) parts
+  pub same : (e : Environment) → map (tree_verdict text e) trees ≡ map (neg_meaning e) parts
 
-pub nothing_yet : (tokens : List Token) (room : ℕ) → Gathered tokens tokens room []
-nothing_yet tokens room = record { parts = []; whole = refl; fits = tt; same = λ e. refl }
+pub nothing_yet : (text : List ℕ) (tokens : List Token) (room : ℕ) → Gathered text tokens tokens room []
+nothing_yet text tokens room = record { parts = []; whole = refl; fits = tt; same = λ e. refl }
 
 begun : (t : Token) (tokens : List Token) → first tokens ≡ Some t → tokens ≡ t ∷ behind tokens
 begun t [] e = absurd (cc)
 begun t (x ∷ rest) e = let same : x ≡ t = cc in ap (λ y. y ∷ rest) same
 
-module _ (tokens rest : List Token) (room : ℕ) (trees new : List Cond) (tree : Cond) (left : List Token) (so_far : Gathered tokens rest room trees) (read : Reads neg_then neg_depth ends_neg neg_meaning verdict_of room rest tree left) (pushed : new ≡ trees ++ tree ∷ []) where
-  same_pushed : (e : Environment) → map (verdict_of e) new ≡ map (neg_meaning e) (so_far.parts ++ read.reading ∷ [])
+module _ (text : List ℕ) (tokens rest : List Token) (room : ℕ) (trees new : List Tree) (tree : Tree) (left : List Token) (so_far : Gathered text tokens rest room trees) (read : Reads neg_then neg_depth ends_neg neg_meaning (tree_verdict text) room rest tree left) (pushed : new ≡ trees ++ tree ∷ []) where
+  same_pushed : (e : Environment) → map (tree_verdict text e) new ≡ map (neg_meaning e) (so_far.parts ++ read.reading ∷ [])
   same_pushed e =
-      ap (map (verdict_of e)) pushed ∙ map_pushed (verdict_of e) trees tree ∙ ap (λ l. l ++ verdict_of e tree ∷ []) (so_far.same e) ∙ ap (λ v. map (neg_meaning e) so_far.parts ++ v ∷ []) (read.same e) ∙ sym (map_pushed (neg_meaning e) so_far.parts read.reading)
+      ap (map (tree_verdict text e)) pushed ∙ map_pushed (tree_verdict text e) trees tree ∙ ap (λ l. l ++ tree_verdict text e tree ∷ []) (so_far.same e) ∙ ap (λ v. map (neg_meaning e) so_far.parts ++ v ∷ []) (read.same e) ∙ sym (map_pushed (neg_meaning e) so_far.parts read.reading)
 
   whole_read : tokens ≡ chain so_far.parts (neg_then read.reading left)
   whole_read = so_far.whole ∙ ap (chain so_far.parts) read.whole
 
-  pub one_more : first left ≡ Some And → Gathered tokens (behind left) room new
+  pub one_more : first left ≡ Some And → Gathered text tokens (behind left) room new
   one_more next = record {
     parts = so_far.parts ++ read.reading ∷ [];
     whole = whole_read ∙ ap (λ m. chain so_far.parts (neg_then read.reading m)) (begun And left next) ∙ sym (chain_pushed so_far.parts read.reading (behind left));
@@ -93,7 +93,7 @@ module _ (tokens rest : List Token) (room : ℕ) (trees new : List Cond) (tree :
   ends_here (And ∷ k) h last = absurd (last refl)
   ends_here (t ∷ k) h last = absurd (cc)
 
-  pub all_read : (first left ≡ Some And → ⊥) → (tree : Cond) → ((e : Environment) → verdict_of e tree ≡ all_of (map (verdict_of e) new)) → Reads all_then all_depth ends_all all_meaning verdict_of room tokens tree left
+  pub all_read : (first left ≡ Some And → ⊥) → (tree : Tree) → ((e : Environment) → tree_verdict text e tree ≡ all_of (map (tree_verdict text e) new)) → Reads all_then all_depth ends_all all_meaning (tree_verdict text) room tokens tree left
   all_read last tree joined = record {
     reading = linked so_far.parts read.reading;
     whole = whole_read ∙ sym (linked_then so_far.parts read.reading left);
@@ -101,6 +101,11 @@ module _ (tokens rest : List Token) (room : ℕ) (trees new : List Cond) (tree :
     deep = linked_deep room so_far.parts read.reading so_far.fits read.deep;
     same = λ e. joined e ∙ ap all_of (same_pushed e) ∙ sym (linked_means e so_far.parts read.reading);
   }
+
+-- a part that stands alone
+pub only_read : (text : List ℕ) (tokens : List Token) (room : ℕ) (tree : Tree) (left : List Token) → Reads neg_then neg_depth ends_neg neg_meaning (tree_verdict text) room tokens tree left → (first left ≡ Some And → ⊥) → Reads all_then all_depth ends_all all_meaning (tree_verdict text) room tokens tree left
+only_read text tokens room tree left read last =
+    all_read text tokens tokens room [] (tree ∷ []) tree left (nothing_yet text tokens room) read refl last tree (λ e. alone (tree_verdict text e tree))
 
 first_refused : (room : ℕ) (rest : List Token) (fault : Stop) → Refuses neg_then neg_depth ends_neg room rest fault → Refuses all_then all_depth ends_all room rest fault
 first_refused room rest fault refused (neg a) m h e = refused a m (all_ends_neg m h) e
@@ -116,6 +121,6 @@ chain_refused room (a ∷ parts) rest fault refused (and b more) m h e =
     let tail = split.1 in
     more_leaves fault room (all_depth more) (max (neg_depth b) (all_depth more)) (omega arith) (chain_refused room parts rest fault refused more m h (cc))
 
-pub part_refused : (tokens rest : List Token) (room : ℕ) (trees : List Cond) (fault : Stop) → Gathered tokens rest room trees → Refuses neg_then neg_depth ends_neg room rest fault → Refuses all_then all_depth ends_all room tokens fault
-part_refused tokens rest room trees fault so_far refused n m h e =
+pub part_refused : (text : List ℕ) (tokens rest : List Token) (room : ℕ) (trees : List Tree) (fault : Stop) → Gathered text tokens rest room trees → Refuses neg_then neg_depth ends_neg room rest fault → Refuses all_then all_depth ends_all room tokens fault
+part_refused text tokens rest room trees fault so_far refused n m h e =
     chain_refused room so_far.parts rest fault refused n m h (sym so_far.whole ∙ e)

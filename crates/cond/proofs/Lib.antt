@@ -6,7 +6,10 @@ pub mod Operands
 pub mod TestLaws
 pub mod Unambiguous
 pub mod Shorter
+pub mod Places
 pub mod Tokenizing
+pub mod Sources
+pub mod Conjunctions
 pub mod HeadLaws
 pub mod LeavesLaws
 pub mod OrChains

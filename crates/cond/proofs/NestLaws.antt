@@ -1,32 +1,32 @@
 -- What is read, and refused, of `not`, of brackets and of a test.
 use Rattle.std.proofs.Common.{◌≡◌, ℕ, suc, ◌-◌, ◌<◌, ◌≤◌, Bool, true, false, List, [], ◌∷◌, sym, refl, ap, ◌∙◌, arith, subst, Option, Some, None, Result, Ok, Err}
 use Rattle.std.specs.Prelude.{IfOk, IfErr}
-use Rattle.cond.specs.Seen.{ahead}
-use Rattle.cond.specs.declared.rest.Rest.{Rest}
+use Rattle.cond.specs.Seen.{ahead, text_of}
+use Rattle.cond.specs.declared.source.Source.{Source}
 use Rattle.cond.specs.Tokens.{Token, Not, Opening, Closing}
 use Rattle.cond.specs.Grammar.{Any, Neg, not, primary, Primary, brackets, test, Test, any_then, neg_then, primary_then, test_then, any_depth, neg_depth, primary_depth}
 use Rattle.cond.specs.Meaning.{Environment, Verdict, turned, any_meaning, neg_meaning, primary_meaning, test_meaning}
-use Rattle.cond.specs.Trees.{verdict_of}
+use Rattle.cond.specs.Trees.{tree_verdict}
 use Rattle.cond.specs.Heads.{first, behind, test_head}
 use Rattle.cond.specs.Readings.{Leaves}
 use Rattle.cond.specs.Answers.{Fails}
 use Rattle.cond.specs.Readings.{ends_any, ends_neg, Reads, Refuses}
 use Rattle.cond.specs.declared.stop.Stop.{Stop}
 use Rattle.cond.specs.declared.stop.Stop.TheVariants as stop
-use Rattle.cond.specs.declared.condition.Cond.{Cond}
+use Rattle.cond.specs.declared.tree.Tree.{Tree}
 use Rattle.cond.proofs.TestLaws.{no_test}
 use Rattle.cond.proofs.HeadLaws.{test_again, test_read_whole}
 use Rattle.cond.proofs.Unambiguous.{any_same, primary_same}
 use Rattle.cond.proofs.LeavesLaws.{nested_leaves}
 
-abbrev ReadsAny : ℕ → List Token → Cond → List Token → Type 0
-ReadsAny = Reads any_then any_depth ends_any any_meaning verdict_of
+abbrev ReadsAny : List ℕ → ℕ → List Token → Tree → List Token → Type 0
+ReadsAny text = Reads any_then any_depth ends_any any_meaning (tree_verdict text)
 
-abbrev ReadsNeg : ℕ → List Token → Cond → List Token → Type 0
-ReadsNeg = Reads neg_then neg_depth ends_neg neg_meaning verdict_of
+abbrev ReadsNeg : List ℕ → ℕ → List Token → Tree → List Token → Type 0
+ReadsNeg text = Reads neg_then neg_depth ends_neg neg_meaning (tree_verdict text)
 
-abbrev ReadsPrimary : ℕ → List Token → Cond → List Token → Type 0
-ReadsPrimary = Reads primary_then primary_depth ends_neg primary_meaning verdict_of
+abbrev ReadsPrimary : List ℕ → ℕ → List Token → Tree → List Token → Type 0
+ReadsPrimary text = Reads primary_then primary_depth ends_neg primary_meaning (tree_verdict text)
 
 abbrev RefusesAny : ℕ → List Token → Stop → Type 0
 RefusesAny = Refuses any_then any_depth ends_any
@@ -45,8 +45,8 @@ pub begun : (t : Token) (tokens : List Token) → first tokens ≡ Some t → to
 begun t [] e = absurd (cc)
 begun t (x ∷ rest) e = let same : x ≡ t = cc in ap (λ y. y ∷ rest) same
 
-module _ (room : ℕ) (tokens : List Token) (next : first tokens ≡ Some Not) where
-  pub not_read : (tree outer : Cond) (rest : List Token) → 0 < room → ReadsNeg (room - 1) (behind tokens) tree rest → ((e : Environment) → verdict_of e outer ≡ turned true (verdict_of e tree)) → ReadsNeg room tokens outer rest
+module _ (text : List ℕ) (room : ℕ) (tokens : List Token) (next : first tokens ≡ Some Not) where
+  pub not_read : (tree outer : Tree) (rest : List Token) → 0 < room → ReadsNeg text (room - 1) (behind tokens) tree rest → ((e : Environment) → tree_verdict text e outer ≡ turned true (tree_verdict text e tree)) → ReadsNeg text room tokens outer rest
   not_read tree outer rest some inner means = record {
     reading = not inner.reading;
     whole = begun Not tokens next ∙ ap (λ m. Not ∷ m) inner.whole;
@@ -73,8 +73,8 @@ module _ (room : ℕ) (tokens : List Token) (next : first tokens ≡ Some Not) w
   not_too_deep at none (primary (test t)) m h e =
       absurd (no_test t m (Not ∷ behind tokens) refl (sym e ∙ begun Not tokens next))
 
-pub plain_read : (room : ℕ) (tokens : List Token) (tree : Cond) (rest : List Token) → ReadsPrimary room tokens tree rest → ReadsNeg room tokens tree rest
-plain_read room tokens tree rest inner = record {
+pub plain_read : (text : List ℕ) (room : ℕ) (tokens : List Token) (tree : Tree) (rest : List Token) → ReadsPrimary text room tokens tree rest → ReadsNeg text room tokens tree rest
+plain_read text room tokens tree rest inner = record {
   reading = primary inner.reading;
   whole = inner.whole;
   ended = inner.ended;
@@ -87,15 +87,15 @@ plain_refused room tokens fault other inner (not n) m h e = absurd (other (ap fi
 plain_refused room tokens fault other inner (primary p) m h e = inner p m h e
 
 -- the same of what the reader of a primary answers
-pub plain_read_if : (room : ℕ) (tokens : List Token) (answer : Result (Cond × Rest) Stop) → IfOk answer (λ read. ReadsPrimary room tokens read.0 (ahead read.1)) → IfOk answer (λ read. ReadsNeg room tokens read.0 (ahead read.1))
-plain_read_if room tokens (Ok read) inner = plain_read room tokens read.0 (ahead read.1) inner
-plain_read_if room tokens (Err why) inner = tt
+pub plain_read_if : (source : Source) (room : ℕ) (tokens : List Token) (answer : Result (Tree × ℕ) Stop) → IfOk answer (λ read. ReadsPrimary (text_of source) room tokens read.0 (ahead source read.1)) → IfOk answer (λ read. ReadsNeg (text_of source) room tokens read.0 (ahead source read.1))
+plain_read_if source room tokens (Ok read) inner = plain_read (text_of source) room tokens read.0 (ahead source read.1) inner
+plain_read_if source room tokens (Err why) inner = tt
 
-pub plain_refused_if : (room : ℕ) (tokens : List Token) (answer : Result (Cond × Rest) Stop) → (first tokens ≡ Some Not → ⊥) → IfErr answer (λ why. RefusesPrimary room tokens why) → IfErr answer (λ why. RefusesNeg room tokens why)
+pub plain_refused_if : (room : ℕ) (tokens : List Token) (answer : Result (Tree × ℕ) Stop) → (first tokens ≡ Some Not → ⊥) → IfErr answer (λ why. RefusesPrimary room tokens why) → IfErr answer (λ why. RefusesNeg room tokens why)
 plain_refused_if room tokens (Ok read) other inner = tt
 plain_refused_if room tokens (Err why) other inner = plain_refused room tokens why other inner
 
-module _ (room : ℕ) (tokens : List Token) (next : first tokens ≡ Some Opening) where
+module _ (text : List ℕ) (room : ℕ) (tokens : List Token) (next : first tokens ≡ Some Opening) where
   pub brackets_too_deep : (at : ℕ) → room ≡ 0 → RefusesPrimary room tokens (stop.TooDeep at)
   brackets_too_deep at none (brackets a) m h e = omega (arith, none)
   brackets_too_deep at none (test t) m h e =
@@ -108,7 +108,7 @@ module _ (room : ℕ) (tokens : List Token) (next : first tokens ≡ Some Openin
   brackets_refused fault some inner (test t) m h e =
       absurd (no_test t m (Opening ∷ behind tokens) refl (sym e ∙ begun Opening tokens next))
 
-  module _ (tree : Cond) (rest : List Token) (inner : ReadsAny (room - 1) (behind tokens) tree rest) where
+  module _ (tree : Tree) (rest : List Token) (inner : ReadsAny text (room - 1) (behind tokens) tree rest) where
     -- what stands behind the inner part of any reading in brackets
     only : (a : Any) (m : List Token) → tokens ≡ Opening ∷ any_then a (Closing ∷ m) → rest ≡ Closing ∷ m
     only a m e =
@@ -116,7 +116,7 @@ module _ (room : ℕ) (tokens : List Token) (next : first tokens ≡ Some Openin
         let inside : behind tokens ≡ any_then a (Closing ∷ m) = cc in
         (any_same inner.reading a rest (Closing ∷ m) inner.ended refl (sym inner.whole ∙ inside)).1
 
-    pub brackets_read : (left : List Token) → 0 < room → first rest ≡ Some Closing → left ≡ behind rest → ends_neg left ≡ true → ReadsPrimary room tokens tree left
+    pub brackets_read : (left : List Token) → 0 < room → first rest ≡ Some Closing → left ≡ behind rest → ends_neg left ≡ true → ReadsPrimary text room tokens tree left
     brackets_read left some closing after ended = record {
       reading = brackets inner.reading;
       whole = begun Opening tokens next ∙ ap (λ m. Opening ∷ m) (inner.whole ∙ ap (any_then inner.reading) (begun Closing rest closing ∙ ap (λ m. Closing ∷ m) (sym after)));
@@ -138,8 +138,8 @@ module _ (room : ℕ) (tokens : List Token) (next : first tokens ≡ Some Openin
     brackets_unended at left after bad (test t) m h e =
         no_test t m (Opening ∷ behind tokens) refl (sym e ∙ begun Opening tokens next)
 
-module _ (room : ℕ) (tokens : List Token) where
-  pub leaf_read : (t : Test) (tree : Cond) (rest : List Token) → test_head tokens ≡ Some (t, rest) → ends_neg rest ≡ true → ((e : Environment) → verdict_of e tree ≡ test_meaning e t) → ReadsPrimary room tokens tree rest
+module _ (text : List ℕ) (room : ℕ) (tokens : List Token) where
+  pub leaf_read : (t : Test) (tree : Tree) (rest : List Token) → test_head tokens ≡ Some (t, rest) → ends_neg rest ≡ true → ((e : Environment) → tree_verdict text e tree ≡ test_meaning e t) → ReadsPrimary text room tokens tree rest
   leaf_read t tree rest found ended means = record {
     reading = test t;
     whole = test_read_whole tokens t rest found;

@@ -7,7 +7,7 @@ use Rattle.cond.specs.Grammar.{Any, all, or, All, neg, and, Neg, not, primary, P
 use Rattle.cond.specs.Heads.{first, behind}
 use Rattle.cond.specs.Answers.{Fails}
 use Rattle.cond.specs.Readings.{Crowds}
-use Rattle.cond.specs.declared.condition.Cond.{Cond}
+use Rattle.cond.specs.declared.tree.Tree.{Tree}
 use Rattle.cond.specs.declared.stop.Stop.{Stop}
 use Rattle.cond.specs.declared.stop.Stop.TheVariants as stop
 use Rattle.cond.proofs.AndChains as and_chains
@@ -89,12 +89,12 @@ crowds_more (stop.TooDeep at) room tokens rest l crowds = omega (arith, l, crowd
 crowds_more stop.Memory room tokens rest l crowds = tt
 
 -- of a part behind others that `or` or `and` joins
-pub crowds_or : (why : Stop) (room : ℕ) (tokens rest : List Token) (trees : List Cond) → or_chains.Gathered tokens rest room trees → Crowds why room rest → Crowds why room tokens
-crowds_or why room tokens rest trees so_far crowds =
+pub crowds_or : (words : List ℕ) (why : Stop) (room : ℕ) (tokens rest : List Token) (trees : List Tree) → or_chains.Gathered words tokens rest room trees → Crowds why room rest → Crowds why room tokens
+crowds_or words why room tokens rest trees so_far crowds =
     crowds_more why room tokens rest (omega (arith, or_more so_far.parts rest, ap openers so_far.whole)) crowds
 
-pub crowds_and : (why : Stop) (room : ℕ) (tokens rest : List Token) (trees : List Cond) → and_chains.Gathered tokens rest room trees → Crowds why room rest → Crowds why room tokens
-crowds_and why room tokens rest trees so_far crowds =
+pub crowds_and : (words : List ℕ) (why : Stop) (room : ℕ) (tokens rest : List Token) (trees : List Tree) → and_chains.Gathered words tokens rest room trees → Crowds why room rest → Crowds why room tokens
+crowds_and words why room tokens rest trees so_far crowds =
     crowds_more why room tokens rest (omega (arith, and_more so_far.parts rest, ap openers so_far.whole)) crowds
 
 -- one more than behind the bracket or `not`

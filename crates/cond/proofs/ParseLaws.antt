@@ -1,16 +1,16 @@
 -- What was read of the tokens, and why they were refused, as a text's.
 use Rattle.std.proofs.Common.{◌≡◌, ℕ, ◌<◌, ◌≤◌, true, List, [], ◌∷◌, length, sym, refl, ap, ◌∙◌, arith, subst, Option, Some, None, Result, Ok, Err}
 use Rattle.std.specs.Prelude.{IfErr, option_map, is_some}
-use Rattle.cond.specs.Seen.{seen}
-use Rattle.cond.specs.declared.kind.Kind.{Kind}
+use Rattle.cond.specs.Seen.{kept}
+use Rattle.cond.specs.declared.mark.Mark.{Mark}
 use Rattle.cond.specs.Tokens.{Token, Not, Front, is_blank, behind_run, next_token, FallsInto}
 use Rattle.cond.specs.Grammar.{Any, any_then, any_depth, tokens_of}
-use Rattle.cond.specs.Meaning.{any_meaning}
-use Rattle.cond.specs.Trees.{verdict_of}
+use Rattle.cond.specs.Meaning.{Environment, Verdict, any_meaning}
+use Rattle.cond.specs.Trees.{tree_verdict}
 use Rattle.cond.specs.Heads.{first}
 use Rattle.cond.specs.Readings.{ends_any, Reads, Refuses}
-use Rattle.cond.specs.Conditions.{most_bytes, most_depth, Writes, IsRead, IsParsed, IsBroken, Breaks}
-use Rattle.cond.specs.declared.condition.Cond.{Cond}
+use Rattle.cond.specs.Conditions.{most_bytes, most_depth, Writes, IsRead, IsMeant, IsBroken, Breaks}
+use Rattle.cond.specs.declared.tree.Tree.{Tree}
 use Rattle.cond.specs.declared.fault.CondFault.{CondFault}
 use Rattle.cond.specs.declared.fault.CondFault.TheVariants as fault
 use Rattle.cond.proofs.Unambiguous.{any_same}
@@ -19,8 +19,8 @@ ended : (rest : List Token) → first rest ≡ None → rest ≡ []
 ended [] e = refl
 ended (t ∷ rest) e = absurd (cc)
 
-module _ (tokens : List Token) (tree : Cond) (rest : List Token) (read : Reads any_then any_depth ends_any any_meaning verdict_of most_depth tokens tree rest) where
-  pub all_read : first rest ≡ None → IsRead tokens tree
+module _ (text : List ℕ) (tokens : List Token) (tree : Tree) (rest : List Token) (read : Reads any_then any_depth ends_any any_meaning (tree_verdict text) most_depth tokens tree rest) where
+  pub all_read : first rest ≡ None → IsRead tokens (λ e. tree_verdict text e tree)
   all_read e = record {
     condition = read.reading;
     whole = read.whole ∙ ap (any_then read.reading) (ended rest e);
@@ -40,8 +40,8 @@ breaks (fault.TooDeep at) text tokens left falls broken = (tokens, left, falls, 
 breaks (fault.TooLong at) text tokens left falls broken = absurd broken
 breaks fault.Memory text tokens left falls broken = tt
 
-pub parsed : (text : List ℕ) (tokens : List Token) (left : List ℕ) (tree : Cond) → FallsInto text tokens left → left ≡ [] → length text ≤ most_bytes → IsRead tokens tree → IsParsed text tree
-parsed text tokens left tree falls nothing short read = record {
+pub parsed : (text : List ℕ) (tokens : List Token) (left : List ℕ) (means : Environment → Verdict) → FallsInto text tokens left → left ≡ [] → length text ≤ most_bytes → IsRead tokens means → IsMeant text means
+parsed text tokens left means falls nothing short read = record {
   condition = read.condition;
   written = subst (λ (l : List ℕ). FallsInto text (tokens_of read.condition) l) nothing (subst (λ (t : List Token). FallsInto text t left) read.whole falls);
   short = short;
@@ -88,12 +88,11 @@ only_memory (fault.TooDeep at) text broken condition written short deep =
 only_memory (fault.TooLong at) text broken condition written short deep = absurd (omega (arith, broken.1, short))
 only_memory fault.Memory text broken condition written short deep = refl
 
--- the same of what the reader of a text's tokens answers
-pub only_err : (answer : Result Cond CondFault) (text : List ℕ) (tokens : List Token) (left : List ℕ) → FallsInto text tokens left → IfErr answer (λ f. IsBroken f tokens left) → (condition : Any) → Writes text condition → length text ≤ most_bytes → any_depth condition ≤ most_depth → IfErr answer (λ f. f ≡ fault.Memory)
-only_err (Ok tree) text tokens left falls broken condition written short deep = tt
-only_err (Err f) text tokens left falls broken condition written short deep =
+-- the same of the text's tokens
+pub only_broken : (f : CondFault) (text : List ℕ) (tokens : List Token) (left : List ℕ) → FallsInto text tokens left → IsBroken f tokens left → (condition : Any) → Writes text condition → length text ≤ most_bytes → any_depth condition ≤ most_depth → f ≡ fault.Memory
+only_broken f text tokens left falls broken condition written short deep =
     only_memory f text (breaks f text tokens left falls broken) condition written short deep
 
-pub seen_some : (o : Option Kind) (tokens : List Token) → option_map seen o ≡ first tokens → is_some o ≡ true → first tokens ≡ None → ⊥
-seen_some None tokens e some none = cc
-seen_some (Some kind) tokens e some none = cc
+pub kept_some : (text : List ℕ) (o : Option Mark) (tokens : List Token) → option_map (kept text) o ≡ first tokens → is_some o ≡ true → first tokens ≡ None → ⊥
+kept_some text None tokens e some none = cc
+kept_some text (Some mark) tokens e some none = cc

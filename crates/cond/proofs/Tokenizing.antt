@@ -1,21 +1,21 @@
 -- A text falls into the tokens that were cut off so far, and those of what is left.
 use Rattle.std.proofs.Common.{◌≡◌, ℕ, List, [], ◌∷◌, ◌++◌, sym, refl, ap, ◌∙◌, subst, Some, None, append-nil}
 use Rattle.cond.specs.Tokens.{Token, is_blank, behind_run, token_at, FallsInto}
-use Rattle.cond.specs.Seen.{seen, marks}
+use Rattle.cond.specs.Seen.{kept, marks}
 use Rattle.cond.specs.declared.token.Token as placed
 
 abbrev pub GoesOn : List ℕ → List placed.Token → List ℕ → Type 0
 GoesOn text all left =
-    (rest : List ℕ) × (left ≡ behind_run is_blank rest) × ((tokens : List Token) (end : List ℕ) → FallsInto rest tokens end → FallsInto text (marks all ++ tokens) end)
+    (rest : List ℕ) × (left ≡ behind_run is_blank rest) × ((tokens : List Token) (end : List ℕ) → FallsInto rest tokens end → FallsInto text (marks text all ++ tokens) end)
 
-pushed : (all : List placed.Token) (t : placed.Token) (tokens : List Token) → marks (all ++ t ∷ []) ++ tokens ≡ marks all ++ (seen t.kind ∷ tokens)
-pushed [] t tokens = refl
-pushed (x ∷ all) t tokens = ap (λ l. seen x.kind ∷ l) (pushed all t tokens)
+pushed : (text : List ℕ) (all : List placed.Token) (t : placed.Token) (tokens : List Token) → marks text (all ++ t ∷ []) ++ tokens ≡ marks text all ++ (kept text t.mark ∷ tokens)
+pushed text [] t tokens = refl
+pushed text (x ∷ all) t tokens = ap (λ l. kept text x.mark ∷ l) (pushed text all t tokens)
 
-pub goes_on : (text left behind next : List ℕ) (all new : List placed.Token) (t : placed.Token) → new ≡ all ++ t ∷ [] → GoesOn text all left → Some (seen t.kind, behind) ≡ token_at left → next ≡ behind_run is_blank behind → GoesOn text new next
+pub goes_on : (text left behind next : List ℕ) (all new : List placed.Token) (t : placed.Token) → new ≡ all ++ t ∷ [] → GoesOn text all left → Some (kept text t.mark, behind) ≡ token_at left → next ≡ behind_run is_blank behind → GoesOn text new next
 goes_on text left behind next all new t more so_far found blank =
-    (behind, blank, λ tokens end h. subst (λ (l : List Token). FallsInto text l end) (sym (ap (λ a. marks a ++ tokens) more ∙ pushed all t tokens)) (so_far.2 (seen t.kind ∷ tokens) end (behind, ap token_at (sym so_far.1) ∙ sym found, h)))
+    (behind, blank, λ tokens end h. subst (λ (l : List Token). FallsInto text l end) (sym (ap (λ a. marks text a ++ tokens) more ∙ pushed text all t tokens)) (so_far.2 (kept text t.mark ∷ tokens) end (behind, ap token_at (sym so_far.1) ∙ sym found, h)))
 
-pub ends_here : (text left : List ℕ) (all : List placed.Token) → GoesOn text all left → None ≡ token_at left → FallsInto text (marks all) left
+pub ends_here : (text left : List ℕ) (all : List placed.Token) → GoesOn text all left → None ≡ token_at left → FallsInto text (marks text all) left
 ends_here text left all so_far found =
-    subst (λ (l : List Token). FallsInto text l left) (append-nil (marks all)) (so_far.2 [] left (ap token_at (sym so_far.1) ∙ sym found, so_far.1))
+    subst (λ (l : List Token). FallsInto text l left) (append-nil (marks text all)) (so_far.2 [] left (ap token_at (sym so_far.1) ∙ sym found, so_far.1))

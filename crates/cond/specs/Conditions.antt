@@ -1,8 +1,8 @@
 -- A text that is a condition, and the rules that a text may break.
-use Rattle.std.specs.Prelude.{◌≡◌, ℕ, ◌<◌, ◌≤◌, List, [], length, ⊤}
+use Rattle.std.specs.Prelude.{◌≡◌, ℕ, ◌<◌, ◌≤◌, List, [], ◌∷◌, ◌++◌, length, ⊤}
 use Rattle.cond.specs.Tokens.{Token, FallsInto, openers}
 use Rattle.cond.specs.Grammar.{Any, tokens_of, any_depth}
-use Rattle.cond.specs.Meaning.{Environment, meaning}
+use Rattle.cond.specs.Meaning.{Environment, Verdict, meaning}
 use Rattle.cond.specs.Trees.{verdict_of}
 use Rattle.cond.specs.declared.condition.Cond.{Cond}
 use Rattle.cond.specs.declared.fault.CondFault.{CondFault}
@@ -20,20 +20,29 @@ most_depth = 32
 abbrev pub Writes : List ℕ → Any → Type 0
 Writes text condition = FallsInto text (tokens_of condition) []
 
--- the tokens are those of a condition within the depth, and the tree means what it does
-pub record IsRead (tokens : List Token) (tree : Cond) : Type 0 where
+-- the tokens are those of a condition within the depth, which means this
+pub record IsRead (tokens : List Token) (means : Environment → Verdict) : Type 0 where
   pub condition : Any
   pub whole : tokens ≡ tokens_of condition
   pub deep : any_depth condition ≤ most_depth
-  pub same : (e : Environment) → verdict_of e tree ≡ meaning e condition
+  pub same : (e : Environment) → means e ≡ meaning e condition
 
--- the text writes a condition within the bounds, and the tree means what it does
-pub record IsParsed (text : List ℕ) (tree : Cond) : Type 0 where
+-- the text writes a condition within the bounds, which means this
+pub record IsMeant (text : List ℕ) (means : Environment → Verdict) : Type 0 where
   pub condition : Any
   pub written : Writes text condition
   pub short : length text ≤ most_bytes
   pub deep : any_depth condition ≤ most_depth
-  pub same : (e : Environment) → verdict_of e tree ≡ meaning e condition
+  pub same : (e : Environment) → means e ≡ meaning e condition
+
+-- the text writes what was made of it
+abbrev pub IsParsed : List ℕ → Cond → Type 0
+IsParsed text condition = IsMeant text (λ e. verdict_of e condition)
+
+-- behind the verdicts of the parts before stands that of the condition that the text writes
+abbrev pub IsAdded : List ℕ → (Environment → List Verdict) → (Environment → List Verdict) → Type 0
+IsAdded text before after =
+    (means : Environment → Verdict) × IsMeant text means × ((e : Environment) → after e ≡ before e ++ means e ∷ [])
 
 -- The rule that the fault names is broken by a text that falls into these tokens, up to what is left.
 abbrev pub IsBroken : CondFault → List Token → List ℕ → Type 0

@@ -8,4 +8,5 @@ pub mod Heads
 pub mod Answers
 pub mod Readings
 pub mod Conditions
+pub mod Conjunctions
 pub mod Worked

@@ -1,13 +1,18 @@
 -- The tokens that the code keeps, as those of the definitions.
-use Rattle.std.specs.Prelude.{Bool, Option, Some, None, List, ℕ, map}
+use Rattle.std.specs.Prelude.{◌≡◌, ℕ, ◌+◌, ◌≤◌, Bool, Option, Some, None, List, [], length, map, take, drop, ⊤, if◌then◌else◌}
+use Rattle.std.specs.Str.{is_utf8}
 use Rattle.std.specs.Borrow.{Bor}
 use Rattle.cond.specs.Tokens as token
 use Rattle.cond.specs.Tokens.{Token, Front}
 use Rattle.cond.specs.declared.kind.Kind.{Kind}
 use Rattle.cond.specs.declared.kind.Kind.TheVariants as kind
+use Rattle.cond.specs.declared.span.Span.{Span}
+use Rattle.cond.specs.declared.mark.Mark.{Mark}
+use Rattle.cond.specs.declared.mark.Mark.TheVariants as mark
 use Rattle.cond.specs.declared.token.Token as placed
-use Rattle.cond.specs.declared.rest.Rest.{Rest}
+use Rattle.cond.specs.declared.source.Source.{Source}
 
+-- a token as it is cut off
 abbrev pub seen : Kind → Token
 seen (kind.Name name) = token.Name name.now
 seen (kind.Number number) = token.Number number
@@ -31,10 +36,52 @@ abbrev pub cut : Option (Kind × Bor (List ℕ)) → Front
 cut None = None
 cut (Some front) = Some (seen front.0, front.1.now)
 
--- tokens without their places
-abbrev pub marks : List placed.Token → List Token
-marks tokens = map (λ token. seen token.kind) tokens
+-- the bytes at a place of a text
+abbrev pub part : List ℕ → Span → List ℕ
+part text span = take span.bytes (drop span.at text)
 
--- the tokens that are left
-abbrev pub ahead : Rest → List Token
-ahead rest = marks rest.tokens.now
+-- the word there; nothing where the bytes are no text by themselves
+unfoldable pub piece : List ℕ → Span → List ℕ
+piece text span = if is_utf8 (part text span) then part text span else []
+
+-- a token as it is kept, of a text
+abbrev pub kept : List ℕ → Mark → Token
+kept text (mark.Name name) = token.Name (piece text name)
+kept text (mark.Number number) = token.Number number
+kept text (mark.Text word) = token.Text (piece text word)
+kept text (mark.Truth truth) = token.Truth truth
+kept text mark.Not = token.Not
+kept text mark.And = token.And
+kept text mark.Or = token.Or
+kept text mark.Is = token.Is
+kept text mark.In = token.In
+kept text mark.Groups = token.Groups
+kept text mark.Host = token.Host
+kept text mark.Equal = token.Equal
+kept text mark.Unequal = token.Unequal
+kept text mark.Dot = token.Dot
+kept text mark.Opening = token.Opening
+kept text mark.Closing = token.Closing
+
+-- how many bytes the word of a token has, with its opening quote
+abbrev pub word_length : Token → ℕ
+word_length (token.Name name) = length name
+word_length (token.Text text) = 1 + length text
+word_length token = 0
+
+-- the word of the token stands there in a text; a quoted one stands behind its quote
+abbrev pub StandsAt : List ℕ → ℕ → Token → Type 0
+StandsAt text at (token.Name name) = take (length name) (drop at text) ≡ name
+StandsAt text at (token.Text word) = take (length word) (drop (at + 1) text) ≡ word
+StandsAt text at token = ⊤
+
+-- tokens without their places
+abbrev pub marks : List ℕ → List placed.Token → List Token
+marks text tokens = map (λ token. kept text token.mark) tokens
+
+abbrev pub text_of : Source → List ℕ
+text_of source = source.text.now
+
+-- the tokens that are left from one of them on
+abbrev pub ahead : Source → ℕ → List Token
+ahead source from = drop from (marks (text_of source) source.tokens.now)

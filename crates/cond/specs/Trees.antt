@@ -1,5 +1,5 @@
 -- What the tree that the parser makes says.
-use Rattle.std.specs.Prelude.{◌≡◌, ℕ, Bool, true, false, Option, Result, Ok, Err, List, [], ◌∷◌, map, string_bytes, box_value}
+use Rattle.std.specs.Prelude.{◌≡◌, ℕ, ◌+◌, Bool, true, false, Option, Result, Ok, Err, List, [], ◌∷◌, map, take, drop, string_bytes, box_value}
 use Rattle.std.specs.Borrow.{Bor}
 use Rattle.cond.specs.Tokens as token
 use Rattle.cond.specs.Grammar as grammar
@@ -16,10 +16,13 @@ use Rattle.cond.specs.declared.leaf.Operand.{Operand}
 use Rattle.cond.specs.declared.leaf.Operand.TheVariants as operand
 use Rattle.cond.specs.declared.leaf.Test.{Test}
 use Rattle.cond.specs.declared.leaf.Test.TheVariants as test
+use Rattle.cond.specs.declared.tree.Tree.{Tree}
+use Rattle.cond.specs.declared.tree.Tree.TheOpen.{Tree-F}
+use Rattle.cond.specs.declared.tree.Tree.TheOpen as tree
+use Rattle.cond.specs.declared.tree.Tree.TheFolds.{fold-Tree}
+use Rattle.cond.specs.declared.condition.Part.{Part}
 use Rattle.cond.specs.declared.condition.Cond.{Cond}
-use Rattle.cond.specs.declared.condition.Cond.TheOpen.{Cond-F}
-use Rattle.cond.specs.declared.condition.Cond.TheOpen as cond
-use Rattle.cond.specs.declared.condition.Cond.TheFolds.{fold-Cond}
+use Rattle.cond.specs.Seen.{piece}
 
 abbrev pub said : Scalar → meaning.Scalar
 said (scalar.Text text) = meaning.Text text.now
@@ -30,23 +33,24 @@ abbrev pub had : Value → meaning.Value
 had value.Registered = meaning.Registered
 had (value.Plain scalar) = meaning.Plain (said scalar)
 
-abbrev pub written_ref : Ref → grammar.Ref
-written_ref (ref.Whole name) = grammar.whole (string_bytes name)
-written_ref (ref.Part name field) = grammar.part (string_bytes name) field
-written_ref ref.Hostname = grammar.hostname
+-- what stands at the places in a text
+abbrev pub written_ref : List ℕ → Ref → grammar.Ref
+written_ref text (ref.Whole name) = grammar.whole (piece text name)
+written_ref text (ref.Part name field) = grammar.part (piece text name) field
+written_ref text ref.Hostname = grammar.hostname
 
-abbrev pub written_operand : Operand → grammar.Operand
-written_operand (operand.Text text) = grammar.text (string_bytes text)
-written_operand (operand.Int number) = grammar.number number
-written_operand (operand.Truth truth) = grammar.truth truth
-written_operand (operand.Ref of) = grammar.ref (written_ref of)
+abbrev pub written_operand : List ℕ → Operand → grammar.Operand
+written_operand text (operand.Text word) = grammar.text (piece text word)
+written_operand text (operand.Int number) = grammar.number number
+written_operand text (operand.Truth truth) = grammar.truth truth
+written_operand text (operand.Ref of) = grammar.ref (written_ref text of)
 
-abbrev pub written : Test → grammar.Test
-written (test.Stands name contrary state) = grammar.stands (string_bytes name) contrary state
-written (test.Defined of contrary) = grammar.defined (written_ref of) contrary
-written (test.Equals left contrary right) = grammar.equals (written_operand left) contrary (written_operand right)
-written (test.Within group contrary) = grammar.within (string_bytes group) contrary
-written (test.Alone operand) = grammar.alone (written_operand operand)
+abbrev pub written : List ℕ → Test → grammar.Test
+written text (test.Stands contrary state name) = grammar.stands (piece text name) contrary state
+written text (test.Defined contrary of) = grammar.defined (written_ref text of) contrary
+written text (test.Equals contrary left right) = grammar.equals (written_operand text left) contrary (written_operand text right)
+written text (test.Within contrary group) = grammar.within (piece text group) contrary
+written text (test.Alone operand) = grammar.alone (written_operand text operand)
 
 -- one of them holds, or all do, from left to right
 abbrev pub any_of : List Verdict → Verdict
@@ -58,14 +62,30 @@ all_of [] = Ok true
 all_of (first ∷ others) = both first (all_of others)
 
 -- one level, with the verdicts of those below it
-abbrev pub verdict_step : Environment → Cond-F Verdict → Verdict
-verdict_step e (cond.Either parts) = any_of parts.items
-verdict_step e (cond.Both parts) = all_of parts.items
-verdict_step e (cond.Negated part) = turned true (box_value part)
-verdict_step e (cond.Leaf test) = test_meaning e (written test)
+abbrev pub verdict_step : List ℕ → Environment → Tree-F Verdict → Verdict
+verdict_step text e (tree.Either parts) = any_of parts.items
+verdict_step text e (tree.Both parts) = all_of parts.items
+verdict_step text e (tree.Negated part) = turned true (box_value part)
+verdict_step text e (tree.Leaf test) = test_meaning e (written text test)
+verdict_step text e (tree.Denied test) = turned true (test_meaning e (written text test))
 
+-- what the tree of a text says
+abbrev pub tree_verdict : List ℕ → Environment → Tree → Verdict
+tree_verdict text e = fold-Tree Verdict (verdict_step text e)
+
+-- what each part says; their texts stand one behind the other
+abbrev pub verdicts : Environment → List ℕ → List Part → List Verdict
+verdicts e text [] = []
+verdicts e text (part ∷ parts) = tree_verdict (take part.bytes text) e part.tree ∷ verdicts e (drop part.bytes text) parts
+
+-- how many bytes their texts have
+abbrev pub total : List Part → ℕ
+total [] = 0
+total (part ∷ parts) = part.bytes + total parts
+
+-- what a condition says: all its parts hold
 abbrev pub verdict_of : Environment → Cond → Verdict
-verdict_of e = fold-Cond Verdict (verdict_step e)
+verdict_of e condition = all_of (verdicts e (string_bytes condition.text) condition.parts.items)
 
 abbrev pub told : Result Bool Undefined → Verdict
 told (Ok b) = Ok b

@@ -1,11 +1,17 @@
 //! A condition that was read.
-use crate::leaf::Test;
+use crate::tree::Tree;
 
-/// A condition, as deep as its text nests brackets and `not`: a chain of `or` or `and` is one level.
+/// What one text says, and how many bytes it has.
 #[derive(Debug, Drop)]
-pub enum Cond {
-    Either(Vec<Cond>),
-    Both(Vec<Cond>),
-    Negated(Box<Cond>),
-    Leaf(Test),
+pub(crate) struct Part {
+    pub(crate) bytes: u16,
+    pub(crate) tree: Tree,
+}
+
+/// A condition: parts that all have to hold. Their texts stand one behind the other in one text, so that a list of many
+/// takes no memory for each.
+#[derive(Debug, Drop)]
+pub struct Cond {
+    pub(crate) text: String,
+    pub(crate) parts: Vec<Part>,
 }

@@ -1,73 +1,92 @@
 //! What a condition means on a host.
 ghost use Rattle.std.specs.Prelude.{◌≡◌, Ok};
-ghost use Rattle.cond.specs.Grammar as grammar;
 ghost use Rattle.cond.specs.Meaning as meaning;
 ghost use Rattle.cond.specs.Meaning.{ref_value, operand_value, value_holds, same_value, state_holds, is_within, test_meaning, contrary_if};
-ghost use Rattle.cond.specs.Trees.{said, had, told, found, written, written_ref, written_operand, verdict_of};
+ghost use Rattle.cond.specs.Trees.{said, had, told, found, written, written_ref, written_operand, tree_verdict, verdict_of};
 
 use crate::condition::Cond;
 use crate::environment::{Env, Scalar, Undefined, Value};
 use crate::fields::Field;
 use crate::leaf::{Operand, Ref, Test};
+use crate::span::{cut, word_at};
 use crate::states::State;
+use crate::tree::Tree;
 
 /// Whether the condition holds on the host, or the first name without a value that has to be looked up. `or` and `and`
 /// go from left to right and end as soon as they are decided. It takes no memory.
 pub fn eval<'c, E: Env>(cond: &'c Cond, env: &E) -> Result<bool, Undefined<'c>>
     ensures { told result ≡ verdict_of (E.environment env.now) cond.now }
 {
-    match cond {
-        Cond::Either(parts) => {
+    let mut left = cond.text.as_bytes();
+    for part in &cond.parts {
+        let (text, behind) = cut(left, part.bytes);
+        match tree_holds(text, &part.tree, env) {
+            Ok(true) => left = behind,
+            decided => return decided,
+        }
+    }
+    Ok(true)
+}
+
+fn tree_holds<'c, E: Env>(text: &'c [u8], tree: &Tree, env: &E) -> Result<bool, Undefined<'c>>
+    ensures { told result ≡ tree_verdict text.now (E.environment env.now) tree.now }
+{
+    match tree {
+        Tree::Either(parts) => {
             for part in parts {
-                match eval(part, env) {
+                match tree_holds(text, part, env) {
                     Ok(false) => {}
                     decided => return decided,
                 }
             }
             Ok(false)
         }
-        Cond::Both(parts) => {
+        Tree::Both(parts) => {
             for part in parts {
-                match eval(part, env) {
+                match tree_holds(text, part, env) {
                     Ok(true) => {}
                     decided => return decided,
                 }
             }
             Ok(true)
         }
-        Cond::Negated(part) => match eval(part, env) {
+        Tree::Negated(part) => match tree_holds(text, part, env) {
             Ok(holds) => Ok(!holds),
             Err(undefined) => Err(undefined),
         },
-        Cond::Leaf(test) => test_holds(test, env),
+        Tree::Leaf(test) => test_holds(text, *test, env),
+        Tree::Denied(test) => match test_holds(text, *test, env) {
+            Ok(holds) => Ok(!holds),
+            Err(undefined) => Err(undefined),
+        },
     }
 }
 
-fn test_holds<'c, E: Env>(test: &'c Test, env: &E) -> Result<bool, Undefined<'c>>
-    ensures { told result ≡ test_meaning (E.environment env.now) (written test.now) }
+fn test_holds<'c, E: Env>(text: &'c [u8], test: Test, env: &E) -> Result<bool, Undefined<'c>>
+    ensures { told result ≡ test_meaning (E.environment env.now) (written text.now test) }
 {
     match test {
         Test::Stands {
-            name,
             contrary,
             state,
+            name,
         } => {
-            let holds = state_of(name.as_str(), *state, env)?;
-            Ok(turned(*contrary, holds))
+            let holds = state_of(word_at(text, name), state, env)?;
+            Ok(turned(contrary, holds))
         }
-        Test::Defined { of, contrary } => Ok(turned(*contrary, value_of_ref(of, env).is_ok())),
+        Test::Defined { contrary, of } => Ok(turned(contrary, value_of_ref(text, of, env).is_ok())),
         Test::Equals {
-            left,
             contrary,
+            left,
             right,
         } => {
-            let left = value_of(left, env)?;
-            let right = value_of(right, env)?;
-            Ok(turned(*contrary, same(left, right)))
+            let left = value_of(text, left, env)?;
+            let right = value_of(text, right, env)?;
+            Ok(turned(contrary, same(left, right)))
         }
-        Test::Within { group, contrary } => Ok(turned(*contrary, within(group.as_str(), env))),
+        Test::Within { contrary, group } => Ok(turned(contrary, within(word_at(text, group), env))),
         Test::Alone(operand) => {
-            let value = value_of(operand, env)?;
+            let value = value_of(text, operand, env)?;
             Ok(holds(value))
         }
     }
@@ -88,10 +107,10 @@ fn state_of<'c, E: Env>(name: &'c str, state: State, env: &E) -> Result<bool, Un
         State::Failed | State::Succeeded => Field::Failed,
         State::Skipped => Field::Skipped,
     };
-    match env.field(name, field) {
-        Some(scalar) => Ok(scalar_holds(scalar) != (state == State::Succeeded)),
-        None => Err(Undefined { name }),
-    }
+    let Some(scalar) = env.field(name, field) else {
+        return Err(Undefined { name });
+    };
+    Ok(scalar_holds(scalar) != (state == State::Succeeded))
 }
 
 // A group of this name other than `all` holds the host.
@@ -102,33 +121,50 @@ fn within<E: Env>(group: &str, env: &E) -> bool
 }
 
 fn value_of<'c: 'v, 'v, E: Env>(
-    operand: &'c Operand,
+    text: &'c [u8],
+    operand: Operand,
     env: &'v E,
 ) -> Result<Value<'v>, Undefined<'c>>
-    ensures { found result ≡ operand_value (E.environment env.now) (written_operand operand.now) }
+    ensures { found result ≡ operand_value (E.environment env.now) (written_operand text.now operand) }
 {
     match operand {
-        Operand::Text(text) => Ok(Value::Plain(Scalar::Text(text.as_str()))),
-        Operand::Int(number) => Ok(Value::Plain(Scalar::Int(*number))),
-        Operand::Truth(truth) => Ok(Value::Plain(Scalar::Truth(*truth))),
-        Operand::Ref(of) => value_of_ref(of, env),
+        Operand::Text(word) => Ok(Value::Plain(Scalar::Text(word_at(text, word)))),
+        Operand::Int(number) => Ok(Value::Plain(Scalar::Int(number))),
+        Operand::Truth(truth) => Ok(Value::Plain(Scalar::Truth(truth))),
+        Operand::Ref(of) => value_of_ref(text, of, env),
     }
 }
 
-fn value_of_ref<'c: 'v, 'v, E: Env>(of: &'c Ref, env: &'v E) -> Result<Value<'v>, Undefined<'c>>
-    ensures { found result ≡ ref_value (E.environment env.now) (written_ref of.now) }
+fn value_of_ref<'c: 'v, 'v, E: Env>(
+    text: &'c [u8],
+    of: Ref,
+    env: &'v E,
+) -> Result<Value<'v>, Undefined<'c>>
+    ensures { found result ≡ ref_value (E.environment env.now) (written_ref text.now of) }
 {
     match of {
-        Ref::Whole(name) => env.value(name.as_str()).ok_or(Undefined {
-            name: name.as_str(),
-        }),
-        Ref::Part(name, field) => match env.field(name.as_str(), *field) {
-            Some(scalar) => Ok(Value::Plain(scalar)),
-            None => Err(Undefined {
-                name: name.as_str(),
-            }),
-        },
+        Ref::Whole(span) => value_named(word_at(text, span), env),
+        Ref::Part(span, field) => field_named(word_at(text, span), field, env),
         Ref::Hostname => Ok(Value::Plain(Scalar::Text(env.host()))),
+    }
+}
+
+fn value_named<'c: 'v, 'v, E: Env>(name: &'c str, env: &'v E) -> Result<Value<'v>, Undefined<'c>>
+    ensures { found result ≡ meaning.named name.now ((E.environment env.now).value name.now) }
+{
+    env.value(name).ok_or(Undefined { name })
+}
+
+fn field_named<'c: 'v, 'v, E: Env>(
+    name: &'c str,
+    field: Field,
+    env: &'v E,
+) -> Result<Value<'v>, Undefined<'c>>
+    ensures { found result ≡ meaning.field_of name.now ((E.environment env.now).field name.now field) }
+{
+    match env.field(name, field) {
+        Some(scalar) => Ok(Value::Plain(scalar)),
+        None => Err(Undefined { name }),
     }
 }
 

@@ -1,44 +1,45 @@
-//! The tests that a condition is made of.
+//! The tests that a condition is made of; words stand as places in its text.
 use crate::fields::Field;
+use crate::span::Span;
 use crate::states::State;
 
 /// What a condition looks up: a name, a field of the result registered under a name, or the host's own name.
-#[derive(Debug, PartialEq, Eq, Drop)]
-pub enum Ref {
-    Whole(String),
-    Part(String, Field),
+#[derive(Clone, Copy, Debug, PartialEq, Eq)]
+pub(crate) enum Ref {
+    Whole(Span),
+    Part(Span, Field),
     Hostname,
 }
 
-#[derive(Debug, PartialEq, Eq, Drop)]
-pub enum Operand {
-    Text(String),
+#[derive(Clone, Copy, Debug, PartialEq, Eq)]
+pub(crate) enum Operand {
+    Text(Span),
     Int(i64),
     Truth(bool),
     Ref(Ref),
 }
 
 /// A test without brackets, `not`, `and` and `or`. `contrary` says that the text asks for the contrary, by `is not`,
-/// `!=` or `not in`.
-#[derive(Debug, PartialEq, Eq, Drop)]
-pub enum Test {
+/// `!=` or `not in`. It stands first, where it takes no room beside the kind of the test.
+#[derive(Clone, Copy, Debug, PartialEq, Eq)]
+pub(crate) enum Test {
     Stands {
-        name: String,
         contrary: bool,
         state: State,
+        name: Span,
     },
     Defined {
-        of: Ref,
         contrary: bool,
+        of: Ref,
     },
     Equals {
-        left: Operand,
         contrary: bool,
+        left: Operand,
         right: Operand,
     },
     Within {
-        group: String,
         contrary: bool,
+        group: Span,
     },
     Alone(Operand),
 }

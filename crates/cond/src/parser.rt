@@ -1,5 +1,5 @@
 //! From tokens to a tree, down the rules of the grammar. What nests has room for so many more brackets and `not`s.
-ghost use Rattle.std.specs.Prelude.{◌≡◌, ◌<◌, ◌++◌, ◌∷◌, [], Some, IfOk, IfErr, length, map, true, box_value};
+ghost use Rattle.std.specs.Prelude.{◌≡◌, ℕ, List, ◌<◌, ◌++◌, ◌∷◌, [], Some, IfOk, IfErr, length, map, true};
 ghost use Rattle.cond.specs.Grammar as grammar;
 ghost use Rattle.cond.specs.Meaning.{Environment, any_meaning, all_meaning, neg_meaning, primary_meaning, test_meaning, turned};
 ghost use Rattle.cond.specs.Readings as readings;
@@ -7,167 +7,254 @@ ghost use Rattle.cond.specs.Readings.{Crowds, Reads, Refuses};
 ghost use Rattle.cond.specs.Heads as heads;
 ghost use Rattle.cond.specs.Heads.{first};
 ghost use Rattle.cond.specs.Tokens as token;
-ghost use Rattle.cond.specs.Seen.{ahead};
-ghost use Rattle.cond.specs.Trees.{verdict_of, any_of, all_of, written};
+ghost use Rattle.cond.specs.Seen.{ahead, text_of};
+ghost use Rattle.cond.specs.Trees.{tree_verdict, any_of, all_of, written};
 
-use crate::condition::Cond;
-use crate::kind::Kind;
 use crate::leaf::Test;
+use crate::mark::Mark;
 use crate::reading::test;
-use crate::rest::Rest;
+use crate::source::Source;
 use crate::stop::Stop;
+use crate::tree::Tree;
 use std::alloc::{AllocError, Global};
 
 /// all { "or" all }
+#[inline(always)]
 #[cycle(parser)]
-pub(crate) fn any<'a, 't>(
+pub(crate) fn any(
     alloc: Global,
-    tokens: Rest<'a, 't>,
+    source: &Source<'_>,
+    from: usize,
     room: usize,
-) -> Result<(Cond, Rest<'a, 't>), Stop>
-    ensures read { IfOk result (λ read. Reads grammar.any_then grammar.any_depth readings.ends_any any_meaning verdict_of room (ahead tokens.entry) read.0 (ahead read.1)) }
-    ensures shorter { IfOk result (λ read. length (ahead read.1) < length (ahead tokens.entry)) }
-    ensures refused { IfErr result (λ stop. Refuses grammar.any_then grammar.any_depth readings.ends_any room (ahead tokens.entry) stop) }
-    ensures deep { IfErr result (λ stop. Crowds stop room (ahead tokens.entry)) }
+) -> Result<(Tree, usize), Stop>
+    ensures read { IfOk result (λ read. Reads grammar.any_then grammar.any_depth readings.ends_any any_meaning (tree_verdict (text_of source.now)) room (ahead source.now from) read.0 (ahead source.now read.1)) }
+    ensures shorter { IfOk result (λ read. length (ahead source.now read.1) < length (ahead source.now from)) }
+    ensures refused { IfErr result (λ stop. Refuses grammar.any_then grammar.any_depth readings.ends_any room (ahead source.now from) stop) }
+    ensures deep { IfErr result (λ stop. Crowds stop room (ahead source.now from)) }
 {
-    let mut parts = Vec::new(alloc);
-    let mut left = tokens;
-    'alternatives: loop {
-        let (part, rest) = match all(alloc, left, room) {
+    let (part, rest) = match all(alloc, source, from, room) {
+        Ok(read) => read,
+        Err(stop) => return Err(stop),
+    };
+    if is_or(source, rest) {
+        alternatives(alloc, source, from, room, part, rest)
+    } else {
+        Ok((part, rest))
+    }
+}
+
+// The whole chain, where its first part was read and `or` follows.
+#[inline(never)]
+#[cycle(parser)]
+fn alternatives(
+    alloc: Global,
+    source: &Source<'_>,
+    from: usize,
+    room: usize,
+    first_part: Tree,
+    first_rest: usize,
+) -> Result<(Tree, usize), Stop>
+    requires read { Reads grammar.all_then grammar.all_depth readings.ends_all all_meaning (tree_verdict (text_of source.now)) room (ahead source.now from) first_part (ahead source.now first_rest) }
+    requires shorter { length (ahead source.now first_rest) < length (ahead source.now from) }
+    requires next { heads.is_or (first (ahead source.now first_rest)) ≡ true }
+    ensures read { IfOk result (λ read. Reads grammar.any_then grammar.any_depth readings.ends_any any_meaning (tree_verdict (text_of source.now)) room (ahead source.now from) read.0 (ahead source.now read.1)) }
+    ensures shorter { IfOk result (λ read. length (ahead source.now read.1) < length (ahead source.now from)) }
+    ensures refused { IfErr result (λ stop. Refuses grammar.any_then grammar.any_depth readings.ends_any room (ahead source.now from) stop) }
+    ensures deep { IfErr result (λ stop. Crowds stop room (ahead source.now from)) }
+{
+    let mut parts = Vec::with_capacity(alloc, 2)?;
+    parts.push(first_part)?;
+    let mut left = source.behind(first_rest);
+    'others: loop {
+        let (part, rest) = match all(alloc, source, left, room) {
             Ok(read) => read,
             Err(stop) => return Err(stop),
         };
-        if is_or(&rest) {
-            parts.push(part)?;
-            left = rest.behind();
+        parts.push(part)?;
+        if is_or(source, rest) {
+            left = source.behind(rest);
         } else {
-            return Ok((either(parts, part)?, rest));
+            return Ok((either(parts), rest));
         }
     }
 }
 
 /// neg { "and" neg }
+#[inline(always)]
 #[cycle(parser)]
-fn all<'a, 't>(
-    alloc: Global,
-    tokens: Rest<'a, 't>,
-    room: usize,
-) -> Result<(Cond, Rest<'a, 't>), Stop>
-    ensures read { IfOk result (λ read. Reads grammar.all_then grammar.all_depth readings.ends_all all_meaning verdict_of room (ahead tokens.entry) read.0 (ahead read.1)) }
-    ensures shorter { IfOk result (λ read. length (ahead read.1) < length (ahead tokens.entry)) }
-    ensures refused { IfErr result (λ stop. Refuses grammar.all_then grammar.all_depth readings.ends_all room (ahead tokens.entry) stop) }
-    ensures deep { IfErr result (λ stop. Crowds stop room (ahead tokens.entry)) }
+fn all(alloc: Global, source: &Source<'_>, from: usize, room: usize) -> Result<(Tree, usize), Stop>
+    ensures read { IfOk result (λ read. Reads grammar.all_then grammar.all_depth readings.ends_all all_meaning (tree_verdict (text_of source.now)) room (ahead source.now from) read.0 (ahead source.now read.1)) }
+    ensures shorter { IfOk result (λ read. length (ahead source.now read.1) < length (ahead source.now from)) }
+    ensures refused { IfErr result (λ stop. Refuses grammar.all_then grammar.all_depth readings.ends_all room (ahead source.now from) stop) }
+    ensures deep { IfErr result (λ stop. Crowds stop room (ahead source.now from)) }
 {
-    let mut parts = Vec::new(alloc);
-    let mut left = tokens;
-    'conjuncts: loop {
-        let (part, rest) = match neg(alloc, left, room) {
+    let (part, rest) = match neg(alloc, source, from, room) {
+        Ok(read) => read,
+        Err(stop) => return Err(stop),
+    };
+    if is_and(source, rest) {
+        conjuncts(alloc, source, from, room, part, rest)
+    } else {
+        Ok((part, rest))
+    }
+}
+
+// The whole chain, where its first part was read and `and` follows.
+#[inline(never)]
+#[cycle(parser)]
+fn conjuncts(
+    alloc: Global,
+    source: &Source<'_>,
+    from: usize,
+    room: usize,
+    first_part: Tree,
+    first_rest: usize,
+) -> Result<(Tree, usize), Stop>
+    requires read { Reads grammar.neg_then grammar.neg_depth readings.ends_neg neg_meaning (tree_verdict (text_of source.now)) room (ahead source.now from) first_part (ahead source.now first_rest) }
+    requires shorter { length (ahead source.now first_rest) < length (ahead source.now from) }
+    requires next { heads.is_and (first (ahead source.now first_rest)) ≡ true }
+    ensures read { IfOk result (λ read. Reads grammar.all_then grammar.all_depth readings.ends_all all_meaning (tree_verdict (text_of source.now)) room (ahead source.now from) read.0 (ahead source.now read.1)) }
+    ensures shorter { IfOk result (λ read. length (ahead source.now read.1) < length (ahead source.now from)) }
+    ensures refused { IfErr result (λ stop. Refuses grammar.all_then grammar.all_depth readings.ends_all room (ahead source.now from) stop) }
+    ensures deep { IfErr result (λ stop. Crowds stop room (ahead source.now from)) }
+{
+    let mut parts = Vec::with_capacity(alloc, 2)?;
+    parts.push(first_part)?;
+    let mut left = source.behind(first_rest);
+    'others: loop {
+        let (part, rest) = match neg(alloc, source, left, room) {
             Ok(read) => read,
             Err(stop) => return Err(stop),
         };
-        if is_and(&rest) {
-            parts.push(part)?;
-            left = rest.behind();
+        parts.push(part)?;
+        if is_and(source, rest) {
+            left = source.behind(rest);
         } else {
-            return Ok((both(parts, part)?, rest));
+            return Ok((both(parts), rest));
         }
     }
 }
 
 /// "not" neg | primary
+#[inline(always)]
 #[cycle(parser)]
-fn neg<'a, 't>(
-    alloc: Global,
-    tokens: Rest<'a, 't>,
-    room: usize,
-) -> Result<(Cond, Rest<'a, 't>), Stop>
-    ensures read { IfOk result (λ read. Reads grammar.neg_then grammar.neg_depth readings.ends_neg neg_meaning verdict_of room (ahead tokens.entry) read.0 (ahead read.1)) }
-    ensures shorter { IfOk result (λ read. length (ahead read.1) < length (ahead tokens.entry)) }
-    ensures refused { IfErr result (λ stop. Refuses grammar.neg_then grammar.neg_depth readings.ends_neg room (ahead tokens.entry) stop) }
-    ensures deep { IfErr result (λ stop. Crowds stop room (ahead tokens.entry)) }
+fn neg(alloc: Global, source: &Source<'_>, from: usize, room: usize) -> Result<(Tree, usize), Stop>
+    ensures read { IfOk result (λ read. Reads grammar.neg_then grammar.neg_depth readings.ends_neg neg_meaning (tree_verdict (text_of source.now)) room (ahead source.now from) read.0 (ahead source.now read.1)) }
+    ensures shorter { IfOk result (λ read. length (ahead source.now read.1) < length (ahead source.now from)) }
+    ensures refused { IfErr result (λ stop. Refuses grammar.neg_then grammar.neg_depth readings.ends_neg room (ahead source.now from) stop) }
+    ensures deep { IfErr result (λ stop. Crowds stop room (ahead source.now from)) }
 {
-    if is_not(&tokens) {
-        if room == 0 {
-            return Err(Stop::TooDeep { at: tokens.place() });
-        }
-        match neg(alloc, tokens.behind(), room - 1) {
-            Ok((part, rest)) => Ok((negated(Box::new(alloc, part)?), rest)),
-            Err(stop) => Err(stop),
-        }
+    if is_not(source, from) {
+        negation(alloc, source, from, room)
     } else {
-        primary(alloc, tokens, room)
+        primary(alloc, source, from, room)
+    }
+}
+
+/// "not" neg
+#[inline(never)]
+#[cycle(parser)]
+fn negation(
+    alloc: Global,
+    source: &Source<'_>,
+    from: usize,
+    room: usize,
+) -> Result<(Tree, usize), Stop>
+    requires { heads.is_not (first (ahead source.now from)) ≡ true }
+    ensures read { IfOk result (λ read. Reads grammar.neg_then grammar.neg_depth readings.ends_neg neg_meaning (tree_verdict (text_of source.now)) room (ahead source.now from) read.0 (ahead source.now read.1)) }
+    ensures shorter { IfOk result (λ read. length (ahead source.now read.1) < length (ahead source.now from)) }
+    ensures refused { IfErr result (λ stop. Refuses grammar.neg_then grammar.neg_depth readings.ends_neg room (ahead source.now from) stop) }
+    ensures deep { IfErr result (λ stop. Crowds stop room (ahead source.now from)) }
+{
+    if room == 0 {
+        return Err(Stop::TooDeep {
+            at: source.place(from),
+        });
+    }
+    match neg(alloc, source, source.behind(from), room - 1) {
+        Ok((part, rest)) => Ok((negated(alloc, part)?, rest)),
+        Err(stop) => Err(stop),
     }
 }
 
 /// "(" any ")" | test
+#[inline(always)]
 #[cycle(parser)]
-fn primary<'a, 't>(
+fn primary(
     alloc: Global,
-    tokens: Rest<'a, 't>,
+    source: &Source<'_>,
+    from: usize,
     room: usize,
-) -> Result<(Cond, Rest<'a, 't>), Stop>
-    ensures read { IfOk result (λ read. Reads grammar.primary_then grammar.primary_depth readings.ends_neg primary_meaning verdict_of room (ahead tokens.entry) read.0 (ahead read.1)) }
-    ensures shorter { IfOk result (λ read. length (ahead read.1) < length (ahead tokens.entry)) }
-    ensures refused { IfErr result (λ stop. Refuses grammar.primary_then grammar.primary_depth readings.ends_neg room (ahead tokens.entry) stop) }
-    ensures deep { IfErr result (λ stop. Crowds stop room (ahead tokens.entry)) }
+) -> Result<(Tree, usize), Stop>
+    ensures read { IfOk result (λ read. Reads grammar.primary_then grammar.primary_depth readings.ends_neg primary_meaning (tree_verdict (text_of source.now)) room (ahead source.now from) read.0 (ahead source.now read.1)) }
+    ensures shorter { IfOk result (λ read. length (ahead source.now read.1) < length (ahead source.now from)) }
+    ensures refused { IfErr result (λ stop. Refuses grammar.primary_then grammar.primary_depth readings.ends_neg room (ahead source.now from) stop) }
+    ensures deep { IfErr result (λ stop. Crowds stop room (ahead source.now from)) }
 {
-    if is_opening(&tokens) {
-        bracketed(alloc, tokens, room)
+    if is_opening(source, from) {
+        bracketed(alloc, source, from, room)
     } else {
-        leaf(alloc, tokens, room)
+        leaf(source, from, room)
     }
 }
 
 /// "(" any ")"
+#[inline(never)]
 #[cycle(parser)]
-fn bracketed<'a, 't>(
+fn bracketed(
     alloc: Global,
-    tokens: Rest<'a, 't>,
+    source: &Source<'_>,
+    from: usize,
     room: usize,
-) -> Result<(Cond, Rest<'a, 't>), Stop>
-    requires { first (ahead tokens) ≡ Some token.Opening }
-    ensures read { IfOk result (λ read. Reads grammar.primary_then grammar.primary_depth readings.ends_neg primary_meaning verdict_of room (ahead tokens.entry) read.0 (ahead read.1)) }
-    ensures shorter { IfOk result (λ read. length (ahead read.1) < length (ahead tokens.entry)) }
-    ensures refused { IfErr result (λ stop. Refuses grammar.primary_then grammar.primary_depth readings.ends_neg room (ahead tokens.entry) stop) }
-    ensures deep { IfErr result (λ stop. Crowds stop room (ahead tokens.entry)) }
+) -> Result<(Tree, usize), Stop>
+    requires { first (ahead source.now from) ≡ Some token.Opening }
+    ensures read { IfOk result (λ read. Reads grammar.primary_then grammar.primary_depth readings.ends_neg primary_meaning (tree_verdict (text_of source.now)) room (ahead source.now from) read.0 (ahead source.now read.1)) }
+    ensures shorter { IfOk result (λ read. length (ahead source.now read.1) < length (ahead source.now from)) }
+    ensures refused { IfErr result (λ stop. Refuses grammar.primary_then grammar.primary_depth readings.ends_neg room (ahead source.now from) stop) }
+    ensures deep { IfErr result (λ stop. Crowds stop room (ahead source.now from)) }
 {
     if room == 0 {
-        return Err(Stop::TooDeep { at: tokens.place() });
+        return Err(Stop::TooDeep {
+            at: source.place(from),
+        });
     }
-    let (inner, rest) = match any(alloc, tokens.behind(), room - 1) {
+    let (inner, rest) = match any(alloc, source, source.behind(from), room - 1) {
         Ok(read) => read,
         Err(stop) => return Err(stop),
     };
-    if is_closing(&rest) {
-        let behind = rest.behind();
-        if ends(&behind) {
+    if is_closing(source, rest) {
+        let behind = source.behind(rest);
+        if ends(source, behind) {
             Ok((inner, behind))
         } else {
-            Err(Stop::Unexpected { at: behind.place() })
+            Err(Stop::Unexpected {
+                at: source.place(behind),
+            })
         }
     } else {
-        Err(Stop::Unexpected { at: rest.place() })
+        Err(Stop::Unexpected {
+            at: source.place(rest),
+        })
     }
 }
 
 // A test that nothing but `and`, `or`, a closing bracket or the end follows.
-fn leaf<'a, 't>(
-    alloc: Global,
-    tokens: Rest<'a, 't>,
-    room: usize,
-) -> Result<(Cond, Rest<'a, 't>), Stop>
-    requires { first (ahead tokens) ≡ Some token.Opening → ⊥ }
-    ensures read { IfOk result (λ read. Reads grammar.primary_then grammar.primary_depth readings.ends_neg primary_meaning verdict_of room (ahead tokens.entry) read.0 (ahead read.1)) }
-    ensures shorter { IfOk result (λ read. length (ahead read.1) < length (ahead tokens.entry)) }
-    ensures refused { IfErr result (λ stop. Refuses grammar.primary_then grammar.primary_depth readings.ends_neg room (ahead tokens.entry) stop) }
-    ensures deep { IfErr result (λ stop. Crowds stop room (ahead tokens.entry)) }
+#[inline(always)]
+fn leaf(source: &Source<'_>, from: usize, room: usize) -> Result<(Tree, usize), Stop>
+    requires { first (ahead source.now from) ≡ Some token.Opening → ⊥ }
+    ensures read { IfOk result (λ read. Reads grammar.primary_then grammar.primary_depth readings.ends_neg primary_meaning (tree_verdict (text_of source.now)) room (ahead source.now from) read.0 (ahead source.now read.1)) }
+    ensures shorter { IfOk result (λ read. length (ahead source.now read.1) < length (ahead source.now from)) }
+    ensures refused { IfErr result (λ stop. Refuses grammar.primary_then grammar.primary_depth readings.ends_neg room (ahead source.now from) stop) }
+    ensures deep { IfErr result (λ stop. Crowds stop room (ahead source.now from)) }
 {
-    match test(alloc, tokens) {
+    match test(source, from) {
         Ok((found, rest)) => {
-            if ends(&rest) {
+            if ends(source, rest) {
                 Ok((leaf_of(found), rest))
             } else {
-                Err(Stop::Unexpected { at: rest.place() })
+                Err(Stop::Unexpected {
+                    at: source.place(rest),
+                })
             }
         }
         Err(stop) => Err(stop),
@@ -175,78 +262,72 @@ fn leaf<'a, 't>(
 }
 
 // Whether a test or what stands in brackets may end here.
-fn ends(rest: &Rest<'_, '_>) -> bool
-    ensures { result ≡ readings.ends_neg (ahead rest.now) }
+fn ends(source: &Source<'_>, from: usize) -> bool
+    ensures { result ≡ readings.ends_neg (ahead source.now from) }
 {
-    match rest.first() {
+    match source.first(from) {
         None => true,
-        Some(Kind::Closing) => true,
-        Some(Kind::Or) => true,
-        Some(Kind::And) => true,
+        Some(Mark::Closing) => true,
+        Some(Mark::Or) => true,
+        Some(Mark::And) => true,
         _ => false,
     }
 }
 
-fn is_or(rest: &Rest<'_, '_>) -> bool
-    ensures { result ≡ heads.is_or (first (ahead rest.now)) }
+fn is_or(source: &Source<'_>, from: usize) -> bool
+    ensures { result ≡ heads.is_or (first (ahead source.now from)) }
 {
-    matches!(rest.first(), Some(Kind::Or))
+    matches!(source.first(from), Some(Mark::Or))
 }
 
-fn is_and(rest: &Rest<'_, '_>) -> bool
-    ensures { result ≡ heads.is_and (first (ahead rest.now)) }
+fn is_and(source: &Source<'_>, from: usize) -> bool
+    ensures { result ≡ heads.is_and (first (ahead source.now from)) }
 {
-    matches!(rest.first(), Some(Kind::And))
+    matches!(source.first(from), Some(Mark::And))
 }
 
-fn is_not(rest: &Rest<'_, '_>) -> bool
-    ensures { result ≡ heads.is_not (first (ahead rest.now)) }
+fn is_not(source: &Source<'_>, from: usize) -> bool
+    ensures { result ≡ heads.is_not (first (ahead source.now from)) }
 {
-    matches!(rest.first(), Some(Kind::Not))
+    matches!(source.first(from), Some(Mark::Not))
 }
 
-fn is_opening(rest: &Rest<'_, '_>) -> bool
-    ensures { result ≡ heads.is_opening (first (ahead rest.now)) }
+fn is_opening(source: &Source<'_>, from: usize) -> bool
+    ensures { result ≡ heads.is_opening (first (ahead source.now from)) }
 {
-    matches!(rest.first(), Some(Kind::Opening))
+    matches!(source.first(from), Some(Mark::Opening))
 }
 
-fn is_closing(rest: &Rest<'_, '_>) -> bool
-    ensures { result ≡ heads.is_closing (first (ahead rest.now)) }
+fn is_closing(source: &Source<'_>, from: usize) -> bool
+    ensures { result ≡ heads.is_closing (first (ahead source.now from)) }
 {
-    matches!(rest.first(), Some(Kind::Closing))
+    matches!(source.first(from), Some(Mark::Closing))
 }
 
 // Each of these gives a tree its verdict in terms of its parts'.
-fn leaf_of(test: Test) -> Cond
-    ensures { (e : Environment) → verdict_of e result ≡ test_meaning e (written test) }
+fn leaf_of(test: Test) -> Tree
+    ensures { (text : List ℕ) (e : Environment) → tree_verdict text e result ≡ test_meaning e (written text test) }
 {
-    Cond::Leaf(test)
+    Tree::Leaf(test)
 }
 
-fn negated(part: Box<Cond>) -> Cond
-    ensures { (e : Environment) → verdict_of e result ≡ turned true (verdict_of e (box_value part)) }
+fn negated(alloc: Global, part: Tree) -> Result<Tree, AllocError>
+    ensures { IfOk result (λ tree. (text : List ℕ) (e : Environment) → tree_verdict text e tree ≡ turned true (tree_verdict text e part)) }
 {
-    Cond::Negated(part)
-}
-
-// A part that stands alone is itself, and takes no memory.
-fn either(mut parts: Vec<Cond>, last: Cond) -> Result<Cond, AllocError>
-    ensures { IfOk result (λ tree. (e : Environment) → verdict_of e tree ≡ any_of (map (verdict_of e) (parts.items ++ last ∷ []))) }
-{
-    if parts.is_empty() {
-        return Ok(last);
+    match part {
+        Tree::Leaf(test) => Ok(Tree::Denied(test)),
+        deeper => Ok(Tree::Negated(Box::new(alloc, deeper)?)),
     }
-    parts.push(last)?;
-    Ok(Cond::Either(parts))
 }
 
-fn both(mut parts: Vec<Cond>, last: Cond) -> Result<Cond, AllocError>
-    ensures { IfOk result (λ tree. (e : Environment) → verdict_of e tree ≡ all_of (map (verdict_of e) (parts.items ++ last ∷ []))) }
+fn either(parts: Vec<Tree>) -> Tree
+    ensures { (text : List ℕ) (e : Environment) → tree_verdict text e result ≡ any_of (map (tree_verdict text e) parts.items) }
 {
-    if parts.is_empty() {
-        return Ok(last);
-    }
-    parts.push(last)?;
-    Ok(Cond::Both(parts))
+    Tree::Either(parts)
+}
+
+fn both(parts: Vec<Tree>) -> Tree
+    ensures { (text : List ℕ) (e : Environment) → tree_verdict text e result ≡ all_of (map (tree_verdict text e) parts.items) }
+{
+    Tree::Both(parts)
 }

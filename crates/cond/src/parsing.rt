@@ -1,15 +1,18 @@
 //! From a text to a condition.
 ghost use Rattle.std.specs.Prelude.{◌≡◌, ◌<◌, ◌≤◌, [], length, IfOk, IfErr, Err};
-ghost use Rattle.cond.specs.Conditions.{most_bytes, most_depth, Writes, IsRead, IsParsed, IsBroken, Breaks};
+ghost use Rattle.cond.specs.Conditions.{most_bytes, most_depth, Writes, IsRead, IsMeant, IsParsed, IsBroken, Breaks};
 ghost use Rattle.cond.specs.Grammar.{Any, any_depth};
 ghost use Rattle.cond.specs.Seen.{marks};
+ghost use Rattle.cond.specs.Trees.{tree_verdict};
 
 use crate::condition::Cond;
+use crate::conjunction::Conjunction;
 use crate::fault::CondFault;
 use crate::parser::any;
-use crate::rest::Rest;
+use crate::source::Source;
 use crate::stop::Stop;
-use crate::token::{Tokens, tokenize};
+use crate::token::{Token, Tokens, tokenize};
+use crate::tree::Tree;
 use std::alloc::Global;
 
 /// How long a text may be, in bytes.
@@ -21,42 +24,67 @@ const MOST_DEPTH: usize = 32;
 /// The condition that the text writes. A text that is too long is refused first, any other by the first place in it where
 /// a rule is broken. Its time is linear in the text.
 pub fn parse(alloc: Global, text: &str) -> Result<Cond, CondFault>
-    ensures ok { IfOk result (λ tree. IsParsed text.now tree) }
+    ensures ok { IfOk result (λ condition. IsParsed text.now condition) }
     ensures err { IfErr result (λ fault. Breaks fault text.now) }
     ensures long { most_bytes < length text.now → result ≡ Err (CondFault.TooLong most_bytes) }
     // What writes a condition within the bounds is refused for want of memory alone.
     ensures only { (condition : Any) → Writes text.now condition → length text.now ≤ most_bytes → any_depth condition ≤ most_depth
         → IfErr result (λ fault. fault ≡ CondFault.Memory) }
 {
+    let mut one = Conjunction::new(alloc);
+    match one.add(alloc, text) {
+        Ok(()) => Ok(one.finish()),
+        Err(fault) => Err(fault),
+    }
+}
+
+/// The tree of the text, and the memory for the next one's tokens.
+pub(crate) fn parse_text(
+    alloc: Global,
+    tokens: Vec<Token>,
+    text: &str,
+) -> Result<(Tree, Vec<Token>), CondFault>
+    ensures ok { IfOk result (λ read. IsMeant text.now (λ e. tree_verdict text.now e read.0)) }
+    ensures err { IfErr result (λ fault. Breaks fault text.now) }
+    ensures long { most_bytes < length text.now → result ≡ Err (CondFault.TooLong most_bytes) }
+    ensures only { (condition : Any) → Writes text.now condition → length text.now ≤ most_bytes → any_depth condition ≤ most_depth
+        → IfErr result (λ fault. fault ≡ CondFault.Memory) }
+{
     if text.len() > MOST_BYTES {
         return Err(CondFault::TooLong { at: MOST_BYTES });
     }
-    let found = tokenize(alloc, text)?;
-    condition(alloc, &found)
+    let found = tokenize(tokens, text)?;
+    match tree_of(alloc, text, &found) {
+        Ok(tree) => Ok((tree, found.all)),
+        Err(fault) => Err(fault),
+    }
 }
 
-fn condition(alloc: Global, found: &Tokens<'_>) -> Result<Cond, CondFault>
-    ensures read { IfOk result (λ tree. IsRead (marks found.now.all.items) tree) }
+fn tree_of(alloc: Global, text: &str, found: &Tokens<'_>) -> Result<Tree, CondFault>
+    ensures read { IfOk result (λ tree. IsRead (marks text.now found.now.all.items) (λ e. tree_verdict text.now e tree)) }
     ensures whole { IfOk result (λ _. found.now.left.now ≡ []) }
-    ensures err { IfErr result (λ fault. IsBroken fault (marks found.now.all.items) found.now.left.now) }
+    ensures err { IfErr result (λ fault. IsBroken fault (marks text.now found.now.all.items) found.now.left.now) }
 {
     let bad = !found.left.is_empty();
-    let tokens = Rest {
+    let source = Source {
+        text: text.as_bytes(),
         tokens: found.all.as_slice(),
         end: found.end,
     };
-    match any(alloc, tokens, MOST_DEPTH) {
+    match any(alloc, &source, 0, MOST_DEPTH) {
         Ok((tree, rest)) => {
-            if rest.first().is_some() {
-                Err(CondFault::Unexpected { at: rest.place() })
+            if source.first(rest).is_some() {
+                Err(CondFault::Unexpected {
+                    at: source.place(rest),
+                })
             } else if bad {
-                Err(CondFault::BadToken { at: found.end })
+                Err(CondFault::BadToken { at: source.end })
             } else {
                 Ok(tree)
             }
         }
         Err(Stop::Unexpected { at }) => {
-            if bad && at == found.end {
+            if bad && at == source.end {
                 Err(CondFault::BadToken { at })
             } else {
                 Err(CondFault::Unexpected { at })

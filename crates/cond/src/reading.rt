@@ -1,109 +1,115 @@
 //! From tokens to a test: the first token behind what was read decides how it goes on.
-ghost use Rattle.std.specs.Prelude.{◌≡◌, string_bytes};
+ghost use Rattle.std.specs.Prelude.{◌≡◌};
 ghost use Rattle.cond.specs.Heads as heads;
 ghost use Rattle.cond.specs.Heads.{field_head, name_head, operand_head, asked_head, is_head, equals_head, in_head, within_head, tail_head, test_head};
-ghost use Rattle.cond.specs.Seen.{ahead};
+ghost use Rattle.cond.specs.Seen.{ahead, piece, text_of};
 ghost use Rattle.cond.specs.Trees.{written, written_ref, written_operand};
 ghost use Rattle.cond.specs.Answers.{Gives, operand_read, test_read};
 
 use crate::fields::Field;
-use crate::kind::Kind;
 use crate::leaf::{Operand, Ref, Test};
-use crate::rest::Rest;
+use crate::mark::Mark;
+use crate::source::Source;
+use crate::span::Span;
 use crate::states::State;
 use crate::stop::Stop;
-use std::alloc::Global;
 
 /// The test that the tokens begin with, and what is behind it.
+#[inline(always)]
 #[tactic(auto, unfolding(crate::specs::Heads::test_head))]
-pub(crate) fn test<'a, 't>(
-    alloc: Global,
-    tokens: Rest<'a, 't>,
-) -> Result<(Test, Rest<'a, 't>), Stop>
-    ensures { Gives test_read result (test_head (ahead tokens.entry)) }
+pub(crate) fn test(source: &Source<'_>, from: usize) -> Result<(Test, usize), Stop>
+    ensures { Gives (test_read source.now) result (test_head (ahead source.now from)) }
 {
-    match operand(alloc, tokens) {
-        Ok((subject, rest)) => tail(alloc, subject, rest),
+    match operand(source, from) {
+        Ok((subject, rest)) => tail(source, subject, rest),
         Err(stop) => Err(stop),
     }
 }
 
+#[inline(always)]
 #[tactic(auto, unfolding(crate::specs::Heads::tail_head))]
-fn tail<'a, 't>(
-    alloc: Global,
-    subject: Operand,
-    tokens: Rest<'a, 't>,
-) -> Result<(Test, Rest<'a, 't>), Stop>
-    ensures { Gives test_read result (tail_head (written_operand subject) (ahead tokens.entry)) }
+fn tail(source: &Source<'_>, subject: Operand, from: usize) -> Result<(Test, usize), Stop>
+    ensures { Gives (test_read source.now) result (tail_head (written_operand (text_of source.now) subject) (ahead source.now from)) }
 {
-    match tokens.first() {
-        Some(Kind::Is) => asked(subject, tokens, tokens.behind()),
-        Some(Kind::Equal) => equality(alloc, subject, false, tokens.behind()),
-        Some(Kind::Unequal) => equality(alloc, subject, true, tokens.behind()),
-        Some(Kind::Not) => membership(subject, true, tokens, tokens.behind()),
-        Some(Kind::In) => membership(subject, false, tokens, tokens),
-        _ => Ok((Test::Alone(subject), tokens)),
+    match source.first(from) {
+        Some(Mark::Is) => asked(source, subject, from, source.behind(from)),
+        Some(Mark::Equal) => equality(source, subject, false, source.behind(from)),
+        Some(Mark::Unequal) => equality(source, subject, true, source.behind(from)),
+        Some(Mark::Not) => membership(source, subject, true, from, source.behind(from)),
+        Some(Mark::In) => membership(source, subject, false, from, from),
+        _ => Ok((Test::Alone(subject), from)),
     }
 }
 
 // Behind `is`, which asks of a name or a field alone.
-fn asked<'a, 't>(
+#[inline(never)]
+fn asked(
+    source: &Source<'_>,
     subject: Operand,
-    is: Rest<'a, 't>,
-    behind: Rest<'a, 't>,
-) -> Result<(Test, Rest<'a, 't>), Stop>
-    ensures { Gives test_read result (is_head (written_operand subject) (ahead behind.entry)) }
+    is: usize,
+    behind: usize,
+) -> Result<(Test, usize), Stop>
+    ensures { Gives (test_read source.now) result (is_head (written_operand (text_of source.now) subject) (ahead source.now behind)) }
 {
     match subject {
-        Operand::Ref(of) => match behind.first() {
-            Some(Kind::Not) => asked_word(of, true, behind.behind()),
-            _ => asked_word(of, false, behind),
+        Operand::Ref(of) => match source.first(behind) {
+            Some(Mark::Not) => asked_word(source, of, true, source.behind(behind)),
+            _ => asked_word(source, of, false, behind),
         },
-        _ => Err(Stop::Unexpected { at: is.place() }),
+        _ => Err(Stop::Unexpected {
+            at: source.place(is),
+        }),
     }
 }
 
 #[tactic(auto, unfolding(crate::specs::Heads::asked_head))]
-fn asked_word<'a, 't>(
+fn asked_word(
+    source: &Source<'_>,
     of: Ref,
     contrary: bool,
-    tokens: Rest<'a, 't>,
-) -> Result<(Test, Rest<'a, 't>), Stop>
-    ensures { Gives test_read result (asked_head (written_ref of) contrary (ahead tokens.entry)) }
+    from: usize,
+) -> Result<(Test, usize), Stop>
+    ensures { Gives (test_read source.now) result (asked_head (written_ref (text_of source.now) of) contrary (ahead source.now from)) }
 {
-    let Some(Kind::Name(word)) = tokens.first() else {
-        return Err(Stop::Unexpected { at: tokens.place() });
+    let Some(Mark::Name(span)) = source.first(from) else {
+        return Err(Stop::Unexpected {
+            at: source.place(from),
+        });
     };
+    let word = source.word(span);
     if word == "defined" {
-        return Ok((Test::Defined { of, contrary }, tokens.behind()));
+        return Ok((Test::Defined { contrary, of }, source.behind(from)));
     }
     match (of, State::named(word)) {
         (Ref::Whole(name), Some(state)) => Ok((
             Test::Stands {
-                name,
                 contrary,
                 state,
+                name,
             },
-            tokens.behind(),
+            source.behind(from),
         )),
-        _ => Err(Stop::Unexpected { at: tokens.place() }),
+        _ => Err(Stop::Unexpected {
+            at: source.place(from),
+        }),
     }
 }
 
+#[inline(always)]
 #[tactic(auto, unfolding(crate::specs::Heads::equals_head))]
-fn equality<'a, 't>(
-    alloc: Global,
+fn equality(
+    source: &Source<'_>,
     left: Operand,
     contrary: bool,
-    tokens: Rest<'a, 't>,
-) -> Result<(Test, Rest<'a, 't>), Stop>
-    ensures { Gives test_read result (equals_head (written_operand left) contrary (ahead tokens.entry)) }
+    from: usize,
+) -> Result<(Test, usize), Stop>
+    ensures { Gives (test_read source.now) result (equals_head (written_operand (text_of source.now) left) contrary (ahead source.now from)) }
 {
-    match operand(alloc, tokens) {
+    match operand(source, from) {
         Ok((right, rest)) => Ok((
             Test::Equals {
-                left,
                 contrary,
+                left,
                 right,
             },
             rest,
@@ -113,100 +119,109 @@ fn equality<'a, 't>(
 }
 
 // Behind a text, and `not` where the contrary is asked.
-fn membership<'a, 't>(
+#[inline(never)]
+fn membership(
+    source: &Source<'_>,
     subject: Operand,
     contrary: bool,
-    behind_subject: Rest<'a, 't>,
-    tokens: Rest<'a, 't>,
-) -> Result<(Test, Rest<'a, 't>), Stop>
-    ensures { Gives test_read result (within_head (written_operand subject) contrary (ahead tokens.entry)) }
+    behind_subject: usize,
+    from: usize,
+) -> Result<(Test, usize), Stop>
+    ensures { Gives (test_read source.now) result (within_head (written_operand (text_of source.now) subject) contrary (ahead source.now from)) }
 {
     match subject {
-        Operand::Text(group) => in_groups(group, contrary, tokens),
+        Operand::Text(group) => in_groups(source, group, contrary, from),
         _ => Err(Stop::Unexpected {
-            at: behind_subject.place(),
+            at: source.place(behind_subject),
         }),
     }
 }
 
 #[tactic(auto, unfolding(crate::specs::Heads::in_head))]
-fn in_groups<'a, 't>(
-    group: String,
+fn in_groups(
+    source: &Source<'_>,
+    group: Span,
     contrary: bool,
-    tokens: Rest<'a, 't>,
-) -> Result<(Test, Rest<'a, 't>), Stop>
-    ensures { Gives test_read result (in_head (string_bytes group) contrary (ahead tokens.entry)) }
+    from: usize,
+) -> Result<(Test, usize), Stop>
+    ensures { Gives (test_read source.now) result (in_head (piece (text_of source.now) group) contrary (ahead source.now from)) }
 {
-    let Some(Kind::In) = tokens.first() else {
-        return Err(Stop::Unexpected { at: tokens.place() });
+    let Some(Mark::In) = source.first(from) else {
+        return Err(Stop::Unexpected {
+            at: source.place(from),
+        });
     };
-    let words = tokens.behind();
-    let Some(Kind::Groups) = words.first() else {
-        return Err(Stop::Unexpected { at: words.place() });
+    let words = source.behind(from);
+    let Some(Mark::Groups) = source.first(words) else {
+        return Err(Stop::Unexpected {
+            at: source.place(words),
+        });
     };
-    Ok((Test::Within { group, contrary }, words.behind()))
+    Ok((Test::Within { contrary, group }, source.behind(words)))
 }
 
+#[inline(always)]
 #[tactic(auto, unfolding(crate::specs::Heads::operand_head))]
-fn operand<'a, 't>(alloc: Global, tokens: Rest<'a, 't>) -> Result<(Operand, Rest<'a, 't>), Stop>
-    ensures { Gives operand_read result (operand_head (ahead tokens.entry)) }
+fn operand(source: &Source<'_>, from: usize) -> Result<(Operand, usize), Stop>
+    ensures { Gives (operand_read source.now) result (operand_head (ahead source.now from)) }
 {
-    let rest = tokens.behind();
-    match tokens.first() {
-        Some(Kind::Text(text)) => apart(Operand::Text(String::from_str(alloc, text)?), rest),
-        Some(Kind::Number(number)) => apart(Operand::Int(number), rest),
-        Some(Kind::Truth(truth)) => apart(Operand::Truth(truth), rest),
-        Some(Kind::Host) => apart(Operand::Ref(Ref::Hostname), rest),
-        Some(Kind::Name(name)) => named(alloc, name, rest),
-        _ => Err(Stop::Unexpected { at: tokens.place() }),
+    let rest = source.behind(from);
+    match source.first(from) {
+        Some(Mark::Text(text)) => apart(source, Operand::Text(text), rest),
+        Some(Mark::Number(number)) => apart(source, Operand::Int(number), rest),
+        Some(Mark::Truth(truth)) => apart(source, Operand::Truth(truth), rest),
+        Some(Mark::Host) => apart(source, Operand::Ref(Ref::Hostname), rest),
+        Some(Mark::Name(name)) => named(source, name, rest),
+        _ => Err(Stop::Unexpected {
+            at: source.place(from),
+        }),
     }
 }
 
 // Behind a name, of which a field may be meant.
+#[inline(always)]
 #[tactic(auto, unfolding(crate::specs::Heads::name_head))]
-fn named<'a, 't>(
-    alloc: Global,
-    name: &str,
-    tokens: Rest<'a, 't>,
-) -> Result<(Operand, Rest<'a, 't>), Stop>
-    ensures { Gives operand_read result (name_head name.now (ahead tokens.entry)) }
+fn named(source: &Source<'_>, name: Span, from: usize) -> Result<(Operand, usize), Stop>
+    ensures { Gives (operand_read source.now) result (name_head (piece (text_of source.now) name) (ahead source.now from)) }
 {
-    match tokens.first() {
-        Some(Kind::Dot) => field_of(alloc, name, tokens.behind()),
-        _ => Ok((
-            Operand::Ref(Ref::Whole(String::from_str(alloc, name)?)),
-            tokens,
-        )),
+    match source.first(from) {
+        Some(Mark::Dot) => field_of(source, name, source.behind(from)),
+        _ => Ok((Operand::Ref(Ref::Whole(name)), from)),
     }
 }
 
+#[inline(never)]
 #[tactic(auto, unfolding(crate::specs::Heads::field_head))]
-fn field_of<'a, 't>(
-    alloc: Global,
-    name: &str,
-    tokens: Rest<'a, 't>,
-) -> Result<(Operand, Rest<'a, 't>), Stop>
-    ensures { Gives operand_read result (field_head name.now (ahead tokens.entry)) }
+fn field_of(source: &Source<'_>, name: Span, from: usize) -> Result<(Operand, usize), Stop>
+    ensures { Gives (operand_read source.now) result (field_head (piece (text_of source.now) name) (ahead source.now from)) }
 {
-    let Some(Kind::Name(word)) = tokens.first() else {
-        return Err(Stop::Unexpected { at: tokens.place() });
+    let Some(Mark::Name(span)) = source.first(from) else {
+        return Err(Stop::Unexpected {
+            at: source.place(from),
+        });
     };
-    match Field::named(word) {
+    match Field::named(source.word(span)) {
         Some(field) => apart(
-            Operand::Ref(Ref::Part(String::from_str(alloc, name)?, field)),
-            tokens.behind(),
+            source,
+            Operand::Ref(Ref::Part(name, field)),
+            source.behind(from),
         ),
-        None => Err(Stop::Unexpected { at: tokens.place() }),
+        None => Err(Stop::Unexpected {
+            at: source.place(from),
+        }),
     }
 }
 
 // No dot stands behind a whole operand.
+#[inline(always)]
 #[tactic(auto, unfolding(crate::specs::Heads::apart))]
-fn apart<'a, 't>(operand: Operand, rest: Rest<'a, 't>) -> Result<(Operand, Rest<'a, 't>), Stop>
-    ensures { Gives operand_read result (heads.apart (written_operand operand) (ahead rest.entry)) }
+fn apart(source: &Source<'_>, operand: Operand, from: usize) -> Result<(Operand, usize), Stop>
+    ensures { Gives (operand_read source.now) result (heads.apart (written_operand (text_of source.now) operand) (ahead source.now from)) }
 {
-    match rest.first() {
-        Some(Kind::Dot) => Err(Stop::Unexpected { at: rest.place() }),
-        _ => Ok((operand, rest)),
+    match source.first(from) {
+        Some(Mark::Dot) => Err(Stop::Unexpected {
+            at: source.place(from),
+        }),
+        _ => Ok((operand, from)),
     }
 }

@@ -1,28 +1,34 @@
 -- What a key of a step lists.
-use Rattle.std.proofs.Common.{◌≡◌, ◌≢◌, ℕ, Bool, true, Option, Some, None, Result, List, [], ◌∷◌, ◌++◌, map, sym, ap, ◌∙◌, refl, subst, IfOk, IfErr}
+use Rattle.std.proofs.Common.{◌≡◌, ◌≢◌, ◌==◌, length, Bool, true, false, Option, Some, None, Result, List, [], ◌∷◌, ◌++◌, map, sym, ap, ◌∙◌, refl, subst, IfOk, IfErr}
 use Rattle.std.specs.List.{list_all, filter_map, flat_map}
+use Rattle.cond.specs.Meaning.{Environment}
+use Rattle.cond.specs.Trees.{verdict_of, all_of}
+use Rattle.cond.specs.Conjunctions.{verdicts_on}
 use Rattle.cond.specs.declared.condition.Cond.{Cond}
+use Rattle.cond.specs.declared.conjunction.Conjunction.{Conjunction}
 use Rattle.inventory_model.specs.Names.{Name}
-use Rattle.serde_json.specs.Data.{Data}
+use Rattle.serde_json.specs.Data.{Data, null, boolean, number, string, array, object}
 use Rattle.serde_json.specs.Find.{get}
 use Rattle.play_rules.specs.Breaches.{Spot, Check, Broken, BadShape, unless, where_given}
-use Rattle.play_rules.specs.Conditions as rules
 use Rattle.play_rules.specs.Conditions.{clause_of, is_clause, clauses_listed, clauses_of, asked_of, checks_of, checks_at}
 use Rattle.play_faults.specs.Checks.{AllKept}
-use Rattle.play_conditions.specs.Says.{MeanEach, IsJoined, Says, IsFlawOf}
+use Rattle.play_conditions.specs.Says.{MeansAll, Gathers, Says, IsFlawOf}
 use Rattle.play_conditions.specs.declared.flaw.ConditionFlaw.{ConditionFlaw}
 use Rattle.play_conditions.proofs.Readings.{kept_where_meant}
 
-no_parts : (parts : List Cond) → MeanEach [] parts → parts ≡ []
-no_parts [] each = refl
-no_parts (tree ∷ parts) each = absurd each
+-- a part for each value, where each is one
+some_part : (list : List Data) → list_all is_clause list ≡ true → list ≢ [] → filter_map clause_of list ≢ []
+some_part [] all some none = some refl
+some_part (null ∷ list) all some none = absurd (cc)
+some_part (boolean truth ∷ list) all some none = cc
+some_part (number n ∷ list) all some none = absurd (cc)
+some_part (string text ∷ list) all some none = cc
+some_part (array items ∷ list) all some none = absurd (cc)
+some_part (object members ∷ list) all some none = absurd (cc)
 
-says_of : (clauses : List rules.Clause) (parts : List Cond) (result : Option Cond) → MeanEach clauses parts → IsJoined parts result → Says clauses result
-says_of [] parts None each joined = refl
-says_of (clause ∷ clauses) parts None each joined =
-    absurd (subst (λ (of : List Cond). MeanEach (clause ∷ clauses) of) joined each)
-says_of clauses parts (Some tree) each joined =
-    (λ none. joined.0 (no_parts parts (subst (λ (of : List rules.Clause). MeanEach of parts) none each)), record { parts = parts; each = each; same = joined.1 })
+pub some_listed : {A : Type 0} (view : A → Data) (list : List A) → (length list == 0) ≡ false → map view list ≢ []
+some_listed view [] e none = absurd (cc)
+some_listed view (value ∷ list) e none = cc
 
 -- the checks of parts whose shapes pass or not
 abbrev checks_with : Spot → Name → Bool → List Data → List Check
@@ -30,17 +36,28 @@ checks_with spot key passed list =
     map Broken (unless passed BadShape) ++ flat_map (asked_of spot key) (filter_map clause_of list)
 
 module _ (value : Data) (list : List Data) (listed : list ≡ clauses_listed value) where
-  module _ (clauses : List rules.Clause) (parts : List Cond) (are : clauses ≡ filter_map clause_of list) (each : MeanEach clauses parts) where
-    pub kept_given : (spot : Spot) (key : Name) → list_all is_clause list ≡ true → AllKept (checks_of spot key value)
-    kept_given spot key all =
-        let meant = subst (λ (of : List rules.Clause). AllKept (flat_map (asked_of spot key) of)) are (kept_where_meant spot key clauses parts each) in
-        let kept = subst (λ (passed : Bool). AllKept (checks_with spot key passed list)) (sym all) meant in
+  module _ (all : Conjunction) (gathers : Gathers (filter_map clause_of list) all) (passed : list_all is_clause list ≡ true) where
+    pub kept_given : (spot : Spot) (key : Name) → AllKept (checks_of spot key value)
+    kept_given spot key =
+        let meant = kept_where_meant spot key (filter_map clause_of list) gathers.parts gathers.each in
+        let kept = subst (λ (passed : Bool). AllKept (checks_with spot key passed list)) (sym passed) meant in
         subst (λ (of : List Data). AllKept (checks_with spot key (list_all is_clause of) of)) listed kept
 
-    pub says_given : (result : Option Cond) → IsJoined parts result → Says (clauses_of value) result
-    says_given result joined =
-        let said = are ∙ ap (filter_map clause_of) listed in
-        subst (λ (of : List rules.Clause). Says of result) said (says_of clauses parts result each joined)
+    pub says_given : list ≢ [] → (condition : Cond) → ((e : Environment) → verdict_of e condition ≡ all_of (verdicts_on all e)) → Says (clauses_of value) (Some condition)
+    says_given some condition finished =
+        let means : MeansAll (filter_map clause_of list) condition = record { parts = gathers.parts; each = gathers.each; same = λ e. finished e ∙ ap all_of (gathers.same e) } in
+        subst (λ (of : List Data). Says (filter_map clause_of of) (Some condition)) listed (some_part list passed some, means)
+
+  module _ (nothing : list ≡ []) where
+    none_given : [] ≡ clauses_listed value
+    none_given = sym nothing ∙ listed
+
+    pub kept_nothing : (spot : Spot) (key : Name) → AllKept (checks_of spot key value)
+    kept_nothing spot key =
+        subst (λ (of : List Data). AllKept (checks_with spot key (list_all is_clause of) of)) none_given tt
+
+    pub says_nothing : Says (clauses_of value) None
+    says_nothing = sym (ap (filter_map clause_of) none_given)
 
 module _ (spot : Spot) (key name : Name) (step value : Data) (result : Result (Option Cond) ConditionFlaw) (same : name ≡ key) (given : Some value ≡ get name step) where
   found : Some value ≡ get key step

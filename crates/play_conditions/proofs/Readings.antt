@@ -1,23 +1,24 @@
 -- Parts of a condition that were read, and the first that is none.
-use Rattle.std.proofs.Common.{◌≡◌, ℕ, ◌+◌, ◌<◌, Option, Some, None, List, [], ◌∷◌, ◌++◌, length, get_or, take, drop, map, sym, ap, ◌∙◌, refl, subst, inl, inr}
+use Rattle.std.proofs.Common.{◌≡◌, ℕ, ◌+◌, ◌<◌, length, get_or, drop, Option, Some, None, Ok, List, [], ◌∷◌, ◌++◌, map, sym, ap, ◌∙◌, refl, subst, inl, inr}
 use Rattle.std.specs.Prelude.{⊤, MatchOption}
-use Rattle.std.specs.List.{flat_map}
-use Rattle.std.proofs.lemmas.List.{drop_more, take_more, take-append-drop, map-append}
-use Rattle.cond.specs.Conditions.{IsParsed}
-use Rattle.cond.specs.declared.condition.Cond.{Cond}
+use Rattle.std.specs.List.{cons_option, filter_map, flat_map}
+use Rattle.std.proofs.lemmas.List.{drop_more}
+use Rattle.cond.specs.Conditions.{IsMeant}
+use Rattle.cond.specs.Meaning.{Environment}
+use Rattle.cond.specs.declared.conjunction.Conjunction.{Conjunction}
 use Rattle.cond.specs.declared.fault.CondFault.{CondFault}
 use Rattle.cond.specs.declared.fault.CondFault.TheVariants as fault
+use Rattle.serde_json.specs.Data.{Data}
 use Rattle.inventory_model.specs.Names.{Name}
 use Rattle.play_rules.specs.Breaches.{Spot, Check, Asked}
 use Rattle.play_rules.specs.Conditions as rules
-use Rattle.play_rules.specs.Conditions.{asked_of}
+use Rattle.play_rules.specs.Conditions.{clause_of, asked_of}
 use Rattle.play_faults.specs.Checks.{IsCondition, Named, IsFirst, AllKept}
 use Rattle.play_faults.specs.Faults.{named_by}
-use Rattle.play_conditions.specs.Says.{said, Means, MeanEach, IsFaultOfClause, IsFaultOfText}
-use Rattle.play_conditions.specs.declared.clause.Clause.{Clause}
+use Rattle.play_conditions.specs.Says.{Meaning, Means, MeanEach, said_on, Gathers, IsMore, IsFaultOfClause, IsFaultOfPart, IsFaultOfText}
 
-condition_of : (text : List ℕ) (tree : Cond) → IsParsed text tree → IsCondition text
-condition_of text tree parsed =
+condition_of : (text : List ℕ) (means : Meaning) → IsMeant text means → IsCondition text
+condition_of text means parsed =
     record { condition = parsed.condition; written = parsed.written; short = parsed.short; deep = parsed.deep }
 
 abbrev Clauses : Type 0
@@ -27,7 +28,7 @@ abbrev pub with_last : {A : Type 0} → List A → A → List A
 with_last list last = list ++ last ∷ []
 
 -- one more part
-mean_more : (clauses : Clauses) (parts : List Cond) (clause : rules.Clause) (part : Cond) → MeanEach clauses parts → Means clause part → MeanEach (with_last clauses clause) (with_last parts part)
+mean_more : (clauses : Clauses) (parts : List Meaning) (clause : rules.Clause) (part : Meaning) → MeanEach clauses parts → Means clause part → MeanEach (with_last clauses clause) (with_last parts part)
 mean_more [] [] clause part each means = (means, tt)
 mean_more [] (first ∷ parts) clause part each means = absurd each
 mean_more (first ∷ clauses) [] clause part each means = absurd each
@@ -35,7 +36,7 @@ mean_more (first ∷ clauses) (tree ∷ parts) clause part each means =
     (each.0, mean_more clauses parts clause part each.1 means)
 
 -- parts that mean something are kept
-pub kept_where_meant : (spot : Spot) (key : Name) (clauses : Clauses) (parts : List Cond) → MeanEach clauses parts → AllKept (flat_map (asked_of spot key) clauses)
+pub kept_where_meant : (spot : Spot) (key : Name) (clauses : Clauses) (parts : List Meaning) → MeanEach clauses parts → AllKept (flat_map (asked_of spot key) clauses)
 kept_where_meant spot key [] [] each = tt
 kept_where_meant spot key [] (tree ∷ parts) each = absurd each
 kept_where_meant spot key (clause ∷ clauses) [] each = absurd each
@@ -66,11 +67,11 @@ behind_kept None spot key text later kept is = tt
 behind_kept (Some named) spot key text later kept is = inr (kept, is)
 
 -- behind parts that mean something a fault of the next is that of all
-abbrev RefusedIn : Spot → Name → CondFault → Clauses → List Cond → rules.Clause → Clauses → Type 0
+abbrev RefusedIn : Spot → Name → CondFault → Clauses → List Meaning → rules.Clause → Clauses → Type 0
 RefusedIn spot key found before parts clause after =
     MeanEach before parts → IsFaultOfClause found clause → IsFaultIn spot key found (before ++ clause ∷ after)
 
-refused_behind : (spot : Spot) (key : Name) (found : CondFault) (before : Clauses) (parts : List Cond) (clause : rules.Clause) (after : Clauses) → RefusedIn spot key found before parts clause after
+refused_behind : (spot : Spot) (key : Name) (found : CondFault) (before : Clauses) (parts : List Meaning) (clause : rules.Clause) (after : Clauses) → RefusedIn spot key found before parts clause after
 refused_behind spot key found [] parts clause after each is = first_refused spot key found clause _ is
 refused_behind spot key found (first ∷ before) [] clause after each is = absurd each
 refused_behind spot key found (rules.Truth truth ∷ before) (tree ∷ parts) clause after each is =
@@ -79,29 +80,39 @@ refused_behind spot key found (rules.Text text ∷ before) (tree ∷ parts) clau
     let later = refused_behind spot key found before parts clause after each.1 is in
     behind_kept (named_by spot key found) spot key text _ (condition_of text tree each.0) later
 
--- the clause at a place, with those before it and behind it
-module _ (clauses : List Clause) (i : ℕ) (default clause : Clause) (within : i < length clauses) (is : clause ≡ get_or clauses i default) where
-  said_upto : map said (take (i + 1) clauses) ≡ with_last (map said (take i clauses)) (said clause)
-  said_upto =
-      let next = take_more clauses i default within ∙ ap (λ (c : Clause). with_last (take i clauses) c) (sym is) in
-      ap (map said) next ∙ map-append said (take i clauses) (clause ∷ [])
+map_more : (e : Environment) (parts : List Meaning) (last : Meaning) → said_on e (with_last parts last) ≡ with_last (said_on e parts) (last e)
+map_more e [] last = refl
+map_more e (part ∷ parts) last = ap (λ l. part e ∷ l) (map_more e parts last)
 
-  said_behind : map said (drop i clauses) ≡ said clause ∷ map said (drop (i + 1) clauses)
-  said_behind =
-      ap (map said) (drop_more clauses i default within ∙ ap (λ (c : Clause). c ∷ drop (i + 1) clauses) (sym is))
+-- those before, and what the part adds
+abbrev pub with_part : Clauses → Option rules.Clause → Clauses
+with_part before None = before
+with_part before (Some clause) = with_last before clause
 
-  said_whole : map said clauses ≡ map said (take i clauses) ++ said clause ∷ map said (drop (i + 1) clauses)
-  said_whole =
-      let cut = ap (map said) (sym (take-append-drop i clauses)) ∙ map-append said (take i clauses) (drop i clauses) in
-      cut ∙ ap (λ (behind : Clauses). map said (take i clauses) ++ behind) said_behind
+pub gathers_more : (before : Clauses) (part : Option rules.Clause) (all more : Conjunction) → Gathers before all → IsMore part all more → Gathers (with_part before part) more
+gathers_more before None all more so_far same = subst (Gathers before) same so_far
+gathers_more before (Some (rules.Truth truth)) all more so_far added = record {
+  parts = with_last so_far.parts (λ e. Ok truth);
+  each = mean_more before so_far.parts (rules.Truth truth) (λ e. Ok truth) so_far.each (λ e. refl);
+  same = λ e. added e ∙ ap (λ l. with_last l (Ok truth)) (so_far.same e) ∙ sym (map_more e so_far.parts (λ e. Ok truth));
+}
+gathers_more before (Some (rules.Text text)) all more so_far added = record {
+  parts = with_last so_far.parts added.0;
+  each = mean_more before so_far.parts (rules.Text text) added.0 so_far.each added.1;
+  same = λ e. added.2 e ∙ ap (λ l. with_last l (added.0 e)) (so_far.same e) ∙ sym (map_more e so_far.parts added.0);
+}
 
-  module _ (parts : List Cond) (each : MeanEach (map said (take i clauses)) parts) where
-    pub mean_next : (part : Cond) → Means (said clause) part → MeanEach (map said (take (i + 1) clauses)) (with_last parts part)
-    mean_next part means =
-        let more = mean_more (map said (take i clauses)) parts (said clause) part each means in
-        subst (λ (list : Clauses). MeanEach list (with_last parts part)) (sym said_upto) more
+pub refused_here : (spot : Spot) (key : Name) (found : CondFault) (before : Clauses) (all : Conjunction) (part : Option rules.Clause) (later : Clauses) → Gathers before all → IsFaultOfPart found part → IsFaultIn spot key found (before ++ cons_option part later)
+refused_here spot key found before all None later so_far is = rw is tt
+refused_here spot key found before all (Some clause) later so_far is =
+    refused_behind spot key found before so_far.parts clause later so_far.each is
 
-    pub refused_at : (spot : Spot) (key : Name) (found : CondFault) → IsFaultOfClause found (said clause) → IsFaultIn spot key found (map said clauses)
-    refused_at spot key found fault_is =
-        let there = refused_behind spot key found (map said (take i clauses)) parts (said clause) _ each fault_is in
-        subst (λ (list : Clauses). IsFaultIn spot key found list) (sym said_whole) there
+pub with_consed : (before : Clauses) (part : Option rules.Clause) (later : Clauses) → with_part before part ++ later ≡ before ++ cons_option part later
+with_consed before None later = refl
+with_consed [] (Some clause) later = refl
+with_consed (first ∷ before) (Some clause) later = ap (λ l. first ∷ l) (with_consed before (Some clause) later)
+
+-- what is left of a list, from a value on
+pub left_at : {A : Type 0} (view : A → Data) (list : List A) (i : ℕ) (item : A) → i < length list → item ≡ get_or list i item → filter_map clause_of (map view (drop i list)) ≡ cons_option (clause_of (view item)) (filter_map clause_of (map view (drop (i + 1) list)))
+left_at {A} view list i item within is =
+    ap (λ (l : List A). filter_map clause_of (map view l)) (drop_more list i item within ∙ ap (λ (x : A). x ∷ drop (i + 1) list) (sym is))

@@ -1,13 +1,12 @@
 //! The parts of a condition, as a document lists them.
-ghost use Rattle.std.specs.Prelude.{◌≡◌, ◌++◌, IfOk, map, option_map};
-ghost use Rattle.std.specs.List.{filter_map, list_all};
+ghost use Rattle.std.specs.Prelude.{◌≡◌, map, option_map};
+ghost use Rattle.std.specs.List.{list_all};
 ghost use Rattle.serde_json.specs.View.{view};
 ghost use Rattle.play_rules.specs.Conditions as spec;
 ghost use Rattle.play_conditions.specs.Says.{said};
 
 use json_shapes::listed;
 use serde_json::Value;
-use std::alloc::{AllocError, Global};
 
 /// A truth value, or a text that has to be a condition.
 #[derive(Clone, Copy, Debug)]
@@ -42,19 +41,4 @@ pub(crate) fn are_clauses(list: &[Value]) -> bool
         }
     }
     true
-}
-
-pub(crate) fn clauses_in<'a>(
-    alloc: Global,
-    list: &'a [Value],
-) -> Result<Vec<Clause<'a>>, AllocError>
-    ensures { IfOk result (λ clauses. map said clauses.items ≡ filter_map spec.clause_of (map view list.now)) }
-{
-    let mut clauses = Vec::with_capacity(alloc, list.len())?;
-    for value in list {
-        if let Some(clause) = clause_of(value) {
-            clauses.push(clause)?;
-        }
-    }
-    Ok(clauses)
 }

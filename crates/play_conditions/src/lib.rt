@@ -3,8 +3,8 @@
 
 mod clause;
 mod flaw;
+mod gathering;
 mod reading;
-mod trees;
 
 pub use flaw::ConditionFlaw;
 pub use reading::read_condition;

@@ -1,16 +1,16 @@
 //! From a key of a step to its condition.
-ghost use Rattle.std.specs.Prelude.{◌≡◌, IfOk, IfErr};
+ghost use Rattle.std.specs.Prelude.{IfOk, IfErr};
 ghost use Rattle.serde_json.specs.Find.{get};
 ghost use Rattle.serde_json.specs.View.{view};
 ghost use Rattle.play_rules.specs.Breaches.{Spot};
 ghost use Rattle.play_rules.specs.Conditions as spec;
 ghost use Rattle.play_faults.specs.Checks.{AllKept};
 ghost use Rattle.play_faults.specs.Faults.{key_name};
-ghost use Rattle.play_conditions.specs.Says.{Says, IsFlawOf, IsJoined};
+ghost use Rattle.play_conditions.specs.Says.{Says, IsFlawOf};
 
-use crate::clause::{are_clauses, clause_of, clauses_in, clauses_listed};
+use crate::clause::{are_clauses, clause_of, clauses_listed};
 use crate::flaw::ConditionFlaw;
-use crate::trees::{both, read_each};
+use crate::gathering::gather;
 use cond::Cond;
 use json_shapes::elements_of;
 use play_faults::ConditionKey;
@@ -47,20 +47,12 @@ fn read_given(
     if !are_clauses(list) {
         return Err(ConditionFlaw::BadShape(place_of_bad(value)));
     }
-    let clauses = clauses_in(alloc, list)?;
-    match read_each(alloc, clauses.as_slice()) {
-        Ok(parts) => Ok(joined(parts)),
-        Err(fault) => Err(ConditionFlaw::Bad(fault)),
+    if list.is_empty() {
+        return Ok(None);
     }
-}
-
-fn joined(parts: Vec<Cond>) -> Option<Cond>
-    ensures { IsJoined parts.items result }
-{
-    if parts.is_empty() {
-        None
-    } else {
-        Some(both(parts))
+    match gather(alloc, list) {
+        Ok(all) => Ok(Some(all.finish())),
+        Err(fault) => Err(ConditionFlaw::Bad(fault)),
     }
 }
 

@@ -1,6 +1,4 @@
-use Rattle.std.proofs.Common.{sym, ap, length, arith, ◌≡◌}
-use Rattle.std.proofs.lemmas.List.Sums.{prefix_len-le-length}
-use Rattle.cond.specs.Tokens.{is_digit}
+use Rattle.std.proofs.Common.{sym}
 use Rattle.cond.proofs.Runs.{negative_ends}
 use Rattle.cond.proofs.Numerals.{negative_read, negative_unread}
 use Rattle.cond.proofs.front.negative_at.Goals as goal

@@ -1,8 +1,7 @@
-use Rattle.std.proofs.Common.{◌≡◌, sym, ap, ◌∙◌, cond, slice_get, Some, None}
-use Rattle.std.specs.Option.{option_copied}
+use Rattle.std.proofs.Common.{◌≡◌, sym, ap, ◌∙◌, slice_get, Some}
 use Rattle.cond.specs.Tokens.{word_at, negative_at, text_at, sign_at}
 use Rattle.cond.proofs.Runs.{behind_first}
-use Rattle.cond.proofs.Fronts.{at_end, begun, of_word, of_number, of_high, of_minus, of_text, of_sign}
+use Rattle.cond.proofs.Fronts.{at_end, of_word, of_number, of_high, of_minus, of_text, of_sign}
 use Rattle.cond.proofs.front.token_at.Goals as goal
 use Rattle.cond.proofs.front.token_at.Goals.{In-Some}
 

@@ -1,0 +1,59 @@
+//! The tokens of a text, from one of them on.
+ghost use Rattle.std.specs.Prelude.{◌≡◌, option_map, slice_get};
+ghost use Rattle.cond.specs.Heads.{first, behind};
+ghost use Rattle.cond.specs.Seen.{kept, piece, ahead, text_of};
+
+use crate::mark::Mark;
+use crate::span::{Span, word_at};
+use crate::token::Token;
+
+/// A text and its tokens. What is left of them is told by the number of the first.
+#[derive(Clone, Copy, Debug)]
+pub(crate) struct Source<'a> {
+    pub(crate) text: &'a [u8],
+    pub(crate) tokens: &'a [Token],
+    /// The byte place behind the tokens.
+    pub(crate) end: usize,
+}
+
+impl Source<'_> {
+    pub(crate) fn first(&self, from: usize) -> Option<Mark>
+        ensures { option_map (kept (text_of self.now)) result ≡ first (ahead self.now from) }
+    {
+        match self.get(from) {
+            Some(token) => Some(token.mark),
+            None => None,
+        }
+    }
+
+    fn get(&self, from: usize) -> Option<Token>
+        ensures { result ≡ slice_get self.now.tokens.now from }
+    {
+        self.tokens.get(from).copied()
+    }
+
+    /// What is behind the first token.
+    pub(crate) fn behind(&self, from: usize) -> usize
+        ensures { ahead self.now result ≡ behind (ahead self.now from) }
+    {
+        if from < self.tokens.len() {
+            from + 1
+        } else {
+            from
+        }
+    }
+
+    /// The byte place of the first token, or of the end.
+    pub(crate) fn place(&self, from: usize) -> usize {
+        match self.get(from) {
+            Some(token) => usize::from(token.at),
+            None => self.end,
+        }
+    }
+
+    pub(crate) fn word(&self, span: Span) -> &str
+        ensures { result.now ≡ piece (text_of self.now) span }
+    {
+        word_at(self.text, span)
+    }
+}

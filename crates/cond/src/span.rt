@@ -1,0 +1,47 @@
+//! Words by their places in a text.
+ghost use Rattle.std.specs.Prelude.{◌≡◌, ℕ, ◌+◌, ◌≤◌, List, length, take, drop};
+ghost use Rattle.cond.specs.Seen.{part, piece};
+
+use std::str;
+
+/// A part of a text of at most 4,096 bytes: where it begins, and how many bytes it has.
+#[derive(Clone, Copy, Debug, PartialEq, Eq)]
+pub(crate) struct Span {
+    pub(crate) at: u16,
+    pub(crate) bytes: u16,
+}
+
+/// The span of a word that stands at this place.
+pub(crate) fn span_of(at: usize, word: &str) -> Span
+    requires { at + length word.now ≤ 4096 }
+    ensures { (text : List ℕ) → take (length word.now) (drop at text) ≡ word.now → piece text result ≡ word.now }
+{
+    Span {
+        at: at as u16,
+        bytes: word.len() as u16,
+    }
+}
+
+/// What stands there in a text; nothing where that is no text by itself.
+pub(crate) fn word_at(text: &[u8], span: Span) -> &str
+    ensures { result.now ≡ piece text.now span }
+{
+    match str::from_utf8(part_of(text, span)) {
+        Ok(word) => word,
+        Err(_) => "",
+    }
+}
+
+fn part_of(bytes: &[u8], span: Span) -> &[u8]
+    ensures { result.now ≡ part bytes.now span }
+{
+    cut(cut(bytes, span.at).1, span.bytes).0
+}
+
+/// So many bytes, or all where there are fewer, and what is behind them.
+pub(crate) fn cut(bytes: &[u8], count: u16) -> (&[u8], &[u8])
+    ensures front { result.0.now ≡ take count bytes.now }
+    ensures behind { result.1.now ≡ drop count bytes.now }
+{
+    bytes.split_at(bytes.len().min(usize::from(count)))
+}

@@ -1,0 +1,14 @@
+//! The tree of a text that was read.
+use crate::leaf::Test;
+
+/// What a text says, as deep as it nests brackets and `not`: a chain of `or` or `and` is one level. Words stand in it as
+/// places in the text.
+#[derive(Debug, Drop)]
+pub(crate) enum Tree {
+    Either(Vec<Tree>),
+    Both(Vec<Tree>),
+    Negated(Box<Tree>),
+    Leaf(Test),
+    /// The contrary of a test: `not` before one takes no memory.
+    Denied(Test),
+}
