@@ -1,9 +1,9 @@
 -- The first piece of a text, and what is left behind it.
-use Rattle.std.proofs.Common.{◌≡◌, ℕ, suc, zero, ◌+◌, ◌<◌, ◌≤◌, Bool, true, false, cond, List, [], ◌∷◌, ◌++◌, length, take, drop, get_or, refl, sym, ap, ◌∙◌, subst, arith, drop-cons, append_assoc, ◌⊎◌, inl, inr}
+use Rattle.std.proofs.Common.{◌≡◌, ℕ, suc, zero, ◌+◌, ◌<◌, ◌≤◌, Bool, true, false, cond, List, [], ◌∷◌, ◌++◌, length, take, drop, get_or, refl, sym, ap, ◌∙◌, subst, arith, drop-cons, length-drop, append_assoc, ◌⊎◌, inl, inr}
 use Rattle.std.specs.Str.{IsCharBoundary, IsUtf8}
 use Rattle.std.proofs.lemmas.Bool.{cases_lt}
 use Rattle.std.proofs.lemmas.Bool.Decides.{nat_tests}
-use Rattle.std.proofs.lemmas.List.{drop_all}
+use Rattle.std.proofs.lemmas.List.{drop_all, drop-drop}
 use Rattle.std.proofs.lemmas.Str.{IsCharBoundary-end, IsCharBoundary-before_ascii, IsCharBoundary-after_ascii}
 use Rattle.word_parts.specs.Words.{is_blank}
 use Rattle.play_rules.specs.Commands.{Word, hole_behind, pieces}
@@ -96,17 +96,28 @@ piece_before bytes n is within =
     first_piece 0 [] bytes ∙ ap (λ (k : ℕ). cut_at k [] bytes) (sym is) ∙ ap (λ (rest : List ℕ). take n bytes ∷ behind_piece rest) (drop-cons bytes n 0 within) ∙ ap (λ (k : ℕ). take n bytes ∷ pieces 0 [] (drop k bytes)) next
 
 -- one byte more
-pub length_inside : (bytes : List ℕ) (index inside less : ℕ) → index < length bytes → inside ≡ suc less → piece_length inside (drop index bytes) ≡ suc (piece_length less (drop (index + 1) bytes))
-length_inside bytes index inside less within is =
-    let front : drop index bytes ≡ get_or bytes index 0 ∷ drop (suc index) bytes = drop-cons bytes index 0 within in
-    let next : suc index ≡ index + 1 = omega arith in
-    ap (λ (k : ℕ). piece_length k (drop index bytes)) is ∙ ap (piece_length (suc less)) front ∙ ap (λ (k : ℕ). suc (piece_length less (drop k bytes))) next
-
 pub length_outside : (bytes : List ℕ) (index : ℕ) → index < length bytes → is_blank (get_or bytes index 0) ≡ false → piece_length 0 (drop index bytes) ≡ suc (piece_length (hole_behind (drop index bytes)) (drop (index + 1) bytes))
 length_outside bytes index within other =
     let front : drop index bytes ≡ get_or bytes index 0 ∷ drop (suc index) bytes = drop-cons bytes index 0 within in
     let next : suc index ≡ index + 1 = omega arith in
     ap (piece_length 0) front ∙ length_at_other (get_or bytes index 0) (drop (suc index) bytes) other ∙ ap (λ (list : List ℕ). suc (piece_length (hole_behind list) (drop (suc index) bytes))) (sym front) ∙ ap (λ (k : ℕ). suc (piece_length (hole_behind (drop index bytes)) (drop k bytes))) next
+
+-- all bytes of a hole are the piece's
+skipped : (inside : ℕ) (bytes : List ℕ) → inside ≤ length bytes → piece_length inside bytes ≡ inside + piece_length 0 (drop inside bytes)
+skipped zero bytes within = omega arith
+skipped (suc inside) [] within = absurd (omega (arith, within))
+skipped (suc inside) (byte ∷ bytes) within = omega (arith, skipped inside bytes (omega (arith, within)))
+
+pub length_past : (bytes : List ℕ) (index more : ℕ) → index < length bytes → is_blank (get_or bytes index 0) ≡ false → more ≡ hole_behind (drop index bytes) → index + 1 + more ≤ length bytes
+    → piece_length 0 (drop index bytes) ≡ 1 + more + piece_length 0 (drop (index + (1 + more)) bytes)
+length_past bytes index more within other hole inside =
+    let rest = drop (index + 1) bytes in
+    let step : piece_length 0 (drop index bytes) ≡ suc (piece_length more rest) = length_outside bytes index within other ∙ ap (λ (k : ℕ). suc (piece_length k rest)) (sym hole) in
+    let place : (index + 1) + more ≡ index + (1 + more) = omega arith in
+    let skip : piece_length more rest ≡ more + piece_length 0 (drop (index + (1 + more)) bytes) =
+    skipped more rest (omega (arith, length-drop (index + 1) bytes, inside))
+    ∙ ap (λ (left : List ℕ). more + piece_length 0 left) (drop-drop more (index + 1) bytes ∙ ap (λ (k : ℕ). drop k bytes) place) in
+    omega (arith, step, skip)
 
 pub length_blank : (bytes : List ℕ) (index : ℕ) → index < length bytes → is_blank (get_or bytes index 0) ≡ true → piece_length 0 (drop index bytes) ≡ 0
 length_blank bytes index within blank =

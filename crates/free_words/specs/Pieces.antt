@@ -1,5 +1,5 @@
 -- The first piece of a text.
-use Rattle.std.specs.Prelude.{◌≡◌, ℕ, suc, zero, ◌+◌, ◌<◌, Option, Some, None, List, [], ◌∷◌, length, drop, map, if◌then◌else◌}
+use Rattle.std.specs.Prelude.{◌≡◌, ℕ, suc, zero, ◌+◌, ◌<◌, Option, Some, None, List, [], ◌∷◌, length, drop, if◌then◌else◌}
 use Rattle.std.specs.Borrow.{Bor}
 use Rattle.word_parts.specs.Words.{is_blank}
 use Rattle.play_rules.specs.Commands.{Word, hole_behind, before_closing, pieces}
@@ -19,5 +19,7 @@ pieces_left (Some rest) = pieces 0 [] rest.now
 abbrev pub IsOpenBelow : ℕ → List ℕ → Type 0
 IsOpenBelow tail bytes = (place : ℕ) → length bytes < tail + place → before_closing (drop place bytes) ≡ None
 
-abbrev pub lent_texts : List (Bor (List ℕ)) → List Word
-lent_texts texts = map (λ text. text.now) texts
+-- a text that is left, and the blank before it
+abbrev pub size_left : Option (Bor (List ℕ)) → ℕ
+size_left None = 0
+size_left (Some rest) = length rest.now + 1

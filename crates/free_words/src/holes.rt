@@ -1,5 +1,5 @@
 //! Holes in a text: `{{`, and what follows up to the next `}}`.
-ghost use Rattle.std.specs.Prelude.{◌≡◌, ◌+◌, ◌<◌, ◌≤◌, length, option_map, unwrap_or, IfSome, true};
+ghost use Rattle.std.specs.Prelude.{◌≡◌, ◌+◌, ◌-◌, ◌<◌, ◌≤◌, length, option_map, unwrap_or, IfSome, true};
 ghost use Rattle.word_parts.specs.Words.{starts};
 ghost use Rattle.play_rules.specs.Commands as spec;
 ghost use Rattle.free_words.specs.Pieces.{IsOpenBelow};
@@ -8,7 +8,8 @@ ghost use Rattle.free_words.specs.Pieces.{IsOpenBelow};
 /// at their end no hole is closed.
 pub(crate) fn hole_behind(bytes: &[u8], tail: usize) -> usize
     requires { IsOpenBelow tail bytes.now }
-    ensures { result ≡ spec.hole_behind bytes.now }
+    ensures number { result ≡ spec.hole_behind bytes.now }
+    ensures within { result ≤ length bytes.now - 1 }
 {
     if !starts_with_pair(bytes, b'{', b'{') {
         return 0;

@@ -27,17 +27,14 @@ fn count_piece(bytes: &[u8], tail: usize) -> usize
     ensures number { result ≡ piece_length 0 bytes.now }
     ensures within { result ≤ length bytes.now }
 {
-    let mut inside = 0usize;
-    for index in 0..bytes.len() {
-        if inside > 0 {
-            inside -= 1;
-        } else if is_blank(bytes[index]) {
+    let mut index = 0usize;
+    while index < bytes.len() {
+        if is_blank(bytes[index]) {
             return index;
-        } else {
-            inside = hole_behind(&bytes[index..], tail);
         }
+        index += 1 + hole_behind(&bytes[index..], tail);
     }
-    bytes.len()
+    index
 }
 
 fn is_blank(byte: u8) -> bool

@@ -1,7 +1,7 @@
 //! From a text to its words.
-ghost use Rattle.std.specs.Prelude.{◌≡◌, IfOk};
+ghost use Rattle.std.specs.Prelude.{◌≡◌, IfOk, map, string_bytes};
 ghost use Rattle.play_rules.specs.Commands as spec;
-ghost use Rattle.free_words.specs.Pieces.{lent_texts};
+ghost use Rattle.free_words.specs.Pieces.{IsOpenBelow};
 
 use crate::holes::tail_of_last_closing;
 use crate::pieces::cut_piece;
@@ -9,18 +9,34 @@ use std::alloc::{AllocError, Global};
 
 /// The words of a text: it is split at runs of blanks (space, tab, line feed, carriage return), save between `{{` and the
 /// next `}}`. It fails for want of memory alone.
-pub fn split_words(alloc: Global, text: &str) -> Result<Vec<&str>, AllocError>
-    ensures { IfOk result (λ words. lent_texts words.items ≡ spec.split text.now) }
+pub fn split_words(alloc: Global, text: &str) -> Result<Vec<String>, AllocError>
+    ensures { IfOk result (λ words. map string_bytes words.items ≡ spec.split text.now) }
 {
     let tail = tail_of_last_closing(text.as_bytes());
-    let mut words = Vec::new(alloc);
+    let mut words = Vec::with_capacity(alloc, count_words(text, tail))?;
     let mut left = Some(text);
     while let Some(rest) = left {
         let (piece, behind) = cut_piece(rest, tail);
         if !piece.is_empty() {
-            words.push(piece)?;
+            words.push(String::from_str(alloc, piece)?)?;
         }
         left = behind;
     }
     Ok(words)
+}
+
+/// How many words the text has, so that room for them is asked for once.
+fn count_words(text: &str, tail: usize) -> usize
+    requires { IsOpenBelow tail text.now }
+{
+    let mut words = 0usize;
+    let mut left = Some(text);
+    while let Some(rest) = left {
+        let (piece, behind) = cut_piece(rest, tail);
+        if !piece.is_empty() {
+            words += 1;
+        }
+        left = behind;
+    }
+    words
 }

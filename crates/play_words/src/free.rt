@@ -1,7 +1,6 @@
 //! A command that is written as one text.
-ghost use Rattle.std.specs.Prelude.{◌≡◌, ◌++◌, IfOk, map, option_map, string_bytes};
+ghost use Rattle.std.specs.Prelude.{◌≡◌, IfOk, map, option_map, string_bytes};
 ghost use Rattle.std.specs.List.{list_any};
-ghost use Rattle.free_words.specs.Pieces.{lent_texts};
 ghost use Rattle.play_rules.specs.Commands as spec;
 ghost use Rattle.play_words.specs.Kept.{kept};
 
@@ -19,7 +18,7 @@ pub(crate) fn free_words(alloc: Global, text: &str) -> Result<Option<Vec<String>
     if words.is_empty() || have_parameter(words.as_slice()) {
         return Ok(None);
     }
-    Ok(Some(copied(alloc, words.as_slice())?))
+    Ok(Some(words))
 }
 
 fn has_quoting(bytes: &[u8]) -> bool
@@ -34,8 +33,8 @@ fn is_quoting(byte: u8) -> bool
     matches!(byte, b'\'' | b'"' | b'\\')
 }
 
-fn have_parameter(words: &[&str]) -> bool
-    ensures { result ≡ list_any spec.is_parameter (lent_texts words.now) }
+fn have_parameter(words: &[String]) -> bool
+    ensures { result ≡ list_any spec.is_parameter (map string_bytes words.now) }
 {
     for word in words {
         if is_parameter(word.as_bytes()) {
@@ -52,14 +51,4 @@ fn is_parameter(word: &[u8]) -> bool
         || word.starts_with(b"removes=")
         || word.starts_with(b"chdir=")
         || word.starts_with(b"stdin=")
-}
-
-fn copied(alloc: Global, words: &[&str]) -> Result<Vec<String>, AllocError>
-    ensures { IfOk result (λ copies. map string_bytes copies.items ≡ lent_texts words.now) }
-{
-    let mut copies = Vec::with_capacity(alloc, words.len())?;
-    for word in words {
-        copies.push(String::from_str(alloc, word)?)?;
-    }
-    Ok(copies)
 }
