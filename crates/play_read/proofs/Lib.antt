@@ -2,7 +2,6 @@ pub mod Told
 pub mod Leads
 pub mod Lists
 pub mod Places
-pub mod NameLaws
 pub mod StepLaws
 pub mod PlayLaws
 pub mod Whole

@@ -17,7 +17,7 @@ use crate::names::HandlerNames;
 use crate::place::{PlayPlace, StepList, StepPlace};
 use play_faults::PlayFault;
 use play_model::Step;
-use play_steps::read_handler;
+use play_steps::{blank_step, fill_handler};
 use serde_json::Value;
 use std::alloc::Global;
 use step_settings::name_in;
@@ -44,29 +44,25 @@ fn check_name<'a>(
     }
 }
 
-/// The handler, and then whether its name stood before.
+/// Reads a handler into a step that notifies nobody, and then whether its name stood before.
 fn read_one<'a>(
     alloc: Global,
     place: StepPlace,
     handler: &'a Value,
     names: &mut HandlerNames<'a>,
-) -> Result<Step, PlayFault>
+    into: &mut Step,
+) -> Result<(), PlayFault>
+    requires { into.old.notify.items ≡ [] }
     ensures kept { IfOk result (λ _. AllKept (spec.checks_of_handler (spot_at place.play.told place.number) (view handler.now))) }
     ensures once { IfOk result (λ _. spec.twice_named (known names.old) (view handler.now) ≡ []) }
     ensures names { OnOk result (known names.new ≡ known names.old ++ filter_map spec.name_in (view handler.now ∷ [])) }
-    ensures says { IfOk result (IsStep (spec.handler_of (view handler.now))) }
-    ensures plain { IfOk result HasPlainWords }
+    ensures says { OnOk result (IsStep (spec.handler_of (view handler.now)) into.new) }
+    ensures plain { OnOk result (HasPlainWords into.new) }
     ensures err { IfErr result (λ fault. IsRefusal fault (spec.checks_of_handler (spot_at place.play.told place.number) (view handler.now)
         ++ map Broken (spec.twice_named (known names.old) (view handler.now)))) }
 {
-    match read_handler(alloc, handler) {
-        Ok(step) => match check_name(alloc, handler, names) {
-            Ok(()) => Ok(step),
-            Err(fault) => {
-                drop(step);
-                Err(fault)
-            }
-        },
+    match fill_handler(alloc, handler, into) {
+        Ok(()) => check_name(alloc, handler, names),
         Err(flaw) => Err(fault_of_step(alloc, place, flaw)?),
     }
 }
@@ -96,9 +92,13 @@ pub(crate) fn read_handlers<'a>(
             index,
             number: tasks + 1 + index,
         };
-        match read_one(alloc, place, &handlers[index], names) {
-            Ok(step) => steps.push(step)?,
-            Err(fault) => return Err(fault),
+        let mut step = blank_step(alloc);
+        match read_one(alloc, place, &handlers[index], names, &mut step) {
+            Ok(()) => steps.push(step)?,
+            Err(fault) => {
+                drop(step);
+                return Err(fault);
+            }
         }
     }
     Ok(steps)

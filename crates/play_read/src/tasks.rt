@@ -1,5 +1,5 @@
 //! The tasks of a play.
-ghost use Rattle.std.specs.Prelude.{◌≡◌, ◌+◌, ◌++◌, ◌≤◌, [], All, IfOk, IfErr, length, map};
+ghost use Rattle.std.specs.Prelude.{◌≡◌, ◌+◌, ◌++◌, ◌≤◌, [], All, IfOk, IfErr, OnOk, length, map};
 ghost use Rattle.serde_json.specs.View.{view};
 ghost use Rattle.play_model.specs.Plays.{HasPlainWords, AreNumbersBelow};
 ghost use Rattle.play_rules.specs.Breaches.{Broken};
@@ -13,52 +13,37 @@ ghost use Rattle.play_read.specs.Reads.{AreSteps};
 
 use crate::faults::fault_of_step;
 use crate::names::HandlerNames;
-use crate::notified::numbers_in;
+use crate::notified::numbers_of;
 use crate::place::{PlayPlace, StepList, StepPlace};
 use play_faults::PlayFault;
 use play_model::Step;
-use play_steps::read_task;
+use play_steps::{blank_step, fill_task};
 use serde_json::Value;
 use std::alloc::Global;
 
-/// The step, with these handlers in place of those that it notified.
-fn notifying(step: Step, numbers: Vec<usize>) -> Step
-    ensures name { result.name ≡ step.name }
-    ensures words { result.words ≡ step.words }
-    ensures register { result.register ≡ step.register }
-    ensures when { result.when ≡ step.when }
-    ensures changed_when { result.changed_when ≡ step.changed_when }
-    ensures failed_when { result.failed_when ≡ step.failed_when }
-    ensures ignore_errors { result.ignore_errors ≡ step.ignore_errors }
-    ensures notify { result.notify ≡ numbers }
-{
-    Step {
-        notify: numbers,
-        ..step
-    }
-}
-
-/// The task, and then whether it notifies a handler that isn't there.
+/// Reads a task into a step that notifies nobody yet, and then whether it notifies a handler that isn't there.
 fn read_one(
     alloc: Global,
     place: StepPlace,
     task: &Value,
     handlers: &HandlerNames<'_>,
-) -> Result<Step, PlayFault>
+    into: &mut Step,
+) -> Result<(), PlayFault>
+    requires { into.old.notify.items ≡ [] }
     ensures kept { IfOk result (λ _. AllKept (spec.checks_of_task (spot_at place.play.told place.number) (view task.now))) }
     ensures found { IfOk result (λ _. spec.unknown_handlers (known handlers.now) (view task.now) ≡ []) }
-    ensures says { IfOk result (IsStep (spec.step_of (known handlers.now) (view task.now))) }
-    ensures plain { IfOk result HasPlainWords }
+    ensures says { OnOk result (IsStep (spec.step_of (known handlers.now) (view task.now)) into.new) }
+    ensures plain { OnOk result (HasPlainWords into.new) }
     ensures err { IfErr result (λ fault. IsRefusal fault (spec.checks_of_task (spot_at place.play.told place.number) (view task.now)
         ++ map Broken (spec.unknown_handlers (known handlers.now) (view task.now)))) }
 {
-    match read_task(alloc, task) {
-        Ok(step) => match numbers_in(alloc, task, handlers) {
-            Ok(numbers) => Ok(notifying(step, numbers)),
-            Err(fault) => {
-                drop(step);
-                Err(fault)
+    match fill_task(alloc, task, into) {
+        Ok(names) => match numbers_of(alloc, names, handlers) {
+            Ok(numbers) => {
+                into.notify = numbers;
+                Ok(())
             }
+            Err(fault) => Err(fault),
         },
         Err(flaw) => Err(fault_of_step(alloc, place, flaw)?),
     }
@@ -86,9 +71,13 @@ pub(crate) fn read_tasks(
             index,
             number: index + 1,
         };
-        match read_one(alloc, place, &tasks[index], handlers) {
-            Ok(step) => steps.push(step)?,
-            Err(fault) => return Err(fault),
+        let mut step = blank_step(alloc);
+        match read_one(alloc, place, &tasks[index], handlers, &mut step) {
+            Ok(()) => steps.push(step)?,
+            Err(fault) => {
+                drop(step);
+                return Err(fault);
+            }
         }
     }
     Ok(steps)

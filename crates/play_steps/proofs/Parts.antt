@@ -13,8 +13,8 @@ use Rattle.play_rules.specs.Keys.{task_keys, handler_keys}
 use Rattle.play_rules.specs.Steps.{bad_step, unknown_key, bad_task_name, bad_handler_name, bad_register, bad_ignore, bad_notify}
 use Rattle.play_rules.specs.Steps.{condition_checks, checks_of_task, checks_of_handler}
 use Rattle.play_faults.specs.Checks.{Named, IsFirst, AllKept}
-use Rattle.play_faults.proofs.CheckLaws.{first_here, first_later, none_broken, first_broken}
-use Rattle.play_settings.specs.Verdicts.{breach_at, IsVerdict}
+use Rattle.play_faults.proofs.CheckLaws.{first_here, first_later, first_broken}
+use Rattle.play_settings.specs.Verdicts.{breach_at}
 use Rattle.play_settings.specs.declared.flaw.Flaw.{Flaw}
 use Rattle.play_steps.specs.Readings.{named_in, IsFlawAt, start_of_task, start_of_handler, checks_of_head, checks_of_body}
 use Rattle.play_steps.specs.declared.flaw.StepFlaw.{StepFlaw}
@@ -45,13 +45,7 @@ pub passed_on : {T : Type 0} (result : Result T StepFlaw) (found : StepFlaw) (P 
 passed_on (Ok value) found P same is = absurd same
 passed_on (Err flaw) found P same is = subst P (sym same) is
 
--- what is said of a call's result, where it is known
-pub of_ok : {T E : Type 0} (result : Result T E) (value : T) (P : T → Type 0) → result ≡ Ok value → IfOk result P → P value
-of_ok {T} {E} result value P same is = subst (λ (r : Result T E). IfOk r P) same is
-
-pub of_err : {T E : Type 0} (result : Result T E) (error : E) (P : E → Type 0) → result ≡ Err error → IfErr result P → P error
-of_err {T} {E} result error P same is = subst (λ (r : Result T E). IfErr r P) same is
-
+-- what follows of a call's result
 pub if_ok_more : {T E : Type 0} (result : Result T E) (P Q : Type 0) → (P → Q) → IfOk result (λ _. P) → IfOk result (λ _. Q)
 if_ok_more (Ok value) P Q more is = more is
 if_ok_more (Err error) P Q more is = is
@@ -59,16 +53,6 @@ if_ok_more (Err error) P Q more is = is
 pub if_err_more : {T E : Type 0} (result : Result T E) (P Q : E → Type 0) → ((error : E) → P error → Q error) → IfErr result P → IfErr result Q
 if_err_more (Ok value) P Q more is = is
 if_err_more (Err error) P Q more is = more error is
-
--- a verdict on rules, where it is known
-pub verdict_kept : {T : Type 0} (result : Result T Flaw) (value : T) (broken : List Breach) → result ≡ Ok value → IsVerdict result broken → AllKept (map Broken broken)
-verdict_kept {T} result value broken same is =
-    none_broken broken (subst (λ (r : Result T Flaw). IsVerdict r broken) same is)
-
-pub verdict_first : {T : Type 0} (spot : Spot) (result : Result T Flaw) (found : Flaw) (broken : List Breach)
-    → result ≡ Err found → IsVerdict result broken → IsFlawAt spot (Rule found) (map Broken broken)
-verdict_first {T} spot result found broken same is =
-    rule_first spot found broken (subst (λ (r : Result T Flaw). IsVerdict r broken) same is)
 
 -- no word has what none of them has
 pub none_has : {X Y : Type 0} (test : Y → Bool) (f : X → Y) (xs : List X) → list_any test (map f xs) ≡ false → All (λ x. IsFalse (test (f x))) xs

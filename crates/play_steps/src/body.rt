@@ -1,5 +1,5 @@
 //! A step from its command on: what tasks and handlers have in common.
-ghost use Rattle.std.specs.Prelude.{◌≡◌, Some, IfOk, IfErr, All, IsFalse, option_map, option_and_then, string_bytes};
+ghost use Rattle.std.specs.Prelude.{◌≡◌, [], Some, IfOk, IfErr, OnOk, All, IsFalse, option_map, option_and_then, string_bytes};
 ghost use Rattle.serde_json.specs.Find.{get};
 ghost use Rattle.serde_json.specs.View.{view};
 ghost use Rattle.play_model.specs.Plays.{HasPlainWords};
@@ -9,70 +9,54 @@ ghost use Rattle.play_rules.specs.Keys.{register_key};
 ghost use Rattle.play_rules.specs.Steps.{handler_of};
 ghost use Rattle.play_rules.specs.Steps as spec;
 ghost use Rattle.play_words.specs.Kept.{kept};
-ghost use Rattle.word_parts.specs.Words.{has_braces};
 ghost use Rattle.play_faults.specs.Checks.{AllKept};
 ghost use Rattle.play_steps.specs.Readings.{checks_of_head, checks_of_body, IsFlawAt, IsStep};
 
 use crate::conditions::read_conditions;
 use crate::flaw::StepFlaw;
-use crate::held::beside;
+use crate::held::put;
 use crate::words::read_words;
 use play_model::Step;
 use serde_json::Value;
 use std::alloc::{AllocError, Global};
-use step_settings::{check_ignore, check_register, ignores_errors, name_in, register_in};
+use step_settings::{ignores_errors, register_of};
 
-/// What a step says up to its conditions.
-#[derive(Drop)]
-struct Head {
-    name: Option<String>,
-    words: Vec<String>,
-    register: Option<String>,
-}
-
-/// What a step says; it notifies nobody yet.
-pub(crate) fn read_body<'a>(alloc: Global, step: &'a Value) -> Result<Step, StepFlaw<'a>>
+/// Reads a step from its command on, into the step that has its name and notifies nobody yet.
+pub(crate) fn read_body<'a>(
+    alloc: Global,
+    step: &'a Value,
+    into: &mut Step,
+) -> Result<(), StepFlaw<'a>>
+    requires named { option_map string_bytes into.old.name ≡ spec.name_in (view step.now) }
+    requires silent { into.old.notify.items ≡ [] }
     ensures kept { (spot : Spot) → IfOk result (λ _. AllKept (checks_of_body spot (view step.now))) }
-    ensures says { IfOk result (IsStep (handler_of (view step.now))) }
-    ensures plain { IfOk result HasPlainWords }
+    ensures says { OnOk result (IsStep (handler_of (view step.now)) into.new) }
+    ensures plain { OnOk result (HasPlainWords into.new) }
     ensures err { (spot : Spot) → IfErr result (λ flaw. IsFlawAt spot flaw (checks_of_body spot (view step.now))) }
 {
-    let head = read_head(alloc, step)?;
-    let (head, conditions) = beside(head, read_conditions(alloc, step))?;
-    let (whole, ()) = beside((head, conditions), check_ignore(step))?;
-    let (head, conditions) = whole;
-    Ok(Step {
-        name: head.name,
-        words: head.words,
-        register: head.register,
-        when: conditions.when,
-        changed_when: conditions.changed_when,
-        failed_when: conditions.failed_when,
-        ignore_errors: ignores_errors(step),
-        notify: Vec::new(alloc),
-    })
+    read_head(alloc, step, into)?;
+    read_conditions(alloc, step, into)?;
+    into.ignore_errors = ignores_errors(step)?;
+    Ok(())
 }
 
-fn read_head<'a>(alloc: Global, step: &'a Value) -> Result<Head, StepFlaw<'a>>
+fn read_head<'a>(alloc: Global, step: &'a Value, into: &mut Step) -> Result<(), StepFlaw<'a>>
     ensures kept { (spot : Spot) → IfOk result (λ _. AllKept (checks_of_head spot (view step.now))) }
-    ensures name { IfOk result (λ head. option_map string_bytes head.name ≡ spec.name_in (view step.now)) }
-    ensures words { IfOk result (λ head. words_in (view step.now) ≡ Some (kept head.words)) }
-    ensures register { IfOk result (λ head. option_map string_bytes head.register ≡ option_and_then spec.registered (get register_key (view step.now))) }
-    ensures plain { IfOk result (λ head. All (λ word. IsFalse (has_braces (string_bytes word))) head.words.items) }
+    ensures words { OnOk result (words_in (view step.now) ≡ Some (kept into.new.words)) }
+    ensures register { OnOk result (option_map string_bytes into.new.register ≡ option_and_then spec.registered (get register_key (view step.now))) }
+    ensures plain { OnOk result (HasPlainWords into.new) }
+    ensures name { into.new.name ≡ into.old.name }
+    ensures notify { into.new.notify ≡ into.old.notify }
     ensures err { (spot : Spot) → IfErr result (λ flaw. IsFlawAt spot flaw (checks_of_head spot (view step.now))) }
 {
-    let words = read_words(alloc, step)?;
-    check_register(step)?;
-    let register = copied(alloc, register_in(step))?;
-    let name = copied(alloc, name_in(step))?;
-    Ok(Head {
-        name,
-        words,
-        register,
-    })
+    put(&mut into.words, read_words(alloc, step)?);
+    let register = register_of(step)?;
+    put(&mut into.register, copied(alloc, register)?);
+    Ok(())
 }
 
-fn copied(alloc: Global, text: Option<&str>) -> Result<Option<String>, AllocError>
+/// A text of one's own.
+pub(crate) fn copied(alloc: Global, text: Option<&str>) -> Result<Option<String>, AllocError>
     ensures { IfOk result (λ copy. option_map string_bytes copy ≡ option_map (λ lent. lent.now) text.entry) }
 {
     match text {

@@ -1,5 +1,5 @@
 //! The conditions of a step.
-ghost use Rattle.std.specs.Prelude.{◌≡◌, IfOk, IfErr};
+ghost use Rattle.std.specs.Prelude.{◌≡◌, IfOk, IfErr, OnOk};
 ghost use Rattle.serde_json.specs.View.{view};
 ghost use Rattle.play_rules.specs.Breaches.{Spot};
 ghost use Rattle.play_rules.specs.Conditions.{checks_at, clauses_at};
@@ -11,56 +11,56 @@ ghost use Rattle.play_conditions.specs.Says.{Says, named_at};
 ghost use Rattle.play_steps.specs.Readings.{named_in, IsFlawAt};
 
 use crate::flaw::StepFlaw;
-use crate::held::beside;
+use crate::held::put;
 use cond::Cond;
 use play_conditions::{ConditionFlaw, read_condition};
 use play_faults::ConditionKey;
+use play_model::Step;
 use play_settings::{Below, Flaw};
 use serde_json::Value;
 use std::alloc::Global;
 
-/// What a step's `when`, `changed_when` and `failed_when` say.
-#[derive(Drop)]
-pub(crate) struct Conditions {
-    pub(crate) when: Option<Cond>,
-    pub(crate) changed_when: Option<Cond>,
-    pub(crate) failed_when: Option<Cond>,
-}
-
-/// The conditions of a step, each parsed once.
+/// Reads the conditions of a step into it, each parsed once.
 pub(crate) fn read_conditions<'a>(
     alloc: Global,
     step: &'a Value,
-) -> Result<Conditions, StepFlaw<'a>>
+    into: &mut Step,
+) -> Result<(), StepFlaw<'a>>
     ensures kept { (spot : Spot) → IfOk result (λ _. AllKept (condition_checks spot (view step.now))) }
-    ensures when { IfOk result (λ found. Says (clauses_at when_key (view step.now)) found.when) }
-    ensures changed_when { IfOk result (λ found. Says (clauses_at changed_key (view step.now)) found.changed_when) }
-    ensures failed_when { IfOk result (λ found. Says (clauses_at failed_key (view step.now)) found.failed_when) }
+    ensures when { OnOk result (Says (clauses_at when_key (view step.now)) into.new.when) }
+    ensures changed_when { OnOk result (Says (clauses_at changed_key (view step.now)) into.new.changed_when) }
+    ensures failed_when { OnOk result (Says (clauses_at failed_key (view step.now)) into.new.failed_when) }
+    ensures name { into.new.name ≡ into.old.name }
+    ensures words { into.new.words ≡ into.old.words }
+    ensures register { into.new.register ≡ into.old.register }
+    ensures notify { into.new.notify ≡ into.old.notify }
     ensures err { (spot : Spot) → IfErr result (λ flaw. IsFlawAt spot flaw (condition_checks spot (view step.now))) }
 {
-    let when = read_one(alloc, ConditionKey::When, step)?;
-    let changed_when = read_one(alloc, ConditionKey::ChangedWhen, step);
-    let (when, changed_when) = beside(when, changed_when)?;
-    let failed_when = read_one(alloc, ConditionKey::FailedWhen, step);
-    let ((when, changed_when), failed_when) = beside((when, changed_when), failed_when)?;
-    Ok(Conditions {
-        when,
-        changed_when,
-        failed_when,
-    })
+    read_one(alloc, ConditionKey::When, step, &mut into.when)?;
+    read_one(
+        alloc,
+        ConditionKey::ChangedWhen,
+        step,
+        &mut into.changed_when,
+    )?;
+    read_one(alloc, ConditionKey::FailedWhen, step, &mut into.failed_when)
 }
 
 fn read_one<'a>(
     alloc: Global,
     key: ConditionKey,
     step: &'a Value,
-) -> Result<Option<Cond>, StepFlaw<'a>>
+    into: &mut Option<Cond>,
+) -> Result<(), StepFlaw<'a>>
     ensures kept { (spot : Spot) → IfOk result (λ _. AllKept (checks_at spot (key_name key) (view step.now))) }
-    ensures says { IfOk result (λ tree. Says (clauses_at (key_name key) (view step.now)) tree) }
+    ensures says { OnOk result (Says (clauses_at (key_name key) (view step.now)) into.new) }
     ensures err { (spot : Spot) → IfErr result (λ flaw. IsFlawAt spot flaw (checks_at spot (key_name key) (view step.now))) }
 {
     match read_condition(alloc, key, step) {
-        Ok(condition) => Ok(condition),
+        Ok(condition) => {
+            put(into, condition);
+            Ok(())
+        }
         Err(flaw) => Err(seen_from_step(key, flaw)),
     }
 }

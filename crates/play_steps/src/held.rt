@@ -1,14 +1,10 @@
-//! A value that is held while the next one is read.
-ghost use Rattle.std.specs.Prelude.{◌≡◌, Ok, Err, IfOk, IfErr};
+//! Values in their places.
+ghost use Rattle.std.specs.Prelude.{◌≡◌};
 
-/// Both, or why there is no second; the first is dropped there. A `?` while a condition is held would have each of its
-/// kinds dropped on its own in the proof of each caller.
-pub fn beside<T: Drop, U, E>(first: T, second: Result<U, E>) -> Result<(T, U), E>
-    ensures ok { IfOk result (λ both. (both.0 ≡ first) × (second ≡ Ok both.1)) }
-    ensures err { IfErr result (λ error. second ≡ Err error) }
+/// Puts a value into its place; what stood there is dropped. An assignment would have each of its kinds dropped on its own
+/// in the proof of each caller.
+pub(crate) fn put<T: Drop>(place: &mut T, value: T)
+    ensures { place.new ≡ value }
 {
-    match second {
-        Ok(second) => Ok((first, second)),
-        Err(error) => Err(error),
-    }
+    *place = value;
 }

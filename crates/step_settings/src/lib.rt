@@ -1,5 +1,5 @@
 //! What a step says apart from its command and its conditions: its keys, its name, where its result is registered, whether
-//! errors are ignored, and which handlers it notifies. No check takes memory.
+//! errors are ignored, and which handlers it notifies. Each is checked as it is read, and none takes memory.
 #![tactic(auto)]
 
 mod keys;
@@ -8,6 +8,6 @@ mod register;
 mod settings;
 
 pub use keys::{Keys, check_keys};
-pub use names::{check_handler_name, check_task_name, name_in};
-pub use register::{check_register, register_in};
-pub use settings::{check_ignore, check_notify, check_step, ignores_errors, notified_in};
+pub use names::{name_in, name_of_handler, name_of_task};
+pub use register::register_of;
+pub use settings::{check_step, ignores_errors, notified_by};

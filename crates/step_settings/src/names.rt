@@ -1,5 +1,5 @@
 //! The key `name` of a step.
-ghost use Rattle.std.specs.Prelude.{◌≡◌, option_map};
+ghost use Rattle.std.specs.Prelude.{◌≡◌, Some, IfOk, option_map};
 ghost use Rattle.serde_json.specs.View.{view};
 ghost use Rattle.play_rules.specs.Steps as spec;
 ghost use Rattle.play_settings.specs.Verdicts.{IsVerdict};
@@ -7,29 +7,31 @@ ghost use Rattle.play_settings.specs.Verdicts.{IsVerdict};
 use play_settings::{Below, Flaw};
 use serde_json::Value;
 
-/// Whether a task's name, where it has one, is a text.
-pub fn check_task_name<'a>(step: &'a Value) -> Result<(), Flaw<'a>>
-    ensures { IsVerdict result (spec.bad_task_name (view step.now)) }
+/// The name of a task, which is a text where the task has one.
+pub fn name_of_task<'a>(task: &'a Value) -> Result<Option<&'a str>, Flaw<'a>>
+    ensures rule { IsVerdict result (spec.bad_task_name (view task.now)) }
+    ensures says { IfOk result (λ name. option_map (λ lent. lent.now) name ≡ spec.name_in (view task.now)) }
 {
-    match step.get("name") {
-        Some(name) if !name.is_string() => Err(Flaw::BadShape(Below::Key("name"))),
-        _ => Ok(()),
+    let Some(name) = task.get("name") else {
+        return Ok(None);
+    };
+    match name.as_str() {
+        Some(text) => Ok(Some(text)),
+        None => Err(Flaw::BadShape(Below::Key("name"))),
     }
 }
 
-/// Whether a handler has a name, and it is a text.
-pub fn check_handler_name<'a>(step: &'a Value) -> Result<(), Flaw<'a>>
-    ensures { IsVerdict result (spec.bad_handler_name (view step.now)) }
+/// The name of a handler, which has one, a text.
+pub fn name_of_handler<'a>(handler: &'a Value) -> Result<&'a str, Flaw<'a>>
+    ensures rule { IsVerdict result (spec.bad_handler_name (view handler.now)) }
+    ensures says { IfOk result (λ name. spec.name_in (view handler.now) ≡ Some name.now) }
 {
-    match step.get("name") {
-        Some(name) => {
-            if name.is_string() {
-                Ok(())
-            } else {
-                Err(Flaw::BadShape(Below::Key("name")))
-            }
-        }
-        None => Err(Flaw::BadShape(Below::Itself)),
+    let Some(name) = handler.get("name") else {
+        return Err(Flaw::BadShape(Below::Itself));
+    };
+    match name.as_str() {
+        Some(text) => Ok(text),
+        None => Err(Flaw::BadShape(Below::Key("name"))),
     }
 }
 

@@ -1,5 +1,5 @@
 //! The key `register` of a step.
-ghost use Rattle.std.specs.Prelude.{◌≡◌, option_map, option_and_then};
+ghost use Rattle.std.specs.Prelude.{◌≡◌, IfOk, option_map, option_and_then};
 ghost use Rattle.std.specs.List.{list_all};
 ghost use Rattle.serde_json.specs.Find.{get};
 ghost use Rattle.serde_json.specs.View.{view};
@@ -11,23 +11,19 @@ ghost use Rattle.play_settings.specs.Verdicts.{IsVerdict};
 use play_settings::{Below, Flaw};
 use serde_json::Value;
 
-/// Whether `register`, where a step has it, is a name: a letter or `_`, then letters, digits and `_`, and no reserved word.
-pub fn check_register<'a>(step: &'a Value) -> Result<(), Flaw<'a>>
-    ensures { IsVerdict result (spec.bad_register (view step.now)) }
+/// The name under which a step's result is registered: where a step has `register`, it is a letter or `_`, then letters,
+/// digits and `_`, and no reserved word.
+pub fn register_of<'a>(step: &'a Value) -> Result<Option<&'a str>, Flaw<'a>>
+    ensures rule { IsVerdict result (spec.bad_register (view step.now)) }
+    ensures says { IfOk result (λ name. option_map (λ lent. lent.now) name ≡ option_and_then spec.registered (get register_key (view step.now))) }
 {
-    match step.get("register") {
-        Some(value) if registered(value).is_none() => {
-            Err(Flaw::BadShape(Below::Key("register")))
-        }
-        _ => Ok(()),
+    let Some(value) = step.get("register") else {
+        return Ok(None);
+    };
+    match registered(value) {
+        Some(name) => Ok(Some(name)),
+        None => Err(Flaw::BadShape(Below::Key("register"))),
     }
-}
-
-/// The name under which a step's result is registered.
-pub fn register_in(step: &Value) -> Option<&str>
-    ensures { option_map (λ name. name.now) result ≡ option_and_then spec.registered (get register_key (view step.now)) }
-{
-    registered(step.get("register")?)
 }
 
 fn registered(value: &Value) -> Option<&str>

@@ -1,14 +1,15 @@
 //! A step itself, and its keys `ignore_errors` and `notify`.
-ghost use Rattle.std.specs.Prelude.{◌≡◌, IfOk, false, option_and_then, unwrap_or};
-ghost use Rattle.serde_json.specs.Find.{get, as_bool};
+ghost use Rattle.std.specs.Prelude.{◌≡◌, IfOk, false, map, option_and_then, unwrap_or};
+ghost use Rattle.std.specs.List.{filter_map};
+ghost use Rattle.serde_json.specs.Find.{get, as_bool, as_str};
 ghost use Rattle.serde_json.specs.View.{view};
 ghost use Rattle.play_rules.specs.Keys.{ignore_key};
 ghost use Rattle.play_rules.specs.Steps as spec;
-ghost use Rattle.play_settings.specs.Verdicts.{IsVerdict, lent_texts};
+ghost use Rattle.play_settings.specs.Verdicts.{IsVerdict};
 
-use play_settings::{Below, Flaw, check_texts, texts_in};
+use json_shapes::listed;
+use play_settings::{Below, Flaw, check_texts};
 use serde_json::Value;
-use std::alloc::{AllocError, Global};
 
 /// Whether a step is an object.
 pub fn check_step<'a>(step: &'a Value) -> Result<(), Flaw<'a>>
@@ -21,42 +22,28 @@ pub fn check_step<'a>(step: &'a Value) -> Result<(), Flaw<'a>>
     }
 }
 
-/// Whether `ignore_errors`, where a step has it, is a truth value.
-pub fn check_ignore<'a>(step: &'a Value) -> Result<(), Flaw<'a>>
-    ensures { IsVerdict result (spec.bad_ignore (view step.now)) }
+/// Whether a host goes on after a failure of the step: `ignore_errors`, where a step has it, is a truth value.
+pub fn ignores_errors<'a>(step: &'a Value) -> Result<bool, Flaw<'a>>
+    ensures rule { IsVerdict result (spec.bad_ignore (view step.now)) }
+    ensures says { IfOk result (λ ignores. ignores ≡ unwrap_or (option_and_then as_bool (get ignore_key (view step.now))) false) }
 {
-    match step.get("ignore_errors") {
-        Some(value) if !value.is_boolean() => Err(Flaw::BadShape(Below::Key("ignore_errors"))),
-        _ => Ok(()),
+    let Some(value) = step.get("ignore_errors") else {
+        return Ok(false);
+    };
+    match value.as_bool() {
+        Some(ignores) => Ok(ignores),
+        None => Err(Flaw::BadShape(Below::Key("ignore_errors"))),
     }
 }
 
-/// Whether a host goes on after a failure of the step.
-pub fn ignores_errors(step: &Value) -> bool
-    ensures { result ≡ unwrap_or (option_and_then as_bool (get ignore_key (view step.now))) false }
+/// The names of the handlers that a task notifies: `notify`, where a task has it, is a text or a list of texts.
+pub fn notified_by<'a>(task: &'a Value) -> Result<&'a [Value], Flaw<'a>>
+    ensures rule { IsVerdict result (spec.bad_notify (view task.now)) }
+    ensures says { IfOk result (λ names. filter_map as_str (map view names.now) ≡ spec.notified_in (view task.now)) }
 {
-    match step.get("ignore_errors") {
-        Some(value) => value.as_bool().unwrap_or(false),
-        None => false,
-    }
-}
-
-/// Whether `notify`, where a task has it, is a text or a list of texts.
-pub fn check_notify<'a>(step: &'a Value) -> Result<(), Flaw<'a>>
-    ensures { IsVerdict result (spec.bad_notify (view step.now)) }
-{
-    match step.get("notify") {
-        Some(value) => check_texts("notify", value),
-        None => Ok(()),
-    }
-}
-
-/// The names of the handlers that a task notifies. It fails for want of memory alone.
-pub fn notified_in<'a>(alloc: Global, step: &'a Value) -> Result<Vec<&'a str>, AllocError>
-    ensures { IfOk result (λ names. lent_texts names.items ≡ spec.notified_in (view step.now)) }
-{
-    match step.get("notify") {
-        Some(value) => texts_in(alloc, value),
-        None => Ok(Vec::new(alloc)),
-    }
+    let Some(value) = task.get("notify") else {
+        return Ok(&[]);
+    };
+    check_texts("notify", value)?;
+    Ok(listed(value))
 }

@@ -43,6 +43,6 @@ loop-index-preserved c =
           (omega arith)
           (handlers_on c.args.play.told (c.args.tasks + 1 + l.index) (known l.names) (map view (drop l.index handlers)) (view handler) (map view (drop (l.index + 1) handlers)) left
           whole l.invariant.leads (known c.read_one.new.names) read.names read.kept read.once);
-      says = all_zip_more IsStep handler_of (map view (take l.index handlers)) _ l.steps.items _ (view handler) c.in-Ok.step taken pushed l.invariant.says read.says;
-      plain = subst (λ (steps : List Step). All HasPlainWords steps) (sym pushed) (All-push HasPlainWords l.steps.items c.in-Ok.step l.invariant.plain read.plain);
+      says = all_zip_more IsStep handler_of (map view (take l.index handlers)) _ l.steps.items _ (view handler) c.read_one.new.into taken pushed l.invariant.says read.says;
+      plain = subst (λ (steps : List Step). All HasPlainWords steps) (sym pushed) (All-push HasPlainWords l.steps.items c.read_one.new.into l.invariant.plain read.plain);
     }

@@ -5,16 +5,18 @@ use Rattle.play_rules.specs.Plays.{spot_at}
 use Rattle.play_rules.specs.Steps.{checks_of_handler, twice_named}
 use Rattle.play_faults.proofs.CheckLaws.{refused_later}
 use Rattle.play_steps.specs.Readings.{named_in}
+use Rattle.play_steps.proofs.Parts.{if_err_more}
 use Rattle.play_read.specs.Known.{known}
 use Rattle.play_read.proofs.Told.{told_here}
 use Rattle.play_read.proofs.handlers.read_one.Goals as goal
 
-pub returns-in-Err-check_name-clause-err : goal.returns-in-Err-check_name-clause-err
-returns-in-Err-check_name-clause-err c =
+pub returns-in-Ok-clause-err : goal.returns-in-Ok-clause-err
+returns-in-Ok-clause-err c =
     let spot = spot_at c.args.place.play.told c.args.place.number in
     let handler = view c.args.handler.now in
-    refused_later c.in-Err-check_name.fault (checks_of_handler spot handler) (map Broken (twice_named (known c.args.names.now) handler))
-    (c.in-Ok.ensures.kept spot) c.in-Err-check_name.ensures.err
+    if_err_more c.check_name.result _ _
+    (λ fault is. refused_later fault (checks_of_handler spot handler) (map Broken (twice_named (known c.args.names.now) handler)) (c.in-Ok.ensures.kept spot) is)
+    c.check_name.ensures.err
 
 pub returns-in_ok-fault_of_step-in-Err-clause-err :
     goal.returns-in_ok-fault_of_step-in-Err-clause-err

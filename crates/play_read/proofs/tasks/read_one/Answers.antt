@@ -1,20 +1,25 @@
-use Rattle.std.proofs.Common.{map}
+use Rattle.std.proofs.Common.{List, map, subst}
+use Rattle.std.specs.Prelude.{filter}
 use Rattle.serde_json.specs.View.{view}
-use Rattle.play_rules.specs.Breaches.{Broken}
+use Rattle.inventory_model.specs.Names.{Name}
+use Rattle.play_rules.specs.Breaches.{Broken, NoSuchHandler}
 use Rattle.play_rules.specs.Plays.{spot_at}
-use Rattle.play_rules.specs.Steps.{checks_of_task, unknown_handlers}
+use Rattle.play_rules.specs.Steps.{checks_of_task, unknown_handlers, is_missing}
+use Rattle.play_faults.specs.Faults.{IsRefusal}
 use Rattle.play_faults.proofs.CheckLaws.{refused_later}
 use Rattle.play_steps.specs.Readings.{named_in}
 use Rattle.play_read.specs.Known.{known}
 use Rattle.play_read.proofs.Told.{told_here}
 use Rattle.play_read.proofs.tasks.read_one.Goals as goal
 
-pub returns-in-Err-numbers_in-clause-err : goal.returns-in-Err-numbers_in-clause-err
-returns-in-Err-numbers_in-clause-err c =
+pub returns-in-Err-numbers_of-clause-err : goal.returns-in-Err-numbers_of-clause-err
+returns-in-Err-numbers_of-clause-err c =
     let spot = spot_at c.args.place.play.told c.args.place.number in
     let task = view c.args.task.now in
-    refused_later c.in-Err-numbers_in.fault (checks_of_task spot task) (map Broken (unknown_handlers (known c.args.handlers.now) task))
-    (c.in-Ok.ensures.kept spot) c.in-Err-numbers_in.ensures.err
+    let handlers = known c.args.handlers.now in
+    let fault = c.in-Err-numbers_of.fault in
+    refused_later fault (checks_of_task spot task) (map Broken (unknown_handlers handlers task)) (c.in-Ok.ensures.kept spot)
+    (subst (λ (names : List Name). IsRefusal fault (map Broken (map NoSuchHandler (filter (is_missing handlers) names)))) c.in-Ok.ensures.names c.in-Err-numbers_of.ensures.err)
 
 pub returns-in_ok-fault_of_step-in-Err-clause-err :
     goal.returns-in_ok-fault_of_step-in-Err-clause-err

@@ -36,6 +36,6 @@ loop-index-preserved c =
       leads =
           tasks_on c.args.play.told (l.index + 1) names (map view (drop l.index tasks)) (view task) (map view (drop (l.index + 1) tasks)) left
           (checks_of_tasks c.args.play.told 1 names (map view tasks)) l.invariant.leads read.kept read.found;
-      says = all_zip_more IsStep (step_of names) (map view (take l.index tasks)) _ l.steps.items _ (view task) c.in-Ok.step taken pushed l.invariant.says read.says;
-      plain = subst (λ (steps : List Step). All HasPlainWords steps) (sym pushed) (All-push HasPlainWords l.steps.items c.in-Ok.step l.invariant.plain read.plain);
+      says = all_zip_more IsStep (step_of names) (map view (take l.index tasks)) _ l.steps.items _ (view task) c.read_one.new.into taken pushed l.invariant.says read.says;
+      plain = subst (λ (steps : List Step). All HasPlainWords steps) (sym pushed) (All-push HasPlainWords l.steps.items c.read_one.new.into l.invariant.plain read.plain);
     }
