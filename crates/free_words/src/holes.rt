@@ -56,5 +56,6 @@ fn starts_with_pair(bytes: &[u8], first: u8, second: u8) -> bool
     ensures same { result ≡ starts first second bytes.now }
     ensures two { result ≡ true → 2 ≤ length bytes.now }
 {
-    bytes.len() > 1 && bytes[0] == first && bytes[1] == second
+    // Most bytes are told from the first one, with no look at how many follow.
+    !bytes.is_empty() && bytes[0] == first && bytes.len() > 1 && bytes[1] == second
 }

@@ -40,5 +40,6 @@ fn count_piece(bytes: &[u8], tail: usize) -> usize
 fn is_blank(byte: u8) -> bool
     ensures { result ≡ words.is_blank byte }
 {
-    matches!(byte, b' ' | b'\t' | b'\n' | b'\r')
+    // Most bytes are told from blanks by this one comparison.
+    byte <= b' ' && matches!(byte, b' ' | b'\t' | b'\n' | b'\r')
 }

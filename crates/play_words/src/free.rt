@@ -24,7 +24,12 @@ pub(crate) fn free_words(alloc: Global, text: &str) -> Result<Option<Vec<String>
 fn has_quoting(bytes: &[u8]) -> bool
     ensures { result ≡ list_any spec.is_quoting bytes.now }
 {
-    bytes.iter().any(|byte| is_quoting(*byte))
+    // It goes on to the end, so that many bytes are looked at together.
+    let mut found = false;
+    for byte in bytes {
+        found |= is_quoting(*byte);
+    }
+    found
 }
 
 fn is_quoting(byte: u8) -> bool
