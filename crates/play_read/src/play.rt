@@ -43,7 +43,7 @@ pub(crate) fn read_one(alloc: Global, place: PlayPlace, play: &Value) -> Result<
     let tasks = tasks_of(play);
     let mut names = HandlerNames::new(alloc);
     let handlers = read_handlers(alloc, place, tasks.len(), handlers_of(play), &mut names)?;
-    let tasks = read_tasks(alloc, place, tasks, &names)?;
+    let tasks = read_tasks(alloc, place, tasks, handlers.len(), &names)?;
     play_with(alloc, play, tasks, handlers)
 }
 

@@ -49,21 +49,22 @@ fn read_one(
     }
 }
 
-/// The tasks of a play with handlers of these names. Of several faults the first is told; after each task comes whether
-/// it notifies a handler that isn't there.
+/// The tasks of a play with so many handlers, of these names; there is room for the handlers behind them. Of several faults
+/// the first is told; after each task comes whether it notifies a handler that isn't there.
 pub(crate) fn read_tasks(
     alloc: Global,
     play: PlayPlace,
     tasks: &[Value],
+    behind: usize,
     handlers: &HandlerNames<'_>,
 ) -> Result<Vec<Step>, PlayFault>
-    requires few { length tasks.now ≤ 256 }
+    requires few { length tasks.now + behind ≤ 256 }
     ensures kept { IfOk result (λ _. AllKept (checks_of_tasks play.told 1 (known handlers.now) (map view tasks.now))) }
     ensures says { IfOk result (λ steps. AreSteps (map (spec.step_of (known handlers.now)) (map view tasks.now)) steps.items) }
     ensures plain { IfOk result (λ steps. All HasPlainWords steps.items) }
     ensures err { IfErr result (λ fault. IsRefusal fault (checks_of_tasks play.told 1 (known handlers.now) (map view tasks.now))) }
 {
-    let mut steps = Vec::with_capacity(alloc, tasks.len())?;
+    let mut steps = Vec::with_capacity(alloc, tasks.len() + behind)?;
     for index in 0..tasks.len() {
         let place = StepPlace {
             play,

@@ -1,9 +1,13 @@
-use Rattle.std.proofs.Common.{length, map, arith}
+use Rattle.std.proofs.Common.{List, length, map, subst, arith}
 use Rattle.std.proofs.lemmas.Result.{err_from_is_err_and}
 use Rattle.serde_json.specs.View.{view}
+use Rattle.serde_json.specs.Data.{Data}
 use Rattle.play_rules.specs.Plays.{tasks_in, handlers_in}
+use Rattle.play_rules.specs.Steps.{handler_of}
+use Rattle.play_read.specs.Reads.{AreSteps}
 use Rattle.play_read.proofs.Lists.{as_many}
 use Rattle.play_read.proofs.PlayLaws.{few_steps}
+use Rattle.play_read.proofs.StepLaws.{as_many_steps}
 use Rattle.play_read.proofs.Told.{if_ok}
 use Rattle.play_read.proofs.Whole.{refused_settings, refused_handlers, refused_tasks, kept_whole}
 use Rattle.play_read.proofs.play.read_one.Goals as goal
@@ -33,7 +37,8 @@ pub read_tasks-requires : goal.read_tasks-requires
 read_tasks-requires c =
     let play = view c.args.play.now in
     let tasks = as_many view c.tasks_of-tasks.result.now (tasks_in play) c.tasks_of-tasks.ensures in
-    record { few = omega (arith, tasks, few_steps play c.in_ok-check_settings.ensures.ok) }
+    let handlers = as_many_steps handler_of (handlers_in play) c.in_ok-handlers.handlers.items (subst (λ (given : List Data). AreSteps (map handler_of given) c.in_ok-handlers.handlers.items) c.handlers_of.ensures c.in_ok-handlers.ensures.says) in
+    record { few = omega (arith, tasks, handlers, few_steps play c.in_ok-check_settings.ensures.ok) }
 
 pub returns-in_err-tasks-clause-err : goal.returns-in_err-tasks-clause-err
 returns-in_err-tasks-clause-err c =
