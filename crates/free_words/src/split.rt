@@ -1,10 +1,9 @@
 //! From a text to its words.
 ghost use Rattle.std.specs.Prelude.{◌≡◌, IfOk, map, string_bytes};
 ghost use Rattle.play_rules.specs.Commands as spec;
-ghost use Rattle.free_words.specs.Pieces.{IsOpenBelow};
 
 use crate::holes::tail_of_last_closing;
-use crate::pieces::cut_piece;
+use crate::pieces::{cut_piece, is_blank};
 use std::alloc::{AllocError, Global};
 
 /// The words of a text: it is split at runs of blanks (space, tab, line feed, carriage return), save between `{{` and the
@@ -13,7 +12,7 @@ pub fn split_words(alloc: Global, text: &str) -> Result<Vec<String>, AllocError>
     ensures { IfOk result (λ words. map string_bytes words.items ≡ spec.split text.now) }
 {
     let tail = tail_of_last_closing(text.as_bytes());
-    let mut words = Vec::with_capacity(alloc, count_words(text, tail))?;
+    let mut words = Vec::with_capacity(alloc, count_runs(text.as_bytes()))?;
     let mut left = Some(text);
     while let Some(rest) = left {
         let (piece, behind) = cut_piece(rest, tail);
@@ -25,18 +24,17 @@ pub fn split_words(alloc: Global, text: &str) -> Result<Vec<String>, AllocError>
     Ok(words)
 }
 
-/// How many words the text has, so that room for them is asked for once.
-fn count_words(text: &str, tail: usize) -> usize
-    requires { IsOpenBelow tail text.now }
-{
-    let mut words = 0usize;
-    let mut left = Some(text);
-    while let Some(rest) = left {
-        let (piece, behind) = cut_piece(rest, tail);
-        if !piece.is_empty() {
-            words += 1;
+/// How many runs of other bytes the text has between its blanks: as many as words or more, since a hole may hold blanks. So
+/// room for the words is asked for once.
+fn count_runs(bytes: &[u8]) -> usize {
+    let mut runs = 0usize;
+    let mut blank_before = true;
+    for byte in bytes {
+        let blank = is_blank(*byte);
+        if blank_before && !blank {
+            runs += 1;
         }
-        left = behind;
+        blank_before = blank;
     }
-    words
+    runs
 }

@@ -34,6 +34,8 @@ pub fn read_condition(
     }
 }
 
+// Apart, so that a step without the key doesn't pay for what it needs.
+#[inline(never)]
 fn read_given(
     alloc: Global,
     key: ConditionKey,
