@@ -1,12 +1,11 @@
 -- A chain of parts that And joins, gathered from left to right.
-use Rattle.std.proofs.Common.{◌≡◌, ℕ, ◌+◌, ◌<◌, ◌≤◌, max, Bool, true, false, List, [], ◌∷◌, ◌++◌, map, sym, refl, ap, ◌∙◌, arith, subst, Option, Some, None, Ok, Err}
+use Rattle.std.proofs.Common.{◌≡◌, ℕ, ◌≤◌, max, true, false, List, [], ◌∷◌, ◌++◌, map, sym, refl, ap, ◌∙◌, arith, Some, Ok, Err}
 use Rattle.cond.specs.Tokens.{Token, Or, And, Closing}
-use Rattle.cond.specs.Grammar.{Any, all, or, All, neg, and, Neg, any_then, all_then, neg_then, any_depth, all_depth, neg_depth}
-use Rattle.cond.specs.Meaning.{Environment, Verdict, either, both, any_meaning, all_meaning, neg_meaning}
-use Rattle.cond.specs.Trees.{tree_verdict, any_of, all_of}
+use Rattle.cond.specs.Grammar.{All, neg, and, Neg, all_then, neg_then, all_depth, neg_depth}
+use Rattle.cond.specs.Meaning.{Environment, Verdict, both, all_meaning, neg_meaning}
+use Rattle.cond.specs.Trees.{tree_verdict, all_of}
 use Rattle.cond.specs.Heads.{first, behind}
-use Rattle.cond.specs.Readings.{Leaves}
-use Rattle.cond.specs.Readings.{ends_any, ends_all, ends_neg, Reads, Refuses}
+use Rattle.cond.specs.Readings.{ends_all, ends_neg, Reads, Refuses}
 use Rattle.cond.specs.declared.stop.Stop.{Stop}
 use Rattle.cond.specs.declared.tree.Tree.{Tree}
 use Rattle.cond.proofs.Unambiguous.{neg_same, all_ends_neg, no_and}

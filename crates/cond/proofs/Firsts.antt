@@ -1,5 +1,5 @@
 -- Which token stands first, from the tests of it.
-use Rattle.std.proofs.Common.{◌≡◌, ◌≤◌, Bool, true, false, List, [], ◌∷◌, length, refl, ap, arith, Option, Some, None}
+use Rattle.std.proofs.Common.{◌≡◌, ◌≤◌, true, false, List, [], ◌∷◌, length, refl, ap, arith, Some}
 use Rattle.cond.specs.Tokens.{Token, Or, And, Not, Opening, Closing}
 use Rattle.cond.specs.Heads.{first, behind, is_or, is_and, is_not, is_opening, is_closing}
 

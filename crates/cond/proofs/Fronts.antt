@@ -1,8 +1,8 @@
 -- Which form of token the first byte tells.
-use Rattle.std.proofs.Common.{◌≡◌, ℕ, ◌<◌, ◌≤◌, Bool, true, false, cond, List, [], ◌∷◌, drop, sym, refl, ap, ◌∙◌, arith, Some, None, slice_get, eqb, ◌≢◌, eq-eqb}
+use Rattle.std.proofs.Common.{◌≡◌, ℕ, ◌≤◌, Bool, true, false, cond, List, [], ◌∷◌, drop, sym, refl, ap, ◌∙◌, arith, Some, None, slice_get, eqb, ◌≢◌, eq-eqb}
 use Rattle.std.proofs.lemmas.Bool.Decides.{nat_tests}
 use Rattle.std.proofs.lemmas.Bool.{ne_eqb}
-use Rattle.cond.specs.Tokens.{Front, is_letter, is_digit, is_quote, word_at, number_at, negative_at, text_at, sign_at, token_at}
+use Rattle.cond.specs.Tokens.{is_letter, is_digit, is_quote, word_at, number_at, negative_at, text_at, sign_at, token_at}
 
 pub at_end : (bs : List ℕ) → slice_get bs 0 ≡ None → None ≡ token_at bs
 unfolding token_at

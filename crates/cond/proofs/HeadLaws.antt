@@ -2,13 +2,13 @@
 use Rattle.std.proofs.Common.{◌≡◌, ℕ, Bool, true, false, cond, bytes_eq, List, [], ◌∷◌, sym, refl, ap, ◌∙◌, subst, Option, Some, None, ◌⊎◌, inl, inr}
 use Rattle.std.specs.Prelude.{codes}
 use Rattle.std.proofs.lemmas.Slice.Eq.{bytes_eq-Decides}
-use Rattle.cond.specs.Tokens.{Token, Name, Number, Text, Truth, Not, And, Or, Is, In, Groups, Host, Equal, Unequal, Dot, Opening, Closing}
+use Rattle.cond.specs.Tokens.{Token, Name, Number, Text, Truth, Not, And, Or, Is, In, Groups, Host, Equal, Unequal, Dot, Closing}
 use Rattle.cond.specs.Grammar.{Ref, whole, part, hostname, Operand, text, number, truth, ref, Test, stands, defined, equals, within, alone, field_word, state_word, field_named, state_named, ref_then, operand_then, not_then, sign_of, test_then}
 use Rattle.cond.specs.declared.fields.Field.{Field}
 use Rattle.cond.specs.declared.fields.Field.TheVariants as field
 use Rattle.cond.specs.declared.states.State.{State}
 use Rattle.cond.specs.declared.states.State.TheVariants as state
-use Rattle.cond.specs.Heads.{Head, first, behind, apart, field_by, field_head, name_head, operand_head, is_not, behind_not, state_by, asked_head, is_head, right_by, equals_head, in_head, within_head, tail_head, subject_by, test_head}
+use Rattle.cond.specs.Heads.{Head, apart, field_by, field_head, name_head, operand_head, state_by, asked_head, is_head, right_by, equals_head, in_head, within_head, tail_head, subject_by, test_head}
 use Rattle.cond.specs.Readings.{ends_neg}
 use Rattle.cond.proofs.Operands.{is_apart, apart_at_end}
 use Rattle.cond.proofs.TestLaws.{subject, tail_then, tail_apart, test_split}

@@ -1,11 +1,11 @@
 -- What is read, and refused, of `not`, of brackets and of a test.
-use Rattle.std.proofs.Common.{◌≡◌, ℕ, suc, ◌-◌, ◌<◌, ◌≤◌, Bool, true, false, List, [], ◌∷◌, sym, refl, ap, ◌∙◌, arith, subst, Option, Some, None, Result, Ok, Err}
+use Rattle.std.proofs.Common.{◌≡◌, ℕ, ◌-◌, ◌<◌, true, false, List, [], ◌∷◌, sym, refl, ap, ◌∙◌, arith, Option, Some, None, Result, Ok, Err}
 use Rattle.std.specs.Prelude.{IfOk, IfErr}
 use Rattle.cond.specs.Seen.{ahead, text_of}
 use Rattle.cond.specs.declared.source.Source.{Source}
 use Rattle.cond.specs.Tokens.{Token, Not, Opening, Closing}
-use Rattle.cond.specs.Grammar.{Any, Neg, not, primary, Primary, brackets, test, Test, any_then, neg_then, primary_then, test_then, any_depth, neg_depth, primary_depth}
-use Rattle.cond.specs.Meaning.{Environment, Verdict, turned, any_meaning, neg_meaning, primary_meaning, test_meaning}
+use Rattle.cond.specs.Grammar.{Any, not, primary, brackets, test, Test, any_then, neg_then, primary_then, any_depth, neg_depth, primary_depth}
+use Rattle.cond.specs.Meaning.{Environment, turned, any_meaning, neg_meaning, primary_meaning, test_meaning}
 use Rattle.cond.specs.Trees.{tree_verdict}
 use Rattle.cond.specs.Heads.{first, behind, test_head}
 use Rattle.cond.specs.Readings.{Leaves}
@@ -16,7 +16,7 @@ use Rattle.cond.specs.declared.stop.Stop.TheVariants as stop
 use Rattle.cond.specs.declared.tree.Tree.{Tree}
 use Rattle.cond.proofs.TestLaws.{no_test}
 use Rattle.cond.proofs.HeadLaws.{test_again, test_read_whole}
-use Rattle.cond.proofs.Unambiguous.{any_same, primary_same}
+use Rattle.cond.proofs.Unambiguous.{any_same}
 use Rattle.cond.proofs.LeavesLaws.{nested_leaves}
 
 abbrev ReadsAny : List ℕ → ℕ → List Token → Tree → List Token → Type 0

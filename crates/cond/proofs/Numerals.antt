@@ -1,6 +1,6 @@
 -- What `parse` gives at the longest run of digits.
-use Rattle.std.proofs.Common.{◌≡◌, ℕ, suc, ◌+◌, ◌-◌, ◌*◌, ◌^◌, ◌<◌, ◌≤◌, Bool, true, false, ◌&&◌, not, cond, List, [], ◌∷◌, length, get_or, take, drop, sym, refl, ap, ◌∙◌, arith, rules, subst, nat_lt, nat_le, Some, None, Ok, Err, Result, ℤ, pos, neg_ℤ}
-use Rattle.std.specs.Int.{IsInRange, w64, Width}
+use Rattle.std.proofs.Common.{◌≡◌, ℕ, suc, ◌+◌, ◌^◌, ◌<◌, ◌≤◌, Bool, true, false, ◌&&◌, cond, List, ◌∷◌, length, get_or, take, drop, sym, refl, ap, ◌∙◌, arith, subst, nat_lt, nat_le, Some, None, Ok, Err, Result, ℤ, pos, neg_ℤ}
+use Rattle.std.specs.Int.{IsInRange, w64}
 use Rattle.std.specs.Result.{OkIff}
 use Rattle.std.specs.Prelude.{FitsSigned}
 use Rattle.std.specs.Str.Parse.{signed_digits_value}
@@ -8,7 +8,7 @@ use Rattle.std.proofs.Math.Numerals.{one-add}
 use Rattle.std.proofs.lemmas.Int.{to_z-of_z}
 use mir.Val.{to_z, of_z}
 use Rattle.std.specs.List.{prefix_len}
-use Rattle.std.specs.Str.Parse.{digits_value, ParsesSigned, AllDigits, IsNumeral, without_leading_sign}
+use Rattle.std.specs.Str.Parse.{digits_value, ParsesSigned, IsNumeral, without_leading_sign}
 use Rattle.std.proofs.lemmas.Str.Parse.{IsNumeralModel, numerals_by_value, tells_by_index, parse_signed_digits, parse_signed_minus}
 use Rattle.std.proofs.lemmas.List.Sums.{prefix_len_passes, prefix_len-le-length}
 use Rattle.std.proofs.lemmas.List.{get_or-take, length-take-le}

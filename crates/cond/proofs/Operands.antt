@@ -1,6 +1,6 @@
 -- Two operands that stand at the start of one list of tokens are one.
-use Rattle.std.proofs.Common.{◌≡◌, ℕ, Bool, true, false, List, [], ◌∷◌, sym, refl, ap, ◌∙◌, arith}
-use Rattle.cond.specs.Tokens.{Token, Name, Number, Text, Truth, Not, Dot, Host, Opening, Closing, And, Or}
+use Rattle.std.proofs.Common.{◌≡◌, Bool, true, false, List, [], ◌∷◌, sym, refl, ap, ◌∙◌}
+use Rattle.cond.specs.Tokens.{Token, Name, Number, Text, Truth, Dot, Host}
 use Rattle.cond.specs.Grammar.{field_word, Ref, whole, part, hostname, Operand, text, number, truth, ref, ref_then, operand_then}
 use Rattle.cond.specs.Readings.{ends_neg}
 use Rattle.cond.proofs.Words.{field_same}

@@ -1,14 +1,14 @@
 -- What was read of the tokens, and why they were refused, as a text's.
-use Rattle.std.proofs.Common.{◌≡◌, ℕ, ◌<◌, ◌≤◌, true, List, [], ◌∷◌, length, sym, refl, ap, ◌∙◌, arith, subst, Option, Some, None, Result, Ok, Err}
-use Rattle.std.specs.Prelude.{IfErr, option_map, is_some}
+use Rattle.std.proofs.Common.{◌≡◌, ℕ, ◌≤◌, true, List, [], ◌∷◌, length, sym, refl, ap, ◌∙◌, arith, subst, Option, Some, None}
+use Rattle.std.specs.Prelude.{option_map, is_some}
 use Rattle.cond.specs.Seen.{kept}
 use Rattle.cond.specs.declared.mark.Mark.{Mark}
-use Rattle.cond.specs.Tokens.{Token, Not, Front, is_blank, behind_run, next_token, FallsInto}
+use Rattle.cond.specs.Tokens.{Token, Not, Front, next_token, FallsInto}
 use Rattle.cond.specs.Grammar.{Any, any_then, any_depth, tokens_of}
 use Rattle.cond.specs.Meaning.{Environment, Verdict, any_meaning}
 use Rattle.cond.specs.Trees.{tree_verdict}
 use Rattle.cond.specs.Heads.{first}
-use Rattle.cond.specs.Readings.{ends_any, Reads, Refuses}
+use Rattle.cond.specs.Readings.{ends_any, Reads}
 use Rattle.cond.specs.Conditions.{most_bytes, most_depth, Writes, IsRead, IsMeant, IsBroken, Breaks}
 use Rattle.cond.specs.declared.tree.Tree.{Tree}
 use Rattle.cond.specs.declared.fault.CondFault.{CondFault}

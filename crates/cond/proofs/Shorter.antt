@@ -1,5 +1,5 @@
 -- A token takes at least one byte.
-use Rattle.std.proofs.Common.{◌≡◌, ℕ, suc, ◌+◌, ◌^◌, ◌<◌, ◌≤◌, Bool, true, false, ◌&&◌, ◌||◌, cond, nat_lt, nat_le, eqb, List, [], ◌∷◌, length, drop, sym, refl, ap, ◌∙◌, arith, Some, None, length-drop, ℤ, pos, neg_ℤ}
+use Rattle.std.proofs.Common.{◌≡◌, ℕ, ◌+◌, ◌^◌, ◌<◌, ◌≤◌, Bool, true, false, ◌&&◌, ◌||◌, cond, nat_lt, nat_le, eqb, List, [], ◌∷◌, length, refl, ap, arith, Some, None, length-drop, pos, neg_ℤ}
 use Rattle.std.specs.List.{prefix_len}
 use Rattle.std.specs.Str.Parse.{digits_value}
 use Rattle.cond.specs.Tokens.{Token, Front, Number, Text, Equal, Unequal, Dot, Opening, Closing, is_letter, is_digit, is_name_byte, is_quote, is_inside, run, behind_run, word_at, number_at, negative_at, ended_by, text_at, sign_at, token_at}

@@ -1,5 +1,5 @@
 -- The tokens that are left of a text.
-use Rattle.std.proofs.Common.{◌≡◌, ℕ, zero, suc, ◌+◌, List, [], ◌∷◌, drop, slice_get, refl, sym, ap, ◌∙◌, arith, Some, None}
+use Rattle.std.proofs.Common.{◌≡◌, ℕ, zero, suc, ◌+◌, List, [], ◌∷◌, drop, slice_get, refl, ap, ◌∙◌, arith, Some, None}
 use Rattle.cond.specs.Tokens.{Token}
 use Rattle.cond.specs.Heads.{first, behind}
 use Rattle.cond.specs.Seen.{kept, marks}

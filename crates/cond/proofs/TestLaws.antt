@@ -1,7 +1,7 @@
 -- Two tests that stand at the start of one list of tokens, and whose parts end there, are one.
-use Rattle.std.proofs.Common.{◌≡◌, ℕ, ◌<◌, ◌≤◌, Bool, true, false, List, [], ◌∷◌, length, sym, refl, ap, ◌∙◌, arith}
+use Rattle.std.proofs.Common.{◌≡◌, ◌<◌, ◌≤◌, true, false, List, ◌∷◌, length, sym, refl, ap, ◌∙◌, arith}
 use Rattle.std.specs.Prelude.{codes}
-use Rattle.cond.specs.Tokens.{Token, Name, Number, Text, Truth, Not, And, Or, Is, In, Groups, Host, Equal, Unequal, Dot, Opening, Closing}
+use Rattle.cond.specs.Tokens.{Token, Name, Not, Is, In, Groups, Equal, Unequal}
 use Rattle.cond.specs.Grammar.{state_word, Ref, whole, part, hostname, Operand, text, number, truth, ref, Test, stands, defined, equals, within, alone, ref_then, operand_then, not_then, sign_of, test_then}
 use Rattle.cond.specs.Readings.{ends_neg}
 use Rattle.cond.proofs.Words.{state_same, no_state}

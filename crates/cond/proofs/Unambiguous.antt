@@ -1,7 +1,7 @@
 -- One list of tokens has at most one reading, up to where a part ends.
-use Rattle.std.proofs.Common.{◌≡◌, ℕ, Bool, true, false, List, [], ◌∷◌, sym, refl, ap, ◌∙◌, arith}
+use Rattle.std.proofs.Common.{◌≡◌, true, false, List, [], ◌∷◌, sym, refl, ap}
 use Rattle.cond.specs.Tokens.{Token, Not, And, Or, Opening, Closing}
-use Rattle.cond.specs.Grammar.{Any, all, or, All, neg, and, Neg, not, primary, Primary, brackets, test, any_then, all_then, neg_then, primary_then, test_then}
+use Rattle.cond.specs.Grammar.{Any, all, or, All, neg, and, Neg, not, primary, Primary, brackets, test, any_then, all_then, neg_then, primary_then}
 use Rattle.cond.specs.Readings.{ends_any, ends_all, ends_neg}
 use Rattle.cond.proofs.TestLaws.{test_same, no_test}
 

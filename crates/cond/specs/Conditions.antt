@@ -7,8 +7,6 @@ use Rattle.cond.specs.Trees.{verdict_of}
 use Rattle.cond.specs.declared.condition.Cond.{Cond}
 use Rattle.cond.specs.declared.fault.CondFault.{CondFault}
 use Rattle.cond.specs.declared.fault.CondFault.TheVariants as fault
-use Rattle.cond.specs.declared.stop.Stop.{Stop}
-use Rattle.cond.specs.declared.stop.Stop.TheVariants as stop
 
 abbrev pub most_bytes : ℕ
 most_bytes = 4096

@@ -1,5 +1,5 @@
 -- The test that a list of tokens begins with, and the tokens behind it; none where no test begins so.
-use Rattle.std.specs.Prelude.{ℕ, Bool, true, false, bytes_eq, codes, Option, Some, None, option_and_then, List, [], ◌∷◌, if◌then◌else◌}
+use Rattle.std.specs.Prelude.{ℕ, Bool, true, false, bytes_eq, codes, Option, Some, None, List, [], ◌∷◌, if◌then◌else◌}
 use Rattle.cond.specs.Tokens.{Token, Name, Number, Text, Truth, Not, And, Or, Is, In, Groups, Host, Equal, Unequal, Dot, Opening, Closing}
 use Rattle.cond.specs.Grammar.{Ref, whole, part, hostname, Operand, text, number, truth, ref, Test, stands, defined, equals, within, alone, field_named, state_named}
 use Rattle.cond.specs.declared.fields.Field.{Field}

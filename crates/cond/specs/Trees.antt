@@ -1,7 +1,5 @@
 -- What the tree that the parser makes says.
-use Rattle.std.specs.Prelude.{◌≡◌, ℕ, ◌+◌, Bool, true, false, Option, Result, Ok, Err, List, [], ◌∷◌, map, take, drop, string_bytes, box_value}
-use Rattle.std.specs.Borrow.{Bor}
-use Rattle.cond.specs.Tokens as token
+use Rattle.std.specs.Prelude.{ℕ, ◌+◌, Bool, true, false, Result, Ok, Err, List, [], ◌∷◌, take, drop, string_bytes, box_value}
 use Rattle.cond.specs.Grammar as grammar
 use Rattle.cond.specs.Meaning.{Environment, Verdict, either, both, turned, test_meaning}
 use Rattle.cond.specs.Meaning as meaning

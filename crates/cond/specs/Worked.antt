@@ -1,5 +1,5 @@
 -- A small host, written out, against which the definitions are read.
-use Rattle.std.specs.Prelude.{ℕ, Bool, true, false, ◌||◌, bytes_eq, codes, pos, Option, Some, None, List, [], ◌∷◌, if◌then◌else◌}
+use Rattle.std.specs.Prelude.{ℕ, Bool, true, false, ◌||◌, bytes_eq, codes, pos, Option, Some, None, List, [], if◌then◌else◌}
 use Rattle.cond.specs.Meaning.{Scalar, Text, Int, Truth, Value, Registered, Plain, Environment}
 use Rattle.cond.specs.declared.fields.Field.{Field}
 use Rattle.cond.specs.declared.fields.Field.TheVariants.{Rc, Stdout, Stderr, Changed, Failed, Skipped}
