@@ -1,11 +1,11 @@
 -- What was read of the tokens, and why they were refused, as a text's.
-use Rattle.std.proofs.Common.{◌≡◌, ℕ, ◌≤◌, true, List, [], ◌∷◌, length, sym, refl, ap, ◌∙◌, arith, subst, Option, Some, None}
+use Rattle.std.proofs.Common.{◌≡◌, ℕ, ◌≤◌, true, false, List, [], ◌∷◌, length, sym, refl, ap, ◌∙◌, arith, subst, Option, Some, None}
 use Rattle.std.specs.Prelude.{option_map, is_some}
 use Rattle.cond.specs.Seen.{kept}
 use Rattle.cond.specs.declared.mark.Mark.{Mark}
 use Rattle.cond.specs.Tokens.{Token, Not, Front, next_token, FallsInto}
-use Rattle.cond.specs.Grammar.{Any, any_then, any_depth, tokens_of}
-use Rattle.cond.specs.Meaning.{Environment, Verdict, any_meaning}
+use Rattle.cond.specs.Grammar.{Any, all, neg, primary, Test, test, test_then, any_then, any_depth, tokens_of}
+use Rattle.cond.specs.Meaning.{Environment, Verdict, any_meaning, test_meaning}
 use Rattle.cond.specs.Trees.{tree_verdict}
 use Rattle.cond.specs.Heads.{first}
 use Rattle.cond.specs.Readings.{ends_any, Reads}
@@ -96,3 +96,16 @@ only_broken f text tokens left falls broken condition written short deep =
 pub kept_some : (text : List ℕ) (o : Option Mark) (tokens : List Token) → option_map (kept text) o ≡ first tokens → is_some o ≡ true → first tokens ≡ None → ⊥
 kept_some text None tokens e some none = cc
 kept_some text (Some mark) tokens e some none = cc
+
+pub kept_none : (text : List ℕ) (o : Option Mark) (tokens : List Token) → option_map (kept text) o ≡ first tokens → is_some o ≡ false → tokens ≡ []
+kept_none text None tokens e none = ended tokens (sym e)
+kept_none text (Some mark) tokens e none = absurd (cc)
+
+-- tokens that are those of one test
+pub test_alone : (text : List ℕ) (tokens : List Token) (t : Test) (tree : Tree) → tokens ≡ test_then t [] → ((e : Environment) → tree_verdict text e tree ≡ test_meaning e t) → IsRead tokens (λ e. tree_verdict text e tree)
+test_alone text tokens t tree whole same = record {
+  condition = all (neg (primary (test t)));
+  whole = whole;
+  deep = omega arith;
+  same = same;
+}

@@ -8,7 +8,7 @@ use Rattle.std.proofs.lemmas.Str.{IsUtf8-from_is_utf8, is_utf8-from_IsUtf8}
 use Rattle.std.specs.Str.{IsUtf8, is_utf8}
 use Rattle.cond.specs.declared.span.Span.{Span}
 use Rattle.cond.specs.Tokens.{Token, Front, Name, Number, Text, Truth, Not, And, Or, Is, In, Groups, Host, Equal, Unequal, Dot, Opening, Closing, is_letter, is_digit, is_name_byte, is_quote, is_inside, run, behind_run, token_of_word, word_at, number_at, negative_at, ended_by, text_at, sign_at, token_at}
-use Rattle.cond.specs.Seen.{StandsAt, word_length, part, piece}
+use Rattle.cond.specs.Seen.{StandsAt, word_length, bytes_at, piece}
 
 -- what is left of a text stands at its end
 abbrev pub Ends : List ℕ → List ℕ → Type 0
@@ -141,15 +141,15 @@ stands_later text bs at Opening ends here stands = tt
 stands_later text bs at Closing ends here stands = tt
 
 -- the word at a place
-pub piece_is : (text word : List ℕ) (span : Span) → part text span ≡ word → IsUtf8 word → word ≡ piece text span
+pub piece_is : (text word : List ℕ) (span : Span) → bytes_at text span ≡ word → IsUtf8 word → word ≡ piece text span
 unfolding piece
 piece_is text word span e u =
     sym (ap (λ (l : List ℕ). cond {A = List ℕ} (is_utf8 l) l []) e ∙ ap (λ b. cond {A = List ℕ} b word []) (is_utf8-from_IsUtf8 word u))
 
-pub no_piece : (text : List ℕ) (span : Span) → (IsUtf8 (part text span) → ⊥) → [] ≡ piece text span
+pub no_piece : (text : List ℕ) (span : Span) → (IsUtf8 (bytes_at text span) → ⊥) → [] ≡ piece text span
 unfolding piece
-no_piece text span none = by_case (is_utf8 (part text span)) refl
+no_piece text span none = by_case (is_utf8 (bytes_at text span)) refl
   where
-    by_case : (b : Bool) → is_utf8 (part text span) ≡ b → [] ≡ cond {A = List ℕ} b (part text span) []
-    by_case true e = absurd (none (IsUtf8-from_is_utf8 (part text span) e))
+    by_case : (b : Bool) → is_utf8 (bytes_at text span) ≡ b → [] ≡ cond {A = List ℕ} b (bytes_at text span) []
+    by_case true e = absurd (none (IsUtf8-from_is_utf8 (bytes_at text span) e))
     by_case false e = refl

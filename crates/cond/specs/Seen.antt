@@ -37,12 +37,12 @@ cut None = None
 cut (Some front) = Some (seen front.0, front.1.now)
 
 -- the bytes at a place of a text
-abbrev pub part : List ℕ → Span → List ℕ
-part text span = take span.bytes (drop span.at text)
+abbrev pub bytes_at : List ℕ → Span → List ℕ
+bytes_at text span = take span.bytes (drop span.at text)
 
 -- the word there; nothing where the bytes are no text by themselves
 unfoldable pub piece : List ℕ → Span → List ℕ
-piece text span = if is_utf8 (part text span) then part text span else []
+piece text span = if is_utf8 (bytes_at text span) then bytes_at text span else []
 
 -- a token as it is kept, of a text
 abbrev pub kept : List ℕ → Mark → Token

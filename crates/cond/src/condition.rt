@@ -9,7 +9,7 @@ pub(crate) struct Part {
 }
 
 /// A condition: parts that all have to hold. Their texts stand one behind the other in one text, so that a list of many
-/// takes no memory for each.
+/// tests takes no memory for each.
 #[derive(Debug, Drop)]
 pub struct Cond {
     pub(crate) text: String,

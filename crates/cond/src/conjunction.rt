@@ -10,7 +10,7 @@ use crate::token::Token;
 pub struct Conjunction {
     pub(crate) text: String,
     pub(crate) parts: Vec<Part>,
-    // Those of the text that was read last; their memory serves for the next.
+    // Those of a text that was read before; their memory serves for the next.
     pub(crate) tokens: Vec<Token>,
     ghost whole: { total parts.items ≡ length (string_bytes text) },
 }

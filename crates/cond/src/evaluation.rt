@@ -8,7 +8,7 @@ use crate::condition::Cond;
 use crate::environment::{Env, Scalar, Undefined, Value};
 use crate::fields::Field;
 use crate::leaf::{Operand, Ref, Test};
-use crate::span::{cut, word_at};
+use crate::span::{split, word_in};
 use crate::states::State;
 use crate::tree::Tree;
 
@@ -19,7 +19,7 @@ pub fn eval<'c, E: Env>(cond: &'c Cond, env: &E) -> Result<bool, Undefined<'c>>
 {
     let mut left = cond.text.as_bytes();
     for part in &cond.parts {
-        let (text, behind) = cut(left, part.bytes);
+        let (text, behind) = split(left, part.bytes);
         match tree_holds(text, &part.tree, env) {
             Ok(true) => left = behind,
             decided => return decided,
@@ -71,7 +71,7 @@ fn test_holds<'c, E: Env>(text: &'c [u8], test: Test, env: &E) -> Result<bool, U
             state,
             name,
         } => {
-            let holds = state_of(word_at(text, name), state, env)?;
+            let holds = state_of(word_in(text, name), state, env)?;
             Ok(turned(contrary, holds))
         }
         Test::Defined { contrary, of } => Ok(turned(contrary, value_of_ref(text, of, env).is_ok())),
@@ -84,7 +84,7 @@ fn test_holds<'c, E: Env>(text: &'c [u8], test: Test, env: &E) -> Result<bool, U
             let right = value_of(text, right, env)?;
             Ok(turned(contrary, same(left, right)))
         }
-        Test::Within { contrary, group } => Ok(turned(contrary, within(word_at(text, group), env))),
+        Test::Within { contrary, group } => Ok(turned(contrary, within(word_in(text, group), env))),
         Test::Alone(operand) => {
             let value = value_of(text, operand, env)?;
             Ok(holds(value))
@@ -128,7 +128,7 @@ fn value_of<'c: 'v, 'v, E: Env>(
     ensures { found result ≡ operand_value (E.environment env.now) (written_operand text.now operand) }
 {
     match operand {
-        Operand::Text(word) => Ok(Value::Plain(Scalar::Text(word_at(text, word)))),
+        Operand::Text(word) => Ok(Value::Plain(Scalar::Text(word_in(text, word)))),
         Operand::Int(number) => Ok(Value::Plain(Scalar::Int(number))),
         Operand::Truth(truth) => Ok(Value::Plain(Scalar::Truth(truth))),
         Operand::Ref(of) => value_of_ref(text, of, env),
@@ -143,8 +143,8 @@ fn value_of_ref<'c: 'v, 'v, E: Env>(
     ensures { found result ≡ ref_value (E.environment env.now) (written_ref text.now of) }
 {
     match of {
-        Ref::Whole(span) => value_named(word_at(text, span), env),
-        Ref::Part(span, field) => field_named(word_at(text, span), field, env),
+        Ref::Whole(span) => value_named(word_in(text, span), env),
+        Ref::Part(span, field) => field_named(word_in(text, span), field, env),
         Ref::Hostname => Ok(Value::Plain(Scalar::Text(env.host()))),
     }
 }

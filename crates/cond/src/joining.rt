@@ -27,7 +27,7 @@ impl Conjunction {
         }
     }
 
-    /// None yet, with memory for so many parts and for texts of so many bytes in all.
+    /// None yet; it asks for the memory of so many parts and of texts of so many bytes in all.
     pub fn with_capacity(
         alloc: Global,
         parts: usize,
@@ -43,7 +43,8 @@ impl Conjunction {
     }
 
     /// The condition that the text writes is joined to the others. A text that is too long is refused first, any other by the
-    /// first place in it where a rule is broken; a refusal leaves the others as they were. Its time is linear in the text.
+    /// first place in it where a rule is broken; a refusal leaves the others as they were. Its time is linear in the text, but for what it takes
+    /// to move the others where there was no room for one more.
     pub fn add(&mut self, alloc: Global, text: &str) -> Result<(), CondFault>
         ensures ok { OnOk result (IsAdded text.now (verdicts_on self.old) (verdicts_on self.new)) }
         ensures err { IfErr result (λ fault. Breaks fault text.now) }

@@ -1,7 +1,7 @@
 //! The tokens of a condition's text.
 
 /// What a token is. The reserved words are kinds of their own.
-#[derive(Clone, Copy, Debug, PartialEq, Eq)]
+#[derive(Clone, Copy, Debug)]
 pub(crate) enum Kind<'t> {
     Name(&'t str),
     Number(i64),

@@ -4,14 +4,14 @@ use crate::span::Span;
 use crate::states::State;
 
 /// What a condition looks up: a name, a field of the result registered under a name, or the host's own name.
-#[derive(Clone, Copy, Debug, PartialEq, Eq)]
+#[derive(Clone, Copy, Debug)]
 pub(crate) enum Ref {
     Whole(Span),
     Part(Span, Field),
     Hostname,
 }
 
-#[derive(Clone, Copy, Debug, PartialEq, Eq)]
+#[derive(Clone, Copy, Debug)]
 pub(crate) enum Operand {
     Text(Span),
     Int(i64),
@@ -21,7 +21,7 @@ pub(crate) enum Operand {
 
 /// A test without brackets, `not`, `and` and `or`. `contrary` says that the text asks for the contrary, by `is not`,
 /// `!=` or `not in`. It stands first, where it takes no room beside the kind of the test.
-#[derive(Clone, Copy, Debug, PartialEq, Eq)]
+#[derive(Clone, Copy, Debug)]
 pub(crate) enum Test {
     Stands {
         contrary: bool,

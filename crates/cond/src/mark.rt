@@ -6,7 +6,7 @@ use crate::kind::Kind;
 use crate::span::{Span, span_of};
 
 /// What a token is.
-#[derive(Clone, Copy, Debug, PartialEq, Eq)]
+#[derive(Clone, Copy, Debug)]
 pub(crate) enum Mark {
     Name(Span),
     Number(i64),

@@ -1,4 +1,6 @@
 //! From tokens to a tree, down the rules of the grammar. What nests has room for so many more brackets and `not`s.
+//!
+//! The way of a single test is one function after inlining; what nests or goes on is called, so that its locals are not set up on that way.
 ghost use Rattle.std.specs.Prelude.{◌≡◌, ℕ, List, ◌<◌, ◌++◌, ◌∷◌, [], Some, IfOk, IfErr, length, map, true};
 ghost use Rattle.cond.specs.Grammar as grammar;
 ghost use Rattle.cond.specs.Meaning.{Environment, any_meaning, all_meaning, neg_meaning, primary_meaning, test_meaning, turned};
@@ -19,7 +21,7 @@ use crate::tree::Tree;
 use std::alloc::{AllocError, Global};
 
 /// all { "or" all }
-#[inline(always)]
+#[inline(never)]
 #[cycle(parser)]
 pub(crate) fn any(
     alloc: Global,
@@ -305,7 +307,7 @@ fn is_closing(source: &Source<'_>, from: usize) -> bool
 }
 
 // Each of these gives a tree its verdict in terms of its parts'.
-fn leaf_of(test: Test) -> Tree
+pub(crate) fn leaf_of(test: Test) -> Tree
     ensures { (text : List ℕ) (e : Environment) → tree_verdict text e result ≡ test_meaning e (written text test) }
 {
     Tree::Leaf(test)

@@ -1,14 +1,16 @@
 //! From a text to a condition.
-ghost use Rattle.std.specs.Prelude.{◌≡◌, ◌<◌, ◌≤◌, [], length, IfOk, IfErr, Err};
+ghost use Rattle.std.specs.Prelude.{◌≡◌, ◌<◌, ◌≤◌, [], length, IfOk, IfErr, IfSome, Err};
 ghost use Rattle.cond.specs.Conditions.{most_bytes, most_depth, Writes, IsRead, IsMeant, IsParsed, IsBroken, Breaks};
-ghost use Rattle.cond.specs.Grammar.{Any, any_depth};
-ghost use Rattle.cond.specs.Seen.{marks};
-ghost use Rattle.cond.specs.Trees.{tree_verdict};
+ghost use Rattle.cond.specs.Grammar.{Any, any_depth, test_then};
+ghost use Rattle.cond.specs.Seen.{marks, ahead, text_of};
+ghost use Rattle.cond.specs.Trees.{tree_verdict, written};
 
 use crate::condition::Cond;
 use crate::conjunction::Conjunction;
 use crate::fault::CondFault;
-use crate::parser::any;
+use crate::leaf::Test;
+use crate::parser::{any, leaf_of};
+use crate::reading::test;
 use crate::source::Source;
 use crate::stop::Stop;
 use crate::token::{Token, Tokens, tokenize};
@@ -20,6 +22,9 @@ const MOST_BYTES: usize = 4096;
 
 /// How deep brackets and leading `not`s may be nested.
 const MOST_DEPTH: usize = 32;
+
+/// Up to so many tokens are tried as one test first. A test has seven at most, and most chains have more than these.
+const FEW_TOKENS: usize = 5;
 
 /// The condition that the text writes. A text that is too long is refused first, any other by the first place in it where
 /// a rule is broken. Its time is linear in the text.
@@ -71,6 +76,11 @@ fn tree_of(alloc: Global, text: &str, found: &Tokens<'_>) -> Result<Tree, CondFa
         tokens: found.all.as_slice(),
         end: found.end,
     };
+    if !bad && found.all.len() <= FEW_TOKENS {
+        if let Some(test) = only_test(&source) {
+            return Ok(leaf_of(test));
+        }
+    }
     match any(alloc, &source, 0, MOST_DEPTH) {
         Ok((tree, rest)) => {
             if source.first(rest).is_some() {
@@ -92,5 +102,16 @@ fn tree_of(alloc: Global, text: &str, found: &Tokens<'_>) -> Result<Tree, CondFa
         }
         Err(Stop::TooDeep { at }) => Err(CondFault::TooDeep { at }),
         Err(Stop::Memory) => Err(CondFault::Memory),
+    }
+}
+
+/// The test that the tokens are, if they are one. Most conditions are, and need no walk down the rules of the grammar.
+#[inline(always)]
+fn only_test(source: &Source<'_>) -> Option<Test>
+    ensures { IfSome result (λ test. ahead source.now 0 ≡ test_then (written (text_of source.now) test) []) }
+{
+    match test(source, 0) {
+        Ok((test, rest)) if source.first(rest).is_none() => Some(test),
+        _ => None,
     }
 }

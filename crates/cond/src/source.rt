@@ -4,7 +4,7 @@ ghost use Rattle.cond.specs.Heads.{first, behind};
 ghost use Rattle.cond.specs.Seen.{kept, piece, ahead, text_of};
 
 use crate::mark::Mark;
-use crate::span::{Span, word_at};
+use crate::span::{Span, word_in};
 use crate::token::Token;
 
 /// A text and its tokens. What is left of them is told by the number of the first.
@@ -54,6 +54,6 @@ impl Source<'_> {
     pub(crate) fn word(&self, span: Span) -> &str
         ensures { result.now ≡ piece (text_of self.now) span }
     {
-        word_at(self.text, span)
+        word_in(self.text, span)
     }
 }

@@ -1,11 +1,12 @@
 //! Words by their places in a text.
 ghost use Rattle.std.specs.Prelude.{◌≡◌, ℕ, ◌+◌, ◌≤◌, List, length, take, drop};
-ghost use Rattle.cond.specs.Seen.{part, piece};
+ghost use Rattle.cond.specs.Seen as spec;
+ghost use Rattle.cond.specs.Seen.{piece};
 
 use std::str;
 
 /// A part of a text of at most 4,096 bytes: where it begins, and how many bytes it has.
-#[derive(Clone, Copy, Debug, PartialEq, Eq)]
+#[derive(Clone, Copy, Debug)]
 pub(crate) struct Span {
     pub(crate) at: u16,
     pub(crate) bytes: u16,
@@ -23,23 +24,23 @@ pub(crate) fn span_of(at: usize, word: &str) -> Span
 }
 
 /// What stands there in a text; nothing where that is no text by itself.
-pub(crate) fn word_at(text: &[u8], span: Span) -> &str
+pub(crate) fn word_in(text: &[u8], span: Span) -> &str
     ensures { result.now ≡ piece text.now span }
 {
-    match str::from_utf8(part_of(text, span)) {
+    match str::from_utf8(bytes_at(text, span)) {
         Ok(word) => word,
         Err(_) => "",
     }
 }
 
-fn part_of(bytes: &[u8], span: Span) -> &[u8]
-    ensures { result.now ≡ part bytes.now span }
+fn bytes_at(bytes: &[u8], span: Span) -> &[u8]
+    ensures { result.now ≡ spec.bytes_at bytes.now span }
 {
-    cut(cut(bytes, span.at).1, span.bytes).0
+    split(split(bytes, span.at).1, span.bytes).0
 }
 
 /// So many bytes, or all where there are fewer, and what is behind them.
-pub(crate) fn cut(bytes: &[u8], count: u16) -> (&[u8], &[u8])
+pub(crate) fn split(bytes: &[u8], count: u16) -> (&[u8], &[u8])
     ensures front { result.0.now ≡ take count bytes.now }
     ensures behind { result.1.now ≡ drop count bytes.now }
 {

@@ -1,7 +1,7 @@
 //! The tree of a text that was read.
 use crate::leaf::Test;
 
-/// What a text says, as deep as it nests brackets and `not`: a chain of `or` or `and` is one level. Words stand in it as
+/// What a text says, at most as deep as it nests brackets and `not`: a chain of `or` or `and` is one level. Words stand in it as
 /// places in the text.
 #[derive(Debug, Drop)]
 pub(crate) enum Tree {

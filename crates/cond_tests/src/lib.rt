@@ -5,6 +5,8 @@
 #[cfg(test)]
 mod host;
 #[cfg(test)]
+mod joined;
+#[cfg(test)]
 mod memory;
 #[cfg(test)]
 mod rows;

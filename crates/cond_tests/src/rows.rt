@@ -31,7 +31,7 @@ pub(crate) static ROWS_0: [Row; 16] = [
     ("--5", Fault(501, 0)),
 ];
 
-pub(crate) static ROWS_1: [Row; 16] = [
+pub(crate) static ROWS_1: [Row; 18] = [
     ("+5", Fault(501, 0)),
     ("'a\\b'", Fault(501, 0)),
     ("v == 'a\\'", Fault(501, 5)),
@@ -45,6 +45,8 @@ pub(crate) static ROWS_1: [Row; 16] = [
     ("v === 7", Fault(501, 4)),
     ("$", Fault(501, 0)),
     ("a b $", Fault(502, 2)),
+    ("v) $", Fault(502, 1)),
+    ("  r.foo", Fault(502, 4)),
     ("v $", Fault(501, 2)),
     ("v and $", Fault(501, 6)),
     ("é", Fault(501, 0)),

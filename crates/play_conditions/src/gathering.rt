@@ -12,6 +12,9 @@ use cond::{CondFault, Conjunction};
 use serde_json::Value;
 use std::alloc::Global;
 
+/// How many bytes the text of a condition may have.
+const MOST_BYTES: usize = 4096;
+
 /// The parts that a list gives, joined by `and`. The first text that is no condition refuses them; what is neither a text nor
 /// a truth value is passed over.
 pub(crate) fn gather(alloc: Global, list: &[Value]) -> Result<Conjunction, CondFault>
@@ -39,12 +42,13 @@ fn add(alloc: Global, all: &mut Conjunction, value: &Value) -> Result<(), CondFa
     }
 }
 
-/// How many bytes the texts of a list have, so that they find their memory at once.
+/// How many bytes the texts of a list have, so that they find their memory at once; of one that is too long no more than it
+/// may have, since it will be refused.
 fn count_bytes(list: &[Value]) -> usize {
     let mut bytes = 0usize;
     for value in list {
         if let Some(Clause::Text(text)) = clause_of(value) {
-            bytes = bytes.saturating_add(text.len());
+            bytes = bytes.saturating_add(text.len().min(MOST_BYTES));
         }
     }
     bytes

@@ -1,0 +1,29 @@
+//! Conditions that are joined one by one.
+use crate::host::Web1;
+use cond::{CondFault, Conjunction, eval};
+
+#[test]
+fn each_part_has_words_of_its_own(rt: HostRuntime) {
+    let mut all = Conjunction::new(rt.alloc());
+    assert!(rt; all.add(rt.alloc(), "word == 'text'") == Ok(()));
+    assert!(rt; all.add_truth(true).is_ok());
+    assert!(rt; all.add(rt.alloc(), "not 'web' in group_names and v == 7") == Ok(()));
+    // What is refused leaves the others as they were.
+    assert!(rt; all.add(rt.alloc(), "v) $") == Err(CondFault::Unexpected { at: 1 }));
+    assert!(rt; all.add(rt.alloc(), "r.stdout == 'out'") == Ok(()));
+    assert!(rt; all.add(rt.alloc(), "nobody") == Ok(()));
+    match eval(&all.finish(), &Web1) {
+        Err(undefined) => assert!(rt; undefined.name == "nobody"),
+        Ok(_) => assert!(rt; false),
+    }
+}
+
+#[test]
+fn one_part_that_does_not_hold_is_enough(rt: HostRuntime) {
+    let mut all = Conjunction::new(rt.alloc());
+    assert!(rt; eval(&Conjunction::new(rt.alloc()).finish(), &Web1) == Ok(true));
+    assert!(rt; all.add(rt.alloc(), "flag") == Ok(()));
+    assert!(rt; all.add_truth(false).is_ok());
+    assert!(rt; all.add(rt.alloc(), "nobody") == Ok(()));
+    assert!(rt; eval(&all.finish(), &Web1) == Ok(false));
+}
