@@ -27,16 +27,12 @@ impl Conjunction {
         }
     }
 
-    /// None yet; it asks for the memory of so many parts and of texts of so many bytes in all.
-    pub fn with_capacity(
-        alloc: Global,
-        parts: usize,
-        bytes: usize,
-    ) -> Result<Conjunction, AllocError>
+    /// None yet; it asks for the memory of so many parts. Their texts take theirs as they come.
+    pub fn with_capacity(alloc: Global, parts: usize) -> Result<Conjunction, AllocError>
         ensures { IfOk result (λ none. (e : Environment) → verdicts_on none e ≡ []) }
     {
         Ok(Conjunction {
-            text: String::with_capacity(alloc, bytes)?,
+            text: String::new(alloc),
             parts: Vec::with_capacity(alloc, parts)?,
             tokens: Vec::new(alloc),
         })

@@ -12,7 +12,8 @@ fn each_part_has_words_of_its_own(rt: HostRuntime) {
     assert!(rt; all.add(rt.alloc(), "v) $") == Err(CondFault::Unexpected { at: 1 }));
     assert!(rt; all.add(rt.alloc(), "r.stdout == 'out'") == Ok(()));
     assert!(rt; all.add(rt.alloc(), "nobody") == Ok(()));
-    match eval(&all.finish(), &Web1) {
+    let whole = all.finish();
+    match eval(&whole, &Web1) {
         Err(undefined) => assert!(rt; undefined.name == "nobody"),
         Ok(_) => assert!(rt; false),
     }
@@ -20,10 +21,12 @@ fn each_part_has_words_of_its_own(rt: HostRuntime) {
 
 #[test]
 fn one_part_that_does_not_hold_is_enough(rt: HostRuntime) {
+    let none = Conjunction::new(rt.alloc()).finish();
+    assert!(rt; eval(&none, &Web1) == Ok(true));
     let mut all = Conjunction::new(rt.alloc());
-    assert!(rt; eval(&Conjunction::new(rt.alloc()).finish(), &Web1) == Ok(true));
     assert!(rt; all.add(rt.alloc(), "flag") == Ok(()));
     assert!(rt; all.add_truth(false).is_ok());
     assert!(rt; all.add(rt.alloc(), "nobody") == Ok(()));
-    assert!(rt; eval(&all.finish(), &Web1) == Ok(false));
+    let whole = all.finish();
+    assert!(rt; eval(&whole, &Web1) == Ok(false));
 }

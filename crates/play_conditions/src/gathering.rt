@@ -12,16 +12,13 @@ use cond::{CondFault, Conjunction};
 use serde_json::Value;
 use std::alloc::Global;
 
-/// How many bytes the text of a condition may have.
-const MOST_BYTES: usize = 4096;
-
 /// The parts that a list gives, joined by `and`. The first text that is no condition refuses them; what is neither a text nor
 /// a truth value is passed over.
 pub(crate) fn gather(alloc: Global, list: &[Value]) -> Result<Conjunction, CondFault>
     ensures ok { IfOk result (λ all. Gathers (filter_map spec.clause_of (map view list.now)) all) }
     ensures err { (spot : Spot) (key : Name) → IfErr result (λ fault. IsFaultOfText spot key fault (flat_map (spec.asked_of spot key) (filter_map spec.clause_of (map view list.now)))) }
 {
-    let mut all = Conjunction::with_capacity(alloc, list.len(), count_bytes(list))?;
+    let mut all = Conjunction::with_capacity(alloc, list.len())?;
     for value in list {
         match add(alloc, &mut all, value) {
             Ok(()) => {}
@@ -40,16 +37,4 @@ fn add(alloc: Global, all: &mut Conjunction, value: &Value) -> Result<(), CondFa
         Some(Clause::Text(text)) => all.add(alloc, text),
         None => Ok(()),
     }
-}
-
-/// How many bytes the texts of a list have, so that they find their memory at once; of one that is too long no more than it
-/// may have, since it will be refused.
-fn count_bytes(list: &[Value]) -> usize {
-    let mut bytes = 0usize;
-    for value in list {
-        if let Some(Clause::Text(text)) = clause_of(value) {
-            bytes = bytes.saturating_add(text.len().min(MOST_BYTES));
-        }
-    }
-    bytes
 }
