@@ -22,11 +22,11 @@ fn each_part_has_words_of_its_own(rt: HostRuntime) {
 #[test]
 fn one_part_that_does_not_hold_is_enough(rt: HostRuntime) {
     let none = Conjunction::new(rt.alloc()).finish();
-    assert!(rt; eval(&none, &Web1) == Ok(true));
+    assert!(rt; matches!(eval(&none, &Web1), Ok(true)));
     let mut all = Conjunction::new(rt.alloc());
     assert!(rt; all.add(rt.alloc(), "flag") == Ok(()));
     assert!(rt; all.add_truth(false).is_ok());
     assert!(rt; all.add(rt.alloc(), "nobody") == Ok(()));
     let whole = all.finish();
-    assert!(rt; eval(&whole, &Web1) == Ok(false));
+    assert!(rt; matches!(eval(&whole, &Web1), Ok(false)));
 }
