@@ -145,6 +145,7 @@ done <<'TESTS'
 domains_tests memory::a_call_that_was_refused_memory_answers_again
 roll_core_tests memory::a_batch_comes_to_its_end_whatever_is_refused
 cond_tests memory::a_condition_is_read_or_memory_is_wanting
+cond_tests memory::a_part_that_memory_was_refused_leaves_the_others
 domain_counts_tests memory::a_call_that_was_refused_memory_answers_again
 batch_plan_tests memory::a_call_that_was_refused_memory_answers_again
 host_vars_tests memory::a_call_that_was_refused_memory_answers_again

@@ -1,5 +1,5 @@
 -- What was read of the tokens, and why they were refused, as a text's.
-use Rattle.std.proofs.Common.{◌≡◌, ℕ, ◌≤◌, true, false, List, [], ◌∷◌, length, sym, refl, ap, ◌∙◌, arith, subst, Option, Some, None}
+use Rattle.std.proofs.Common.{◌≡◌, ℕ, ◌≤◌, true, false, List, [], ◌∷◌, length, sym, refl, ap, ◌∙◌, arith, subst, Option, Some, None, Result, Ok, Err, IfErr}
 use Rattle.std.specs.Prelude.{option_map, is_some}
 use Rattle.cond.specs.Seen.{kept}
 use Rattle.cond.specs.declared.mark.Mark.{Mark}
@@ -92,6 +92,11 @@ only_memory fault.Memory text broken condition written short deep = refl
 pub only_broken : (f : CondFault) (text : List ℕ) (tokens : List Token) (left : List ℕ) → FallsInto text tokens left → IsBroken f tokens left → (condition : Any) → Writes text condition → length text ≤ most_bytes → any_depth condition ≤ most_depth → f ≡ fault.Memory
 only_broken f text tokens left falls broken condition written short deep =
     only_memory f text (breaks f text tokens left falls broken) condition written short deep
+
+pub only_refused : (result : Result Tree CondFault) (text : List ℕ) (tokens : List Token) (left : List ℕ) → FallsInto text tokens left → IfErr result (λ f. IsBroken f tokens left) → (condition : Any) → Writes text condition → length text ≤ most_bytes → any_depth condition ≤ most_depth → IfErr result (λ f. f ≡ fault.Memory)
+only_refused (Ok tree) text tokens left falls broken condition written short deep = tt
+only_refused (Err f) text tokens left falls broken condition written short deep =
+    only_broken f text tokens left falls broken condition written short deep
 
 pub kept_some : (text : List ℕ) (o : Option Mark) (tokens : List Token) → option_map (kept text) o ≡ first tokens → is_some o ≡ true → first tokens ≡ None → ⊥
 kept_some text None tokens e some none = cc

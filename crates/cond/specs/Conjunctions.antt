@@ -6,4 +6,4 @@ use Rattle.cond.specs.declared.conjunction.Conjunction.{Conjunction}
 
 -- each of them on a host
 abbrev pub verdicts_on : Conjunction → Environment → List Verdict
-verdicts_on all e = verdicts e (string_bytes all.text) all.parts.items
+verdicts_on all e = verdicts e (string_bytes all.text) all.trees.items all.parts.items

@@ -1,5 +1,5 @@
 -- What the tree that the parser makes says.
-use Rattle.std.specs.Prelude.{ℕ, ◌+◌, Bool, true, false, Result, Ok, Err, List, [], ◌∷◌, take, drop, string_bytes, box_value}
+use Rattle.std.specs.Prelude.{ℕ, ◌+◌, Bool, true, false, Result, Ok, Err, List, [], ◌∷◌, map, take, drop, string_bytes, box_value}
 use Rattle.cond.specs.Grammar as grammar
 use Rattle.cond.specs.Meaning.{Environment, Verdict, either, both, turned, test_meaning}
 use Rattle.cond.specs.Meaning as meaning
@@ -19,6 +19,7 @@ use Rattle.cond.specs.declared.tree.Tree.TheOpen.{Tree-F}
 use Rattle.cond.specs.declared.tree.Tree.TheOpen as tree
 use Rattle.cond.specs.declared.tree.Tree.TheFolds.{fold-Tree}
 use Rattle.cond.specs.declared.condition.Part.{Part}
+use Rattle.cond.specs.declared.condition.Part.TheVariants as part
 use Rattle.cond.specs.declared.condition.Cond.{Cond}
 use Rattle.cond.specs.Seen.{piece}
 
@@ -71,19 +72,38 @@ verdict_step text e (tree.Denied test) = turned true (test_meaning e (written te
 abbrev pub tree_verdict : List ℕ → Environment → Tree → Verdict
 tree_verdict text e = fold-Tree Verdict (verdict_step text e)
 
--- what each part says; their texts stand one behind the other
-abbrev pub verdicts : Environment → List ℕ → List Part → List Verdict
-verdicts e text [] = []
-verdicts e text (part ∷ parts) = tree_verdict (take part.bytes text) e part.tree ∷ verdicts e (drop part.bytes text) parts
+-- how many bytes the text of a part has, and how many trees the part has
+abbrev pub bytes_of : Part → ℕ
+bytes_of (part.Test denied bytes test) = bytes
+bytes_of (part.Trees bytes count) = bytes
 
--- how many bytes their texts have
-abbrev pub total : List Part → ℕ
-total [] = 0
-total (part ∷ parts) = part.bytes + total parts
+abbrev pub trees_of : Part → ℕ
+trees_of (part.Test denied bytes test) = 0
+trees_of (part.Trees bytes count) = count
+
+-- what a part of this text, with these trees, says
+abbrev pub part_verdict : Environment → List ℕ → List Tree → Part → Verdict
+part_verdict e text trees (part.Test denied bytes test) = turned denied (test_meaning e (written text test))
+part_verdict e text trees (part.Trees bytes count) = all_of (map (tree_verdict text e) trees)
+
+-- what each part says; their texts stand one behind the other, and so do their trees
+abbrev pub verdicts : Environment → List ℕ → List Tree → List Part → List Verdict
+verdicts e text trees [] = []
+verdicts e text trees (part ∷ parts) =
+    part_verdict e (take (bytes_of part) text) (take (trees_of part) trees) part ∷ verdicts e (drop (bytes_of part) text) (drop (trees_of part) trees) parts
+
+-- how many bytes their texts have, and how many trees they have
+abbrev pub all_bytes : List Part → ℕ
+all_bytes [] = 0
+all_bytes (part ∷ parts) = bytes_of part + all_bytes parts
+
+abbrev pub all_trees : List Part → ℕ
+all_trees [] = 0
+all_trees (part ∷ parts) = trees_of part + all_trees parts
 
 -- what a condition says: all its parts hold
 abbrev pub verdict_of : Environment → Cond → Verdict
-verdict_of e condition = all_of (verdicts e (string_bytes condition.text) condition.parts.items)
+verdict_of e condition = all_of (verdicts e (string_bytes condition.text) condition.trees.items condition.parts.items)
 
 abbrev pub told : Result Bool Undefined → Verdict
 told (Ok b) = Ok b

@@ -1,17 +1,51 @@
 //! A condition that was read.
+ghost use Rattle.std.specs.Prelude.{◌≡◌};
+ghost use Rattle.cond.specs.Trees.{bytes_of, trees_of};
+
+use crate::leaf::Test;
 use crate::tree::Tree;
 
-/// What one text says, and how many bytes it has.
-#[derive(Debug, Drop)]
-pub(crate) struct Part {
-    pub(crate) bytes: u16,
-    pub(crate) tree: Tree,
+/// What one text says, and how many bytes it has. It owns nothing, so that dropping a long list of parts takes no time.
+#[derive(Clone, Copy, Debug)]
+pub(crate) enum Part {
+    /// A test, or its contrary.
+    Test {
+        denied: bool,
+        bytes: u16,
+        test: Test,
+    },
+    /// So many of the condition's trees, which all have to hold.
+    Trees {
+        bytes: u16,
+        count: usize,
+    },
 }
 
-/// A condition: parts that all have to hold. Their texts stand one behind the other in one text, so that a list of many
-/// tests takes no memory for each.
+impl Part {
+    pub(crate) fn bytes(self) -> u16
+        ensures { result ≡ bytes_of self }
+    {
+        match self {
+            Part::Test { bytes, .. } => bytes,
+            Part::Trees { bytes, .. } => bytes,
+        }
+    }
+
+    pub(crate) fn trees(self) -> usize
+        ensures { result ≡ trees_of self }
+    {
+        match self {
+            Part::Test { .. } => 0,
+            Part::Trees { count, .. } => count,
+        }
+    }
+}
+
+/// A condition: parts that all have to hold. Their texts stand one behind the other in one text, and so do their trees, so
+/// that a list of many tests takes no memory for each.
 #[derive(Debug, Drop)]
 pub struct Cond {
     pub(crate) text: String,
     pub(crate) parts: Vec<Part>,
+    pub(crate) trees: Vec<Tree>,
 }

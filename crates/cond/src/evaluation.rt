@@ -2,9 +2,9 @@
 ghost use Rattle.std.specs.Prelude.{◌≡◌, Ok};
 ghost use Rattle.cond.specs.Meaning as meaning;
 ghost use Rattle.cond.specs.Meaning.{ref_value, operand_value, value_holds, same_value, state_holds, is_within, test_meaning, contrary_if};
-ghost use Rattle.cond.specs.Trees.{said, had, told, found, written, written_ref, written_operand, tree_verdict, verdict_of};
+ghost use Rattle.cond.specs.Trees.{said, had, told, found, written, written_ref, written_operand, tree_verdict, part_verdict, verdict_of};
 
-use crate::condition::Cond;
+use crate::condition::{Cond, Part};
 use crate::environment::{Env, Scalar, Undefined, Value};
 use crate::fields::Field;
 use crate::leaf::{Operand, Ref, Test};
@@ -18,14 +18,42 @@ pub fn eval<'c, E: Env>(cond: &'c Cond, env: &E) -> Result<bool, Undefined<'c>>
     ensures { told result ≡ verdict_of (E.environment env.now) cond.now }
 {
     let mut left = cond.text.as_bytes();
+    let mut trees = cond.trees.as_slice();
     for part in &cond.parts {
-        let (text, behind) = split(left, part.bytes);
-        match tree_holds(text, &part.tree, env) {
-            Ok(true) => left = behind,
+        let (text, behind) = split(left, usize::from(part.bytes()));
+        let (own, others) = split(trees, part.trees());
+        match part_holds(text, *part, own, env) {
+            Ok(true) => (left, trees) = (behind, others),
             decided => return decided,
         }
     }
     Ok(true)
+}
+
+// A part with its own text and trees.
+fn part_holds<'c, E: Env>(
+    text: &'c [u8],
+    part: Part,
+    trees: &[Tree],
+    env: &E,
+) -> Result<bool, Undefined<'c>>
+    ensures { told result ≡ part_verdict (E.environment env.now) text.now trees.now part }
+{
+    match part {
+        Part::Test { denied, test, .. } => {
+            let holds = test_holds(text, test, env)?;
+            Ok(turned(denied, holds))
+        }
+        Part::Trees { .. } => {
+            for tree in trees {
+                match tree_holds(text, tree, env) {
+                    Ok(true) => {}
+                    decided => return decided,
+                }
+            }
+            Ok(true)
+        }
+    }
 }
 
 fn tree_holds<'c, E: Env>(text: &'c [u8], tree: &Tree, env: &E) -> Result<bool, Undefined<'c>>

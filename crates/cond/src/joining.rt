@@ -3,7 +3,7 @@ ghost use Rattle.std.specs.Prelude.{◌≡◌, ◌<◌, ◌≤◌, ◌++◌, ◌
 ghost use Rattle.cond.specs.Conditions.{most_bytes, most_depth, Writes, IsMeant, IsAdded, Breaks};
 ghost use Rattle.cond.specs.Grammar.{Any, any_depth};
 ghost use Rattle.cond.specs.Meaning.{Environment};
-ghost use Rattle.cond.specs.Trees.{total, verdicts, verdict_of, all_of, tree_verdict};
+ghost use Rattle.cond.specs.Trees.{all_bytes, all_trees, verdicts, verdict_of, all_of, tree_verdict};
 ghost use Rattle.cond.specs.Conjunctions.{verdicts_on};
 
 use crate::condition::{Cond, Part};
@@ -13,7 +13,6 @@ use crate::leaf::{Operand, Test};
 use crate::parsing::parse_text;
 use crate::tree::Tree;
 use std::alloc::{AllocError, Global};
-use std::mem;
 
 impl Conjunction {
     /// None yet. It takes no memory.
@@ -23,6 +22,7 @@ impl Conjunction {
         Conjunction {
             text: String::new(alloc),
             parts: Vec::new(alloc),
+            trees: Vec::new(alloc),
             tokens: Vec::new(alloc),
         }
     }
@@ -34,6 +34,7 @@ impl Conjunction {
         Ok(Conjunction {
             text: String::new(alloc),
             parts: Vec::with_capacity(alloc, parts)?,
+            trees: Vec::new(alloc),
             tokens: Vec::new(alloc),
         })
     }
@@ -49,15 +50,17 @@ impl Conjunction {
         ensures only { (condition : Any) → Writes text.now condition → length text.now ≤ most_bytes → any_depth condition ≤ most_depth
             → IfErr result (λ fault. fault ≡ CondFault.Memory) }
     {
-        let tokens = mem::replace(&mut self.tokens, Vec::new(alloc));
-        match parse_text(alloc, tokens, text) {
-            Ok((tree, tokens)) => {
-                self.tokens = tokens;
-                match push_part(&mut self.text, &mut self.parts, text, tree) {
-                    Ok(()) => Ok(()),
-                    Err(_refused) => Err(CondFault::Memory),
-                }
-            }
+        match parse_text(alloc, &mut self.tokens, text) {
+            Ok(tree) => match push_tree(
+                &mut self.text,
+                &mut self.parts,
+                &mut self.trees,
+                text,
+                tree,
+            ) {
+                Ok(()) => Ok(()),
+                Err(_refused) => Err(CondFault::Memory),
+            },
             Err(fault) => Err(fault),
         }
     }
@@ -68,7 +71,7 @@ impl Conjunction {
         ensures left { OnErr result ((e : Environment) → verdicts_on self.new e ≡ verdicts_on self.old e) }
     {
         let tree = Tree::Leaf(Test::Alone(Operand::Truth(value)));
-        push_part(&mut self.text, &mut self.parts, "", tree)
+        push_tree(&mut self.text, &mut self.parts, &mut self.trees, "", tree)
     }
 
     /// All of them as one condition; without any it always holds.
@@ -78,29 +81,94 @@ impl Conjunction {
         Cond {
             text: self.text,
             parts: self.parts,
+            trees: self.trees,
         }
     }
 }
 
-// One part more. The memory for both lists is had before either grows.
+// One part more. The memory for all lists is had before any of them grows.
+#[inline(always)]
+fn push_tree(
+    text: &mut String,
+    parts: &mut Vec<Part>,
+    trees: &mut Vec<Tree>,
+    more: &str,
+    tree: Tree,
+) -> Result<(), AllocError>
+    requires written { all_bytes parts.old.items ≡ length (string_bytes text.old) }
+    requires grown { all_trees parts.old.items ≡ length trees.old.items }
+    requires short { length more.now ≤ most_bytes }
+    ensures written { all_bytes parts.new.items ≡ length (string_bytes text.new) }
+    ensures grown { all_trees parts.new.items ≡ length trees.new.items }
+    ensures ok { OnOk result ((e : Environment) → verdicts e (string_bytes text.new) trees.new.items parts.new.items ≡ verdicts e (string_bytes text.old) trees.old.items parts.old.items ++ tree_verdict more.now e tree ∷ []) }
+    ensures left { OnErr result ((e : Environment) → verdicts e (string_bytes text.new) trees.new.items parts.new.items ≡ verdicts e (string_bytes text.old) trees.old.items parts.old.items) }
+{
+    let bytes = more.len() as u16;
+    match tree {
+        Tree::Leaf(test) => {
+            let denied = false;
+            Ok(push_part(
+                text,
+                parts,
+                more,
+                Part::Test {
+                    denied,
+                    bytes,
+                    test,
+                },
+            )?)
+        }
+        Tree::Denied(test) => {
+            let denied = true;
+            Ok(push_part(
+                text,
+                parts,
+                more,
+                Part::Test {
+                    denied,
+                    bytes,
+                    test,
+                },
+            )?)
+        }
+        Tree::Both(mut all) => {
+            let count = all.len();
+            let part = Part::Trees { bytes, count };
+            if trees.is_empty() {
+                // The first trees bring their memory with them.
+                push_part(text, parts, more, part)?;
+                *trees = all;
+                Ok(())
+            } else {
+                trees.reserve(count)?;
+                push_part(text, parts, more, part)?;
+                trees.append(&mut all)?;
+                Ok(())
+            }
+        }
+        other => {
+            trees.reserve(1)?;
+            push_part(text, parts, more, Part::Trees { bytes, count: 1 })?;
+            trees.push_reserved(other);
+            Ok(())
+        }
+    }
+}
+
 #[inline(always)]
 fn push_part(
     text: &mut String,
     parts: &mut Vec<Part>,
     more: &str,
-    tree: Tree,
+    part: Part,
 ) -> Result<(), AllocError>
-    requires whole { total parts.old.items ≡ length (string_bytes text.old) }
-    requires short { length more.now ≤ most_bytes }
-    ensures whole { total parts.new.items ≡ length (string_bytes text.new) }
-    ensures ok { OnOk result ((e : Environment) → verdicts e (string_bytes text.new) parts.new.items ≡ verdicts e (string_bytes text.old) parts.old.items ++ tree_verdict more.now e tree ∷ []) }
-    ensures left { OnErr result ((e : Environment) → verdicts e (string_bytes text.new) parts.new.items ≡ verdicts e (string_bytes text.old) parts.old.items) }
+    ensures text { OnOk result (string_bytes text.new ≡ string_bytes text.old ++ more.now) }
+    ensures parts { OnOk result (parts.new.items ≡ parts.old.items ++ part ∷ []) }
+    ensures text_left { OnErr result (string_bytes text.new ≡ string_bytes text.old) }
+    ensures parts_left { OnErr result (parts.new.items ≡ parts.old.items) }
 {
     parts.reserve(1)?;
     text.push_str(more)?;
-    parts.push(Part {
-        bytes: more.len() as u16,
-        tree,
-    })?;
+    parts.push_reserved(part);
     Ok(())
 }

@@ -13,7 +13,7 @@ use crate::parser::{any, leaf_of};
 use crate::reading::test;
 use crate::source::Source;
 use crate::stop::Stop;
-use crate::token::{Token, Tokens, tokenize};
+use crate::token::{Left, Token, tokenize};
 use crate::tree::Tree;
 use std::alloc::Global;
 
@@ -43,13 +43,13 @@ pub fn parse(alloc: Global, text: &str) -> Result<Cond, CondFault>
     }
 }
 
-/// The tree of the text, and the memory for the next one's tokens.
+/// The tree of the text. Its tokens take the place of those that stand there.
 pub(crate) fn parse_text(
     alloc: Global,
-    tokens: Vec<Token>,
+    tokens: &mut Vec<Token>,
     text: &str,
-) -> Result<(Tree, Vec<Token>), CondFault>
-    ensures ok { IfOk result (λ read. IsMeant text.now (λ e. tree_verdict text.now e read.0)) }
+) -> Result<Tree, CondFault>
+    ensures ok { IfOk result (λ tree. IsMeant text.now (λ e. tree_verdict text.now e tree)) }
     ensures err { IfErr result (λ fault. Breaks fault text.now) }
     ensures long { most_bytes < length text.now → result ≡ Err (CondFault.TooLong most_bytes) }
     ensures only { (condition : Any) → Writes text.now condition → length text.now ≤ most_bytes → any_depth condition ≤ most_depth
@@ -58,25 +58,22 @@ pub(crate) fn parse_text(
     if text.len() > MOST_BYTES {
         return Err(CondFault::TooLong { at: MOST_BYTES });
     }
-    let found = tokenize(tokens, text)?;
-    match tree_of(alloc, text, &found) {
-        Ok(tree) => Ok((tree, found.all)),
-        Err(fault) => Err(fault),
-    }
+    let left = tokenize(tokens, text)?;
+    tree_of(alloc, text, tokens.as_slice(), left)
 }
 
-fn tree_of(alloc: Global, text: &str, found: &Tokens<'_>) -> Result<Tree, CondFault>
-    ensures read { IfOk result (λ tree. IsRead (marks text.now found.now.all.items) (λ e. tree_verdict text.now e tree)) }
-    ensures whole { IfOk result (λ _. found.now.left.now ≡ []) }
-    ensures err { IfErr result (λ fault. IsBroken fault (marks text.now found.now.all.items) found.now.left.now) }
+fn tree_of(alloc: Global, text: &str, tokens: &[Token], left: Left<'_>) -> Result<Tree, CondFault>
+    ensures read { IfOk result (λ tree. IsRead (marks text.now tokens.now) (λ e. tree_verdict text.now e tree)) }
+    ensures whole { IfOk result (λ _. left.entry.text.now ≡ []) }
+    ensures err { IfErr result (λ fault. IsBroken fault (marks text.now tokens.now) left.entry.text.now) }
 {
-    let bad = !found.left.is_empty();
+    let bad = !left.text.is_empty();
     let source = Source {
         text: text.as_bytes(),
-        tokens: found.all.as_slice(),
-        end: found.end,
+        tokens,
+        end: left.at,
     };
-    if !bad && found.all.len() <= FEW_TOKENS {
+    if !bad && tokens.len() <= FEW_TOKENS {
         if let Some(test) = only_test(&source) {
             return Ok(leaf_of(test));
         }

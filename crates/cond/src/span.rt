@@ -36,13 +36,17 @@ pub(crate) fn word_in(text: &[u8], span: Span) -> &str
 fn bytes_at(bytes: &[u8], span: Span) -> &[u8]
     ensures { result.now ≡ spec.bytes_at bytes.now span }
 {
-    split(split(bytes, span.at).1, span.bytes).0
+    split(
+        split(bytes, usize::from(span.at)).1,
+        usize::from(span.bytes),
+    )
+    .0
 }
 
-/// So many bytes, or all where there are fewer, and what is behind them.
-pub(crate) fn split(bytes: &[u8], count: u16) -> (&[u8], &[u8])
-    ensures front { result.0.now ≡ take count bytes.now }
-    ensures behind { result.1.now ≡ drop count bytes.now }
+/// So many elements, or all where there are fewer, and what is behind them.
+pub(crate) fn split<T>(list: &[T], count: usize) -> (&[T], &[T])
+    ensures front { result.0.now ≡ take count list.now }
+    ensures behind { result.1.now ≡ drop count list.now }
 {
-    bytes.split_at(bytes.len().min(usize::from(count)))
+    list.split_at(list.len().min(count))
 }

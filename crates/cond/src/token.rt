@@ -14,33 +14,32 @@ pub(crate) struct Token {
     pub(crate) mark: Mark,
 }
 
-/// The tokens of a text, up to its end or the first place where no token stands.
-#[derive(Debug, Drop)]
-pub(crate) struct Tokens<'t> {
-    pub(crate) all: Vec<Token>,
-    /// What is left of the text there: nothing, or a bad token.
-    pub(crate) left: &'t str,
-    /// The byte place of what is left.
-    pub(crate) end: usize,
+/// What is left of a text behind its tokens: nothing, or a bad token.
+#[derive(Clone, Copy, Debug)]
+pub(crate) struct Left<'t> {
+    pub(crate) text: &'t str,
+    /// Its byte place in the whole text.
+    pub(crate) at: usize,
 }
 
-/// The tokens of a text. They take the place of those in `all`, whose memory they use.
-pub(crate) fn tokenize<'t>(mut all: Vec<Token>, text: &'t str) -> Result<Tokens<'t>, AllocError>
+/// The tokens of a text, up to its end or the first place where no token stands, and what is left there. They take the place of
+/// those in `all`, whose memory they use.
+pub(crate) fn tokenize<'t>(all: &mut Vec<Token>, text: &'t str) -> Result<Left<'t>, AllocError>
     requires { length text.now ≤ 4096 }
-    ensures { IfOk result (λ found. FallsInto text.now (marks text.now found.all.items) found.left.now) }
+    ensures { IfOk result (λ left. FallsInto text.now (marks text.now all.new.items) left.text.now) }
 {
     all.clear();
-    // Mostly a token has two bytes or more, or a blank beside it.
-    all.reserve(text.len() / 2)?;
+    // A token has a byte at least, so that there is room for all of them.
+    all.reserve(text.len())?;
     let mut left = without_blanks(text);
     while let Some((kind, behind)) = token_at(left) {
         let at = text.len() - left.len();
-        all.push(Token {
+        all.push_reserved(Token {
             at: at as u16,
             mark: mark_at(at, kind),
-        })?;
+        });
         left = without_blanks(behind);
     }
-    let end = text.len() - left.len();
-    Ok(Tokens { all, left, end })
+    let at = text.len() - left.len();
+    Ok(Left { text: left, at })
 }

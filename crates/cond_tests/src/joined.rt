@@ -30,3 +30,23 @@ fn one_part_that_does_not_hold_is_enough(rt: HostRuntime) {
     let whole = all.finish();
     assert!(rt; matches!(eval(&whole, &Web1), Ok(false)));
 }
+
+#[test]
+fn each_part_has_trees_of_its_own(rt: HostRuntime) {
+    let mut all = Conjunction::new(rt.alloc());
+    for text in [
+        "v == 7 and flag",
+        "not zero",
+        "zero or word == 'text'",
+        "flag and v == 7 and not empty",
+        "not (zero or empty)",
+        "zero or flag and nobody",
+    ] {
+        assert!(rt; all.add(rt.alloc(), text) == Ok(()));
+    }
+    let whole = all.finish();
+    match eval(&whole, &Web1) {
+        Err(undefined) => assert!(rt; undefined.name == "nobody"),
+        Ok(_) => assert!(rt; false),
+    }
+}

@@ -5,4 +5,4 @@ use Rattle.cond.proofs.evaluation.eval.Given as goal
 -- what is left decides
 abbrev pub invariant-loop-part : goal.invariant-loop-part
 invariant-loop-part g l =
-    all_of (verdicts (g.E.Env.environment l.env) l.left (drop l.part-index l.part-items)) ≡ verdict_of (g.E.Env.environment l.env) l.cond
+    all_of (verdicts (g.E.Env.environment l.env) l.left l.trees (drop l.part-index l.part-items)) ≡ verdict_of (g.E.Env.environment l.env) l.cond
