@@ -37,7 +37,7 @@ fn count_piece(bytes: &[u8], tail: usize) -> usize
     index
 }
 
-pub(crate) fn is_blank(byte: u8) -> bool
+fn is_blank(byte: u8) -> bool
     ensures { result ≡ words.is_blank byte }
 {
     // Most bytes are told from blanks by this one comparison.
