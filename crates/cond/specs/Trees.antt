@@ -1,4 +1,4 @@
--- What the tree that the parser makes says.
+-- What trees, parts and whole conditions say.
 use Rattle.std.specs.Prelude.{ℕ, ◌+◌, Bool, true, false, Result, Ok, Err, List, [], ◌∷◌, map, take, drop, string_bytes, box_value}
 use Rattle.cond.specs.Grammar as grammar
 use Rattle.cond.specs.Meaning.{Environment, Verdict, either, both, turned, test_meaning}

@@ -42,7 +42,7 @@ impl Part {
 }
 
 /// A condition: parts that all have to hold. Their texts stand one behind the other in one text, and so do their trees, so
-/// that a list of many tests takes no memory for each.
+/// that no part of a list of many tests takes memory of its own.
 #[derive(Debug, Drop)]
 pub struct Cond {
     pub(crate) text: String,

@@ -27,7 +27,7 @@ impl Conjunction {
         }
     }
 
-    /// None yet; it asks for the memory of so many parts. Their texts take theirs as they come.
+    /// None yet; it asks for the memory of so many parts. Texts, trees and tokens take theirs as they come.
     pub fn with_capacity(alloc: Global, parts: usize) -> Result<Conjunction, AllocError>
         ensures { IfOk result (λ none. (e : Environment) → verdicts_on none e ≡ []) }
     {
@@ -40,8 +40,8 @@ impl Conjunction {
     }
 
     /// The condition that the text writes is joined to the others. A text that is too long is refused first, any other by the
-    /// first place in it where a rule is broken; a refusal leaves the others as they were. Its time is linear in the text, but for what it takes
-    /// to move the others where there was no room for one more.
+    /// first place in it where a rule is broken; a refusal leaves the others as they were. Its time is linear in the text,
+    /// but for what it takes to move the others where there was no room for one more.
     pub fn add(&mut self, alloc: Global, text: &str) -> Result<(), CondFault>
         ensures ok { OnOk result (IsAdded text.now (verdicts_on self.old) (verdicts_on self.new)) }
         ensures err { IfErr result (λ fault. Breaks fault text.now) }

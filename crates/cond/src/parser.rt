@@ -1,6 +1,7 @@
 //! From tokens to a tree, down the rules of the grammar. What nests has room for so many more brackets and `not`s.
 //!
-//! The way of a single test is one function after inlining; what nests or goes on is called, so that its locals are not set up on that way.
+//! The way of a single test of many tokens is one function after inlining; what nests or goes on is called, so that its locals are not set
+//! up on that way.
 ghost use Rattle.std.specs.Prelude.{◌≡◌, ℕ, List, ◌<◌, ◌++◌, ◌∷◌, [], Some, IfOk, IfErr, length, map, true};
 ghost use Rattle.cond.specs.Grammar as grammar;
 ghost use Rattle.cond.specs.Meaning.{Environment, any_meaning, all_meaning, neg_meaning, primary_meaning, test_meaning, turned};

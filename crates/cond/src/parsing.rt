@@ -102,7 +102,7 @@ fn tree_of(alloc: Global, text: &str, tokens: &[Token], left: Left<'_>) -> Resul
     }
 }
 
-/// The test that the tokens are, if they are one. Most conditions are, and need no walk down the rules of the grammar.
+/// The test that the tokens are, if they are one. Most conditions are one of few tokens, and need no walk down the rules of the grammar.
 #[inline(always)]
 fn only_test(source: &Source<'_>) -> Option<Test>
     ensures { IfSome result (λ test. ahead source.now 0 ≡ test_then (written (text_of source.now) test) []) }

@@ -1,8 +1,8 @@
 //! The tree of a text that was read.
 use crate::leaf::Test;
 
-/// What a text says, at most as deep as it nests brackets and `not`: a chain of `or` or `and` is one level. Words stand in it as
-/// places in the text.
+/// What a text says. How deep it is is bounded by how deep the text nests brackets and `not`, since a chain of `or` or `and` is
+/// one level. Words stand in it as places in the text.
 #[derive(Debug, Drop)]
 pub(crate) enum Tree {
     Either(Vec<Tree>),

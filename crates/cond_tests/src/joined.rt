@@ -1,6 +1,7 @@
 //! Conditions that are joined one by one.
 use crate::host::Web1;
 use cond::{CondFault, Conjunction, eval};
+use std::test::Fail;
 
 #[test]
 fn each_part_has_words_of_its_own(rt: HostRuntime) {
@@ -20,15 +21,16 @@ fn each_part_has_words_of_its_own(rt: HostRuntime) {
 }
 
 #[test]
-fn one_part_that_does_not_hold_is_enough(rt: HostRuntime) {
+fn one_part_that_does_not_hold_is_enough(rt: HostRuntime) -> Result<(), Fail> {
     let none = Conjunction::new(rt.alloc()).finish();
     assert!(rt; matches!(eval(&none, &Web1), Ok(true)));
-    let mut all = Conjunction::new(rt.alloc());
+    let mut all = Conjunction::with_capacity(rt.alloc(), 3)?;
     assert!(rt; all.add(rt.alloc(), "flag") == Ok(()));
     assert!(rt; all.add_truth(false).is_ok());
     assert!(rt; all.add(rt.alloc(), "nobody") == Ok(()));
     let whole = all.finish();
     assert!(rt; matches!(eval(&whole, &Web1), Ok(false)));
+    Ok(())
 }
 
 #[test]

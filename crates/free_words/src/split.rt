@@ -1,24 +1,25 @@
 //! From a text to its words.
-ghost use Rattle.std.specs.Prelude.{◌≡◌, IfOk, map, string_bytes};
+ghost use Rattle.std.specs.Prelude.{◌≡◌, IfOk};
 ghost use Rattle.play_rules.specs.Commands as spec;
 
 use crate::holes::tail_of_last_closing;
 use crate::pieces::cut_piece;
+use play_model::Words;
 use std::alloc::{AllocError, Global};
 
 /// The words of a text: it is split at runs of blanks (space, tab, line feed, carriage return), save between `{{` and the
 /// next `}}`. It fails for want of memory alone.
-pub fn split_words(alloc: Global, text: &str) -> Result<Vec<String>, AllocError>
-    ensures { IfOk result (λ words. map string_bytes words.items ≡ spec.split text.now) }
+pub fn split_words(alloc: Global, text: &str) -> Result<Words, AllocError>
+    ensures { IfOk result (λ words. words ≡ spec.split text.now) }
 {
     let tail = tail_of_last_closing(text.as_bytes());
     // Words and the blanks behind them mostly have so many bytes. A long text takes more room as its words come.
-    let mut words = Vec::with_capacity(alloc, (1 + text.len() / 8).min(32))?;
+    let mut words = Words::with_capacity(alloc, (1 + text.len() / 8).min(32), text.len())?;
     let mut left = Some(text);
     while let Some(rest) = left {
         let (piece, behind) = cut_piece(rest, tail);
         if !piece.is_empty() {
-            words.push(String::from_str(alloc, piece)?)?;
+            words.push(piece)?;
         }
         left = behind;
     }

@@ -65,7 +65,7 @@ asked_if (Err name) words = settled (ending.undefined name)
 -- what a step asks of the host
 abbrev pub asks : Known → Step → Request
 asks known step =
-    asked_if (is_to_run (environment_in known) step) (words_asked (values_in known) (map string_bytes step.words.items))
+    asked_if (is_to_run (environment_in known) step) (words_asked (values_in known) step.words)
 
 -- how the step ends: as was settled, or as its program ended
 abbrev pub end_of : Request → Ending → Ending

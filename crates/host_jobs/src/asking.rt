@@ -1,5 +1,5 @@
 //! Whether a step runs on a host, and with which words.
-ghost use Rattle.std.specs.Prelude.{◌≡◌, IfOk, map, string_bytes};
+ghost use Rattle.std.specs.Prelude.{◌≡◌, IfOk};
 ghost use Rattle.cond.specs.Trees.{told};
 ghost use Rattle.play_model.specs.Plays.{HasPlainWords};
 ghost use Rattle.outcome_results.specs.Hosts.{known_of, environment_in, values_in};
@@ -41,11 +41,11 @@ fn is_to_run<'s>(step: &'s Step, vars: &Vars) -> Result<bool, Undefined<'s>>
 fn words_for(alloc: Global, step: &Step, vars: &Vars) -> Result<Asked, AllocError>
     requires { HasPlainWords step.now }
     ensures { IfOk result (λ asked. asked_as asked
-        ≡ spec.words_asked (values_in (known_of vars.now)) (map string_bytes step.now.words.items)) }
+        ≡ spec.words_asked (values_in (known_of vars.now)) step.now.words) }
 {
     let mut words = Vec::with_capacity(alloc, step.words.len())?;
-    for word in &step.words {
-        match worded(alloc, word.as_str(), vars)? {
+    for place in 0..step.words.len() {
+        match worded(alloc, step.words.at(place), vars)? {
             Wording::Text(text) => words.push(text)?,
             Wording::Settled(outcome) => return Ok(Asked::Settled(outcome)),
         }

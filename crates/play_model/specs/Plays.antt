@@ -1,5 +1,5 @@
 -- What holds of every play.
-use Rattle.std.specs.Prelude.{◌≡◌, ℕ, ◌-◌, ◌<◌, ◌≤◌, IsFalse, List, [], length, drop, string_bytes, All}
+use Rattle.std.specs.Prelude.{◌≡◌, ℕ, ◌-◌, ◌<◌, ◌≤◌, IsFalse, List, [], length, drop, All}
 use Rattle.word_parts.specs.Words.{has_braces}
 use Rattle.play_model.specs.declared.size.Size.{Size}
 use Rattle.play_model.specs.declared.step.Step.{Step}
@@ -13,7 +13,7 @@ NotifiesNobody step = step.notify.items ≡ []
 
 -- each opening brace in the step's words begins a hole
 abbrev pub HasPlainWords : Step → Type 0
-HasPlainWords step = All (λ word. IsFalse (has_braces (string_bytes word))) step.words.items
+HasPlainWords step = All (λ word. IsFalse (has_braces word)) step.words
 
 -- of a play's sizes and steps, which are the tasks, of which there are so many, and then the handlers
 pub record IsSound (sizes : List Size) (steps : List Step) (tasks : ℕ) : Type 0 where

@@ -5,9 +5,11 @@ mod on_blocked;
 mod play;
 mod size;
 mod step;
+mod words;
 mod worked;
 
 pub use on_blocked::OnBlocked;
 pub use play::{Play, SIZES_BOUND, STEPS_BOUND};
 pub use size::Size;
 pub use step::Step;
+pub use words::Words;

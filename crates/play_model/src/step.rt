@@ -1,4 +1,5 @@
 //! A step of a play.
+use crate::words::Words;
 use cond::Cond;
 
 /// A task or a handler. `words` are the program and its arguments, in which holes stand for values of the host. `notify`
@@ -6,7 +7,7 @@ use cond::Cond;
 #[derive(Debug, Drop)]
 pub struct Step {
     pub name: Option<String>,
-    pub words: Vec<String>,
+    pub words: Words,
     pub register: Option<String>,
     pub when: Option<Cond>,
     pub changed_when: Option<Cond>,

@@ -55,11 +55,11 @@ if_err_more (Ok value) P Q more is = is
 if_err_more (Err error) P Q more is = more error is
 
 -- no word has what none of them has
-pub none_has : {X Y : Type 0} (test : Y → Bool) (f : X → Y) (xs : List X) → list_any test (map f xs) ≡ false → All (λ x. IsFalse (test (f x))) xs
-none_has test f [] none k d within = absurd (omega (arith, within))
-none_has test f (x ∷ xs) none zero d within = (or_parts (test (f x)) (list_any test (map f xs)) none).0
-none_has test f (x ∷ xs) none (suc k) d within =
-    none_has test f xs (or_parts (test (f x)) (list_any test (map f xs)) none).1 k d (omega (arith, within))
+pub none_has : {X : Type 0} (test : X → Bool) (xs : List X) → list_any test xs ≡ false → All (λ x. IsFalse (test x)) xs
+none_has test [] none k d within = absurd (omega (arith, within))
+none_has test (x ∷ xs) none zero d within = (or_parts (test x) (list_any test xs) none).0
+none_has test (x ∷ xs) none (suc k) d within =
+    none_has test xs (or_parts (test x) (list_any test xs) none).1 k d (omega (arith, within))
 
 -- the head of a step, in the parts in which it is read
 in_parts : (a b c d e : List Breach) (rest : List Check)

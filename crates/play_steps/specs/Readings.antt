@@ -16,7 +16,7 @@ use Rattle.play_steps.specs.declared.flaw.StepFlaw.TheVariants as flaw
 -- the step says what is written: the same texts and numbers, and conditions that mean the clauses
 pub record IsStep (written : WrittenStep) (step : Step) : Type 0 where
   pub name : option_map string_bytes step.name ≡ written.name
-  pub words : map string_bytes step.words.items ≡ written.words
+  pub words : step.words ≡ written.words
   pub register : option_map string_bytes step.register ≡ written.register
   pub when : Says written.when step.when
   pub changed_when : Says written.changed_when step.changed_when

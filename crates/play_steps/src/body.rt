@@ -8,7 +8,6 @@ ghost use Rattle.play_rules.specs.Commands.{words_in};
 ghost use Rattle.play_rules.specs.Keys.{register_key};
 ghost use Rattle.play_rules.specs.Steps.{handler_of};
 ghost use Rattle.play_rules.specs.Steps as spec;
-ghost use Rattle.play_words.specs.Kept.{kept};
 ghost use Rattle.play_faults.specs.Checks.{AllKept};
 ghost use Rattle.play_steps.specs.Readings.{checks_of_head, checks_of_body, IsFlawAt, IsStep};
 
@@ -42,7 +41,7 @@ pub(crate) fn read_body<'a>(
 
 fn read_head<'a>(alloc: Global, step: &'a Value, into: &mut Step) -> Result<(), StepFlaw<'a>>
     ensures kept { (spot : Spot) → IfOk result (λ _. AllKept (checks_of_head spot (view step.now))) }
-    ensures words { OnOk result (words_in (view step.now) ≡ Some (kept into.new.words)) }
+    ensures words { OnOk result (words_in (view step.now) ≡ Some into.new.words) }
     ensures register { OnOk result (option_map string_bytes into.new.register ≡ option_and_then spec.registered (get register_key (view step.now))) }
     ensures plain { OnOk result (HasPlainWords into.new) }
     ensures name { into.new.name ≡ into.old.name }

@@ -14,7 +14,7 @@ ghost use Rattle.play_steps.specs.Readings.{IsFlawAt, IsStep};
 use crate::body::{copied, read_body};
 use crate::flaw::StepFlaw;
 use crate::held::put;
-use play_model::Step;
+use play_model::{Step, Words};
 use play_settings::Flaw;
 use serde_json::Value;
 use std::alloc::Global;
@@ -26,7 +26,7 @@ pub fn blank_step(alloc: Global) -> Step
 {
     Step {
         name: None,
-        words: Vec::new(alloc),
+        words: Words::new(alloc),
         register: None,
         when: None,
         changed_when: None,

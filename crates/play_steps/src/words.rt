@@ -1,16 +1,16 @@
 //! The command of a step.
-ghost use Rattle.std.specs.Prelude.{◌≡◌, ◌==◌, Some, IfOk, IfErr, All, IsFalse, map, string_bytes};
+ghost use Rattle.std.specs.Prelude.{◌≡◌, Some, IfOk, IfErr, All, IsFalse, map};
 ghost use Rattle.std.specs.List.{list_any};
 ghost use Rattle.serde_json.specs.View.{view};
 ghost use Rattle.word_parts.specs.Words.{has_braces};
 ghost use Rattle.play_rules.specs.Breaches.{Spot, Broken};
 ghost use Rattle.play_rules.specs.Commands as spec;
-ghost use Rattle.play_words.specs.Kept.{kept};
 ghost use Rattle.play_faults.specs.Checks.{AllKept};
 ghost use Rattle.play_steps.specs.Readings.{IsFlawAt};
 
 use crate::flaw::StepFlaw;
 use crate::place::place_of_bad;
+use play_model::Words;
 use play_settings::Flaw;
 use play_words::words_in;
 use serde_json::Value;
@@ -18,26 +18,26 @@ use std::alloc::Global;
 use word_parts::check_word;
 
 /// The words of a step's command: it has the shape of one, and each opening brace in the words begins a hole.
-pub(crate) fn read_words<'a>(alloc: Global, step: &'a Value) -> Result<Vec<String>, StepFlaw<'a>>
+pub(crate) fn read_words<'a>(alloc: Global, step: &'a Value) -> Result<Words, StepFlaw<'a>>
     ensures kept { (spot : Spot) → IfOk result (λ _. AllKept (map Broken (spec.bad_command spot (view step.now)))) }
-    ensures says { IfOk result (λ words. spec.words_in (view step.now) ≡ Some (kept words)) }
-    ensures plain { IfOk result (λ words. All (λ word. IsFalse (has_braces (string_bytes word))) words.items) }
+    ensures says { IfOk result (λ words. spec.words_in (view step.now) ≡ Some words) }
+    ensures plain { IfOk result (λ words. All (λ word. IsFalse (has_braces word)) words) }
     ensures err { (spot : Spot) → IfErr result (λ flaw. IsFlawAt spot flaw (map Broken (spec.bad_command spot (view step.now)))) }
 {
     let Some(words) = words_in(alloc, step)? else {
         return Err(StepFlaw::Rule(Flaw::BadShape(place_of_bad(step))));
     };
-    if have_bad_braces(words.as_slice()) {
+    if have_bad_braces(&words) {
         return Err(StepFlaw::Rule(Flaw::BadBraces));
     }
     Ok(words)
 }
 
-fn have_bad_braces(words: &[String]) -> bool
-    ensures { result ≡ list_any has_braces (map string_bytes words.now) }
+fn have_bad_braces(words: &Words) -> bool
+    ensures { result ≡ list_any has_braces words.now }
 {
-    for word in words {
-        if has_bad_braces(word.as_str()) {
+    for place in 0..words.len() {
+        if has_bad_braces(words.at(place)) {
             return true;
         }
     }

@@ -1,18 +1,17 @@
 //! A command that is written as a list of words.
-ghost use Rattle.std.specs.Prelude.{◌≡◌, ◌++◌, IfOk, map, option_map, string_bytes};
-ghost use Rattle.std.specs.Fmt.{signed_decimal};
+ghost use Rattle.std.specs.Prelude.{◌≡◌, ◌++◌, IfOk, OnOk, map, option_to_list};
 ghost use Rattle.std.specs.List.{filter_map, list_all};
 ghost use Rattle.serde_json.specs.View.{view};
 ghost use Rattle.play_rules.specs.Commands as spec;
-ghost use Rattle.play_words.specs.Kept.{kept};
 
 use itoa::Buffer;
+use play_model::Words;
 use serde_json::Value;
 use std::alloc::{AllocError, Global};
 
 /// The words of the list: texts, and whole numbers in decimal; nothing where it has none, or has another value in it.
-pub(crate) fn words_listed(alloc: Global, list: &[Value]) -> Result<Option<Vec<String>>, AllocError>
-    ensures { IfOk result (λ words. option_map kept words ≡ spec.words_listed (map view list.now)) }
+pub(crate) fn words_listed(alloc: Global, list: &[Value]) -> Result<Option<Words>, AllocError>
+    ensures { IfOk result (λ words. words ≡ spec.words_listed (map view list.now)) }
 {
     if list.is_empty() || !are_words(list) {
         return Ok(None);
@@ -41,34 +40,26 @@ fn is_word(value: &Value) -> bool
     }
 }
 
-fn words_among(alloc: Global, list: &[Value]) -> Result<Vec<String>, AllocError>
-    ensures { IfOk result (λ words. map string_bytes words.items ≡ filter_map spec.word_of (map view list.now)) }
+fn words_among(alloc: Global, list: &[Value]) -> Result<Words, AllocError>
+    ensures { IfOk result (λ words. words ≡ filter_map spec.word_of (map view list.now)) }
 {
-    let mut words = Vec::with_capacity(alloc, list.len())?;
+    // Words mostly have fewer bytes. Longer ones take more room as they come.
+    let mut words = Words::with_capacity(alloc, list.len(), 8 * list.len().min(64))?;
     for value in list {
-        if let Some(word) = word_of(alloc, value)? {
-            words.push(word)?;
-        }
+        push_word(&mut words, value)?;
     }
     Ok(words)
 }
 
-fn word_of(alloc: Global, value: &Value) -> Result<Option<String>, AllocError>
-    ensures { IfOk result (λ word. option_map string_bytes word ≡ spec.word_of (view value.now)) }
+fn push_word(words: &mut Words, value: &Value) -> Result<(), AllocError>
+    ensures { OnOk result (words.new ≡ words.old ++ option_to_list (spec.word_of (view value.now))) }
 {
     match value {
-        Value::String(text) => Ok(Some(String::from_str(alloc, text.as_str())?)),
+        Value::String(text) => words.push(text.as_str()),
         Value::Number(number) => match number.as_i64() {
-            Some(number) => Ok(Some(decimal(alloc, number)?)),
-            None => Ok(None),
+            Some(number) => words.push(Buffer::new().format(number)),
+            None => Ok(()),
         },
-        _ => Ok(None),
+        _ => Ok(()),
     }
-}
-
-fn decimal(alloc: Global, number: i64) -> Result<String, AllocError>
-    ensures { IfOk result (λ text. string_bytes text ≡ signed_decimal number) }
-{
-    let mut buffer = Buffer::new();
-    String::from_str(alloc, buffer.format(number))
 }

@@ -5,18 +5,18 @@ ghost use Rattle.serde_json.specs.View.{view};
 ghost use Rattle.json_shapes.specs.Shapes.{entries_in, elements_of};
 ghost use Rattle.play_rules.specs.Keys.{argv_key, cmd_key};
 ghost use Rattle.play_rules.specs.Commands as spec;
-ghost use Rattle.play_words.specs.Kept.{kept};
 
 use crate::argv::words_listed;
 use crate::free::free_words;
 use json_shapes::{elements_of, entries_of};
+use play_model::Words;
 use serde_json::Value;
 use std::alloc::{AllocError, Global};
 
 /// The words of a step's command: free-form text, or an object with one key alone, `argv` or `cmd`; nothing where a step
 /// has neither `command` nor its long form or both, or the value has another shape. It fails for want of memory alone.
-pub fn words_in(alloc: Global, step: &Value) -> Result<Option<Vec<String>>, AllocError>
-    ensures { IfOk result (λ words. option_map kept words ≡ spec.words_in (view step.now)) }
+pub fn words_in(alloc: Global, step: &Value) -> Result<Option<Words>, AllocError>
+    ensures { IfOk result (λ words. words ≡ spec.words_in (view step.now)) }
 {
     match command_in(step) {
         Some(command) => words_of(alloc, command),
@@ -36,8 +36,8 @@ fn command_in(step: &Value) -> Option<&Value>
     }
 }
 
-fn words_of(alloc: Global, value: &Value) -> Result<Option<Vec<String>>, AllocError>
-    ensures { IfOk result (λ words. option_map kept words ≡ spec.words_of (view value.now)) }
+fn words_of(alloc: Global, value: &Value) -> Result<Option<Words>, AllocError>
+    ensures { IfOk result (λ words. words ≡ spec.words_of (view value.now)) }
 {
     match value.as_str() {
         Some(text) => free_words(alloc, text),
@@ -45,8 +45,8 @@ fn words_of(alloc: Global, value: &Value) -> Result<Option<Vec<String>>, AllocEr
     }
 }
 
-fn words_in_object(alloc: Global, value: &Value) -> Result<Option<Vec<String>>, AllocError>
-    ensures { IfOk result (λ words. option_map kept words ≡ spec.words_in_object (view value.now)) }
+fn words_in_object(alloc: Global, value: &Value) -> Result<Option<Words>, AllocError>
+    ensures { IfOk result (λ words. words ≡ spec.words_in_object (view value.now)) }
 {
     if count_entries(value) != 1 {
         return Ok(None);
@@ -57,8 +57,8 @@ fn words_in_object(alloc: Global, value: &Value) -> Result<Option<Vec<String>>, 
     }
 }
 
-fn listed_words(alloc: Global, value: &Value) -> Result<Option<Vec<String>>, AllocError>
-    ensures { IfOk result (λ words. option_map kept words ≡ option_and_then spec.words_listed (option_and_then elements_of (get argv_key (view value.now)))) }
+fn listed_words(alloc: Global, value: &Value) -> Result<Option<Words>, AllocError>
+    ensures { IfOk result (λ words. words ≡ option_and_then spec.words_listed (option_and_then elements_of (get argv_key (view value.now)))) }
 {
     let Some(argv) = value.get("argv") else {
         return Ok(None);
@@ -69,8 +69,8 @@ fn listed_words(alloc: Global, value: &Value) -> Result<Option<Vec<String>>, All
     }
 }
 
-fn written_words(alloc: Global, value: &Value) -> Result<Option<Vec<String>>, AllocError>
-    ensures { IfOk result (λ words. option_map kept words ≡ option_and_then spec.free_words (option_and_then as_str (get cmd_key (view value.now)))) }
+fn written_words(alloc: Global, value: &Value) -> Result<Option<Words>, AllocError>
+    ensures { IfOk result (λ words. words ≡ option_and_then spec.free_words (option_and_then as_str (get cmd_key (view value.now)))) }
 {
     let Some(cmd) = value.get("cmd") else {
         return Ok(None);

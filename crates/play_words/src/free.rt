@@ -1,21 +1,21 @@
 //! A command that is written as one text.
-ghost use Rattle.std.specs.Prelude.{◌≡◌, IfOk, map, option_map, string_bytes};
+ghost use Rattle.std.specs.Prelude.{◌≡◌, IfOk};
 ghost use Rattle.std.specs.List.{list_any};
 ghost use Rattle.play_rules.specs.Commands as spec;
-ghost use Rattle.play_words.specs.Kept.{kept};
 
 use free_words::split_words;
+use play_model::Words;
 use std::alloc::{AllocError, Global};
 
 /// The words of the text; nothing where it has quotes or a backslash, has no word, or has a parameter among its words.
-pub(crate) fn free_words(alloc: Global, text: &str) -> Result<Option<Vec<String>>, AllocError>
-    ensures { IfOk result (λ words. option_map kept words ≡ spec.free_words text.now) }
+pub(crate) fn free_words(alloc: Global, text: &str) -> Result<Option<Words>, AllocError>
+    ensures { IfOk result (λ words. words ≡ spec.free_words text.now) }
 {
     if has_quoting(text.as_bytes()) {
         return Ok(None);
     }
     let words = split_words(alloc, text)?;
-    if words.is_empty() || have_parameter(words.as_slice()) {
+    if words.is_empty() || have_parameter(&words) {
         return Ok(None);
     }
     Ok(Some(words))
@@ -38,11 +38,11 @@ fn is_quoting(byte: u8) -> bool
     matches!(byte, b'\'' | b'"' | b'\\')
 }
 
-fn have_parameter(words: &[String]) -> bool
-    ensures { result ≡ list_any spec.is_parameter (map string_bytes words.now) }
+fn have_parameter(words: &Words) -> bool
+    ensures { result ≡ list_any spec.is_parameter words.now }
 {
-    for word in words {
-        if is_parameter(word.as_bytes()) {
+    for place in 0..words.len() {
+        if is_parameter(words.at(place).as_bytes()) {
             return true;
         }
     }

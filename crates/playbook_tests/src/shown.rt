@@ -66,7 +66,8 @@ fn show_step(shown: &mut String, step: &Step) -> Result<(), Fail> {
     if let Some(name) = &step.name {
         shown.push_str(name.as_str())?;
     }
-    for word in &step.words {
+    for place in 0..step.words.len() {
+        let word = step.words.at(place);
         write!(shown, "[{word}]")?;
     }
     if let Some(register) = &step.register {

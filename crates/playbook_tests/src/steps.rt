@@ -158,9 +158,9 @@ fn write_condition(line: &mut String, key: &str, condition: &Option<Cond>) -> Re
 
 fn line_of(alloc: Global, step: &Step) -> Result<String, Fail> {
     let mut line = String::new(alloc);
-    for word in &step.words {
+    for place in 0..step.words.len() {
         line.push('[')?;
-        line.push_str(word.as_str())?;
+        line.push_str(step.words.at(place))?;
         line.push(']')?;
     }
     write_text(&mut line, " name", &step.name)?;

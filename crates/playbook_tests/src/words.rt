@@ -1,4 +1,5 @@
 //! The words of commands.
+use play_model::Words;
 use play_words::words_in;
 use serde_json::Value;
 use std::alloc::Global;
@@ -37,13 +38,13 @@ none | {"command":{"argv":["a"],"cmd":"b"}}
 none | {"command":{"cmd":"it's"}}
 none | {"command":["a"]}"#;
 
-fn in_brackets(alloc: Global, words: Option<Vec<String>>) -> Result<String, Fail> {
+fn in_brackets(alloc: Global, words: Option<Words>) -> Result<String, Fail> {
     let mut text = String::new(alloc);
     match words {
         Some(words) => {
-            for word in &words {
+            for place in 0..words.len() {
                 text.push('[')?;
-                text.push_str(word.as_str())?;
+                text.push_str(words.at(place))?;
                 text.push(']')?;
             }
         }

@@ -1,4 +1,4 @@
-use Rattle.std.proofs.Common.{◌≡◌, ◌++◌, map, filter, string_bytes, IfSome}
+use Rattle.std.proofs.Common.{◌≡◌, ◌++◌, filter, IfSome}
 use Rattle.host_patterns.specs.Patterns.{is_filled}
 use Rattle.play_rules.specs.Commands.{split}
 use Rattle.free_words.specs.Pieces.{pieces_left, IsOpenBelow, size_left}
@@ -6,7 +6,7 @@ use Rattle.free_words.proofs.split.split_words.Given as goal
 
 abbrev pub invariant-loop-left : goal.invariant-loop-left
 invariant-loop-left l =
-    (map string_bytes l.words.items ++ filter is_filled (pieces_left l.left) ≡ split l.text) × IfSome l.left (λ rest. IsOpenBelow l.tail rest.now)
+    (l.words ++ filter is_filled (pieces_left l.left) ≡ split l.text) × IfSome l.left (λ rest. IsOpenBelow l.tail rest.now)
 
 abbrev pub decreases-loop-left : goal.decreases-loop-left
 decreases-loop-left l = size_left l.left
