@@ -13,7 +13,8 @@ pub fn split_words(alloc: Global, text: &str) -> Result<Words, AllocError>
     ensures { IfOk result (λ words. words ≡ spec.split text.now) }
 {
     let tail = tail_of_last_closing(text.as_bytes());
-    // Words and the blanks behind them mostly have so many bytes. A long text takes more room as its words come.
+    // All words together have at most the text's bytes. Places are for words of some eight bytes each; past 32 they take more
+    // room as they come.
     let mut words = Words::with_capacity(alloc, (1 + text.len() / 8).min(32), text.len())?;
     let mut left = Some(text);
     while let Some(rest) = left {

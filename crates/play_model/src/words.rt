@@ -6,8 +6,8 @@ ghost use Rattle.fleet_numbers.specs.Runs.{start_at};
 use std::alloc::{AllocError, Global};
 use std::marker::Model;
 
-/// A program and its arguments. They stand one behind the other in one text, so that they take two pieces of memory,
-/// however many they are.
+/// A program and its arguments. They stand one behind the other in one text, so that they take at most two pieces of
+/// memory, however many they are.
 #[derive(Debug, Drop)]
 pub struct Words {
     text: String,
@@ -70,11 +70,12 @@ impl Words {
         &self.text.as_str()[start..ends[place]]
     }
 
-    /// One word more, or memory was refused and they are as they were.
+    /// The word goes behind the others; where memory is refused they stay as they were.
     pub fn push(&mut self, word: &str) -> Result<(), AllocError>
         ensures ok { OnOk result (self.new ≡ self.old ++ word.now ∷ []) }
         ensures err { OnErr result (self.new ≡ self.old) }
     {
+        // Room for its place comes first, so that a refusal leaves the text as it was.
         self.ends.reserve(1)?;
         self.text.push_str(word)?;
         self.ends.push_reserved(self.text.len());

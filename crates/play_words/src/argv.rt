@@ -43,7 +43,7 @@ fn is_word(value: &Value) -> bool
 fn words_among(alloc: Global, list: &[Value]) -> Result<Words, AllocError>
     ensures { IfOk result (λ words. words ≡ filter_map spec.word_of (map view list.now)) }
 {
-    // Words mostly have fewer bytes. Longer ones take more room as they come.
+    // Room for eight bytes a word, of at most 64 words: most are shorter, and what is longer takes more as it comes.
     let mut words = Words::with_capacity(alloc, list.len(), 8 * list.len().min(64))?;
     for value in list {
         push_word(&mut words, value)?;

@@ -13,6 +13,7 @@ const STEPS: &str = r#"[true] | {"command":"true"}
 [echo][{{][v] | {"command":"echo {{ v"}
 [a}}][b] | {"command":"a}} b"}
 [a][b c][7][-8][ ] | {"command":{"argv":["a","b c",7,-8," "]}}
+[a][][é] | {"command":{"argv":["a","","é"]}}
 [it's] | {"command":{"argv":["it's"]}}
 [creates=x] | {"command":{"argv":["creates=x"]}}
 [a][b] | {"command":{"cmd":"a b"}}
