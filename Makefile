@@ -1,5 +1,8 @@
-# The gate is `make check`: every proof, edit and test, then the scripts on the program that this built.
-.PHONY: check scripts
+# `make` builds the program and runs it. The gate is `make check`: every proof, test and edit of must-fail/, then the scripts on the program that this built.
+.PHONY: build check edits scripts touched
+
+build:
+	@sh tests/build.sh
 
 check:
 	@sh tests/gate.sh
@@ -7,3 +10,11 @@ check:
 # The scripts alone, on a program that is built.
 scripts:
 	@sh tests/all.sh
+
+# Before a merge, in minutes: the crates that changed since a revision and those above them. `make touched SINCE=main`
+touched:
+	@SINCE="$(SINCE)" sh tests/touched.sh
+
+# All edits, those too that the gate doesn't try. `make edits`, `make edits SINCE=main`, `make edits CRATES="cond recap"`
+edits:
+	@SINCE="$(SINCE)" CRATES="$(CRATES)" sh tests/edits.sh

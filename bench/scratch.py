@@ -23,7 +23,7 @@ def build(folder, crates, name, needs, source, words, proofs={}):
         shutil.copytree(
             os.path.join(TOP, "crates", crate),
             os.path.join(folder, "crates", crate),
-            ignore=shutil.ignore_patterns("must-fail", "incremental"),
+            ignore=shutil.ignore_patterns("must-fail", "edits", "incremental"),
             copy_function=link,
         )
     shutil.copy(os.path.join(TOP, "HANDLES"), folder)

@@ -3,25 +3,6 @@
 # is asked for, and each output on a full disk. It needs crates/rollout/out/rollout.
 . "$(dirname "$0")/common.sh"
 
-# Runs `limits` on a file of this text.
-text() {
-    printf '%s' "$1" >"$work/inventory.json"
-    run limits "$work/inventory.json"
-}
-
-# refused WHAT TEXT LINE: the text is refused by this line.
-refused() {
-    text "$2"
-    check "$1" 1 '' "$3$newline"
-}
-
-# printed WHAT TEXT TABLE: the text has this table.
-printed() {
-    text "$2"
-    check "$1" 0 "$3$newline" ''
-}
-
-racks='{"all":{"children":{"eu":{"vars":{"max_down":3},"children":{"r1":{"vars":{"max_down":1},"hosts":{"a":null,"b":null,"c":null}},"r2":{"vars":{"max_down":2},"hosts":{"d":null,"e":null}}}}}}}'
 table='eu members=5 down=0 limit=3 room=3
 r1 members=3 down=0 limit=1 room=1
 r2 members=2 down=0 limit=2 room=2
@@ -71,6 +52,7 @@ nested() {
 }
 printed 'groups as deep as may be' "$(nested 32)" 'hosts=0 limited=0'
 refused 'groups one deeper' "$(nested 33)" 'rollout: 103 TooDeep'
+refused 'groups nearly twice as deep' "$(nested 62)" 'rollout: 103 TooDeep'
 groups() {
     awk -v most="$1" 'BEGIN { printf "{\"all\":{\"children\":{"; for (i = 2; i <= most; i++) printf "%s\"g%d\":null", (i > 2 ? "," : ""), i; printf "}}}" }'
 }
@@ -159,31 +141,6 @@ check 'a pipe of one byte too many' 1 '' "rollout: 903 InputTooLarge$newline"
 
 # ---- plans
 
-# both INVENTORY PLAYBOOK: runs `plan` on files of these texts.
-both() {
-    printf '%s' "$1" >"$work/inventory.json"
-    printf '%s' "$2" >"$work/playbook.json"
-    run plan "$work/inventory.json" "$work/playbook.json"
-}
-
-# planned WHAT INVENTORY PLAYBOOK PLAN: the two texts have this plan.
-planned() {
-    both "$2" "$3"
-    check "$1" 0 "$4$newline" ''
-}
-
-# held_up WHAT INVENTORY PLAYBOOK PLAN: the same of a plan that leaves hosts out.
-held_up() {
-    both "$2" "$3"
-    check "$1" 3 "$4$newline" ''
-}
-
-# unplanned WHAT INVENTORY PLAYBOOK LINE: one of the two texts is refused by this line.
-unplanned() {
-    both "$2" "$3"
-    check "$1" 1 '' "$4$newline"
-}
-
 # play KEYS: a playbook of one play on all hosts, with these keys before its task.
 play() {
     printf '[{"hosts":"all",%s"tasks":[{"command":"true"}]}]' "$1"
@@ -253,10 +210,18 @@ held_up 'a plan with a host set aside' "$none" "$(play '"on_blocked":"hold",')" 
 planned 'a plan that has to set nobody aside' "$racks" "$(play '"on_blocked":"hold",')" "$three"
 pair='{"all":{"children":{"g":{"vars":{"max_down":1},"hosts":{"a":null,"b":null}}}}}'
 planned 'a plan of the first of two plays' "$pair" '[{"hosts":"a","tasks":[{"command":"true"}]},{"hosts":"all","tasks":[{"command":"true"}]}]' "plan batches=1 bound=group g waiting=1 room=1${newline}batch 1: a"
+planned 'a plan that nothing bounds' "$ten" "$all" "plan batches=1 bound=one-host${newline}batch 1: h0 h1 h2 h3 h4 h5 h6 h7 h8 h9"
+planned 'a plan without the host that is down' '{"all":{"hosts":{"a":null,"b":null,"c":{"down":true}}}}' '[{"hosts":"c,b,b","tasks":[{"command":"true"}]}]' "plan batches=1 bound=one-host${newline}batch 1: b"
+one_down=$(printf '%s' "$racks" | sed 's/"a":null/"a":{"down":true}/')
+held_up 'no plan beside a host that is down' "$one_down" "$all" 'blocked group=r1 waiting=2'
+held_up 'a plan that sets the others of its rack aside' "$one_down" "$(play '"on_blocked":"hold",')" "plan batches=1 bound=group eu waiting=2 room=2${newline}batch 1: d e${newline}held: b c"
+held_up 'a plan with all that a step says' '{"all":{"children":{"eu":{"vars":{"max_down":3},"children":{"r1":{"vars":{"max_down":1},"hosts":{"a":{"down":true},"b":{"v":[1]}}},"r2":{"vars":{"max_down":2},"hosts":{"d":null,"e":null}}}}}}}' '[{"hosts":["eu","r1:d"],"serial":[1,"50%"],"on_blocked":"hold","tasks":[{"name":"t","command":"echo {{ v }}","when":"v is defined","notify":"h"}],"handlers":[{"name":"h","command":"true"}]}]' "plan batches=2 bound=serial waiting=2 size=1${newline}batch 1: d${newline}batch 2: e${newline}held: b"
 
 # ---- faults of a playbook
 
 unplanned 'a name that nothing has' "$pair" '[{"hosts":"g:db","tasks":[{"command":"true"}]}]' 'rollout: 304 NoSuchName name=db'
+unplanned 'a name that nothing has before hosts that no group has room for' "$none" '[{"hosts":"a","tasks":[{"command":"true"}]},{"hosts":"db","tasks":[{"command":"true"}]}]' 'rollout: 304 NoSuchName name=db'
+unplanned 'an unknown key of a second play before a name that nothing has' "$pair" '[{"hosts":"db","tasks":[{"command":"true"}]},{"hosts":"all","tasks":[{"command":"true","shell":1}]}]' 'rollout: 703 UnknownKey at=1/tasks/0/shell'
 unplanned 'a name that nothing has in a second play' "$pair" '[{"hosts":"a","tasks":[{"command":"true"}]},{"hosts":"h\u00e9","tasks":[{"command":"true"}]}]' 'rollout: 304 NoSuchName name=h??'
 nobody=$(printf 'n%.0s' $(seq 300))
 unplanned 'a name longer than names are' "$pair" '[{"hosts":"'"$nobody"'","tasks":[{"command":"true"}]}]' "rollout: 304 NoSuchName name=$nobody"
@@ -284,6 +249,7 @@ unplanned 'a size below nought' "$pair" "$(play '"serial":[1,-1],')" 'rollout: 7
 unplanned 'a percentage above 100' "$pair" "$(play '"max_fail_percentage":101,')" 'rollout: 707 BadPercent at=0/max_fail_percentage'
 unplanned 'too many plays' "$pair" "[$(printf 'null,%.0s' $(seq 16))null]" 'rollout: 708 ManyPlays'
 unplanned 'too many steps' "$pair" "[{\"hosts\":\"all\",\"tasks\":[$(printf 'null,%.0s' $(seq 256))null]}]" 'rollout: 709 TooManySteps'
+unplanned 'an inventory cut off, to be planned' '{"all":{"children":{"eu"' "$all" 'rollout: 201 NotJson'
 unplanned 'an inventory refused before its playbook' '{"all":{"x":1}}' '[' 'rollout: 203 UnknownKey at=all/x'
 unplanned 'a fleet refused before its playbook' '{"all":{"children":{"g":{"vars":{"max_down":1},"hosts":{"a":{"down":true},"b":{"down":true}}}}}}' '[' 'rollout: 302 StartOver group=g down=2 limit=1'
 unplanned 'limits that cross, to be planned' '{"all":{"children":{"row1":{"vars":{"max_down":2},"hosts":{"x":null},"children":{"rb":{"vars":{"max_down":1},"hosts":{"b":null}}}},"rack9":{"vars":{"max_down":1},"hosts":{"x":null}}}}}' '[' 'rollout: 301 NotNested host=x first=rack9 second=row1'

@@ -8,6 +8,8 @@ passed=0
 failed=0
 newline='
 '
+# Two racks in a region.
+racks='{"all":{"children":{"eu":{"vars":{"max_down":3},"children":{"r1":{"vars":{"max_down":1},"hosts":{"a":null,"b":null,"c":null}},"r2":{"vars":{"max_down":2},"hosts":{"d":null,"e":null}}}}}}}'
 
 pass() {
     passed=$((passed + 1))
@@ -44,8 +46,51 @@ check() {
     fi
 }
 
+# Runs `limits` on a file of this text.
+text() {
+    printf '%s' "$1" >"$work/inventory.json"
+    run limits "$work/inventory.json"
+}
+
+# refused WHAT TEXT LINE: the text is refused by this line.
+refused() {
+    text "$2"
+    check "$1" 1 '' "$3$newline"
+}
+
+# printed WHAT TEXT TABLE: the text has this table.
+printed() {
+    text "$2"
+    check "$1" 0 "$3$newline" ''
+}
+
+# both INVENTORY PLAYBOOK: runs `plan` on files of these texts.
+both() {
+    printf '%s' "$1" >"$work/inventory.json"
+    printf '%s' "$2" >"$work/playbook.json"
+    run plan "$work/inventory.json" "$work/playbook.json"
+}
+
+# planned WHAT INVENTORY PLAYBOOK PLAN: the two texts have this plan.
+planned() {
+    both "$2" "$3"
+    check "$1" 0 "$4$newline" ''
+}
+
+# held_up WHAT INVENTORY PLAYBOOK PLAN: the same of a plan that leaves hosts out.
+held_up() {
+    both "$2" "$3"
+    check "$1" 3 "$4$newline" ''
+}
+
+# unplanned WHAT INVENTORY PLAYBOOK LINE: one of the two texts is refused by this line.
+unplanned() {
+    both "$2" "$3"
+    check "$1" 1 '' "$4$newline"
+}
+
 if [ ! -x "$rollout" ]; then
-    fail "$rollout isn't built: rt ci builds it, or 'cd crates/rollout && rt run -- limits ../../examples/two-regions.json'"
+    fail "$rollout isn't built: make builds it"
     finish
     exit 1
 fi

@@ -6,6 +6,7 @@ trap 'rm -rf "$work"' EXIT
 cd "$top" || exit 1
 passed=0
 failed=0
+began=$(date +%s)
 
 # Runs a command whose last line is its count, and adds that.
 counted() {
@@ -25,12 +26,16 @@ counted() {
 
 if [ $# -eq 0 ]; then
     counted rt ci
-    set -- cli broken memory once readme
+    set -- cli inventories playbooks broken memory once readme
 fi
 for script in "$@"; do
     [ -e "tests/$script.sh" ] || continue
     echo "tests/$script.sh"
     counted sh "tests/$script.sh"
 done
+# Its cost, with all that it started: who reads what a gate printed elsewhere sees what it took there.
+times >"$work/times"
+sed -n '2s/[ms]/ /gp' "$work/times" |
+    awk -v wall=$(($(date +%s) - began)) '{ printf "took %.1f min of wall time, %.1f of processors\n", wall / 60, $1 + $3 + ($2 + $4) / 60 }'
 echo "$passed passed, $failed failed"
 [ "$failed" -eq 0 ]

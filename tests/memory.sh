@@ -2,7 +2,7 @@
 # Refuses each allocation in turn, of the built program: what it answers is what it answers with all memory, or want of memory and nothing else.
 # The opening of a file is refused for want of memory too, as a system does that has none left.
 # Those of the tests too that hold whatever one allocation is refused. It needs a C compiler, crates/rollout/out/rollout, and
-# what rt ci (or rt test) leaves in the out/ of each crate named below.
+# what rt ci (or rt test) leaves in the out/ of each crate named below. Where BUILT_ALONE is set, those that left nothing are passed over.
 . "$(dirname "$0")/common.sh"
 
 cat >"$work/refuse.c" <<'C'
@@ -110,6 +110,24 @@ each_refused limits "$top/examples/two-regions.json"
 each_refused limits "$top/examples/crossing-racks.json"
 each_refused plan "$top/examples/two-racks.json" "$top/examples/restart-web.json"
 each_refused plan "$top/examples/two-regions.json" "$top/examples/everywhere.json"
+# variables, a host that is down, and a group beside `all`
+printf '{"web":{"vars":{"max_down":1,"tier":"front"},"hosts":{"a":{"down":true},"b":null}},"all":{"children":{"db":null}}}' >"$work/web.json"
+each_refused limits "$work/web.json"
+# a plan that sets a host aside
+printf '{"all":{"children":{"eu":{"vars":{"max_down":3},"children":{"r1":{"vars":{"max_down":1},"hosts":{"a":{"down":true},"b":{"v":[1]}}},"r2":{"vars":{"max_down":2},"hosts":{"d":null,"e":null}}}}}}}' >"$work/racks.json"
+printf '[{"hosts":["eu","r1:d"],"serial":[1,"50%%"],"on_blocked":"hold","tasks":[{"name":"t","command":"echo {{ v }}","when":"v is defined","notify":"h"}],"handlers":[{"name":"h","command":"true"}]}]' >"$work/held.json"
+each_refused plan "$work/racks.json" "$work/held.json"
+# each key of a play and of a step, and faults that are told late
+while IFS= read -r playbook; do
+    printf '%s' "$playbook" >"$work/playbook.json"
+    each_refused plan "$work/web.json" "$work/playbook.json"
+done <<'PLAYBOOKS'
+[{"hosts":["a","b"],"serial":[1,"50%"],"tasks":[{"name":"t","command":"a {{ v }} b","register":"r","when":["v",true],"changed_when":"r.rc == 3","notify":["h","i"]}],"handlers":[{"name":"h","command":{"argv":["c",7]}},{"name":"i","command":"d"}]},{"hosts":"all","tasks":[{"command":"true"}]}]
+[{"hosts":"a","tasks":[{"command":"a","notify":["h"]}]}]
+[{"hosts":"a","tasks":[{"command":{"argv":[null]}}]}]
+[{"hosts":"a","tasks":[{"command":"a","when":"a b"}]}]
+[{"hosts":"a","tasks":[{"command":"a"}],"x":1}]
+PLAYBOOKS
 input=$top/examples/two-regions.json
 each_refused
 input=/dev/null
@@ -131,7 +149,7 @@ opening_refused "$top/examples/everywhere.json" plan "$top/examples/two-regions.
 while read -r crate name; do
     tests=$top/crates/$crate/out/${crate}_tests
     if [ ! -x "$tests" ]; then
-        fail "$tests isn't built"
+        [ -n "${BUILT_ALONE:-}" ] && echo "$crate isn't built: passed over" || fail "$tests isn't built"
         continue
     fi
     number=1
@@ -150,7 +168,7 @@ domain_counts_tests memory::a_call_that_was_refused_memory_answers_again
 batch_plan_tests memory::a_call_that_was_refused_memory_answers_again
 host_vars_tests memory::a_call_that_was_refused_memory_answers_again
 host_track_tests memory::a_step_that_was_refused_memory_is_taken_again
-playbook_tests memory::a_playbook_is_read_or_memory_is_wanting
-planning_tests memory::a_call_that_was_refused_memory_answers_again
+ticket_line tests::each_ticket_is_taken_once
+ticket_line tests::gathered::what_was_put_is_what_all_took
 TESTS
 finish

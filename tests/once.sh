@@ -1,6 +1,6 @@
 #!/bin/sh
-# What a worker may do once alone, or not at all: a second use of a leave, a claim or a `Done`, a tally that is forgotten, and a job with other
-# words are refused before any proof.
+# What a worker may do once alone, or not at all: a second use of a leave, a claim, a `Done` or a ticket, a tally that is forgotten, and a job with
+# other words are refused before any proof.
 # It needs `rt`; nothing has to be built.
 set -u
 top=$(cd "$(dirname "$0")/.." && pwd)
@@ -9,7 +9,7 @@ trap 'rm -rf "$work"' EXIT
 passed=0
 failed=0
 
-# A repository of roll_core, of what it stands on, and of a crate that uses it.
+# A repository of roll_core and ticket_line, of what they stand on, and of a crate that uses them.
 mkdir -p "$work/crates/once/src"
 cp "$top/HANDLES" "$work"
 (cd "$work" && git init -q .)
@@ -27,7 +27,8 @@ add() {
     done
 }
 add roll_core
-echo 'once: roll_core' >>"$work/crates.txt"
+add ticket_line
+echo 'once: roll_core ticket_line' >>"$work/crates.txt"
 
 # tried WANTED: what `rt` says first of a crate with the function on standard input
 tried() {
@@ -44,6 +45,7 @@ use std::process::{Processes, SystemProcess};
 use std::sync::Wait;
 use std::sync::ledger::Ledger;
 use std::thread::Threads;
+use ticket_line::PutEnd;
 
 #[cfg(test)]
 mod tests {
@@ -92,6 +94,12 @@ E2
 tried 'error\[borrow-e0382\]: use of moved value: `done`' <<'E2'
 pub fn report_twice<'r, R: Runner>(done: Done<'r, R>) -> (Done<'r, R>, Done<'r, R>) {
     (done, done)
+}
+E2
+tried 'error\[borrow-e0382\]: use of moved value: `ticket`' <<'E2'
+pub fn put_twice<T: Drop, H: Wait>(end: &mut PutEnd<T>, rt: &H, ticket: T) {
+    let _ = end.put(rt, ticket);
+    let _ = end.put(rt, ticket);
 }
 E2
 tried 'error\[linear-value-let-go\]: `_tally` is let go where its block ends, and `Tally<L>` is not `Drop`' <<'E2'

@@ -1,5 +1,5 @@
 -- When a batch halts, and what becomes of its hosts. `fails` gives each host the step that failed on it, if one did.
-use Rattle.std.specs.Prelude.{ℕ, zero, suc, ◌*◌, nat_lt, nat_le, Bool, false, cond, Option, Some, None, List, length, map, count_by, slice_index_or, if◌then◌else◌}
+use Rattle.std.specs.Prelude.{ℕ, zero, suc, ◌*◌, nat_lt, nat_le, Bool, false, cond, Option, Some, None, List, length, map, count_by, is_some, slice_index_or, if◌then◌else◌}
 use Rattle.std.specs.Option.{option_or}
 use Rattle.std.specs.List.{range_with_len}
 use Rattle.fleet_numbers.specs.NumberLists.{has_number}
@@ -22,6 +22,11 @@ is_failed_by (Some failing) step = nat_le failing step
 -- how many hosts of the batch have failed by this step
 abbrev pub failed_count : Fails → List ℕ → ℕ → ℕ
 failed_count fails batch step = count_by (λ host. is_failed_by (fails host) step) batch
+
+-- how many hosts of a batch have failed that halted at a step, or at none
+abbrev pub failed_in : Fails → List ℕ → Option ℕ → ℕ
+failed_in fails batch None = count_by (λ host. is_some (fails host)) batch
+failed_in fails batch (Some halt) = failed_count fails batch halt
 
 -- more of each hundred have failed than the percentage, where there is one
 abbrev pub is_past : Option ℕ → ℕ → ℕ → Bool

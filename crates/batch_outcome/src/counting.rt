@@ -1,12 +1,15 @@
 //! How many hosts of a batch have failed.
 ghost use Rattle.std.specs.Prelude.{◌≡◌, slice_index_or, None};
+ghost use Rattle.fleet_numbers.specs.Ids.{host_numbers};
 ghost use Rattle.batch_outcome.specs.Batches as spec;
 ghost use Rattle.batch_outcome.specs.Batches.{fails_in};
 
+use group_tree::HostId;
+
 /// How many hosts of the batch have failed by this step. `failing` has for each host of the fleet the step that failed on
 /// it, if one did; the failures of hosts outside the batch do not count.
-pub fn failed_by(failing: &[Option<usize>], batch: &[usize], step: usize) -> usize
-    ensures { result ≡ spec.failed_count (fails_in failing.now) batch.now step }
+pub fn failed_by(failing: &[Option<usize>], batch: &[HostId], step: usize) -> usize
+    ensures { result ≡ spec.failed_count (fails_in failing.now) (host_numbers batch.now) step }
 {
     batch
         .iter()
@@ -14,10 +17,11 @@ pub fn failed_by(failing: &[Option<usize>], batch: &[usize], step: usize) -> usi
         .count()
 }
 
-fn failing_step(failing: &[Option<usize>], host: usize) -> Option<usize>
-    ensures { result ≡ fails_in failing.now host }
+/// The step that failed on the host, if one did.
+pub(crate) fn failing_step(failing: &[Option<usize>], host: HostId) -> Option<usize>
+    ensures { result ≡ fails_in failing.now host.index }
 {
-    match failing.get(host) {
+    match failing.get(host.index) {
         Some(step) => *step,
         None => None,
     }

@@ -8,6 +8,9 @@ mod laws;
 mod worked;
 
 pub use counting::failed_by;
-pub use fate::status_after;
-pub use halting::is_past;
-pub use laws::{a_halt_is_the_least, hosts_of_other_batches_stay};
+pub use fate::{end_batch, status_after};
+pub use halting::{halt, is_past};
+pub use laws::{
+    a_batch_without_failure_is_updated, a_halt_is_the_least, hosts_of_other_batches_stay,
+    hosts_of_the_batch_end_alike, no_host_of_a_batch_waits_after_it, own_failures_decide,
+};

@@ -15,9 +15,8 @@ use Rattle.fleet_states.specs.Statuses.{NobodyRuns, changed, is_down, is_running
 use Rattle.fleet_states.specs.Groups.{FleetGroup, groups_of, is_over}
 use Rattle.fleet_states.specs.Starts.{start_status, start_statuses}
 use Rattle.fleet_states.proofs.CountLemmas.{count_agree}
-use Rattle.fleet_states.proofs.NumberLemmas.{has_other}
 use Rattle.fleet_states.proofs.HostLemmas.{length-host_numbers, number_of_host}
-use Rattle.fleet_states.proofs.StatusLemmas.{changed_more, length-changed, nobody_at, status_at-changed, status_at-past}
+use Rattle.fleet_states.proofs.StatusLemmas.{changed_more, given_past, length-changed, nobody_at, status_at-changed, status_at-past}
 use Rattle.fleet_states.proofs.StartLemmas.{length-start_statuses, starts_at_rest, starts_safe}
 use Rattle.batch_plan.specs.Beginnings.{IsReady, restart_status, restart_statuses}
 use Rattle.batch_plan.specs.Inside.{awaited}
@@ -41,22 +40,7 @@ changed_again change again hosts i within statuses status inside is =
 -- one more host that is not there
 pub changed_past : (change : Status → Status) (hosts : List ℕ) (i : ℕ) → i < length hosts → (statuses : List Status) → length statuses ≤ get_or hosts i 0
     → changed change (take i hosts) statuses ≡ changed change (take (i + 1) hosts) statuses
-changed_past change hosts i within statuses past =
-    ext_get_or Idle (changed change (take i hosts) statuses) (changed change (take (i + 1) hosts) statuses) (before ∙ sym later) (λ k l. same k (omega (arith, l, before)))
-  where
-    before : length (changed change (take i hosts) statuses) ≡ length statuses
-    before = length-changed change (take i hosts) statuses
-
-    later : length (changed change (take (i + 1) hosts) statuses) ≡ length statuses
-    later = length-changed change (take (i + 1) hosts) statuses
-
-    choice : ℕ → Bool → Status
-    choice k b = cond b (change (status_at statuses k)) (status_at statuses k)
-
-    same : (k : ℕ) → k < length statuses → status_at (changed change (take i hosts) statuses) k ≡ status_at (changed change (take (i + 1) hosts) statuses) k
-    same k l =
-        let other : k ≡ get_or hosts i 0 → ⊥ = λ e. omega (arith, l, past, e) in
-        status_at-changed change (take i hosts) statuses k l ∙ ap (choice k) (sym (has_other hosts i within k other)) ∙ sym (status_at-changed change (take (i + 1) hosts) statuses k l)
+changed_past change hosts i within statuses = given_past (λ host. change (status_at statuses host)) hosts i within statuses
 
 -- the same of hosts as the code reads them, whether the host is there or not
 module _ (change : Status → Status) (again : (s : Status) → change (change s) ≡ change s) (hosts : List HostId) (i : ℕ) (d : HostId) (within : i < length hosts) (statuses : List Status) where

@@ -1,6 +1,6 @@
 -- Hosts that are held back, and what is left of a fleet once they are set aside.
 use Rattle.std.proofs.Common.{◌≡◌, ℕ, ◌-◌, ◌≤◌, ◌<◌, Bool, true, false, ◌&&◌, cond, map, nat_eq, nat_lt, None, Some}
-use Rattle.std.proofs.Common.{Option, List, length, get_or, option_map, is_some, sym, ap, ◌∙◌, refl, subst, arith, inl, inr, ◌⊎◌}
+use Rattle.std.proofs.Common.{Option, List, [], ◌∷◌, length, get_or, option_map, is_some, sym, ap, ◌∙◌, refl, subst, arith, inl, inr, ◌⊎◌}
 use Rattle.std.specs.List.{Any, list_any}
 use Rattle.std.proofs.lemmas.Bool.{and_from, and_parts, both_ways, cases_eq, cases_lt, eq-eqb, eqb-true, le-ltb, lt-ltb, false_from_ne_true}
 use Rattle.std.proofs.lemmas.List.{get_or_default, get_or_past, length-map}
@@ -9,24 +9,26 @@ use Rattle.fleet_numbers.specs.Chains.{is_limited}
 use Rattle.fleet_numbers.specs.NumberLists.{has_number, list_at}
 use Rattle.fleet_numbers.proofs.RisingLemmas.{has_number-numbers_where}
 use Rattle.domain_counts.proofs.WhereLemmas.{both}
-use Rattle.domains.specs.FleetViews.{FleetView}
+use Rattle.domains.specs.FleetViews.{FleetView, IsSound}
 use Rattle.domains.specs.Starts.{exceeds}
 use Rattle.fleet_states.specs.declared.status.Status.{Status}
 use Rattle.fleet_states.specs.declared.status.Status.TheVariants.{Idle, Held}
-use Rattle.fleet_states.specs.Statuses.{down_count, is_down, is_running, is_waiting, status_at, waiting_count}
-use Rattle.fleet_states.specs.Groups.{FleetGroup, group_at, groups_of, no_group, room}
-use Rattle.fleet_states.proofs.CountLemmas.{count_agree, count_none_in}
-use Rattle.fleet_states.proofs.GroupLemmas.{get_or-groups_of, group_of, length-groups_of}
-use Rattle.fleet_states.proofs.StatusLemmas.{length-changed, nobody_at, status_at-changed, status_at-changed_past, status_at-past, waiting_not_down, waiting_within}
+use Rattle.fleet_states.specs.Statuses.{are_distinct, down_count, is_running, is_waiting, status_at, waiting_count}
+use Rattle.fleet_states.specs.Groups.{FleetGroup, group_at, groups_of, is_full_for, is_stuck, no_group, room}
+use Rattle.fleet_states.proofs.CountLemmas.{count_none_in}
+use Rattle.fleet_states.proofs.GroupLemmas.{get_or-groups_of, group_of, groups_of_hosts, length-groups_of}
+use Rattle.fleet_states.proofs.StatusLemmas.{length-changed, nobody_at, waiting_within}
 use Rattle.batch_plan.specs.declared.needs.Need.{Need}
 use Rattle.batch_plan.specs.declared.answers.Answer.{Answer}
 use Rattle.batch_plan.specs.declared.answers.Answer.TheVariants.{Planned, Blocked}
 use Rattle.batch_plan.specs.Answers.{IsBest}
 use Rattle.batch_plan.specs.Beginnings.{IsReady}
-use Rattle.batch_plan.specs.Holding.{HoldingUnblocks, IsPlanned, held_hosts, holds_back, is_held_back, is_no_room, set_aside}
+use Rattle.batch_plan.specs.Holding.{HoldingUnblocks, IsPlanned, held_hosts, is_held_back, set_aside}
 use Rattle.batch_plan.specs.Inside.{is_full}
 use Rattle.batch_plan.specs.Needs.{is_blocked, need_at, need_of}
 use Rattle.batch_plan.proofs.LeastLemmas.{need_of_group}
+use Rattle.batch_plan.proofs.MovedLemmas.{down_count-moved, room-moved, status_at-moved}
+use Rattle.batch_plan.proofs.StuckLemmas.{full_for_member, is_no_room, member_where_full}
 
 -- a number that stands in a list and passes settles whether one does
 number_settles : (p : ℕ → Bool) (xs : List ℕ) (n : ℕ) → has_number n xs ≡ true → p n ≡ true → list_any p xs ≡ true
@@ -34,6 +36,13 @@ number_settles p xs n here passes = by_place (Any-from_list_any (nat_eq n) xs he
   where
     by_place : Any (λ x. nat_eq n x ≡ true) xs → list_any p xs ≡ true
     by_place found = list_any_at p xs found.0 found.1 found.2 (ap p (found.3 ∙ sym (eqb-true n found.1 found.4)) ∙ passes)
+
+-- a member of a group without room is stuck
+stuck_by : (fleet : FleetView) (statuses : List Status) (host group : ℕ) → group < length fleet.groups → has_number host (list_at fleet.members group) ≡ true
+    → is_no_room (room statuses (group_of fleet group)) ≡ true → is_stuck (groups_of fleet) statuses host ≡ true
+stuck_by fleet statuses host group within here full =
+    list_any_at (is_full_for statuses (host ∷ [])) (groups_of fleet) group no_group (omega (arith, within, length-groups_of fleet))
+    (ap (is_full_for statuses (host ∷ [])) (get_or-groups_of fleet group no_group within) ∙ full_for_member statuses host (group_of fleet group) here full)
 
 module _ (statuses : List Status) where
   full_of_room : (group : FleetGroup) → is_full (need_of statuses group) ≡ is_no_room (room statuses group)
@@ -46,7 +55,7 @@ module _ (statuses : List Status) where
       by_room None = refl
       by_room (Some r) = refl
 
-  module _ (fleet : FleetView) (needs : List (Option Need)) (are : needs ≡ map (need_of statuses) (groups_of fleet)) (host : ℕ) (chain : List ℕ) (exact : (group : ℕ)
+  module _ (fleet : FleetView) (sound : IsSound fleet) (needs : List (Option Need)) (are : needs ≡ map (need_of statuses) (groups_of fleet)) (host : ℕ) (chain : List ℕ) (exact : (group : ℕ)
       → has_number group chain ≡ (is_limited fleet.limits group && has_number host (list_at fleet.members group))) where
     need_here : (group : ℕ) → group < length fleet.groups → is_full (need_at needs group) ≡ is_no_room (room statuses (group_of fleet group))
     need_here group within =
@@ -72,36 +81,39 @@ module _ (statuses : List Status) where
         by_limit None e = absurd (cc)
         by_limit (Some limit) e = refl
 
-    from_chain : list_any (λ group. is_full (need_at needs group)) chain ≡ true → list_any (holds_back statuses host) (groups_of fleet) ≡ true
+    distinct : (group : ℕ) → group < length fleet.groups → are_distinct (list_at fleet.members group) ≡ true
+    distinct group within =
+        let inside : group < length (groups_of fleet) = omega (arith, within, length-groups_of fleet) in
+        subst (λ (g : FleetGroup). are_distinct g.members ≡ true) (get_or-groups_of fleet group no_group within) (groups_of_hosts fleet sound group no_group inside).distinct
+
+    from_chain : list_any (λ group. is_full (need_at needs group)) chain ≡ true → is_stuck (groups_of fleet) statuses host ≡ true
     from_chain e = by_place (Any-from_list_any (λ group. is_full (need_at needs group)) chain e)
       where
-        by_place : Any (λ group. is_full (need_at needs group) ≡ true) chain → list_any (holds_back statuses host) (groups_of fleet) ≡ true
+        by_place : Any (λ group. is_full (need_at needs group) ≡ true) chain → is_stuck (groups_of fleet) statuses host ≡ true
         by_place found =
             let group : ℕ = found.1 in
             let within = full_within group found.4 in
             let chained : has_number group chain ≡ true = list_any_at (nat_eq group) chain found.0 group found.2 (eq-eqb group _ (sym found.3)) in
             let parts = and_parts (is_limited fleet.limits group) (has_number host (list_at fleet.members group)) (sym (exact group) ∙ chained) in
             let full = sym (need_here group within) ∙ found.4 in
-            let holds = and_from (has_number host (list_at fleet.members group)) (is_no_room (room statuses (group_of fleet group))) parts.1 full in
-            list_any_at (holds_back statuses host) (groups_of fleet) group no_group (omega (arith, within, length-groups_of fleet))
-            (ap (holds_back statuses host) (get_or-groups_of fleet group no_group within) ∙ holds)
+            stuck_by fleet statuses host group within parts.1 full
 
-    from_groups : list_any (holds_back statuses host) (groups_of fleet) ≡ true → list_any (λ group. is_full (need_at needs group)) chain ≡ true
-    from_groups e = by_place (Any-from_list_any (holds_back statuses host) (groups_of fleet) e)
+    from_groups : is_stuck (groups_of fleet) statuses host ≡ true → list_any (λ group. is_full (need_at needs group)) chain ≡ true
+    from_groups e = by_place (Any-from_list_any (is_full_for statuses (host ∷ [])) (groups_of fleet) e)
       where
-        by_place : Any (λ group. holds_back statuses host group ≡ true) (groups_of fleet) → list_any (λ group. is_full (need_at needs group)) chain ≡ true
+        by_place : Any (λ group. is_full_for statuses (host ∷ []) group ≡ true) (groups_of fleet) → list_any (λ group. is_full (need_at needs group)) chain ≡ true
         by_place found =
             let group : ℕ = found.0 in
             let within : group < length fleet.groups = omega (arith, found.2, length-groups_of fleet) in
             let is = sym (get_or-groups_of fleet group found.1 within) ∙ found.3 in
-            let parts = and_parts (has_number host (list_at fleet.members group)) (is_no_room (room statuses (group_of fleet group))) (ap (holds_back statuses host) is ∙ found.4) in
+            let parts = member_where_full statuses host (group_of fleet group) (distinct group within) (ap (is_full_for statuses (host ∷ [])) is ∙ found.4) in
             let limited = limited_where_full fleet.limits group (down_count statuses (list_at fleet.members group)) parts.1 in
             let chained = exact group ∙ and_from (is_limited fleet.limits group) (has_number host (list_at fleet.members group)) limited parts.0 in
             number_settles (λ group. is_full (need_at needs group)) chain group chained (need_here group within ∙ parts.1)
 
-    -- a host's chain has a full group just where a group holds it back
-    pub chain_tells : list_any (λ group. is_full (need_at needs group)) chain ≡ list_any (holds_back statuses host) (groups_of fleet)
-    chain_tells = both (list_any (λ group. is_full (need_at needs group)) chain) (list_any (holds_back statuses host) (groups_of fleet)) from_chain from_groups
+    -- a host's chain has a full group just where a group without room holds it
+    pub chain_tells : list_any (λ group. is_full (need_at needs group)) chain ≡ is_stuck (groups_of fleet) statuses host
+    chain_tells = both (list_any (λ group. is_full (need_at needs group)) chain) (is_stuck (groups_of fleet) statuses host) from_chain from_groups
 
 -- once those that are held back are set aside
 module _ (fleet : FleetView) (statuses : List Status) (all : length statuses ≡ length fleet.hosts) where
@@ -117,53 +129,28 @@ module _ (fleet : FleetView) (statuses : List Status) (all : length statuses ≡
   held_waits : (host : ℕ) → held host ≡ true → is_waiting (status_at statuses host) ≡ true
   held_waits host e =
       let inner = and_parts (nat_lt host (length fleet.hosts)) (is_held_back (groups_of fleet) statuses host) (sym (is_held host) ∙ e) in
-      (and_parts (is_waiting (status_at statuses host)) (list_any (holds_back statuses host) (groups_of fleet)) inner.1).0
+      (and_parts (is_waiting (status_at statuses host)) (is_stuck (groups_of fleet) statuses host) inner.1).0
 
-  -- the status of a host that is no host of the fleet is idle, and stays so
   status_aside : (host : ℕ) → status_at aside host ≡ cond (held host) Held (status_at statuses host)
-  status_aside host = by_case (cases_lt host (length statuses))
-    where
-      past_case : (b : Bool) → (b ≡ true → ⊥) → Idle ≡ cond b Held Idle
-      past_case true none = absurd (none refl)
-      past_case false none = refl
-
-      by_case : (host < length statuses) ⊎ (length statuses ≤ host) → status_at aside host ≡ cond (held host) Held (status_at statuses host)
-      by_case (inl within) = status_at-changed (λ _. Held) (held_hosts fleet statuses) statuses host within
-      by_case (inr past) =
-          let idle : Idle ≡ status_at statuses host = sym (status_at-past statuses host past) in
-          let none : held host ≡ true → ⊥ = λ e. omega (arith, past, waiting_within statuses host (held_waits host e)) in
-          status_at-changed_past (λ _. Held) (held_hosts fleet statuses) statuses host past ∙ past_case (held host) none ∙ ap (λ (s : Status). cond (held host) Held s) idle
-
-  down_aside : (host : ℕ) → is_down (status_at aside host) ≡ is_down (status_at statuses host)
-  down_aside host = ap is_down (status_aside host) ∙ by_case (held host) (held_waits host)
-    where
-      by_case : (b : Bool) → (b ≡ true → is_waiting (status_at statuses host) ≡ true) → is_down (cond b Held (status_at statuses host)) ≡ is_down (status_at statuses host)
-      by_case true waits = sym (waiting_not_down (status_at statuses host) (waits refl))
-      by_case false waits = refl
+  status_aside = status_at-moved Held refl (held_hosts fleet statuses) statuses held_waits
 
   downs_aside : (members : List ℕ) → down_count aside members ≡ down_count statuses members
-  downs_aside members = count_agree (λ h. is_down (status_at aside h)) (λ h. is_down (status_at statuses h)) down_aside members
+  downs_aside = down_count-moved Held refl (held_hosts fleet statuses) statuses held_waits
 
   rooms_aside : (group : FleetGroup) → room aside group ≡ room statuses group
-  rooms_aside group = ap (λ (n : ℕ). option_map (λ limit. limit - n) group.limit) (downs_aside group.members)
+  rooms_aside = room-moved Held refl (held_hosts fleet statuses) statuses held_waits
 
   -- nobody of a group without room waits any more
   none_waits : (group : ℕ) → group < length fleet.groups → is_no_room (room statuses (group_of fleet group)) ≡ true → waiting_count aside (list_at fleet.members group) ≡ 0
   none_waits group within full =
       count_none_in (λ h. is_waiting (status_at aside h)) (list_at fleet.members group) (λ host here. ap is_waiting (status_aside host) ∙ by_case host here (held host) refl)
     where
-      back : (host : ℕ) → has_number host (list_at fleet.members group) ≡ true → list_any (holds_back statuses host) (groups_of fleet) ≡ true
-      back host here =
-          let holds = and_from (has_number host (list_at fleet.members group)) (is_no_room (room statuses (group_of fleet group))) here full in
-          list_any_at (holds_back statuses host) (groups_of fleet) group no_group (omega (arith, within, length-groups_of fleet))
-          (ap (holds_back statuses host) (get_or-groups_of fleet group no_group within) ∙ holds)
-
       by_case : (host : ℕ) → has_number host (list_at fleet.members group) ≡ true → (b : Bool) → held host ≡ b → is_waiting (cond b Held (status_at statuses host)) ≡ false
       by_case host here true is = refl
       by_case host here false is =
           false_from_ne_true (is_waiting (status_at statuses host)) (λ waits.
           let low = lt-ltb host (length fleet.hosts) (subst (λ (n : ℕ). host < n) all (waiting_within statuses host waits)) in
-          let held_back = and_from (is_waiting (status_at statuses host)) (list_any (holds_back statuses host) (groups_of fleet)) waits (back host here) in
+          let held_back = and_from (is_waiting (status_at statuses host)) (is_stuck (groups_of fleet) statuses host) waits (stuck_by fleet statuses host group within here full) in
           both_ways (held host) is (is_held host ∙ and_from (nat_lt host (length fleet.hosts)) (is_held_back (groups_of fleet) statuses host) low held_back))
 
   free : (group : ℕ) → group < length (groups_of fleet) → is_blocked (need_of aside (group_at (groups_of fleet) group)) ≡ false

@@ -9,10 +9,15 @@ pub mod ToldLemmas
 pub mod PlannedLemmas
 pub mod AnswerLemmas
 pub mod BeginningLemmas
+pub mod StuckLemmas
+pub mod MovedLemmas
 pub mod HoldingLemmas
+pub mod PlanLaws
 pub mod RoomLemmas
 pub mod CheckLemmas
 pub mod PlacesLemmas
 pub mod FittingLemmas
 pub mod ExactLemmas
 pub mod UniqueLemmas
+pub mod ExistLemmas
+pub mod FollowLemmas

@@ -10,7 +10,7 @@ use Rattle.batch_plan.specs.Bounds.{Forces, IsForced, IsNamedBound, rank}
 use Rattle.batch_plan.specs.Inside.{IsBestBefore, IsCandidate}
 use Rattle.batch_plan.proofs.CeilLemmas.{ceil_some}
 
-forced_inside : (needs : List (Option Need)) (group waiting room count : ℕ) → IsForced (need_at needs group) waiting room count → group < length needs
+pub forced_inside : (needs : List (Option Need)) (group waiting room count : ℕ) → IsForced (need_at needs group) waiting room count → group < length needs
 forced_inside needs group waiting room count forced = by_case (cases_lt group (length needs))
   where
     by_case : (group < length needs) ⊎ (length needs ≤ group) → group < length needs

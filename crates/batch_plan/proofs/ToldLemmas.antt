@@ -1,6 +1,6 @@
 -- The needs of all groups, once each node of the tree of counts has told that of its own group.
 use Rattle.std.proofs.Common.{◌≡◌, ℕ, ◌+◌, ◌-◌, ◌<◌, Bool, true, false, ◌&&◌, ◌||◌, None, Some, Option, List, [], ◌∷◌, ◌++◌}
-use Rattle.std.proofs.Common.{cond, is_some, option_map, nat_eq, nat_lt, length, map, get_or, take, sym, ap, ◌∙◌, refl, arith, inl, inr, ◌⊎◌}
+use Rattle.std.proofs.Common.{cond, is_some, option_map, nat_eq, length, map, get_or, take, sym, ap, ◌∙◌, refl, arith, inl, inr, ◌⊎◌}
 use Rattle.std.specs.List.{range_with_len}
 use Rattle.std.proofs.lemmas.Bool.{cases_eq, eq-eqb, lt-ltb, ne_eqb}
 use Rattle.std.proofs.lemmas.List.{ext_get_or, flat_map_more, take_more}

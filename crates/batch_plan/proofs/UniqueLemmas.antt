@@ -1,5 +1,5 @@
 -- The rule by which hosts are dealt has one answer.
-use Rattle.std.proofs.Common.{◌≡◌, ℕ, ◌+◌, ◌≤◌, ◌<◌, true, false, None, Some, Option, List, length, sym, ap, ◌∙◌, refl, subst, arith, inl, inr, ◌⊎◌}
+use Rattle.std.proofs.Common.{◌≡◌, ℕ, ◌≤◌, ◌<◌, None, Some, Option, List, length, sym, ap, ◌∙◌, refl, subst, arith, inl, inr, ◌⊎◌}
 use Rattle.std.proofs.lemmas.Bool.{both_ways, cases_lt}
 use Rattle.std.proofs.lemmas.List.{get_or_past}
 use Rattle.group_tree.specs.declared.ids.GroupId.{GroupId}
@@ -10,13 +10,12 @@ use Rattle.fleet_states.specs.Groups.{group_at, groups_of}
 use Rattle.batch_plan.specs.declared.needs.Need.{Need}
 use Rattle.batch_plan.specs.declared.answers.Bound.{Bound}
 use Rattle.batch_plan.specs.declared.answers.Bound.TheVariants.{Group, Serial, OneHost, Nothing}
-use Rattle.batch_plan.specs.declared.answers.Answer.{Answer}
 use Rattle.batch_plan.specs.declared.answers.Answer.TheVariants.{Planned, Blocked}
 use Rattle.batch_plan.specs.Needs.{Needs, is_blocked, need_at, need_of, needs_of}
 use Rattle.batch_plan.specs.Plans.{batch_numbers}
-use Rattle.batch_plan.specs.Bounds.{Forces, IsForced, IsNamedBound, rank}
+use Rattle.batch_plan.specs.Bounds.{Forces, rank}
 use Rattle.batch_plan.specs.Deals.{dealt, waiting_in_order}
-use Rattle.batch_plan.specs.Answers.{IsBest, IsDealtAnswer, IsDealtPlan, IsFirstBlocked, IsSameAnswer}
+use Rattle.batch_plan.specs.Answers.{IsDealtPlan, IsFirstBlocked}
 use Rattle.batch_plan.specs.Laws.{OneAnswer}
 
 abbrev waiting_of : Option Need → ℕ

@@ -1,29 +1,19 @@
 -- Hosts that are set aside, since a group of theirs has no room.
-use Rattle.std.specs.Prelude.{ℕ, Bool, false, ◌&&◌, nat_eq, Option, None, Some, List, length}
-use Rattle.std.specs.List.{list_any}
-use Rattle.fleet_numbers.specs.NumberLists.{has_number, numbers_where}
+use Rattle.std.specs.Prelude.{ℕ, Bool, ◌&&◌, Option, List, length}
+use Rattle.fleet_numbers.specs.NumberLists.{numbers_where}
 use Rattle.domains.specs.FleetViews.{FleetView}
 use Rattle.fleet_states.specs.declared.status.Status.{Status}
 use Rattle.fleet_states.specs.declared.status.Status.TheVariants.{Held}
 use Rattle.fleet_states.specs.Statuses.{changed, is_waiting, status_at}
-use Rattle.fleet_states.specs.Groups.{FleetGroup, groups_of, room}
+use Rattle.fleet_states.specs.Groups.{FleetGroup, groups_of, is_stuck}
 use Rattle.batch_plan.specs.declared.answers.Answer.{Answer}
 use Rattle.batch_plan.specs.declared.answers.Answer.TheVariants.{Planned, Blocked}
 use Rattle.batch_plan.specs.Answers.{IsBest}
 use Rattle.batch_plan.specs.Beginnings.{IsReady}
 
--- none may go down
-abbrev pub is_no_room : Option ℕ → Bool
-is_no_room None = false
-is_no_room (Some room) = nat_eq room 0
-
--- the group holds the host and has no room
-abbrev pub holds_back : List Status → ℕ → FleetGroup → Bool
-holds_back statuses host group = has_number host group.members && is_no_room (room statuses group)
-
--- the host waits, and a group holds it back
+-- the host waits, and a group that holds it has no room for it
 abbrev pub is_held_back : List FleetGroup → List Status → ℕ → Bool
-is_held_back groups statuses host = is_waiting (status_at statuses host) && list_any (holds_back statuses host) groups
+is_held_back groups statuses host = is_waiting (status_at statuses host) && is_stuck groups statuses host
 
 -- the hosts that are held back, by name
 abbrev pub held_hosts : FleetView → List Status → List ℕ

@@ -1,10 +1,12 @@
 -- What a host's status counts as.
-use Rattle.std.specs.Prelude.{◌≡◌, List, map, length}
+use Rattle.std.specs.Prelude.{◌≡◌, ℕ, false, List, [], ◌∷◌, map, length}
+use Rattle.fleet_numbers.specs.NumberLists.{has_number}
 use Rattle.domain_counts.specs.declared.place.Place.{Place}
 use Rattle.domain_counts.specs.declared.place.Place.TheVariants.{Up, Waits, Down}
-use Rattle.domain_counts.specs.Counts.{Counted}
+use Rattle.domain_counts.specs.Counts.{Counted, moved}
 use Rattle.fleet_states.specs.declared.status.Status.{Status}
 use Rattle.fleet_states.specs.declared.status.Status.TheVariants.{Idle, Waiting, Running, Updated, Failed, Halted, Off, Held}
+use Rattle.fleet_states.specs.Statuses.{status_at}
 
 abbrev pub place_of : Status → Place
 place_of Idle = Up
@@ -20,3 +22,13 @@ place_of Held = Up
 pub record AreCountsOf (statuses : List Status) (counted : Counted) : Type 0 where
   pub all_hosts : length statuses ≡ length counted.fleet.hosts
   pub places : counted.places ≡ map place_of statuses
+
+-- all hosts but these have the same status in both
+abbrev pub AreSameBut : List ℕ → List Status → List Status → Type 0
+AreSameBut hosts statuses others =
+    (host : ℕ) → has_number host hosts ≡ false → status_at statuses host ≡ status_at others host
+
+-- the counts after these hosts, one after the other, were told to count as their statuses
+abbrev pub told_places : List ℕ → List Status → Counted → Counted
+told_places [] statuses counted = counted
+told_places (host ∷ hosts) statuses counted = told_places hosts statuses (moved counted host (place_of (status_at statuses host)))

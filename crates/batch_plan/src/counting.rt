@@ -15,7 +15,8 @@ use fleet_states::Status;
 use group_tree::{GroupId, HostId};
 use std::alloc::{AllocError, Allocator, Global};
 
-fn place_of(status: Status) -> Place
+/// What a host of this status counts as: one that waits, one that is down, or one that is up and doesn't wait.
+pub fn place_of(status: Status) -> Place
     ensures { result ≡ model.place_of status }
 {
     match status {

@@ -1,6 +1,7 @@
 //! Hosts that are set aside, so that nothing blocks the others.
 ghost use Rattle.std.specs.Prelude.{◌≡◌, ◌<◌, ◌∷◌, ◌++◌, IfOk, OnOk, [], cond, length, map};
 ghost use Rattle.std.specs.List.{list_any};
+ghost use Rattle.domains.specs.FleetViews.{IsSound};
 ghost use Rattle.domains.specs.Ids.{host_numbers};
 ghost use Rattle.fleet_states.specs.Groups.{groups_of};
 ghost use Rattle.batch_plan.specs.Needs.{need_at, need_of};
@@ -43,6 +44,7 @@ fn has_full(needs: &[Option<Need>], chain: &[GroupId]) -> bool
 /// Whether the host waits and a group of its chain has no room.
 fn is_held_back(fleet: &Fleet, statuses: &[Status], needs: &[Option<Need>], host: HostId) -> bool
     requires within { host.index < length fleet.now.hosts }
+    requires sound { IsSound fleet.now }
     requires needs { needs.now ≡ map (need_of statuses.now) (groups_of fleet.now) }
     ensures { result ≡ model.is_held_back (groups_of fleet.now) statuses.now host.index }
 {

@@ -18,9 +18,14 @@ mod rooms;
 pub use answers::{Answer, Bound};
 pub use beginnings::{restart, start};
 pub use checker::check_plan;
-pub use counting::counted;
+pub use counting::{counted, place_of};
 pub use fleet_states::Status;
 pub use holding::{held, set_aside};
-pub use laws::{a_blocked_group_has_no_plan, bounds_hold, one_answer};
+pub use laws::{
+    a_blocked_group_has_no_plan, a_plan_holds_nobody_back, an_answer_exists,
+    an_updated_batch_leaves_one_less, bounds_hold, counts_follow_a_change,
+    held_hosts_may_be_set_aside, no_host_stands_in_two_batches, one_answer,
+    the_first_batch_may_be_opened,
+};
 pub use planner::{plan, plan_over};
 pub use rooms::{room, waiting};

@@ -1,8 +1,11 @@
-//! What no clause of `batch_plan` says: worked plans and statuses, all plans of small fleets beside the answer, and want of memory.
+//! What no clause of `batch_plan` says: plans from elsewhere, the statuses of a later play, all plans of small fleets beside the answer,
+//! and want of memory.
 #![tactic(auto)]
 
 #[cfg(test)]
 mod checked;
+#[cfg(test)]
+mod laws;
 #[cfg(test)]
 mod memory;
 #[cfg(test)]
@@ -13,5 +16,3 @@ mod statuses;
 mod text;
 #[cfg(test)]
 mod tried;
-#[cfg(test)]
-mod worked;

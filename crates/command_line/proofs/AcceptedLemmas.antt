@@ -1,7 +1,7 @@
 -- clap takes the words that ask for limits or a plan, and reads the same files.
 use Rattle.std.proofs.Common.{◌≡◌, ℕ, Bool, true, false, eqb, List, [], ◌∷◌, Option, Some, None, codes, cond, refl, sym, subst, ◌∙◌, option_map}
 use Rattle.clap.specs.Lexer.{long_of, short_of}
-use Rattle.clap.specs.Words.{Row, Text, first_of, is_simple, is_simple_and_free, subcommand_of, takes}
+use Rattle.clap.specs.Words.{Row, Text, first_of, subcommand_of, takes}
 use Rattle.clap.specs.Words.{subcommand_name_of, subcommand_rows, subcommand_rows_of}
 use Rattle.clap.specs.declared.parser.matches.ArgMatches.{ArgMatches}
 use Rattle.clap.specs.declared.parser.matches.SubCommand.{SubCommand}
@@ -13,12 +13,6 @@ use Rattle.std.specs.Box.{box_value}
 use Rattle.clap.proofs.OnLiterals.{clap_on_literals}
 use Rattle.command_line.specs.Syntax.{rollout, file_in}
 use Rattle.command_line.specs.Words.{Word, dashes, is_operand, lone_operand, two_words, two_operands, limits_file, plan_files}
-
-pub simple : is_simple rollout ≡ true
-simple = refl
-
-pub simple_and_free : is_simple_and_free rollout ≡ true
-simple_and_free = refl
 
 -- clap takes the words, and reads the file
 pub record Reads (words : List Word) (file : Word) : Type 0 where

@@ -39,11 +39,6 @@ first_closing (t ∷ rest) e = absurd (cc)
 pub first_other_closing : (m : List Token) → is_closing (first m) ≡ false → first m ≡ Some Closing → ⊥
 first_other_closing m e some = let here : is_closing (first m) ≡ true = ap is_closing some in cc
 
-pub first_opening : (m : List Token) → is_opening (first m) ≡ true → first m ≡ Some Opening
-first_opening [] e = absurd (cc)
-first_opening (Opening ∷ rest) e = refl
-first_opening (t ∷ rest) e = absurd (cc)
-
 pub first_other_opening : (m : List Token) → is_opening (first m) ≡ false → first m ≡ Some Opening → ⊥
 first_other_opening m e some =
     let here : is_opening (first m) ≡ true = ap is_opening some in cc

@@ -22,10 +22,6 @@ begins_take (x ∷ xs) (y ∷ ys) e =
     let rest : take (length xs) ys ≡ xs = begins_take xs ys parts.1 in
     cc
 
-pub begins_itself : (xs ys : List Name) → begins xs (xs ++ ys) ≡ true
-begins_itself [] ys = refl
-begins_itself (x ∷ xs) ys = ap (λ b. b && begins xs (xs ++ ys)) (same_name-itself x) ∙ begins_itself xs ys
-
 pub begins_more : (xs ys zs : List Name) → begins xs ys ≡ true → begins xs (ys ++ zs) ≡ true
 begins_more [] ys zs e = refl
 begins_more (x ∷ xs) [] zs e = absurd (false≢true e)

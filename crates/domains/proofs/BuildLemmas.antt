@@ -172,8 +172,9 @@ module _ (inventory : Inventory) (n : Numbers) (l : FleetLists) (numbered : IsNu
       let apart = known.ends_before_at outer inner rises below ∙ nested_chains h l outer inner outer_in inner_in in
       above_of inventory.places distinct preorder outer inner rises below apart
 
-  pub fleet_of : (order : List ℕ) → AreChainsNested subtree_ends chains → AreStartsWithin members counts off → IsFleetOf inventory (dealt_fleet n l order)
-  fleet_of order nested_chains none =
+  pub fleet_of : (order : List ℕ) → AreChainsNested subtree_ends chains → AreStartsWithin members counts off → IsSound (dealt_fleet n l order)
+      → IsFleetOf inventory (dealt_fleet n l order)
+  fleet_of order nested_chains none dealt_soundly =
       record {
         hosts = numbered.all_hosts;
         groups = numbered.all_groups;
@@ -185,6 +186,7 @@ module _ (inventory : Inventory) (n : Numbers) (l : FleetLists) (numbered : IsNu
         off = numbered.all_off;
         nested = nested nested_chains;
         starts_within = starts_within none;
+        sound = dealt_soundly;
       }
 
   on_length : (g : ℕ) → g < length inventory.places → g < length (depths_of inventory.places)

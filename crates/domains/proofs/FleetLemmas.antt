@@ -53,12 +53,6 @@ module _ (inventory : Inventory) (hosts groups : List Name) (limits : List (Opti
     held_at h l =
         ap (λ (x : List (List ℕ)). list_at x h) held_are ∙ get_or-map-range_with_len holders 0 (length hosts) h h [] l (omega arith)
 
-    held_rise : All (IsRising (length inventory.places)) held
-    held_rise k d l =
-        let inside : k < length hosts = omega (arith, l, held_len) in
-        subst (λ (x : List ℕ). IsRising (length inventory.places) x) (sym (get_or_default held k d [] l ∙ held_at k inside))
-        (rising-numbers_where (member k) (length inventory.places))
-
     counts_len : length counts ≡ length inventory.places
     counts_len =
         ap length counts_are

@@ -22,3 +22,4 @@ pub mod BreachLemmas
 pub mod ReaderLemmas
 pub mod MarkLemmas
 pub mod ListedLemmas
+pub mod UniqueLemmas

@@ -77,14 +77,19 @@ dealt_within number bound order lent is once k d l =
     let below : get_or order k 0 < bound = in_range bound order once k long in
     omega (arith, below, get_or-map number lent k d 0 l, ap (λ (o : List ℕ). get_or o k 0) is)
 
+-- where an order has a host
+pub stands : (n : ℕ) (order : List ℕ) (h : ℕ) → IsPermutation (range_with_len 0 n) order → h < n → (place : ℕ) × (place < length order) × (get_or order place 0 ≡ h)
+stands n order h once l =
+    let long : length (range_with_len 0 n) ≡ n = length-range_with_len 0 n in
+    let found = Contains-permutation (range_with_len 0 n) order h once (h, omega (arith, long), get_or-range_with_len 0 n h h l ∙ zero-add h) in
+    (found.0, found.1, get_or_default order found.0 0 h found.1 ∙ found.2)
+
 pub placed : (n : ℕ) (order places : List ℕ) (h : ℕ) → IsPermutation (range_with_len 0 n) order → ArePlacesOf order places → h < n
     → (get_or places h 0 < length order) × (get_or order (get_or places h 0) 0 ≡ h)
 placed n order places h once at l =
-    let long : length (range_with_len 0 n) ≡ n = length-range_with_len 0 n in
-    let stands = Contains-permutation (range_with_len 0 n) order h once (h, omega (arith, long), get_or-range_with_len 0 n h h l ∙ zero-add h) in
-    let here : get_or order stands.0 0 ≡ h = get_or_default order stands.0 0 h stands.1 ∙ stands.2 in
-    let place : get_or places h 0 ≡ stands.0 = ap (λ (k : ℕ). get_or places k 0) (sym here) ∙ at.at stands.0 stands.1 in
-    (omega (arith, place, stands.1), ap (λ (k : ℕ). get_or order k 0) place ∙ here)
+    let found = stands n order h once l in
+    let place : get_or places h 0 ≡ found.0 = ap (λ (k : ℕ). get_or places k 0) (sym found.2) ∙ at.at found.0 found.1 in
+    (omega (arith, place, found.1), ap (λ (k : ℕ). get_or order k 0) place ∙ found.2)
 
 -- one of the lists of a fleet as it is lent
 lent_at : {X : Type 0} (number : X → ℕ) (lists : List (Vec X Global)) (shown_lists : List (List ℕ)) (bound k : ℕ) (own : Vec X Global) (lent : List X)

@@ -7,7 +7,7 @@ use Rattle.domains.specs.Hosts.{hosts_of, is_off}
 use Rattle.domains.specs.Starts.{place_at, allowed_of, StartsWithin}
 use Rattle.domains.specs.Nested.{IsNested}
 use Rattle.domains.specs.Members.{members_of, chains_of}
-use Rattle.domains.specs.FleetViews.{FleetView}
+use Rattle.domains.specs.FleetViews.{FleetView, IsSound}
 
 -- the group directly above, whose path is the names above the group, and none for an outermost group
 abbrev pub IsParentOf : List Place → ℕ → Option ℕ → Type 0
@@ -21,7 +21,8 @@ IsOutermostFirst places groups =
     (earlier later : ℕ) → earlier < later → later < length groups
     → begins (path_of (place_at places (slice_index_or groups earlier 0))) (path_of (place_at places (slice_index_or groups later 0))) ≡ true
 
--- the fleet's hosts, groups, parents, members, chains and starting state are those of the inventory
+-- the fleet's hosts, groups, parents, members, chains and starting state are those of the inventory; being sound, it deals
+-- its hosts by their innermost limited groups and then by name, and has no more of them than a fleet may have
 pub record IsFleetOf (inventory : Inventory) (fleet : FleetView) : Type 0 where
   pub hosts : fleet.hosts ≡ hosts_of inventory
   pub groups : fleet.groups ≡ group_names inventory.places
@@ -33,3 +34,4 @@ pub record IsFleetOf (inventory : Inventory) (fleet : FleetView) : Type 0 where
   pub off : fleet.off ≡ map (is_off inventory) fleet.hosts
   pub nested : IsNested inventory
   pub starts_within : StartsWithin inventory
+  pub sound : IsSound fleet

@@ -14,3 +14,4 @@ pub mod FleetLists
 pub mod Search
 pub mod Outcomes
 pub mod Inside
+pub mod Laws

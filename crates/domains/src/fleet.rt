@@ -96,7 +96,8 @@ fn deal(alloc: Global, numbers: Numbers, lists: FleetLists) -> Result<Fleet, All
     requires below { All (λ chain. IsTrue (are_below groups_bound chain)) (group_lists lists.chains.items) }
     requires sound { (order : List ℕ) → IsPermutation (range_with_len 0 (length (group_lists lists.chains.items))) order
         → IsDealt (group_lists lists.chains.items) order → IsSound (dealt_fleet numbers lists order) }
-    ensures { IfOk result (λ fleet. fleet ≡ dealt_fleet numbers lists fleet.order) }
+    ensures dealt { IfOk result (λ fleet. fleet ≡ dealt_fleet numbers lists fleet.order) }
+    ensures sound { IfOk result IsSound }
 {
     let order = list_deal_order(alloc, lists.chains.as_slice())?;
     let places = list_deal_places(alloc, order.as_slice())?;

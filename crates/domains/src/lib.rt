@@ -3,6 +3,7 @@
 
 mod fault;
 mod fleet;
+mod laws;
 mod lists;
 mod marks;
 mod names;
@@ -16,6 +17,7 @@ mod walk;
 
 pub use fault::FleetFault;
 pub use fleet::{Fleet, HOSTS_BOUND};
+pub use laws::one_fleet;
 pub use pattern_fault::PatternFault;
 pub use rows::{HostRow, list_rows};
 pub use walk::{WalkedGroup, list_walk};

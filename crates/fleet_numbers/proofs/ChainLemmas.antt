@@ -98,13 +98,6 @@ module _ (subtree_ends chain : List ℕ) (up : Ascends 0 (length subtree_ends) c
   abbrev ends_early : ℕ → Bool
   ends_early group = ends_before subtree_ends group top
 
-  pub nested_empty : length chain ≡ 0 → IsNestedChain subtree_ends chain
-  nested_empty e first second h k = absurd (none chain e h)
-    where
-      none : (xs : List ℕ) → length xs ≡ 0 → has_number first xs ≡ true → ⊥
-      none [] e h = cc
-      none (x ∷ xs) e h = absurd (omega (arith, e))
-
   pub nested_none : find ends_early chain ≡ None → IsNestedChain subtree_ends chain
   nested_none e first second h k =
       let below_top : second ≤ top = last_greatest 0 (length subtree_ends) chain second 0 up k in

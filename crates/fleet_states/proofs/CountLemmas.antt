@@ -30,6 +30,14 @@ count_agree p q same [] = refl
 count_agree p q same (x ∷ xs) =
     count_by-cons p x xs ∙ ap (λ b. bit b + count_by p xs) (same x) ∙ ap (λ n. bit (q x) + n) (count_agree p q same xs) ∙ sym (count_by-cons q x xs)
 
+-- tests that agree on what stands in the list
+pub count_agree_in : (p q : ℕ → Bool) (xs : List ℕ) → ((x : ℕ) → has_number x xs ≡ true → p x ≡ q x) → count_by p xs ≡ count_by q xs
+count_agree_in p q [] same = refl
+count_agree_in p q (x ∷ xs) same =
+    let here : bit (p x) ≡ bit (q x) = ap bit (same x (or_left (nat_eq x x) (has_number x xs) (eq-eqb x x refl))) in
+    let later : count_by p xs ≡ count_by q xs = count_agree_in p q xs (λ y e. same y (or_right (nat_eq y x) (has_number y xs) e)) in
+    omega (arith, count_by-cons p x xs, count_by-cons q x xs)
+
 pub count_none : (p : ℕ → Bool) → ((x : ℕ) → p x ≡ false) → (xs : List ℕ) → count_by p xs ≡ 0
 count_none p none [] = refl
 count_none p none (x ∷ xs) =

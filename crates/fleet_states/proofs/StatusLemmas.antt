@@ -1,5 +1,6 @@
 -- Statuses by the hosts' numbers, and after a change.
-use Rattle.std.proofs.Common.{◌≡◌, ℕ, ◌+◌, ◌≤◌, ◌<◌, Bool, true, false, cond, List, [], length, get_or, set, take, sym, ap, ◌∙◌, refl, subst, arith, inl, inr, ◌⊎◌}
+use Rattle.std.proofs.Common.{◌≡◌, ℕ, ◌+◌, ◌≤◌, ◌<◌, Bool, true, false, cond, List, [], map, length, get_or, set, take, sym, ap, ◌∙◌, refl, subst, arith, inl, inr, ◌⊎◌}
+use Rattle.std.specs.List.{range_with_len}
 use Rattle.std.proofs.lemmas.List.{ext_get_or, get_or_past, get_or-set_same, get_or-set_other, length-set}
 use Rattle.std.proofs.lemmas.List.FromFn.{length-map-range_with_len, get_or-map-range_with_len}
 use Rattle.std.proofs.lemmas.Bool.{cases_eq, cases_lt, both_ways}
@@ -62,21 +63,102 @@ module _ (statuses : List Status) (host : ℕ) (status : Status) where
   pub status_at-set_other : (other : ℕ) → (other ≡ host → ⊥) → status_at (set statuses host status) other ≡ status_at statuses other
   status_at-set_other other apart = get_or-set_other statuses host other status Idle apart
 
--- hosts after a change of some of them
-module _ (change : Status → Status) (hosts : List ℕ) (statuses : List Status) where
+-- the statuses once these hosts have those that are given to them
+abbrev pub given : (ℕ → Status) → List ℕ → List Status → List Status
+given status hosts statuses =
+    map (λ host. cond (has_number host hosts) (status host) (status_at statuses host)) (range_with_len 0 (length statuses))
+
+module _ (status : ℕ → Status) (hosts : List ℕ) (statuses : List Status) where
   abbrev after : ℕ → Status
-  after host = cond (has_number host hosts) (change (status_at statuses host)) (status_at statuses host)
+  after host = cond (has_number host hosts) (status host) (status_at statuses host)
 
-  pub length-changed : length (changed change hosts statuses) ≡ length statuses
-  length-changed = length-map-range_with_len after 0 (length statuses)
+  pub length-given : length (given status hosts statuses) ≡ length statuses
+  length-given = length-map-range_with_len after 0 (length statuses)
 
-  pub status_at-changed : (host : ℕ) → host < length statuses → status_at (changed change hosts statuses) host ≡ cond (has_number host hosts) (change (status_at statuses host)) (status_at statuses host)
-  status_at-changed host within =
+  pub status_at-given : (host : ℕ) → host < length statuses → status_at (given status hosts statuses) host ≡ cond (has_number host hosts) (status host) (status_at statuses host)
+  status_at-given host within =
       get_or-map-range_with_len after 0 (length statuses) host host Idle within (omega arith)
 
+  pub status_at-given_past : (host : ℕ) → length statuses ≤ host → status_at (given status hosts statuses) host ≡ Idle
+  status_at-given_past host past =
+      status_at-past (given status hosts statuses) host (omega (arith, past, length-given))
+
+pub given_none : (status : ℕ → Status) (statuses : List Status) → given status [] statuses ≡ statuses
+given_none status statuses =
+    let long : length (given status [] statuses) ≡ length statuses = length-given status [] statuses in
+    ext_get_or Idle (given status [] statuses) statuses long (λ k l. status_at-given status [] statuses k (omega (arith, l, long)))
+
+-- one host more, whether it is there or not
+module _ (status : ℕ → Status) (hosts : List ℕ) (i : ℕ) (within : i < length hosts) (statuses : List Status) where
+  abbrev so_far : ℕ → List Status
+  so_far k = given status (take k hosts) statuses
+
+  long : (k : ℕ) → length (so_far k) ≡ length statuses
+  long k = length-given status (take k hosts) statuses
+
+  abbrev choice : ℕ → Bool → Status
+  choice k b = cond b (status k) (status_at statuses k)
+
+  others : (k : ℕ) → k < length statuses → (k ≡ get_or hosts i 0 → ⊥) → status_at (so_far i) k ≡ status_at (so_far (i + 1)) k
+  others k l other =
+      status_at-given status (take i hosts) statuses k l ∙ ap (choice k) (sym (has_other hosts i within k other)) ∙ sym (status_at-given status (take (i + 1) hosts) statuses k l)
+
+  pub given_more : (new : Status) → get_or hosts i 0 < length statuses → new ≡ status (get_or hosts i 0) → set (so_far i) (get_or hosts i 0) new ≡ so_far (i + 1)
+  given_more new inside is =
+      ext_get_or Idle written (so_far (i + 1)) (wrote ∙ long i ∙ sym (long (i + 1))) (λ k l. by_case k (omega (arith, l, wrote, long i)) (cases_eq k at))
+    where
+      at : ℕ
+      at = get_or hosts i 0
+
+      written : List Status
+      written = set (given status (take i hosts) statuses) (get_or hosts i 0) new
+
+      wrote : length written ≡ length (so_far i)
+      wrote = length-set (so_far i) at new
+
+      by_case : (k : ℕ) → k < length statuses → (k ≡ at) ⊎ (k ≡ at → ⊥) → status_at written k ≡ status_at (so_far (i + 1)) k
+      by_case k l (inl e) =
+          let here : status_at written k ≡ new = ap (status_at written) e ∙ status_at-set (so_far i) at new (omega (arith, inside, long i)) in
+          let due : new ≡ choice k true = is ∙ ap status (sym e) in
+          here ∙ due ∙ ap (choice k) (sym (has_own hosts i within k e)) ∙ sym (status_at-given status (take (i + 1) hosts) statuses k l)
+      by_case k l (inr d) = status_at-set_other (so_far i) at new k d ∙ others k l d
+
+  pub given_past : length statuses ≤ get_or hosts i 0 → so_far i ≡ so_far (i + 1)
+  given_past past =
+      ext_get_or Idle (so_far i) (so_far (i + 1)) (long i ∙ sym (long (i + 1))) (λ k l. others k (omega (arith, l, long i)) (λ e. omega (arith, l, long i, past, e)))
+
+-- the same of the hosts as the code reads them
+module _ (status : ℕ → Status) (hosts : List HostId) (i : ℕ) (d : HostId) (within : i < length hosts) (statuses : List Status) where
+  abbrev after_hosts : ℕ → List Status
+  after_hosts k = given status (take k (host_numbers hosts)) statuses
+
+  inside : i < length (host_numbers hosts)
+  inside = omega (arith, within, length-host_numbers hosts)
+
+  pub given_more_host : (new : Status) → (get_or hosts i d).index < length statuses → new ≡ status (get_or hosts i d).index → set (after_hosts i) (get_or hosts i d).index new ≡ after_hosts (i + 1)
+  given_more_host new =
+      subst Step (number_of_host hosts i d within) (given_more status (host_numbers hosts) i inside statuses new)
+    where
+      Step : ℕ → Type 0
+      Step n = n < length statuses → new ≡ status n → set (after_hosts i) n new ≡ after_hosts (i + 1)
+
+  pub given_past_host : length statuses ≤ (get_or hosts i d).index → after_hosts i ≡ after_hosts (i + 1)
+  given_past_host past =
+      given_past status (host_numbers hosts) i inside statuses (omega (arith, past, number_of_host hosts i d within))
+
+-- hosts after a change of some of them
+module _ (change : Status → Status) (hosts : List ℕ) (statuses : List Status) where
+  abbrev change_at : ℕ → Status
+  change_at host = change (status_at statuses host)
+
+  pub length-changed : length (changed change hosts statuses) ≡ length statuses
+  length-changed = length-given change_at hosts statuses
+
+  pub status_at-changed : (host : ℕ) → host < length statuses → status_at (changed change hosts statuses) host ≡ cond (has_number host hosts) (change (status_at statuses host)) (status_at statuses host)
+  status_at-changed = status_at-given change_at hosts statuses
+
   pub status_at-changed_past : (host : ℕ) → length statuses ≤ host → status_at (changed change hosts statuses) host ≡ Idle
-  status_at-changed_past host past =
-      status_at-past (changed change hosts statuses) host (omega (arith, length-changed))
+  status_at-changed_past = status_at-given_past change_at hosts statuses
 
   -- a change that leaves idle hosts idle may be read at any number
   pub status_at-changed_idle : (host : ℕ) → change Idle ≡ Idle → status_at (changed change hosts statuses) host ≡ cond (has_number host hosts) (change (status_at statuses host)) (status_at statuses host)
@@ -93,53 +175,14 @@ module _ (change : Status → Status) (hosts : List ℕ) (statuses : List Status
           status_at-changed_past host past ∙ both (has_number host hosts) ∙ ap (λ s. cond (has_number host hosts) (change s) s) was
 
 pub changed_none : (change : Status → Status) (statuses : List Status) → changed change [] statuses ≡ statuses
-changed_none change statuses =
-    let long : length (changed change [] statuses) ≡ length statuses = length-changed change [] statuses in
-    ext_get_or Idle (changed change [] statuses) statuses long (λ k l. status_at-changed change [] statuses k (omega (arith, l, long)))
+changed_none change statuses = given_none (λ host. change (status_at statuses host)) statuses
 
 -- one more host has changed
 pub changed_more : (hosts : List ℕ) (i : ℕ) → i < length hosts → (change : Status → Status) (statuses : List Status) (status : Status) → get_or hosts i 0 < length statuses → status ≡ change (status_at statuses (get_or hosts i 0)) → set (changed change (take i hosts) statuses) (get_or hosts i 0) status ≡ changed change (take (i + 1) hosts) statuses
-changed_more hosts i within change statuses status inside is =
-    ext_get_or Idle (set before at status) later (wrote ∙ long ∙ sym longer) (λ k l. by_case k (omega (arith, l, wrote, long)) (cases_eq k at))
-  where
-    at : ℕ
-    at = get_or hosts i 0
-
-    before : List Status
-    before = changed change (take i hosts) statuses
-
-    later : List Status
-    later = changed change (take (i + 1) hosts) statuses
-
-    wrote : length (set before at status) ≡ length before
-    wrote = length-set before at status
-
-    long : length before ≡ length statuses
-    long = length-changed change (take i hosts) statuses
-
-    longer : length later ≡ length statuses
-    longer = length-changed change (take (i + 1) hosts) statuses
-
-    choice : ℕ → Bool → Status
-    choice k b = cond b (change (status_at statuses k)) (status_at statuses k)
-
-    by_case : (k : ℕ) → k < length statuses → (k ≡ at) ⊎ (k ≡ at → ⊥) → status_at (set before at status) k ≡ status_at later k
-    by_case k l (inl e) =
-        let written : status_at (set before at status) k ≡ status = ap (status_at (set before at status)) e ∙ status_at-set before at status (omega (arith, inside, long)) in
-        let new : status ≡ choice k true = is ∙ ap (λ (h : ℕ). change (status_at statuses h)) (sym e) in
-        written ∙ new ∙ ap (choice k) (sym (has_own hosts i within k e)) ∙ sym (status_at-changed change (take (i + 1) hosts) statuses k l)
-    by_case k l (inr d) =
-        let kept : status_at (set before at status) k ≡ status_at before k = status_at-set_other before at status k d in
-        let was : status_at before k ≡ choice k (has_number k (take i hosts)) = status_at-changed change (take i hosts) statuses k l in
-        kept ∙ was ∙ ap (choice k) (sym (has_other hosts i within k d)) ∙ sym (status_at-changed change (take (i + 1) hosts) statuses k l)
+changed_more hosts i within change statuses status =
+    given_more (λ host. change (status_at statuses host)) hosts i within statuses status
 
 -- the same of the hosts as the code reads them
 pub changed_more_host : (hosts : List HostId) (i : ℕ) (d : HostId) → i < length hosts → (change : Status → Status) (statuses : List Status) (status : Status) → (get_or hosts i d).index < length statuses → status ≡ change (status_at statuses (get_or hosts i d).index) → set (changed change (take i (host_numbers hosts)) statuses) (get_or hosts i d).index status ≡ changed change (take (i + 1) (host_numbers hosts)) statuses
 changed_more_host hosts i d within change statuses status =
-    subst Step (number_of_host hosts i d within) (changed_more (host_numbers hosts) i (omega (arith, length-host_numbers hosts)) change statuses status)
-  where
-    after : ℕ → List Status
-    after k = changed change (take k (host_numbers hosts)) statuses
-
-    Step : ℕ → Type 0
-    Step n = n < length statuses → status ≡ change (status_at statuses n) → set (after i) n status ≡ after (i + 1)
+    given_more_host (λ host. change (status_at statuses host)) hosts i d within statuses status

@@ -1,6 +1,6 @@
 -- Where the first `}}` stands.
-use Rattle.std.proofs.Common.{◌≡◌, ℕ, suc, ◌+◌, ◌-◌, ◌<◌, ◌≤◌, Bool, true, false, cond, Option, Some, None, List, [], ◌∷◌, length, take, drop, get_or, option_map, refl, sym, ap, ◌∙◌, arith, drop-cons, length-drop}
-use Rattle.std.proofs.lemmas.List.{take_all, drop_all}
+use Rattle.std.proofs.Common.{◌≡◌, ℕ, suc, ◌+◌, ◌-◌, ◌<◌, Bool, true, false, cond, Option, Some, None, List, [], ◌∷◌, length, take, drop, get_or, option_map, refl, sym, ap, ◌∙◌, arith, drop-cons, length-drop}
+use Rattle.std.proofs.lemmas.List.{take_all}
 use Rattle.word_parts.specs.Words.{starts}
 use Rattle.play_rules.specs.Commands.{before_closing}
 
@@ -30,7 +30,3 @@ next_closing bytes index within other so_far =
     let next : suc index ≡ index + 1 = omega arith in
     let step : before_closing (drop index bytes) ≡ option_map (λ (more : ℕ). suc more) (before_closing (drop (suc index) bytes)) = ap before_closing front ∙ closing_later (get_or bytes index 0) (drop (suc index) bytes) (ap (starts 125 125) (sym front) ∙ other) in
     so_far ∙ ap (λ (found : Option ℕ). option_map (λ (more : ℕ). more + index) found) step ∙ more_by (before_closing (drop (suc index) bytes)) index ∙ ap (λ (k : ℕ). option_map (λ (more : ℕ). more + (index + 1)) (before_closing (drop k bytes))) next
-
-pub none_found : (bytes : List ℕ) (index : ℕ) → length bytes ≤ index → before_closing bytes ≡ option_map (λ (more : ℕ). more + index) (before_closing (drop index bytes)) → None ≡ before_closing bytes
-none_found bytes index past so_far =
-    sym (so_far ∙ ap (λ (rest : List ℕ). option_map (λ (more : ℕ). more + index) (before_closing rest)) (drop_all index bytes past))

@@ -118,7 +118,3 @@ length_past bytes index more within other hole inside =
     skipped more rest (omega (arith, length-drop (index + 1) bytes, inside))
     ∙ ap (λ (left : List ℕ). more + piece_length 0 left) (drop-drop more (index + 1) bytes ∙ ap (λ (k : ℕ). drop k bytes) place) in
     omega (arith, step, skip)
-
-pub length_blank : (bytes : List ℕ) (index : ℕ) → index < length bytes → is_blank (get_or bytes index 0) ≡ true → piece_length 0 (drop index bytes) ≡ 0
-length_blank bytes index within blank =
-    ap (piece_length 0) (drop-cons bytes index 0 within) ∙ length_at_blank (get_or bytes index 0) (drop (suc index) bytes) blank

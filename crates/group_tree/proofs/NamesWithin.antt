@@ -40,10 +40,6 @@ module _ (group : Subtree) (children : List Subtree) (parts : side_by_side child
       let lower : Inventory → Bool = λ below. same_name name group.name || is_within name left (group_names below.places) in
       rw (more, let e : left + 1 ≡ suc left = omega arith in e) (rw (names-under group.name group.below.places) (ap lower (sym parts)))
 
-  pub names_within-here : (name : Name) (left count : ℕ) → count ≡ left + 1 → same_name name group.name ≡ true → true ≡ is_within name count (group_names (places_of group))
-  names_within-here name left count more here =
-      sym (names_within-parts name left count more ∙ or_left _ _ here)
-
   pub names_within-below : (name : Name) (left count : ℕ) (answer : Bool) → count ≡ left + 1 → same_name name group.name ≡ false
       → answer ≡ is_within name left (names_of children) → answer ≡ is_within name count (group_names (places_of group))
   names_within-below name left count answer more elsewhere below =

@@ -4,9 +4,6 @@ ghost use Rattle.std.specs.List.{before_first, after_first};
 ghost use Rattle.host_patterns.specs.Patterns.{parts_of, without_leading, without_trailing};
 ghost use Rattle.host_patterns.specs.Patterns as spec;
 
-#[cfg(test)]
-mod tests;
-
 /// The first part of the pattern, and the rest of the pattern behind it; `None` where the pattern has no part. `:` and
 /// `,` stand between parts, blanks (space, tab, line feed, carriage return) at both ends of a part don't count, and a
 /// part of which nothing is left is passed over. It takes no memory. To walk over all parts, go on with the rest, which

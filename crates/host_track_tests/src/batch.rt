@@ -1,8 +1,9 @@
 //! A batch of four hosts, of which the first two fail at the first of two steps.
 use crate::hosts::{begun, hosts};
 use crate::walk::{Walked, walk};
-use batch_outcome::{failed_by, is_past, status_after};
+use batch_outcome::{halt, status_after};
 use fleet_states::Status;
+use group_tree::HostId;
 use host_vars::Vars;
 use made_plays::{End, show_counts};
 use play_model::Play;
@@ -16,19 +17,12 @@ fn ends(host: usize) -> &'static [End] {
 }
 
 /// The step at which the batch of all these hosts halts.
-fn halt(alloc: Global, play: &Play, failing: &[Option<usize>]) -> Result<Option<usize>, Fail> {
+fn halt_of(alloc: Global, play: &Play, failing: &[Option<usize>]) -> Result<Option<usize>, Fail> {
     let mut batch = Vec::new(alloc);
-    for host in 0..failing.len() {
-        batch.push(host)?;
+    for index in 0..failing.len() {
+        batch.push(HostId { index })?;
     }
-    let size = u32::try_from(batch.len()).unwrap_or(u32::MAX);
-    for place in 0..play.steps().len() {
-        let failed = u32::try_from(failed_by(failing, &batch, place)).unwrap_or(u32::MAX);
-        if is_past(play.max_fail(), failed, size) {
-            return Ok(Some(place));
-        }
-    }
-    Ok(None)
+    Ok(halt(failing, &batch, play.max_fail(), play.steps().len()))
 }
 
 fn state(status: Status) -> &'static str {
@@ -69,7 +63,7 @@ fn push_host(shown: &mut String, walked: &Walked, halt: Option<usize>) -> Result
 
 /// Of each host its rows up to the halt, its counts, and what becomes of it.
 fn batch_of(alloc: Global, play: &Play, hosts: &[Vars]) -> Result<String, Fail> {
-    let halt = halt(alloc, play, &failing(alloc, play, hosts)?)?;
+    let halt = halt_of(alloc, play, &failing(alloc, play, hosts)?)?;
     let steps = halt.map_or(play.steps().len(), |place| place.saturating_add(1));
     let mut shown = String::new(alloc);
     for (host, vars) in hosts.iter().enumerate() {

@@ -9,6 +9,8 @@ mod batch;
 #[cfg(test)]
 mod hosts;
 #[cfg(test)]
+mod laws;
+#[cfg(test)]
 mod memory;
 #[cfg(test)]
 mod told;

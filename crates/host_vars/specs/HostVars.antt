@@ -56,6 +56,11 @@ values_of vars (whole name) = plain_in vars name
 values_of vars (part name field) = field_in vars name field
 values_of vars hostname = Some (Text (variables_of vars).name)
 
+-- the two have the same name, groups, variables and results
+pub record IsSameHost (one other : Vars) : Type 0 where
+  pub variables : variables_of one ≡ variables_of other
+  pub results : (name : Name) → result_in one name ≡ result_in other name
+
 -- the host as it begins a play with these registers: it has its variables and results, and a place for each register
 pub record BeginsPlay (registers : Registers) (begun vars : Vars) : Type 0 where
   pub variables : variables_of begun ≡ variables_of vars

@@ -3,7 +3,7 @@ ghost use Rattle.std.specs.Prelude.{◌≡◌, Some, cond, ◌||◌, IfOk, IsTru
 ghost use Rattle.std.specs.Arc.{arc_value};
 ghost use Rattle.inventory_model.specs.Names.{Name, same_name};
 ghost use Rattle.registered_results.specs.Results.{row_of};
-ghost use Rattle.host_vars.specs.HostVars.{variables_of, has_place_in, result_in, BeginsPlay};
+ghost use Rattle.host_vars.specs.HostVars.{variables_of, has_place_in, result_in, BeginsPlay, IsSameHost};
 
 use crate::vars::Vars;
 use registered_results::{Registered, Registers};
@@ -32,6 +32,16 @@ impl Vars {
         ensures variables { variables_of self.new ≡ variables_of self.old }
     {
         self.results.register(name, registered);
+    }
+
+    /// The same host: its variables, which are shared and not copied, and a copy of each result. It fails for want of memory alone.
+    pub fn copy(&self, alloc: Global) -> Result<Vars, AllocError>
+        ensures { IfOk result (λ copy. IsSameHost copy self.now) }
+    {
+        Ok(Vars {
+            variables: Arc::try_clone(&self.variables)?,
+            results: self.results.copy(alloc)?,
+        })
     }
 
     /// The host as it begins a play with these registers: its variables, which are shared and not copied, a copy of each result, and a

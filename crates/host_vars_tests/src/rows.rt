@@ -79,6 +79,32 @@ fn words_are_rendered_or_refused_as_stated(rt: HostRuntime) -> Result<(), Fail> 
     Ok(())
 }
 
+/// 65,535 bytes, and a hole.
+fn long_word(alloc: Global) -> Result<String, AllocError> {
+    let mut word = String::new(alloc);
+    for _byte in 0..65535 {
+        word.push('x')?;
+    }
+    word.push_str("{{v}}")?;
+    Ok(word)
+}
+
+/// How many bytes the long word has, with a value of one digit.
+fn rendered_bytes(alloc: Global) -> Result<usize, Fail> {
+    let host = host(alloc, &nested(), "h")?;
+    let word = long_word(alloc)?;
+    match host.render(alloc, word.as_str()) {
+        Ok(text) => Ok(text.len()),
+        Err(_fault) => Err(Fail::new("a word that is not too long")),
+    }
+}
+
+#[test]
+fn a_text_of_65536_bytes_is_rendered(rt: HostRuntime) -> Result<(), Fail> {
+    assert!(rt; rendered_bytes(rt.alloc())? == 65536);
+    Ok(())
+}
+
 fn verdict(alloc: Global, text: &str, host: &Vars) -> Result<Option<bool>, Fail> {
     let condition = parse(alloc, text)?;
     Ok(eval(&condition, host).ok())

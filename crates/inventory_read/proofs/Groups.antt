@@ -11,7 +11,7 @@ use Rattle.serde_json.specs.View.{view}
 use Rattle.inventory_model.specs.Names.{Name}
 use Rattle.inventory_read.specs.Keys.{all_key, children_key}
 use Rattle.inventory_read.specs.Documents as documents
-use Rattle.inventory_read.specs.Documents.{members_in, part, entries, under, with_below, below_body, below_members, groups_in, groups_among, groups_from, entries_in, merged, is_beside_all, groups_of}
+use Rattle.inventory_read.specs.Documents.{members_in, part, under, with_below, below_body, below_members, groups_in, groups_among, groups_from, entries_in, merged, is_beside_all, groups_of}
 use Rattle.inventory_read.specs.Listings.{Outline, outline_of, outline_at, most}
 use Rattle.inventory_read.specs.declared.listing.Listed.{Listed}
 
@@ -42,10 +42,6 @@ below_body-is (number _) = refl
 below_body-is (string _) = refl
 below_body-is (array _) = refl
 below_body-is (object members) = below_members-is members
-
-pub groups_among-is : (members : Members) → groups_among members ≡ flat_map groups_from (entries members)
-groups_among-is no_members = refl
-groups_among-is (member name body more) = ap (λ rest. with_below name body (below_body body) ++ rest) (groups_among-is more)
 
 outline_at-under : (depth : ℕ) (name : Name) (groups : List documents.Listed) → map (outline_at depth) (map (under name) groups) ≡ map (outline_at (min (depth + 1) most)) groups
 outline_at-under depth name [] = refl

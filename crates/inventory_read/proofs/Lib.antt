@@ -9,5 +9,3 @@ pub mod Verdicts
 pub mod Unbroken
 pub mod MergeLaws
 pub mod Named
-pub mod Paths
-pub mod Placed

@@ -1,15 +1,15 @@
 -- A document that breaks no rule names its groups and hosts by the alphabet.
-use Rattle.std.proofs.Common.{◌≡◌, Bool, true, false, ◌&&◌, List, [], ◌∷◌, ◌++◌, map, refl, sym, ◌∙◌}
+use Rattle.std.proofs.Common.{◌≡◌, true, List, [], ◌∷◌, ◌++◌, map, refl, sym, ◌∙◌}
 use Rattle.std.specs.Cmp.Derive.{both_true}
-use Rattle.std.specs.List.{flat_map, list_all}
+use Rattle.std.specs.List.{list_all}
 use Rattle.std.proofs.lemmas.Bool.{and_parts}
 use Rattle.std.proofs.lemmas.List.Folds.{list_all-append, list_all-map}
 use Rattle.serde_json.specs.Data.{Data}
 use Rattle.inventory_model.specs.Names.{Name, is_name}
 use Rattle.inventory_read.specs.Documents.{Entry, Listed, under, with_below, entries_in, groups_of, part}
 use Rattle.inventory_read.specs.Keys.{hosts_key, vars_key, children_key}
-use Rattle.inventory_read.specs.Named.{has_name, hosts_are_named, is_named, are_named}
-use Rattle.inventory_read.specs.Rules.{Breach, BadName, bad_top, bad_name, bad_shape, bad_limit, unknown_key, broken_by_host, broken_by_hosts, broken_by_group, broken}
+use Rattle.inventory_read.specs.Named.{has_name, is_named, are_named}
+use Rattle.inventory_read.specs.Rules.{BadName, bad_top, bad_name, bad_shape, bad_limit, unknown_key, broken_by_host, broken_by_hosts, broken_by_group, broken}
 use Rattle.inventory_read.proofs.Unbroken.{first_nil, rest_nil, kept}
 use Rattle.inventory_read.proofs.Verdicts.{by_groups}
 
@@ -44,15 +44,6 @@ unbroken-named document e =
 module _ (name : Name) (body : Data) (below : List Listed) (e : are_named (with_below name body below) ≡ true) where
   parts : (is_named (record { above = []; name = name; body = body }) ≡ true) × (are_named (map (under name) below) ≡ true)
   parts = and_parts _ _ e
-
-  own_parts : (is_name name ≡ true) × (hosts_are_named body ≡ true)
-  own_parts = and_parts (is_name name) (hosts_are_named body) parts.0
-
-  pub own_named : is_name name ≡ true
-  own_named = own_parts.0
-
-  pub own_hosts_named : hosts_are_named body ≡ true
-  own_hosts_named = own_parts.1
 
   pub below_named : are_named below ≡ true
   below_named = sym (list_all-map is_named (under name) below) ∙ parts.1

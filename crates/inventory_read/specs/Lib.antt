@@ -5,7 +5,6 @@ pub mod Percentages
 pub mod Values
 pub mod Rules
 pub mod Listings
-pub mod Paths
 pub mod Faults
 pub mod Reads
 pub mod Worked

@@ -1,9 +1,6 @@
 //! Where in the text a group's flaw stands.
-ghost use Rattle.std.specs.Prelude.{◌≡◌, ◌<◌, ◌++◌, length, map, reverse, string_bytes, IfOk, OnOk, Some};
-ghost use Rattle.std.specs.Option.{option_map};
+ghost use Rattle.std.specs.Prelude.{◌≡◌, ◌<◌, length, IfOk, Some};
 ghost use Rattle.inventory_read.specs.Faults.{breach_of, breach_of_flaw};
-ghost use Rattle.inventory_read.specs.Listings.{most};
-ghost use Rattle.inventory_read.specs.Paths.{further, keys_of, path_in, path_of, way_up};
 
 use crate::fault::ReadFault;
 use crate::flaw::Flaw;
@@ -12,9 +9,7 @@ use crate::listing::Listed;
 use std::alloc::{AllocError, Global};
 
 /// The keys on the way up from the last of the groups, to one that is an entry of the top value.
-fn keys_up<'a>(scratch: Global, groups: &[Listed<'a>]) -> Result<Vec<&'a str>, AllocError>
-    ensures { IfOk result (λ keys. map (λ key. key.now) keys.items ≡ way_up most (reverse groups.now)) }
-{
+fn keys_up<'a>(scratch: Global, groups: &[Listed<'a>]) -> Result<Vec<&'a str>, AllocError> {
     let mut keys = Vec::new(scratch);
     let mut depth = usize::MAX;
     for index in (0..groups.len()).rev() {
@@ -32,9 +27,7 @@ fn keys_up<'a>(scratch: Global, groups: &[Listed<'a>]) -> Result<Vec<&'a str>, A
 }
 
 /// Goes on with the keys, each after `/`.
-fn push_keys(path: &mut String, keys: &[&str]) -> Result<(), AllocError>
-    ensures { OnOk result (string_bytes path.new ≡ string_bytes path.old ++ further (map (λ key. key.now) keys.now)) }
-{
+fn push_keys(path: &mut String, keys: &[&str]) -> Result<(), AllocError> {
     for key in keys {
         path.push_str("/")?;
         path.push_str(*key)?;
@@ -50,7 +43,6 @@ fn path_to(
     keys: &[&str],
 ) -> Result<String, AllocError>
     requires { index < length groups.now }
-    ensures { IfOk result (λ path. string_bytes path ≡ path_of groups.now index (map (λ key. key.now) keys.now)) }
 {
     let mut way = keys_up(scratch, &groups[..index + 1])?;
     way.reverse();
@@ -67,8 +59,7 @@ pub(crate) fn fault_at(
     flaw: Flaw<'_>,
 ) -> Result<ReadFault, AllocError>
     requires { index < length groups.now }
-    ensures rule { IfOk result (λ fault. breach_of fault ≡ Some (breach_of_flaw flaw.entry)) }
-    ensures place { IfOk result (λ fault. path_in fault ≡ option_map (path_of groups.now index) (keys_of flaw.entry)) }
+    ensures { IfOk result (λ fault. breach_of fault ≡ Some (breach_of_flaw flaw.entry)) }
 {
     match flaw {
         Flaw::BadName(name) => Ok(ReadFault::BadName {

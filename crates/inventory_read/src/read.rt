@@ -8,7 +8,6 @@ ghost use Rattle.inventory_read.specs.Documents as documents;
 ghost use Rattle.inventory_read.specs.Faults.{IsRefusal, IsFirst, breach_of};
 ghost use Rattle.inventory_read.specs.Keys.{all_key};
 ghost use Rattle.inventory_read.specs.Listings.{broken_at, outline_of, listing_of};
-ghost use Rattle.inventory_read.specs.Paths.{IsPlaced};
 ghost use Rattle.inventory_read.specs.Reads.{IsReadAs, IsTrueOf, IsNoJson};
 ghost use Rattle.inventory_read.specs.Rules as rules;
 ghost use Rattle.inventory_read.specs.Values as values;
@@ -48,8 +47,7 @@ fn check_top(scratch: Global, document: &Value) -> Result<(), ReadFault>
 }
 
 fn check_groups(scratch: Global, groups: &[Listed<'_>]) -> Result<(), ReadFault>
-    ensures rule { IsRefusal result (flat_map broken_at groups.now) }
-    ensures place { IfErr result (IsPlaced groups.now) }
+    ensures { IsRefusal result (flat_map broken_at groups.now) }
 {
     for index in 0..groups.len() {
         let group = groups[index];

@@ -1,14 +1,15 @@
 -- Counts of rows, with one row more.
-use Rattle.std.proofs.Common.{◌≡◌, ℕ, ◌+◌, ◌<◌, ◌≤◌, Bool, true, false, cond, List, [], ◌∷◌, ◌++◌, length, min, refl, sym, ap, ◌∙◌, arith}
+use Rattle.std.proofs.Common.{◌≡◌, ℕ, ◌+◌, ◌<◌, ◌≤◌, Bool, true, false, cond, List, [], ◌∷◌, ◌++◌, length, ap, ◌∙◌, arith}
 use Rattle.std.specs.List.{count_by}
 use Rattle.std.proofs.lemmas.List.Sums.{count_by-le-length, sum_by-append}
+use Rattle.outcome_results.specs.Counting.{one_more_if}
 use Rattle.outcome_results.specs.declared.counts.Counts.{Counts}
 
-pub counted : {X : Type 0} (p : X → Bool) → (rows : List X) (row : X) → length rows < 4294967295 → min (count_by p rows + cond (p row) 1 0) 4294967295 ≡ count_by p (rows ++ row ∷ [])
+pub counted : {X : Type 0} (p : X → Bool) → (rows : List X) (row : X) → length rows < 4294967295 → one_more_if (p row) (count_by p rows) ≡ count_by p (rows ++ row ∷ [])
 counted {X} p rows row few =
     by_case (p row) (sum_by-append (λ x. cond (p x) 1 0) rows (row ∷ []))
   where
-    by_case : (passes : Bool) → count_by p (rows ++ row ∷ []) ≡ count_by p rows + (0 + cond passes 1 0) → min (count_by p rows + cond passes 1 0) 4294967295 ≡ count_by p (rows ++ row ∷ [])
+    by_case : (passes : Bool) → count_by p (rows ++ row ∷ []) ≡ count_by p rows + (0 + cond passes 1 0) → one_more_if passes (count_by p rows) ≡ count_by p (rows ++ row ∷ [])
     by_case true e =
         let below : count_by p rows ≤ length rows = count_by-le-length p rows in
         omega arith
@@ -17,9 +18,9 @@ counted {X} p rows row few =
         omega arith
 
 -- a count that took one row more, where the row passes
-pub counted_next : {X : Type 0} (p : X → Bool) → (rows : List X) (row : X) (passes : Bool) (old new : ℕ) → length rows < 4294967295 → old ≡ count_by p rows → passes ≡ p row → new ≡ min (old + cond passes 1 0) 4294967295 → new ≡ count_by p (rows ++ row ∷ [])
+pub counted_next : {X : Type 0} (p : X → Bool) → (rows : List X) (row : X) (passes : Bool) (old new : ℕ) → length rows < 4294967295 → old ≡ count_by p rows → passes ≡ p row → new ≡ one_more_if passes old → new ≡ count_by p (rows ++ row ∷ [])
 counted_next p rows row passes old new few was is makes =
-    makes ∙ ap (λ n. min (n + cond passes 1 0) 4294967295) was ∙ ap (λ b. min (count_by p rows + cond b 1 0) 4294967295) is ∙ counted p rows row few
+    makes ∙ ap (one_more_if passes) was ∙ ap (λ b. one_more_if b (count_by p rows)) is ∙ counted p rows row few
 
 abbrev counts_with : ℕ → ℕ → ℕ → ℕ → ℕ → Counts
 counts_with ok changed failed skipped ignored =

@@ -1,5 +1,5 @@
 -- How many rows are judged in which way.
-use Rattle.std.specs.Prelude.{Bool, true, false, List, count_by}
+use Rattle.std.specs.Prelude.{ℕ, ◌+◌, min, Bool, true, false, cond, List, count_by}
 use Rattle.outcome_results.specs.declared.counts.Counts.{Counts}
 use Rattle.outcome_results.specs.declared.judged.Judged.{Judged}
 use Rattle.outcome_results.specs.declared.judged.Judged.TheVariants as judged
@@ -45,3 +45,7 @@ does_notify judged.Skipped = false
 abbrev pub counts_of : List Judged → Counts
 counts_of rows =
     record { ok = count_by counts_as_ok rows; changed = count_by counts_as_changed rows; failed = count_by is_failed rows; skipped = count_by is_skipped rows; ignored = count_by is_ignored rows }
+
+-- one more where it passes; a count stops at 2^32 - 1
+abbrev pub one_more_if : Bool → ℕ → ℕ
+one_more_if passes count = min (count + cond passes 1 0) 4294967295

@@ -1,5 +1,5 @@
 -- How a step ended on a host, and the row that this leaves.
-use Rattle.std.specs.Prelude.{ℕ, ℤ, pos, Bool, true, false, not, Option, Some, None, List, [], string_bytes}
+use Rattle.std.specs.Prelude.{ℕ, ℤ, pos, Bool, true, false, not, Some, None, List, [], string_bytes}
 use Rattle.std.specs.Ordering.{int_eq}
 use Rattle.inventory_model.specs.Names.{Name}
 use Rattle.registered_results.specs.Results.{Row}

@@ -1,5 +1,5 @@
 -- How a step's end on a host is judged, and what is registered of it.
-use Rattle.std.specs.Prelude.{Bool, true, false, not, ◌&&◌, Option, Some, None, option_map, Result, Ok, Err, string_bytes, if◌then◌else◌}
+use Rattle.std.specs.Prelude.{Bool, true, false, not, ◌&&◌, Option, Some, None, option_map, Ok, Err, string_bytes, if◌then◌else◌}
 use Rattle.inventory_model.specs.Names.{Name}
 use Rattle.registered_results.specs.Results.{Row}
 use Rattle.cond.specs.Meaning.{Environment, Verdict}

@@ -1,5 +1,6 @@
 //! How many rows of a host are judged in which way.
-ghost use Rattle.std.specs.Prelude.{◌≡◌, ◌<◌, ◌+◌, min, cond, ◌∷◌, [], ◌++◌, List, length};
+ghost use Rattle.std.specs.Prelude.{◌≡◌, ◌<◌, ◌∷◌, [], ◌++◌, List, length};
+ghost use Rattle.outcome_results.specs.Counting as spec;
 ghost use Rattle.outcome_results.specs.Counting.{counts_of};
 ghost use Rattle.outcome_results.specs.declared.judged.Judged as judgement;
 
@@ -31,7 +32,12 @@ impl Counts {
 
     /// With one row more. They are exact for up to 2^32 - 1 rows, and stop there.
     pub fn add(&mut self, judged: Judged)
-        ensures { (rows : List judgement.Judged) → length rows < 4294967295 → self.old ≡ counts_of rows
+        ensures ok { self.new.ok ≡ spec.one_more_if (spec.counts_as_ok judged) self.old.ok }
+        ensures changed { self.new.changed ≡ spec.one_more_if (spec.counts_as_changed judged) self.old.changed }
+        ensures failed { self.new.failed ≡ spec.one_more_if (spec.is_failed judged) self.old.failed }
+        ensures skipped { self.new.skipped ≡ spec.one_more_if (spec.is_skipped judged) self.old.skipped }
+        ensures ignored { self.new.ignored ≡ spec.one_more_if (spec.is_ignored judged) self.old.ignored }
+        ensures rows { (rows : List judgement.Judged) → length rows < 4294967295 → self.old ≡ counts_of rows
             → self.new ≡ counts_of (rows ++ judged ∷ []) }
     {
         self.ok = one_more_if(judged.counts_as_ok(), self.ok);
@@ -43,7 +49,7 @@ impl Counts {
 }
 
 fn one_more_if(passes: bool, count: u32) -> u32
-    ensures { result ≡ min (count + cond passes 1 0) 4294967295 }
+    ensures { result ≡ spec.one_more_if passes count }
 {
     if passes {
         count.saturating_add(1)

@@ -74,22 +74,27 @@ pub record IsPlanIn (inventory playbook : List ℕ) (fleet : FleetView) (answer 
   pub built : IsFleetIn inventory fleet
   pub plan : IsPlaybookPlan fleet playbook answer held
 
--- the text of the plan went out, and nothing else
-pub record WritesPlan (inventory playbook : List ℕ) (old new : Option (List ℕ)) (end : End) : Type 0 where
+-- the text of the plan of both texts, and how planning ends
+pub record IsPlanText (inventory playbook : List ℕ) (text : List ℕ) (end : End) : Type 0 where
   pub fleet : FleetView
   pub answer : Answer
   pub held : List ℕ
   pub plan : IsPlanIn inventory playbook fleet answer held
-  pub written : Appends old new (plan_text fleet answer held)
+  pub text_is : text ≡ plan_text fleet answer held
   pub ends : end ≡ end_of answer held
+
+-- the text of the plan went out, and nothing else
+pub record WritesPlan (inventory playbook : List ℕ) (old new : Option (List ℕ)) (end : End) : Type 0 where
+  pub text : List ℕ
+  pub is : IsPlanText inventory playbook text end
+  pub written : Appends old new text
 
 -- the text of the plan broke off after so many bytes
 pub record BreaksPlan (inventory playbook : List ℕ) (old new : Option (List ℕ)) (count : ℕ) : Type 0 where
-  pub fleet : FleetView
-  pub answer : Answer
-  pub held : List ℕ
-  pub plan : IsPlanIn inventory playbook fleet answer held
-  pub written : SendsFirst old new (plan_text fleet answer held) count
+  pub text : List ℕ
+  pub end : End
+  pub is : IsPlanText inventory playbook text end
+  pub written : SendsFirst old new text count
 
 -- the inventory is accepted, and the playbook is refused so
 pub record IsRefusedAfter (inventory playbook : List ℕ) (fault : PlanFault) : Type 0 where

@@ -4,9 +4,11 @@
 mod end;
 mod fault;
 mod fleet;
+mod laws;
 mod printing;
 
 pub use end::End;
 pub use fault::PlanFault;
 pub use fleet::read_fleet;
+pub use laws::{one_inventory, one_plan_text};
 pub use printing::plan_text;

@@ -50,7 +50,7 @@ fn plan_playbook(alloc: Global, fleet: &Fleet, playbook: &[u8]) -> Result<PlayPl
 /// Nothing goes out before both were accepted: first the inventory's faults are told, then the playbook's, then the first
 /// part of a pattern, of any play, that names nothing. Where a write fails, exactly the first bytes of the text went out,
 /// as many as the fault says. Writing takes no memory.
-#[tactic(auto, using(crate::proofs::TextLemmas::unread_is_true, crate::proofs::TextLemmas::refused_is_true))]
+#[tactic(auto, using(crate::proofs::TextLemmas::unread_is_true, crate::proofs::TextLemmas::refused_is_true, crate::proofs::TextLemmas::breaks_plan))]
 pub fn plan_text<W: Write>(
     alloc: Global,
     inventory: &[u8],

@@ -1,5 +1,5 @@
 -- What a key of a step lists.
-use Rattle.std.proofs.Common.{◌≡◌, ◌≢◌, ◌==◌, length, Bool, true, false, Option, Some, None, Result, List, [], ◌∷◌, ◌++◌, map, sym, ap, ◌∙◌, refl, subst, IfOk, IfErr}
+use Rattle.std.proofs.Common.{◌≡◌, ◌≢◌, ◌==◌, length, Bool, true, false, Option, Some, Result, List, [], ◌∷◌, ◌++◌, map, sym, ap, ◌∙◌, refl, subst, IfOk, IfErr}
 use Rattle.std.specs.List.{list_all, filter_map, flat_map}
 use Rattle.cond.specs.Meaning.{Environment}
 use Rattle.cond.specs.Trees.{verdict_of, all_of}
@@ -47,17 +47,6 @@ module _ (value : Data) (list : List Data) (listed : list ≡ clauses_listed val
     says_given some condition finished =
         let means : MeansAll (filter_map clause_of list) condition = record { parts = gathers.parts; each = gathers.each; same = λ e. finished e ∙ ap all_of (gathers.same e) } in
         subst (λ (of : List Data). Says (filter_map clause_of of) (Some condition)) listed (some_part list passed some, means)
-
-  module _ (nothing : list ≡ []) where
-    none_given : [] ≡ clauses_listed value
-    none_given = sym nothing ∙ listed
-
-    pub kept_nothing : (spot : Spot) (key : Name) → AllKept (checks_of spot key value)
-    kept_nothing spot key =
-        subst (λ (of : List Data). AllKept (checks_with spot key (list_all is_clause of) of)) none_given tt
-
-    pub says_nothing : Says (clauses_of value) None
-    says_nothing = sym (ap (filter_map clause_of) none_given)
 
 module _ (spot : Spot) (key name : Name) (step value : Data) (result : Result (Option Cond) ConditionFlaw) (same : name ≡ key) (given : Some value ≡ get name step) where
   found : Some value ≡ get key step

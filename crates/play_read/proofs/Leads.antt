@@ -12,9 +12,6 @@ pub record Leads (later whole : List Check) : Type 0 where
   pub kept : AllKept later → AllKept whole
   pub first : (named : Named) → IsFirst named later → IsFirst named whole
 
-pub leads_itself : (whole : List Check) → Leads whole whole
-leads_itself whole = record { kept = λ kept. kept; first = λ named is. is }
-
 pub leads_behind : (part later whole : List Check) → AllKept part → Leads (part ++ later) whole → Leads later whole
 leads_behind part later whole kept leads =
     record {

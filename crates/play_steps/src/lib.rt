@@ -10,4 +10,4 @@ mod reading;
 mod words;
 
 pub use flaw::StepFlaw;
-pub use reading::{blank_step, fill_handler, fill_task, read_handler, read_task};
+pub use reading::{blank_step, fill_handler, fill_task};

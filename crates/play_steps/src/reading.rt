@@ -73,40 +73,6 @@ pub fn fill_handler<'a>(
     read_body(alloc, handler, into)
 }
 
-/// What a task says, but that the handlers that it notifies are left out.
-pub fn read_task<'a>(alloc: Global, task: &'a Value) -> Result<Step, StepFlaw<'a>>
-    ensures kept { (spot : Spot) → IfOk result (λ _. AllKept (spec.checks_of_task spot (view task.now))) }
-    ensures says { IfOk result (IsStep (spec.handler_of (view task.now))) }
-    ensures plain { IfOk result HasPlainWords }
-    ensures err { (spot : Spot) → IfErr result (λ flaw. IsFlawAt spot flaw (spec.checks_of_task spot (view task.now))) }
-{
-    let mut step = blank_step(alloc);
-    match fill_task(alloc, task, &mut step) {
-        Ok(_names) => Ok(step),
-        Err(flaw) => {
-            drop(step);
-            Err(flaw)
-        }
-    }
-}
-
-/// What a handler says.
-pub fn read_handler<'a>(alloc: Global, handler: &'a Value) -> Result<Step, StepFlaw<'a>>
-    ensures kept { (spot : Spot) → IfOk result (λ _. AllKept (spec.checks_of_handler spot (view handler.now))) }
-    ensures says { IfOk result (IsStep (spec.handler_of (view handler.now))) }
-    ensures plain { IfOk result HasPlainWords }
-    ensures err { (spot : Spot) → IfErr result (λ flaw. IsFlawAt spot flaw (spec.checks_of_handler spot (view handler.now))) }
-{
-    let mut step = blank_step(alloc);
-    match fill_handler(alloc, handler, &mut step) {
-        Ok(()) => Ok(step),
-        Err(flaw) => {
-            drop(step);
-            Err(flaw)
-        }
-    }
-}
-
 /// A task up to its command: its name.
 fn start_of_task<'a>(task: &'a Value) -> Result<Option<&'a str>, Flaw<'a>>
     ensures rule { IsVerdict result (read.start_of_task (view task.now)) }

@@ -48,21 +48,6 @@ module _ (before old new : Places) (name : Name) (sets : SetsAt old new name Non
           alone (Some held) second gone = absurd (cc)
           alone None second gone = gone
 
-result-choice : (test : Bool) (registered : Registered) (old : Option (Option Registered)) → result (cond test (Some (Some registered)) old) ≡ cond test (Some (row_of registered)) (result old)
-result-choice true registered old = refl
-result-choice false registered old = refl
-
--- a result behind places that stay, of which none is its name's
-pub result_set : (before old new : Places) (name : Name) (registered : Registered) → SetsAt old new name (Some registered) → before name ≡ None → (other : Name) → result (option_or (before other) (new other)) ≡ cond (bytes_eq name other) (Some (row_of registered)) (result (option_or (before other) (old other)))
-result_set before old new name registered sets none other =
-    by_case (before other) (bytes_eq name other) refl refl (sets other)
-  where
-    by_case : (first : Option (Option Registered)) (b : Bool) → before other ≡ first → bytes_eq name other ≡ b → new other ≡ cond b (Some (Some registered)) (old other) → result (option_or first (new other)) ≡ cond b (Some (row_of registered)) (result (option_or first (old other)))
-    by_case (Some held) false is same e = refl
-    by_case (Some held) true is same e =
-        absurd (cc (sym is ∙ ap before (sym ((bytes_eq-Decides name other).0 same)) ∙ none))
-    by_case None b is same e = ap result e ∙ result-choice b registered (old other)
-
 -- a result at the name's number, where no other name has that number
 module _ (numbers : Name → Option ℕ) (rows : List (Option Registered)) (own : Places) (name : Name) (number : ℕ) (registered : Registered) where
   abbrev held : List (Option Registered) → Name → Option (Option Registered)

@@ -29,6 +29,19 @@ impl Results {
         Ok(copy)
     }
 
+    /// The same results. Places without a result are kept only for the registers of its play. It fails for want of memory alone.
+    pub fn copy(&self, alloc: Global) -> Result<Results, AllocError>
+        ensures { IfOk result (λ copy. (name : Name) → result_of copy name ≡ result_of self.now name) }
+    {
+        match &self.registers {
+            Some(registers) => self.begin_play(alloc, registers),
+            None => {
+                let none = Arc::new(alloc, Registers::new(alloc))?;
+                self.begin_play(alloc, &none)
+            }
+        }
+    }
+
     /// The names that the hosts of its play share.
     fn shared_names(&self) -> &[String]
         ensures { (name : Name) → stands_in name result.now ≡ is_some (shared_number self.now name) }

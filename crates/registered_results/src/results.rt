@@ -10,9 +10,6 @@ use indexmap::IndexMap;
 use std::alloc::{AllocError, Global};
 use std::sync::Arc;
 
-#[cfg(test)]
-mod tests;
-
 /// A place for each register of the host's play and for each other name that was reserved; a place without a result counts as no
 /// result. The places of registers stand by the numbers that the hosts of the play share: no table of this host is touched to find one.
 #[derive(Drop)]

@@ -3,18 +3,17 @@ use Rattle.std.proofs.Common.{◌≡◌, ℕ, suc, ◌+◌, ◌<◌, true, false
 use Rattle.std.specs.Prelude.{Result, Ok, Err, OnErr, OnOk}
 use Rattle.std.proofs.lemmas.List.Sums.{count_by-le-length, sum_by_push}
 use Rattle.play_model.specs.declared.step.Step.{Step}
-use Rattle.outcome_results.specs.Endings.{Ending, ending_of}
+use Rattle.outcome_results.specs.Endings.{Ending}
 use Rattle.host_jobs.specs.Asking.{Request, job, settled}
 use Rattle.roll_logs.specs.Rolls.{Roll}
 use Rattle.roll_logs.specs.Events.{Event}
 use Rattle.roll_logs.specs.States.{State, start_state}
 use Rattle.roll_logs.specs.Logs.{next, state_after}
 use Rattle.roll_logs.specs.Told.{AreTold, MayEnd, MayTell, Work, asked_of}
-use Rattle.roll_kernel.specs.declared.completion.Completion.{Completion}
 use Rattle.roll_kernel.specs.Claims.{IsOut, event_in}
 use Rattle.roll_kernel.specs.Views.{KernelView, roll_of, state_of}
 use Rattle.roll_kernel.specs.Views as kernels
-use Rattle.roll_kernel.specs.Ways.{outcome_in}
+use Rattle.roll_kernel.specs.Ways.{Completed}
 use Rattle.roll_core.specs.Boards.{is_report, reports_in}
 use Rattle.roll_core.specs.Dones.{MayComplete}
 use Rattle.roll_core.specs.Inside.{IsKept}
@@ -43,10 +42,10 @@ module _ (may : Work → Ending → Type 0) where
       (told.0, told_more roll (next roll state first) log event told.1 tells)
 
   -- what a claim that is out has come to, the report of it tells
-  pub tells : (roll : Roll) (state : State) (completion : Completion) → IsOut roll state completion → MayComplete may completion → MayTell may roll state (event_in completion)
+  pub tells : (roll : Roll) (state : State) (completion : Completed) → IsOut roll state completion → MayComplete may completion → MayTell may roll state (event_in completion)
   tells roll state completion out end task named =
-      let host = completion.share.host.index in
-      let ending = ending_of (outcome_in completion.way) in
+      let host = completion.host in
+      let ending = completion.ending in
       let mine = subst (λ (request : Request). MayEnd may host completion.step request ending) out.asked end in
       subst (λ (t : Step). MayEnd may host completion.step (asked_of roll state host t) ending) (some_same out.task task (sym out.is ∙ named)) mine
 

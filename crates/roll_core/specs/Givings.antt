@@ -1,11 +1,9 @@
 -- What a board gives a worker.
 use Rattle.std.specs.Prelude.{◌≡◌, Option, Some, None}
-use Rattle.outcome_results.specs.Endings.{ending_of}
 use Rattle.host_jobs.specs.Asking.{settled}
 use Rattle.roll_kernel.specs.declared.claim.Handed.{Handed}
 use Rattle.roll_kernel.specs.declared.claim.Handed.TheVariants as handed
 use Rattle.roll_kernel.specs.Claims.{IsClaim}
-use Rattle.roll_kernel.specs.Ways.{outcome_in, request_of}
 use Rattle.roll_core.specs.declared.claimed.Claimed.{Claimed}
 use Rattle.roll_core.specs.declared.claimed.Claimed.TheVariants.{Run, Settled}
 use Rattle.roll_core.specs.Boards.{BoardView}
@@ -14,18 +12,18 @@ use Rattle.roll_core.specs.Leaves.{IsGoOf}
 -- what is handed out as settled had no program; a claim has one
 abbrev pub IsOfNoProgram : Handed → Type 0
 IsOfNoProgram (handed.Run claim) = Unit {0}
-IsOfNoProgram (handed.Settled completion) = request_of completion.way ≡ settled (ending_of (outcome_in completion.way))
+IsOfNoProgram (handed.Settled completion) = completion.request ≡ settled completion.ending
 
 -- a claim comes with the leave to run its program, and what is settled with this runner
 abbrev pub IsGivenAs : {R : Type 0} → R → Handed → Claimed R → Type 0
-IsGivenAs runner (handed.Run claim) (Run mine go) = (mine ≡ claim) × IsGoOf go claim.job
+IsGivenAs runner (handed.Run claim) (Run mine go) = (mine ≡ claim) × IsGoOf go claim
 IsGivenAs runner (handed.Run claim) (Settled done) = ⊥
 IsGivenAs runner (handed.Settled completion) (Run mine go) = ⊥
 IsGivenAs runner (handed.Settled completion) (Settled done) = done ≡ record { completion = completion; runner = runner }
 
 -- a claim comes with the leave to run its program
 abbrev pub HasItsGo : {R : Type 0} → Claimed R → Type 0
-HasItsGo (Run claim go) = IsGoOf go claim.job
+HasItsGo (Run claim go) = IsGoOf go claim
 HasItsGo (Settled done) = Unit {0}
 
 -- the kernel handed this out

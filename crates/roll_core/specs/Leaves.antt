@@ -1,9 +1,13 @@
 -- The leave to run a program.
-use Rattle.std.specs.Prelude.{◌≡◌}
-use Rattle.roll_kernel.specs.declared.job.Job.{Job}
-use Rattle.roll_core.specs.declared.go.Go.{Go}
+use Rattle.std.specs.Prelude.{◌≡◌, ℕ}
+use Rattle.roll_logs.specs.Told.{Work}
 
--- the leave is for this host and step
-pub record IsGoOf (go : Go) (given : Job) : Type 0 where
+-- to run the program of this host and step, once
+pub record Leave : Type 0 where
+  pub host : ℕ
+  pub step : ℕ
+
+-- the leave is for the host and step of this work
+pub record IsGoOf (go : Leave) (given : Work) : Type 0 where
   pub of_host : go.host ≡ given.host
   pub of_step : go.step ≡ given.step

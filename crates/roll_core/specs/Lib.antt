@@ -1,4 +1,3 @@
-pub mod Runners
 pub mod Boards
 pub mod Dones
 pub mod Leaves

@@ -1,5 +1,5 @@
 //! The board of a roll.
-ghost use Rattle.std.specs.Prelude.{◌≡◌, ◌<◌, [], IfOk, length};
+ghost use Rattle.std.specs.Prelude.{◌≡◌, ◌<◌, ◌≤◌, [], IfOk, length};
 ghost use Rattle.fleet_states.specs.Groups.{IsSafe, groups_of};
 ghost use Rattle.fleet_states.specs.Statuses.{NobodyRuns};
 
@@ -52,7 +52,7 @@ impl<'f, R: Runner, L: Ledger> Model for Board<'f, R, L> {
 }
 
 impl<'f, R: Runner, L: Ledger> Board<'f, R, L> {
-    /// A roll at its first boundary: each host begins with its status and its variables. At most `forks` claims are out at once. `blank`
+    /// A roll at its first boundary: each host begins with its status and its variables. At most `forks` claims are out at once, 1 to 64. `blank`
     /// is of 129 parts: one for each tally that may be out, and one for the board.
     #[allow(clippy::too_many_arguments)]
     pub fn new(
@@ -70,6 +70,7 @@ impl<'f, R: Runner, L: Ledger> Board<'f, R, L> {
         requires at_rest { NobodyRuns start.now }
         requires safe { IsSafe (groups_of fleet.now) start.now }
         requires some { 0 < forks }
+        requires few { forks ≤ 64 }
         requires name { blank.name ≡ L.name }
         requires parts { blank.parts ≡ L.parts }
         requires many { blank.parts ≡ 129 }

@@ -2,8 +2,7 @@
 ghost use Rattle.std.specs.Prelude.{◌≡◌, IfErr, IfOk, true};
 ghost use Rattle.outcome_results.specs.Endings.{ending_of};
 ghost use Rattle.roll_logs.specs.Rolls.{is_of_program};
-ghost use Rattle.roll_core.specs.Dones.{IsDoneOf, MayComplete};
-ghost use Rattle.roll_core.specs.Runners.{work_of};
+ghost use Rattle.roll_core.specs.Dones.{MayComplete, done_of};
 
 use crate::runner::Runner;
 use group_tree::HostId;
@@ -43,8 +42,8 @@ impl<'r, R: Runner> Done<'r, R> {
         outcome: Outcome,
     ) -> Result<Done<'r, R>, (Claim, AllocError)>
         requires program { is_of_program (ending_of outcome) ≡ true }
-        requires allowed { R.may runner.now (work_of claim.job) (ending_of outcome) }
-        ensures ok { IfOk result (IsDoneOf runner.now claim outcome) }
+        requires allowed { R.may runner.now claim (ending_of outcome) }
+        ensures ok { IfOk result (λ done. done ≡ done_of runner.now claim (ending_of outcome)) }
         ensures err { IfErr result (λ refused. refused.0 ≡ claim) }
     {
         let completion = Completion::new(alloc, claim, outcome)?;
@@ -61,7 +60,7 @@ impl<'r, R: Runner> Done<'r, R> {
 
     /// The host of the claim. In every `Done` the program of the claim ended as its runner may tell.
     pub fn host(&self) -> HostId
-        ensures host { result ≡ self.now.completion.share.host }
+        ensures host { result.index ≡ self.now.completion.host }
         ensures told { MayComplete (R.may self.now.runner) self.now.completion }
     {
         self.completion.host()

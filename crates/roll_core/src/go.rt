@@ -3,12 +3,22 @@ ghost use Rattle.roll_core.specs.Leaves.{IsGoOf};
 
 use group_tree::HostId;
 use roll_kernel::Job;
+use std::marker::Model;
 
-/// The leave to run the program of one host and step, once: a board makes it beside the claim, `run` takes it, and it can't be copied.
+/// The leave to run the program of one host and step, once: a board makes it beside the claim, `run` takes it, and it can't be copied. A
+/// clause sees the host's number and the step.
 #[derive(Debug, Drop)]
 pub struct Go {
     host: HostId,
     step: usize,
+}
+
+impl Model for Go {
+    ghost use Rattle.roll_core.specs.Leaves.{Leave};
+
+    ghost Value = { Leave };
+
+    ghost view = { λ g. record { host = g.host.index; step = g.step } };
 }
 
 impl Go {

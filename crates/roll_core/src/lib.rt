@@ -17,7 +17,7 @@ pub use fault::Stranger;
 pub use go::Go;
 pub use roll_kernel::{
     Batch, Busy, Claim, Counts, Event, Finished, HoldFault, Job, Next, OpenFault, Outcome, Stage,
-    Status,
+    Status, what_was_handed_out_is_out, work_on_others_leaves_a_claim_out,
 };
 pub use runner::Runner;
 pub use tally::Tally;

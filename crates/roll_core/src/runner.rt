@@ -4,7 +4,6 @@ ghost use Rattle.outcome_results.specs.Endings.{Ending, ending_of};
 ghost use Rattle.roll_logs.specs.Rolls.{is_of_program};
 ghost use Rattle.roll_logs.specs.Told.{Work};
 ghost use Rattle.roll_core.specs.Leaves.{IsGoOf};
-ghost use Rattle.roll_core.specs.Runners.{work_of};
 
 use crate::go::Go;
 use outcome_results::Outcome;
@@ -34,7 +33,7 @@ pub trait Runner: Sync {
     ) -> Result<Outcome, AllocError>
         requires { IsGoOf go job.now }
         ensures program { IfOk result (λ outcome. is_of_program (ending_of outcome) ≡ true) }
-        ensures allowed { IfOk result (λ outcome. may self.now (work_of job.now) (ending_of outcome)) };
+        ensures allowed { IfOk result (λ outcome. may self.now job.now (ending_of outcome)) };
 
     /// Whether the two are alike. It takes no memory.
     fn same(&self, other: &Self) -> bool

@@ -243,7 +243,7 @@ fn driven<L: Ledger, H: Threads + Wait + Processes<Started = SystemProcess> + Sy
     requires parts { blank.parts ≡ L.parts }
     requires many { blank.parts ≡ 129 }
 {
-    let mut board = board_of::<L>(alloc, setting, script, forks.max(1), blank)?;
+    let mut board = board_of::<L>(alloc, setting, script, forks.clamp(1, 64), blank)?;
     if board.open(alloc, &BATCH).is_err() {
         return Err(Fail::new("the batch was not opened"));
     }

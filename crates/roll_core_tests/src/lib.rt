@@ -1,5 +1,5 @@
 //! What no clause of `roll_core` says: that the calls succeed where there is memory, worked plays in full, a board that is driven in made
-//! order against a plain slow program, thousands of hosts, and want of memory.
+//! order against a plain slow program, thousands of hosts, want of memory, and what a board tells of its batch.
 #![tactic(auto)]
 
 #[cfg(test)]
@@ -8,6 +8,8 @@ mod driven;
 mod memory;
 #[cfg(test)]
 mod opened;
+#[cfg(test)]
+mod read;
 #[cfg(test)]
 mod rolled;
 #[cfg(test)]

@@ -1,5 +1,5 @@
 //! Fleets with a play and variables, and boards over them on which all hosts wait. A call that was refused memory is made again.
-ghost use Rattle.std.specs.Prelude.{◌≡◌, ◌<◌, IfOk, length, replicate};
+ghost use Rattle.std.specs.Prelude.{◌≡◌, ◌<◌, ◌≤◌, IfOk, length, replicate};
 ghost use Rattle.domains.specs.Fleets.{IsFleetOf};
 ghost use Rattle.fleet_states.specs.declared.status.Status.TheVariants.{Waiting};
 
@@ -99,6 +99,7 @@ pub fn board_of<'s, L: Ledger>(
     blank: Blank,
 ) -> Result<Board<'s, Script, L>, AllocError>
     requires some { 0 < forks }
+    requires few { forks ≤ 64 }
     requires name { blank.name ≡ L.name }
     requires parts { blank.parts ≡ L.parts }
     requires many { blank.parts ≡ 129 }

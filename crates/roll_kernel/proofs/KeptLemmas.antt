@@ -17,6 +17,8 @@ use Rattle.roll_logs.specs.Events.{Event}
 use Rattle.roll_logs.specs.States.{State, between, ended, start_state, working}
 use Rattle.roll_logs.specs.Logs.{Allowed, IsLegal, MayOpen, next, state_after}
 use Rattle.roll_logs.proofs.FewRows.{rows_are_few}
+use Rattle.roll_logs.proofs.GrowthLaws.{after_more, legal_more}
+use Rattle.roll_logs.proofs.RestFronts.{legal_rest}
 use Rattle.roll_logs.proofs.SafeFronts.{legal_fronts}
 use Rattle.roll_logs.proofs.WorkLemmas.{AtWork}
 use Rattle.batch_work.specs.declared.work.BatchWork.{BatchWork}
@@ -28,7 +30,7 @@ use Rattle.roll_kernel.specs.Inside.{IsHeld, IsKept, owed_by}
 use Rattle.roll_kernel.proofs.FewLemmas.{few_distinct}
 use Rattle.roll_kernel.proofs.HeldLemmas.{nobody_rests}
 use Rattle.roll_kernel.proofs.StepLemmas.{host_within}
-use Rattle.roll_kernel.proofs.LogLemmas.{IsBehind, after_more, as_many, at_work, legal_more, none_ahead}
+use Rattle.roll_kernel.proofs.LogLemmas.{IsBehind, as_many, at_work, none_ahead}
 
 -- what is seen of a kernel to whose log one event was put
 pub view_more : (old new : RosterView) (play : Play) (forks : ℕ) (start : List Status) (vars : List Vars) (log more : List Entry) (entry : Entry) → new.fleet ≡ old.fleet → more ≡ log ++ entry ∷ []
@@ -55,6 +57,14 @@ module _ (kernel : KernelView) (roster : RosterView) (work : BatchWork) (capacit
       let now : IsSafe (groups_of kernel.fleet) (state_of kernel).statuses = subst (λ (l : List Event). IsSafe (groups_of kernel.fleet) (state_after (roll_of kernel) (start_state (roll_of kernel)) l).statuses) all (legal_fronts (roll_of kernel) kernel.log kept.safe kept.legal (length kernel.log)) in
       subst (IsSafe (groups_of kernel.fleet)) (sym kept.held.statuses) now
 
+  -- nobody runs where no batch is open
+  pub kept_rest : (state_of kernel).phase ≡ between → NobodyRuns roster.statuses
+  kept_rest at =
+      let all : take (length kernel.log) kernel.log ≡ kernel.log = take_all (length kernel.log) kernel.log (omega arith) in
+      let after : List Event → State = state_after (roll_of kernel) (start_state (roll_of kernel)) in
+      let rests = subst (λ (l : List Event). (after l).phase ≡ between → NobodyRuns (after l).statuses) all (legal_rest (roll_of kernel) kernel.log kept.rests kept.legal (length kernel.log)) in
+      subst NobodyRuns (sym kept.held.statuses) (rests at)
+
   pub kept_rows : (host : ℕ) → length ((state_of kernel).rows host) < 4294967296
   kept_rows host =
       let all : take (length kernel.log) kernel.log ≡ kernel.log = take_all (length kernel.log) kernel.log (omega arith) in
@@ -71,6 +81,7 @@ module _ (kernel : KernelView) (roster : RosterView) (work : BatchWork) (capacit
         safe = kept.safe;
         rests = kept.rests;
         some = kept.some;
+        few_forks = kept.few_forks;
         few = kept.few;
         legal = legal_more (roll_of kernel) (start_state (roll_of kernel)) kernel.log event kept.legal may;
         held = subst (λ (s : State). IsHeld (roll_of kernel) s roster' work') (sym (state_more kernel event)) held;
@@ -85,6 +96,7 @@ module _ (kernel : KernelView) (roster : RosterView) (work : BatchWork) (capacit
         safe = kept.safe;
         rests = kept.rests;
         some = kept.some;
+        few_forks = kept.few_forks;
         few = kept.few;
         legal = kept.legal;
         held = held;
@@ -93,13 +105,14 @@ module _ (kernel : KernelView) (roster : RosterView) (work : BatchWork) (capacit
 
 -- the kernel at its start
 pub kept_start : (kernel : KernelView) (roster : RosterView) (work : BatchWork) (capacity : ℕ) → roster.statuses ≡ kernel.start → roster.seated ≡ replicate (length kernel.start) false → kernel.log ≡ [] → length kernel.start ≡ length kernel.fleet.hosts
-    → IsSafe (groups_of kernel.fleet) kernel.start → NobodyRuns kernel.start → 0 < kernel.forks → length kernel.fleet.hosts ≤ 4096 → IsWorkOf (roll_of kernel) (start_state (roll_of kernel)) work → IsKept kernel roster work capacity
-kept_start kernel roster work capacity statuses bare none all safe rest some few works =
+    → IsSafe (groups_of kernel.fleet) kernel.start → NobodyRuns kernel.start → 0 < kernel.forks → kernel.forks ≤ 64 → length kernel.fleet.hosts ≤ 4096 → IsWorkOf (roll_of kernel) (start_state (roll_of kernel)) work → IsKept kernel roster work capacity
+kept_start kernel roster work capacity statuses bare none all safe rest some few_forks few works =
     record {
       all = all;
       safe = safe;
       rests = rest;
       some = some;
+      few_forks = few_forks;
       few = few;
       legal = subst (IsLegal (roll_of kernel) (start_state (roll_of kernel))) (sym none) tt;
       held = subst (λ (l : List Event). IsHeld (roll_of kernel) (state_after (roll_of kernel) (start_state (roll_of kernel)) l) roster work) (sym none) (record {

@@ -8,3 +8,4 @@ mod KeptLemmas
 mod WayLemmas
 mod ClosingLemmas
 mod LeavingLemmas
+pub mod OutLaws

@@ -17,15 +17,6 @@ use Rattle.roll_logs.specs.States.{Phase, State, between, working, ended, start_
 use Rattle.roll_logs.specs.Logs.{Allowed, IsLegal, closed_state, end_state, next, state_after}
 use Rattle.roll_logs.proofs.WorkLemmas.{AtWork, later_is, next_at_work, other_rows, own_rows, start_at_work, step_of}
 
-pub after_more : (roll : Roll) (state : State) (log : List Event) (event : Event) → state_after roll state (log ++ event ∷ []) ≡ next roll (state_after roll state log) event
-after_more roll state [] event = refl
-after_more roll state (first ∷ log) event = after_more roll (next roll state first) log event
-
-pub legal_more : (roll : Roll) (state : State) (log : List Event) (event : Event) → IsLegal roll state log → Allowed roll (state_after roll state log) event → IsLegal roll state (log ++ event ∷ [])
-legal_more roll state [] event legal may = (may, tt)
-legal_more roll state (first ∷ log) event legal may =
-    (legal.0, legal_more roll (next roll state first) log event legal.1 may)
-
 -- no host of the open batch has a row of a step behind the present one
 pub record IsBehind (state : State) : Type 0 where
   pub rows : (host step place : ℕ) → state.phase ≡ working step → has_number host state.batch ≡ true → step < place → has_row (state.rows host) place ≡ false

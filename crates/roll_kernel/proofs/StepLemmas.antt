@@ -13,7 +13,9 @@ use Rattle.host_jobs.specs.declared.asked.Asked.{Asked}
 use Rattle.host_track.specs.Tracks.{step_at}
 use Rattle.host_track.specs.declared.summary.Summary.{Summary}
 use Rattle.roll_logs.specs.Rolls.{EndsAs, Roll}
-use Rattle.roll_logs.specs.States.{State, is_awaited, working}
+use Rattle.std.specs.Prelude.{if◌then◌else◌}
+use Rattle.batch_outcome.specs.Batches.{is_past}
+use Rattle.roll_logs.specs.States.{State, ended, failures, is_awaited, is_dead, is_last, phase_after, working}
 use Rattle.roll_logs.specs.Logs.{MayPass, MayReport}
 use Rattle.roll_logs.proofs.WorkLemmas.{step_of}
 use Rattle.batch_work.specs.declared.stage.Stage.{Stage}
@@ -23,12 +25,11 @@ use Rattle.batch_work.specs.declared.turn.Turn.TheVariants.{Over, Due, Out}
 use Rattle.batch_work.specs.declared.work.BatchWork.{BatchWork}
 use Rattle.batch_work.specs.Turns.{awaits, is_out, is_within, turn_at}
 use Rattle.batch_work.specs.Works.{IsGiven, IsWorkOf, is_awaited_by, phase_of}
-use Rattle.roll_kernel.specs.declared.completion.Completion.{Completion}
 use Rattle.roll_kernel.specs.declared.way.Way.{Way}
 use Rattle.roll_kernel.specs.declared.way.Way.TheVariants.{Program, Settled}
-use Rattle.roll_kernel.specs.Ways.{is_end, outcome_in, request_of}
+use Rattle.roll_kernel.specs.Ways.{Completed, is_end, outcome_in, request_of}
 use Rattle.roll_kernel.specs.Claims.{IsOut}
-use Rattle.roll_kernel.specs.Inside.{IsGivenOut}
+use Rattle.roll_kernel.specs.Inside.{GoesOn, IsGivenOut}
 
 get_in : {X : Type 0} (xs : List X) (i : ℕ) → i < length xs → (x : X) × (slice_get xs i ≡ Some x)
 get_in [] i within = absurd (omega (arith, within))
@@ -60,19 +61,30 @@ stage_at Between step e = absurd (cc)
 stage_at (Working now) step e = ap Working (step_of now step e)
 stage_at (Ended halt) step e = absurd (cc)
 
-ends_as : (way : Way) → is_end way ≡ true → EndsAs (request_of way) (ending_of (outcome_in way))
+-- how a batch goes on that has passed a step
+pub goes_on : (play : Play) (state : State) (step : ℕ) → GoesOn step (phase_after play state step)
+goes_on play state step =
+    by_case (is_past play.max_fail (failures state) (length state.batch)) (is_last play step) (is_dead state)
+  where
+    by_case : (past last dead : Bool) → GoesOn step (if past then ended (Some step) else (if last then ended None else (if dead then ended None else working (suc step))))
+    by_case true last dead = inr (inr refl)
+    by_case false true dead = inr (inl refl)
+    by_case false false true = inr (inl refl)
+    by_case false false false = inl refl
+
+pub ends_as : (way : Way) → is_end way ≡ true → EndsAs (request_of way) (ending_of (outcome_in way))
 ends_as (Program words outcome) is = is
 ends_as (Settled outcome) is = refl
 
 -- what was a claim that is out may be reported
-pub may_report : (roll : Roll) (state : State) (completion : Completion) → IsOut roll state completion → MayReport roll state completion.share.host.index completion.step (ending_of (outcome_in completion.way))
-may_report roll state completion out =
+pub may_report : (roll : Roll) (state : State) (completion : Completed) → EndsAs completion.request completion.ending → IsOut roll state completion → MayReport roll state completion.host completion.step completion.ending
+may_report roll state completion ends out =
     record {
       at = out.at;
       claimed = out.out;
       task = out.task;
       is = out.is;
-      ends = subst (λ (asked : Request). EndsAs asked (ending_of (outcome_in completion.way))) out.asked (ends_as completion.way completion.ends);
+      ends = subst (λ (asked : Request). EndsAs asked completion.ending) out.asked ends;
     }
 
 module _ (roll : Roll) (state : State) (work : BatchWork) (is : IsWorkOf roll state work) where
@@ -121,11 +133,11 @@ module _ (roll : Roll) (state : State) (work : BatchWork) (is : IsWorkOf roll st
         let got = get_in work.summaries.items host (host_within host (out_inside host asked turn)) in
         (got.0, is.given host step asked got.0 task turn got.1 at_step named)
 
-    pub out_decides : (completion : Completion) (b : Bool) → step ≡ completion.step → Decides b (IsGivenOut work completion) → Decides b (IsOut roll state completion)
+    pub out_decides : (completion : Completed) (b : Bool) → step ≡ completion.step → Decides b (IsGivenOut work completion) → Decides b (IsOut roll state completion)
     out_decides completion b same decides = (λ yes. out_of (decides.0 yes), λ out. decides.1 (given_of out))
       where
         host : ℕ
-        host = completion.share.host.index
+        host = completion.host
 
         out_of : IsGivenOut work completion → IsOut roll state completion
         out_of out =
@@ -145,5 +157,5 @@ module _ (roll : Roll) (state : State) (work : BatchWork) (is : IsWorkOf roll st
             record { asked = asked.0; turn = asked.1; same = mine.1.asks ∙ sym out.asked }
 
     -- of another step nobody is out
-    pub out_elsewhere : (completion : Completion) → (step ≡ completion.step → ⊥) → IsOut roll state completion → ⊥
+    pub out_elsewhere : (completion : Completed) → (step ≡ completion.step → ⊥) → IsOut roll state completion → ⊥
     out_elsewhere completion apart out = apart (step_of step completion.step (sym at_step ∙ out.at))

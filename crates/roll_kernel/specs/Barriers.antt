@@ -1,5 +1,5 @@
 -- A step of a batch is over.
-use Rattle.std.specs.Prelude.{◌≡◌, ℕ, Bool, true, false, Option, Some, None, find}
+use Rattle.std.specs.Prelude.{◌≡◌, ℕ, suc, Bool, true, false, Option, Some, None, find}
 use Rattle.batch_work.specs.Works.{is_awaited_in}
 use Rattle.roll_logs.specs.Rolls.{Roll}
 use Rattle.roll_logs.specs.Events.{passed}
@@ -25,16 +25,15 @@ is_over (ended halt) = true
 abbrev pub first_busy : Roll → State → Option ℕ
 first_busy roll state = find (is_awaited_in roll state) state.batch
 
--- what is told of a batch that goes on so; one that passed a step is never between
-abbrev pub next_by : Phase → Next
-next_by between = BatchEnd
-next_by (working step) = Step
-next_by (ended None) = BatchEnd
-next_by (ended (Some halt)) = Halt
+-- what is told of a batch that has passed a step, and how it goes on
+abbrev pub IsNext : ℕ → Phase → Next → Type 0
+IsNext step phase Step = phase ≡ working (suc step)
+IsNext step phase BatchEnd = phase ≡ ended None
+IsNext step phase Halt = phase ≡ ended (Some step)
 
 -- the batch has passed its step, and this comes next
 pub record HasPassed (old new : KernelView) (told : Next) : Type 0 where
   pub step : ℕ
   pub may : MayPass (roll_of old) (state_of old) step
   pub grown : new ≡ with_event old (passed step)
-  pub next : told ≡ next_by (state_of new).phase
+  pub next : IsNext step (state_of new).phase told

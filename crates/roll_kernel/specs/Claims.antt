@@ -1,37 +1,33 @@
 -- What a kernel hands out, and what it takes back.
-use Rattle.std.specs.Prelude.{◌≡◌, ℕ, ◌≤◌, ◌⊎◌, true, Option, Some, None, find, length, map, string_bytes}
+use Rattle.std.specs.Prelude.{◌≡◌, ℕ, ◌≤◌, ◌⊎◌, true, Option, Some, None, find, length}
 use Rattle.fleet_numbers.specs.NumberLists.{has_number}
 use Rattle.play_model.specs.declared.step.Step.{Step}
-use Rattle.outcome_results.specs.declared.outcome.Outcome.{Outcome}
-use Rattle.outcome_results.specs.Endings.{ending_of}
+use Rattle.outcome_results.specs.Endings.{Ending}
 use Rattle.host_jobs.specs.Asking.{Request, job, settled}
 use Rattle.host_track.specs.Tracks.{step_at}
 use Rattle.roll_logs.specs.Rolls.{Roll}
 use Rattle.roll_logs.specs.Events.{Event, claimed, reported}
 use Rattle.roll_logs.specs.States.{State, working}
 use Rattle.roll_logs.specs.Logs.{MayClaim}
-use Rattle.roll_logs.specs.Told.{asked_of}
+use Rattle.roll_logs.specs.Told.{Work, asked_of}
 use Rattle.batch_work.specs.Works.{is_free}
-use Rattle.roll_kernel.specs.declared.claim.Claim.{Claim}
 use Rattle.roll_kernel.specs.declared.claim.Handed.{Handed}
 use Rattle.roll_kernel.specs.declared.claim.Handed.TheVariants.{Run, Settled}
-use Rattle.roll_kernel.specs.declared.completion.Completion.{Completion}
-use Rattle.roll_kernel.specs.declared.way.Way.TheVariants.{Program}
-use Rattle.roll_kernel.specs.Ways.{outcome_in, request_of}
+use Rattle.roll_kernel.specs.Ways.{Completed}
 use Rattle.roll_kernel.specs.Views.{KernelView, roll_of, state_of, with_event}
 
 -- a claim of the host for the step, whose program this request asks for
-pub record IsRun (host step : ℕ) (request : Request) (claim : Claim) : Type 0 where
-  pub of_host : claim.job.host.index ≡ host
-  pub of_step : claim.job.step ≡ step
-  pub words : request ≡ job (map string_bytes claim.job.words.items)
+pub record IsRun (host step : ℕ) (request : Request) (claim : Work) : Type 0 where
+  pub of_host : claim.host ≡ host
+  pub of_step : claim.step ≡ step
+  pub words : request ≡ job claim.words
 
 -- how the step ended on the host by itself, as this request has it
-pub record IsSettled (host step : ℕ) (request : Request) (completion : Completion) : Type 0 where
-  pub of_host : completion.share.host.index ≡ host
+pub record IsSettled (host step : ℕ) (request : Request) (completion : Completed) : Type 0 where
+  pub of_host : completion.host ≡ host
   pub of_step : completion.step ≡ step
-  pub outcome : request ≡ settled (ending_of (outcome_in completion.way))
-  pub asked : request_of completion.way ≡ request
+  pub outcome : request ≡ settled completion.ending
+  pub asked : completion.request ≡ request
 
 abbrev pub IsClaimedAs : ℕ → ℕ → Request → Handed → Type 0
 IsClaimedAs host step request (Run claim) = IsRun host step request claim
@@ -59,24 +55,23 @@ IsClaim old new None = IsNobody old new
 IsClaim old new (Some out) = IsHandedOut old new out
 
 -- the program of the claim ended so
-pub record IsCompletionOf (claim : Claim) (outcome : Outcome) (completion : Completion) : Type 0 where
-  pub share : completion.share ≡ claim.share
-  pub step : completion.step ≡ claim.job.step
-  pub way : completion.way ≡ Program claim.job.words outcome
+abbrev pub completion_of : Work → Ending → Completed
+completion_of claim ending =
+    record { host = claim.host; step = claim.step; request = job claim.words; ending = ending }
 
 -- the report that it is
-abbrev pub event_in : Completion → Event
-event_in completion = reported completion.share.host.index completion.step (ending_of (outcome_in completion.way))
+abbrev pub event_in : Completed → Event
+event_in completion = reported completion.host completion.step completion.ending
 
 -- the kernel waits for just this: the host is out, at this step, and was asked for these words or for this settled outcome
-pub record IsOut (roll : Roll) (state : State) (completion : Completion) : Type 0 where
+pub record IsOut (roll : Roll) (state : State) (completion : Completed) : Type 0 where
   pub at : state.phase ≡ working completion.step
-  pub out : has_number completion.share.host.index state.out ≡ true
+  pub out : has_number completion.host state.out ≡ true
   pub task : Step
   pub is : step_at roll.play completion.step ≡ Some task
-  pub asked : request_of completion.way ≡ asked_of roll state completion.share.host.index task
+  pub asked : completion.request ≡ asked_of roll state completion.host task
 
 -- it is handed back, since no such claim is out
-pub record IsStranger (roll : Roll) (state : State) (completion back : Completion) : Type 0 where
+pub record IsStranger (roll : Roll) (state : State) (completion back : Completed) : Type 0 where
   pub same : back ≡ completion
   pub why : IsOut roll state completion → ⊥

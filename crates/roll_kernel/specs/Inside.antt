@@ -1,5 +1,5 @@
 -- What only the proofs need: what the kernel keeps between its calls.
-use Rattle.std.specs.Prelude.{◌≡◌, ℕ, suc, ◌+◌, ◌-◌, ◌<◌, ◌≤◌, Bool, ◌&&◌, not, length}
+use Rattle.std.specs.Prelude.{◌≡◌, ℕ, suc, ◌+◌, ◌-◌, ◌<◌, ◌≤◌, ◌⊎◌, Bool, ◌&&◌, not, Some, None, length}
 use Rattle.fleet_numbers.specs.NumberLists.{has_number}
 use Rattle.fleet_states.specs.Statuses.{NobodyRuns}
 use Rattle.fleet_states.specs.Groups.{IsSafe, groups_of}
@@ -13,9 +13,13 @@ use Rattle.batch_work.specs.declared.turn.Turn.TheVariants.{Out}
 use Rattle.batch_work.specs.declared.work.BatchWork.{BatchWork}
 use Rattle.batch_work.specs.Turns.{turn_at}
 use Rattle.batch_work.specs.Works.{IsWorkOf}
-use Rattle.roll_kernel.specs.declared.completion.Completion.{Completion}
-use Rattle.roll_kernel.specs.Ways.{request_of}
+use Rattle.roll_kernel.specs.Ways.{Completed}
 use Rattle.roll_kernel.specs.Views.{KernelView, roll_of, state_of}
+
+-- a batch that has passed a step is at the next one, or over, by a halt or without one
+abbrev pub GoesOn : ℕ → Phase → Type 0
+GoesOn step phase =
+    (phase ≡ working (suc step)) ⊎ ((phase ≡ ended None) ⊎ (phase ≡ ended (Some step)))
 
 -- whose share rests: those hosts of the open batch whose claim is not out
 abbrev pub rests : State → ℕ → Bool
@@ -44,13 +48,14 @@ pub record IsKept (kernel : KernelView) (roster : RosterView) (work : BatchWork)
   pub safe : IsSafe (groups_of kernel.fleet) kernel.start
   pub rests : NobodyRuns kernel.start
   pub some : 0 < kernel.forks
+  pub few_forks : kernel.forks ≤ 64
   pub few : length kernel.fleet.hosts ≤ 4096
   pub legal : IsLegal (roll_of kernel) (start_state (roll_of kernel)) kernel.log
   pub held : IsHeld (roll_of kernel) (state_of kernel) roster work
   pub places : length kernel.log + owed_by (roll_of kernel) (state_of kernel) ≤ capacity
 
 -- the host is out, and was asked for what ended in this way
-pub record IsGivenOut (work : BatchWork) (completion : Completion) : Type 0 where
+pub record IsGivenOut (work : BatchWork) (completion : Completed) : Type 0 where
   pub asked : Asked
-  pub turn : turn_at work.turns.items completion.share.host.index ≡ Out asked
-  pub same : asked_as asked ≡ request_of completion.way
+  pub turn : turn_at work.turns.items completion.host ≡ Out asked
+  pub same : asked_as asked ≡ completion.request

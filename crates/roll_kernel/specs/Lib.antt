@@ -5,4 +5,5 @@ pub mod Barriers
 pub mod Refusals
 pub mod HoldRefusals
 pub mod Leavings
+pub mod Laws
 pub mod Inside

@@ -1,23 +1,28 @@
 //! A step that is over on a host.
-ghost use Rattle.std.specs.Prelude.{◌≡◌, true};
-ghost use Rattle.registered_results.specs.Results.{row_of};
-ghost use Rattle.outcome_results.specs.Endings.{ending_of, table_row};
-ghost use Rattle.roll_kernel.specs.Ways.{is_end, outcome_in};
-
 mod making;
 
 use crate::way::Way;
 use down_ledger::Share;
 use registered_results::Registered;
+use std::marker::Model;
 
 /// How a step ended on the host of a claim, to be reported, with the row that this leaves, so that a report takes no memory. It can't
-/// be copied: no step is reported twice. Whoever drops it leaves its host down and its batch open.
+/// be copied: no step is reported twice. Whoever drops it leaves its host down and its batch open. A clause sees the host's number, the
+/// step, what this had asked for, and how it ended.
 #[derive(Debug, Drop)]
 pub struct Completion {
     pub(crate) share: Share,
     pub(crate) step: usize,
     pub(crate) way: Way,
     pub(crate) row: Registered,
-    ghost copy: { row_of row ≡ table_row (ending_of (outcome_in way)) },
-    ghost ends: { is_end way ≡ true },
+}
+
+impl Model for Completion {
+    ghost use Rattle.roll_kernel.specs.Ways.{Completed, HasEnded, completed};
+
+    ghost Value = { Completed };
+
+    ghost view = { λ c. completed c.share.host.index c.step c.way };
+
+    ghost invariant = { λ c. HasEnded c.way c.row };
 }

@@ -55,7 +55,7 @@ impl<'f> Model for Kernel<'f> {
 }
 
 impl<'f> Kernel<'f> {
-    /// A roll at its first boundary: each host begins with its status and its variables. At most `forks` claims are out at once.
+    /// A roll at its first boundary: each host begins with its status and its variables. At most `forks` claims are out at once, 1 to 64.
     pub fn new(
         alloc: Global,
         fleet: &'f Fleet,
@@ -69,6 +69,7 @@ impl<'f> Kernel<'f> {
         requires at_rest { NobodyRuns start.now }
         requires safe { IsSafe (groups_of fleet.now) start.now }
         requires some { 0 < forks }
+        requires few { forks ≤ 64 }
         ensures { IfOk result (λ kernel. kernel
             ≡ record { fleet = fleet.now; play = play.now; forks = forks; start = start.now; vars = vars.now; log = [] }) }
     {

@@ -1,7 +1,8 @@
 //! What comes after a barrier.
-ghost use Rattle.std.specs.Prelude.{◌≡◌};
+ghost use Rattle.std.specs.Prelude.{ℕ};
 ghost use Rattle.batch_work.specs.Works.{phase_of};
-ghost use Rattle.roll_kernel.specs.Barriers.{next_by};
+ghost use Rattle.roll_kernel.specs.Barriers.{IsNext};
+ghost use Rattle.roll_kernel.specs.Inside.{GoesOn};
 
 use batch_work::Stage;
 
@@ -15,9 +16,9 @@ pub enum Next {
     Halt,
 }
 
-/// What a batch does that has passed a step.
+/// What is told of a batch that has passed a step.
 pub(crate) fn next_of(stage: Stage) -> Next
-    ensures { result ≡ next_by (phase_of stage) }
+    ensures { (step : ℕ) → GoesOn step (phase_of stage) → IsNext step (phase_of stage) result }
 {
     match stage {
         Stage::Between | Stage::Ended(None) => Next::BatchEnd,

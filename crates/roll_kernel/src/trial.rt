@@ -3,9 +3,8 @@ ghost use Rattle.std.specs.Prelude.{◌≡◌, IsTrue, MatchResult, length};
 ghost use Rattle.std.specs.List.{list_all};
 ghost use Rattle.domains.specs.Ids.{host_numbers};
 ghost use Rattle.fleet_states.specs.Statuses.{are_ready};
-ghost use Rattle.fleet_states.specs.Groups.{Fits, IsSafe, groups_of};
+ghost use Rattle.fleet_states.specs.Groups.{Fits, IsSafe, groups_of, is_stuck};
 ghost use Rattle.roster.specs.Rosters.{NobodyRests};
-ghost use Rattle.roster.specs.Unfit.{is_stuck};
 ghost use Rattle.roll_kernel.specs.Refusals.{IsUnfit};
 ghost use Rattle.roll_kernel.specs.HoldRefusals.{IsUnheld};
 

@@ -11,8 +11,7 @@ use Rattle.roll_logs.specs.Rolls.{Roll}
 use Rattle.roll_logs.specs.Events.{Event, set_aside, opened, claimed, reported, passed, closed}
 use Rattle.roll_logs.specs.States.{State, Phase, between, working, ended, start_state, rows_with, at_rest}
 use Rattle.roll_logs.specs.Logs.{IsLegal, closed_state, next, state_after}
-use Rattle.roll_logs.specs.Changes.{BatchesAreOnTrack, EventsLeaveOtherHosts, FailedFromTheFailingRowOn, IsLeft, RowsLast}
-use Rattle.roll_logs.proofs.ColumnFronts.{along_log, start_on_track}
+use Rattle.roll_logs.specs.Changes.{EventsLeaveOtherHosts, FailedFromTheFailingRowOn, IsLeft, RowsLast}
 use Rattle.roll_logs.proofs.WorkLemmas.{AtWork, closed_rows, next_at_work, other_rows, other_status, start_at_work}
 
 -- a host outside the changed ones keeps its status
@@ -73,8 +72,3 @@ pub failed_from_there : FailedFromTheFailingRowOn
 failed_from_there roll log legal n host here =
     let work = front_at_work roll (start_state roll) log (start_at_work roll) legal n in
     work.works host here
-
-pub on_track : BatchesAreOnTrack
-on_track roll log columns host step legal told at here =
-    let kept = along_log roll columns (start_state roll) log legal told (start_at_work roll, start_on_track roll columns) in
-    record { rows = kept.1.rows host step here at }

@@ -1,21 +1,23 @@
 -- A batch of a legal log ends as its hosts do by themselves.
-use Rattle.std.proofs.Common.{◌≡◌, ℕ, suc, ◌+◌, ◌-◌, ◌≤◌, ◌<◌, nat_lt, Bool, true, false, cond, ◌||◌, Option, Some, None, List, [], ◌∷◌, ◌++◌, length, refl, sym, ap, ◌∙◌, subst, arith, inl, inr, ◌⊎◌}
+use Rattle.std.proofs.Common.{◌≡◌, ℕ, suc, ◌+◌, ◌-◌, ◌≤◌, ◌<◌, nat_lt, Bool, true, false, cond, ◌||◌, Option, Some, None, is_some, List, [], ◌∷◌, ◌++◌, length, refl, sym, ap, ◌∙◌, subst, arith, inl, inr, ◌⊎◌}
 use Rattle.std.specs.Prelude.{if◌then◌else◌}
 use Rattle.std.specs.List.{list_any}
+use Rattle.std.proofs.lemmas.List.{ext_get_or}
+use Rattle.std.proofs.lemmas.List.FromFn.{length-map-range_with_len, get_or-map-range_with_len}
 use Rattle.std.proofs.lemmas.Bool.{both_ways, cases_eq, cases_lt, not-false, not-true, ltb-false, ltb-true}
 use Rattle.fleet_numbers.specs.NumberLists.{has_number}
 use Rattle.fleet_states.specs.declared.status.Status.{Status}
-use Rattle.fleet_states.specs.declared.status.Status.TheVariants.{Running, Failed, Halted}
+use Rattle.fleet_states.specs.declared.status.Status.TheVariants.{Idle, Running, Failed, Halted}
 use Rattle.fleet_states.specs.Statuses.{status_at}
 use Rattle.fleet_states.proofs.ReadyLemmas.{ready_waits}
-use Rattle.fleet_states.proofs.StatusLemmas.{status_at-changed_idle}
+use Rattle.fleet_states.proofs.StatusLemmas.{length-changed, status_at-changed_idle}
 use Rattle.outcome_results.specs.Endings.{Ending}
 use Rattle.outcome_results.specs.Counting.{is_failed}
 use Rattle.play_model.specs.declared.step.Step.{Step}
 use Rattle.outcome_results.specs.Hosts.{Known}
 use Rattle.host_jobs.specs.Asking.{Request, asks, end_of, job, settled}
 use Rattle.host_track.specs.Tracks.{Entry, track, entry_of, failing_step, has_failed, is_due, known_after, row_at, step_at}
-use Rattle.batch_outcome.specs.Batches.{halts_at, halt, is_failed_by, is_past, failed_count, status_after}
+use Rattle.batch_outcome.specs.Batches.{halts_at, halt, is_failed_by, is_past, failed_count, failed_in, status_after, statuses_after}
 use Rattle.batch_outcome.specs.Laws.{IsLeastHalt}
 use Rattle.batch_outcome.proofs.BatchLaws.{least}
 use Rattle.roll_logs.specs.Rolls.{Roll}
@@ -23,9 +25,11 @@ use Rattle.roll_logs.specs.Events.{Event, set_aside, opened, claimed, reported, 
 use Rattle.roll_logs.specs.States.{State, Phase, between, working, ended, start_state, failures, is_awaited, is_dead, is_last, phase_after, rows_with, with_rows, at_rest}
 use Rattle.roll_logs.specs.Logs.{Allowed, IsLegal, MayReport, next, closed_state, state_after}
 use Rattle.roll_logs.specs.Told.{AreTold, MayEnd, MayTell}
+use Rattle.roll_logs.specs.Changes.{BatchesAreOnTrack}
 use Rattle.roll_logs.specs.Columns.{Columns, gives, fails_by, halt_by, steps_until, BatchesEndByColumns}
 use Rattle.roll_logs.proofs.OutLemmas.{count_same, any_none, all_in}
 use Rattle.roll_logs.proofs.ColumnLemmas.{failed_by, stays_failed, awaited_where_due, not_awaited, due_rows, other_rows, none_yet}
+use Rattle.roll_logs.proofs.OpeningFronts.{HasOpening, end_opening}
 use Rattle.roll_logs.proofs.WorkLemmas as work
 use Rattle.roll_logs.proofs.WorkLemmas.{AtWork, start_at_work, next_at_work, status_in_batch}
 
@@ -393,6 +397,22 @@ module _ (roll : Roll) (columns : Columns) where
           let within : at < steps = halt_within state.batch at (sym is.0 ∙ e) in
           ap has_failed own ∙ sym (failed_by roll.play (roll.known host) (columns host) steps at within)
 
+  -- as many have failed as fail by themselves
+  some_failed : (rows : List Entry) → has_failed rows ≡ is_some (failing_step rows)
+  some_failed [] = refl
+  some_failed (row ∷ rows) = by_case (is_failed row.finding.judged) (some_failed rows)
+    where
+      by_case : (b : Bool) → has_failed rows ≡ is_some (failing_step rows) → (b || has_failed rows) ≡ is_some (if b then Some row.step else failing_step rows)
+      by_case true later = refl
+      by_case false later = later
+
+  failures_alike : (state : State) (halt : Option ℕ) → Ends state halt → failures state ≡ failed_in (fails_by roll columns) state.batch halt
+  failures_alike state None is =
+      count_same (λ host. has_failed (state.rows host)) (λ host. is_some (fails_by roll columns host)) state.batch (λ host here. ap has_failed (is.1 host here) ∙ some_failed (rows_of host steps))
+  failures_alike state (Some at) is =
+      let within : at < steps = halt_within state.batch at (sym is.0) in
+      count_same (λ host. has_failed (state.rows host)) (λ host. is_failed_by (fails_by roll columns host) at) state.batch (λ host here. ap has_failed (is.1 host here) ∙ sym (failed_by roll.play (roll.known host) (columns host) steps at within))
+
   pub along_log : (state : State) (log : List Event) → IsLegal roll state log → AreTold (gives columns) roll state log → IsKept state → IsKept (state_after roll state log)
   along_log state [] legal told kept = kept
   along_log state (event ∷ log) legal told kept =
@@ -400,7 +420,7 @@ module _ (roll : Roll) (columns : Columns) where
 
 pub ends_by_columns : BatchesEndByColumns
 ends_by_columns roll log columns halt legal told at =
-    record { halts = ended_so.0; rows = ended_so.1; statuses = closes }
+    record { halts = ended_so.0; failed = failures_alike roll columns state halt ended_so; rows = ended_so.1; statuses = closes }
   where
     state : State
     state = state_after roll (start_state roll) log
@@ -412,6 +432,46 @@ ends_by_columns roll log columns halt legal told at =
     ended_so : Ends roll columns state halt
     ended_so = kept.1.ends halt at
 
-    closes : (host : ℕ) → has_number host state.batch ≡ true → status_at (next roll state closed).statuses host ≡ status_after halt (fails_by roll columns host)
-    closes host here =
-        subst (IsClosedAs roll columns state host halt) (sym at) (closed_status roll columns state halt host kept.0 ended_so here)
+    was : HasOpening state
+    was = end_opening roll log legal
+
+    going : state.phase ≡ between → ⊥
+    going is = let both : ended halt ≡ between = sym at ∙ is in cc
+
+    -- what becomes of a host by its own failing step
+    choice : ℕ → Bool → Status
+    choice host b =
+        cond b (status_after halt (fails_by roll columns host)) (status_at state.opening host)
+
+    -- the hosts of the batch by their failing steps, and the others as at the opening
+    one : (host : ℕ) (b : Bool) → has_number host state.batch ≡ b → status_at (closed_state (ended halt) state).statuses host ≡ choice host b
+    one host true here = closed_status roll columns state halt host kept.0 ended_so here
+    one host false outside =
+        let stays : status_at (closed_state (ended halt) state).statuses host ≡ status_at state.statuses host = status_at-changed_idle (at_rest halt) state.batch state.statuses host refl ∙ ap (λ b. cond b (at_rest halt (status_at state.statuses host)) (status_at state.statuses host)) outside in
+        stays ∙ was.others going host outside
+
+    result : List Status
+    result = statuses_after halt (fails_by roll columns) state.batch state.opening
+
+    after : List Status
+    after = (closed_state (ended halt) state).statuses
+
+    long : length after ≡ length state.opening
+    long = length-changed (at_rest halt) state.batch state.statuses ∙ sym was.all
+
+    longer : length result ≡ length state.opening
+    longer =
+        length-map-range_with_len (λ host. choice host (has_number host state.batch)) 0 (length state.opening)
+
+    each : (host : ℕ) → host < length state.opening → status_at after host ≡ status_at result host
+    each host within =
+        one host (has_number host state.batch) refl ∙ sym (get_or-map-range_with_len (λ k. choice k (has_number k state.batch)) 0 (length state.opening) host host Idle within (omega arith))
+
+    closes : (next roll state closed).statuses ≡ result
+    closes =
+        ap (λ phase. (closed_state phase state).statuses) at ∙ ext_get_or Idle after result (long ∙ sym longer) (λ host within. each host (omega (arith, within, long)))
+
+pub on_track : BatchesAreOnTrack
+on_track roll log columns host step legal told at here =
+    let kept = along_log roll columns (start_state roll) log legal told (start_at_work roll, start_on_track roll columns) in
+    record { rows = kept.1.rows host step here at }

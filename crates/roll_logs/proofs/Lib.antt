@@ -5,8 +5,11 @@ pub mod SafeFronts
 pub mod RestFronts
 pub mod ClaimFronts
 pub mod FewRows
+pub mod ChangeLaws
+pub mod OpeningFronts
 pub mod ColumnLemmas
 pub mod ColumnFronts
 pub mod OnceFronts
-pub mod ChangeLaws
+pub mod GrowthLaws
+pub mod ToldColumns
 pub mod ProgressLaws

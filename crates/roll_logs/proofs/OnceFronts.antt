@@ -17,11 +17,11 @@ use Rattle.roll_logs.specs.Once.{is_claim_of, is_report_of, NoHostIsClaimedTwice
 use Rattle.roll_logs.proofs.OutLemmas.{has_still, has_without}
 use Rattle.roll_logs.proofs.WorkLemmas.{AtWork, start_at_work, next_at_work, closed_rows, own_rows, other_rows, passed_out, step_of}
 
-count_first : (test : Event → Bool) (event : Event) (log : List Event) → test event ≡ true → count_by test (event ∷ log) ≡ 1 + count_by test log
+pub count_first : (test : Event → Bool) (event : Event) (log : List Event) → test event ≡ true → count_by test (event ∷ log) ≡ 1 + count_by test log
 count_first test event log passes =
     sum_by-cons (λ e. bit (test e)) event log ∙ ap (λ b. bit b + count_by test log) passes
 
-count_other : (test : Event → Bool) (event : Event) (log : List Event) → test event ≡ false → count_by test (event ∷ log) ≡ count_by test log
+pub count_other : (test : Event → Bool) (event : Event) (log : List Event) → test event ≡ false → count_by test (event ∷ log) ≡ count_by test log
 count_other test event log fails = rw fails refl
 
 same_pair : (a b c d : ℕ) → (nat_eq a b && nat_eq c d) ≡ true → (a ≡ b) × (c ≡ d)

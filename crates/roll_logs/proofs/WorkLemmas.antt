@@ -41,11 +41,11 @@ start_at_work roll =
       nobody = λ idle. refl;
     }
 
-abbrev waits_in : List Status → ℕ → Bool
+abbrev pub waits_in : List Status → ℕ → Bool
 waits_in statuses host = is_waiting (status_at statuses host)
 
 -- a host that waits after such a change waited before it
-waited : (change : Status → Status) (hosts : List ℕ) (statuses : List Status) (host : ℕ) → ((s : Status) → is_waiting (change s) ≡ true → is_waiting s ≡ true) → waits_in (changed change hosts statuses) host ≡ true → waits_in statuses host ≡ true
+pub waited : (change : Status → Status) (hosts : List ℕ) (statuses : List Status) (host : ℕ) → ((s : Status) → is_waiting (change s) ≡ true → is_waiting s ≡ true) → waits_in (changed change hosts statuses) host ≡ true → waits_in statuses host ≡ true
 waited change hosts statuses host only waits = by_case (cases_lt host (length statuses))
   where
     either : (b : Bool) → is_waiting (cond b (change (status_at statuses host)) (status_at statuses host)) ≡ true → is_waiting (status_at statuses host) ≡ true
@@ -124,7 +124,7 @@ other_status host rows statuses other apart = by_case (has_failed rows)
     by_case true = status_at-set_other statuses host Failed other apart
     by_case false = refl
 
-in_batch_waits_not : (rows : List Entry) → is_waiting (status_in_batch rows) ≡ false
+pub in_batch_waits_not : (rows : List Entry) → is_waiting (status_in_batch rows) ≡ false
 in_batch_waits_not rows = by_case (has_failed rows)
   where
     by_case : (b : Bool) → is_waiting (if b then Failed else Running) ≡ false

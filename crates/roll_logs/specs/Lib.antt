@@ -4,7 +4,8 @@ pub mod States
 pub mod Logs
 pub mod Laws
 pub mod Told
-pub mod Columns
 pub mod Once
+pub mod Columns
 pub mod Changes
+pub mod Growth
 pub mod Progress

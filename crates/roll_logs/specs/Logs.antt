@@ -1,11 +1,11 @@
 -- Which logs of a roll are legal, and the state after each.
-use Rattle.std.specs.Prelude.{◌≡◌, ℕ, ◌<◌, Bool, true, false, Option, Some, List, [], ◌∷◌, length}
+use Rattle.std.specs.Prelude.{◌≡◌, ℕ, ◌<◌, true, false, Option, Some, List, [], ◌∷◌, length}
 use Rattle.std.specs.List.{list_all, list_any}
 use Rattle.fleet_numbers.specs.NumberLists.{has_number}
 use Rattle.fleet_states.specs.declared.status.Status.{Status}
 use Rattle.fleet_states.specs.declared.status.Status.TheVariants.{Running, Held}
 use Rattle.fleet_states.specs.Statuses.{are_ready, changed}
-use Rattle.fleet_states.specs.Groups.{FleetGroup, Fits, is_full_for}
+use Rattle.fleet_states.specs.Groups.{Fits, is_stuck}
 use Rattle.play_model.specs.declared.step.Step.{Step}
 use Rattle.outcome_results.specs.Endings.{Ending}
 use Rattle.host_jobs.specs.Asking.{asks}
@@ -13,10 +13,6 @@ use Rattle.host_track.specs.Tracks.{Entry, known_after, step_at}
 use Rattle.roll_logs.specs.Rolls.{Roll, EndsAs}
 use Rattle.roll_logs.specs.Events.{Event, set_aside, opened, claimed, reported, passed, closed}
 use Rattle.roll_logs.specs.States.{State, Phase, between, working, ended, start_state, is_awaited, rows_with, with_rows, without, with_failure, phase_after, at_rest}
-
--- some group that holds the host has no room for it
-abbrev pub is_stuck : List FleetGroup → List Status → ℕ → Bool
-is_stuck groups statuses host = list_any (is_full_for statuses (host ∷ [])) groups
 
 -- waiting hosts may be set aside at a boundary where each is held by a group without room
 pub record MaySetAside (roll : Roll) (state : State) (hosts : List ℕ) : Type 0 where
@@ -84,7 +80,7 @@ abbrev pub next : Roll → State → Event → State
 next roll state (set_aside hosts) =
     record state { statuses = changed (λ _. Held) hosts state.statuses }
 next roll state (opened batch) =
-    record state { statuses = changed (λ _. Running) batch state.statuses; phase = working 0; batch = batch }
+    record state { statuses = changed (λ _. Running) batch state.statuses; phase = working 0; batch = batch; opening = state.statuses }
 next roll state (claimed host step) = record state { out = host ∷ state.out }
 next roll state (reported host step ending) =
     reported_state host (rows_with roll host (state.rows host) step ending) state

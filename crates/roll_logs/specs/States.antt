@@ -16,17 +16,19 @@ pub data Phase : Type 0 where
   working : ℕ → Phase
   ended : Option ℕ → Phase
 
--- the hosts of the open batch; those of them that a worker has taken and not reported; each host's rows in this play
+-- the hosts of the open batch; the statuses at its opening, or at the last one's where none is open, or at the start; the hosts of
+-- the batch that a worker has taken and not reported; each host's rows in this play
 pub record State : Type 0 where
   pub statuses : List Status
   pub phase : Phase
   pub batch : List ℕ
+  pub opening : List Status
   pub out : List ℕ
   pub rows : ℕ → List Entry
 
 abbrev pub start_state : Roll → State
 start_state roll =
-    record { statuses = roll.start; phase = between; batch = []; out = []; rows = λ host. [] }
+    record { statuses = roll.start; phase = between; batch = []; opening = roll.start; out = []; rows = λ host. [] }
 
 -- a row of the step stands among them
 abbrev pub has_row : List Entry → ℕ → Bool

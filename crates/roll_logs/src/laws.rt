@@ -1,6 +1,6 @@
 //! What holds of every legal log, whoever makes it.
 ghost use Rattle.roll_logs.specs.Changes.{BatchesAreOnTrack, EventsLeaveOtherHosts, FailedFromTheFailingRowOn, RowsLast};
-ghost use Rattle.roll_logs.specs.Columns.{BatchesEndByColumns};
+ghost use Rattle.roll_logs.specs.Columns.{BatchesEndByColumns, LogsHaveColumns};
 ghost use Rattle.roll_logs.specs.Once.{NoHostIsClaimedTwice, NoHostReportsTwice, ReportsFollowClaims};
 ghost use Rattle.roll_logs.specs.Progress.{DeadBatchesEnd, OpenBatchesGoOn};
 ghost use Rattle.roll_logs.specs.Laws.{ForksBoundTheClaims, LegalLogsAreSafe, LegalLogsRestBetweenBatches, RowsAreFew};
@@ -28,9 +28,15 @@ pub fn rows_are_few()
     ensures { RowsAreFew }
 {}
 
+/// What a legal log tells can be given by columns: those of its own reports. So no promise about columns is empty.
+pub fn logs_have_columns()
+    ensures { LogsHaveColumns }
+{}
+
 /// A batch ends as each of its hosts does by itself on the ends that were reported: in whatever order workers claimed and
 /// reported, it halts at the step at which so many of its hosts fail by themselves, each has the rows of its own track up to
-/// there, and the status that follows from its own failing step once the batch is closed.
+/// there, and once the batch is closed the statuses of the fleet are those at its opening but for what each of its hosts becomes by its own
+/// failing step.
 pub fn batches_end_by_columns()
     ensures { BatchesEndByColumns }
 {}

@@ -1,7 +1,9 @@
 -- The table of a fleet is that of the inventory which the text says.
-use Rattle.std.proofs.Common.{ℕ, Option, List, subst}
+use Rattle.std.proofs.Common.{ℕ, ◌≤◌, Option, List, length, subst}
 use Rattle.std.specs.Io.KnownBytes.{Appends}
 use Rattle.bounded_io.specs.Sending.{SendsFirst}
+use Rattle.inventory_model.specs.Names.{Name}
+use Rattle.domains.specs.Faults.{hosts_bound}
 use Rattle.domains.specs.FleetViews.{FleetView}
 use Rattle.recap.specs.LimitsTable.{fleet_table}
 use Rattle.recap.proofs.LimitsLemmas.{fleet_table-limits_table}
@@ -10,6 +12,7 @@ use Rattle.rollout.specs.LimitsText.{IsFleetIn, IsAcceptedAs, WritesTable, Break
 accepted : (text : List ℕ) (fleet : FleetView) → (read : IsFleetIn text fleet) → IsAcceptedAs text read.inventory
 accepted text fleet read = record {
   reads = read.reads;
+  few_hosts = subst (λ (hosts : List Name). length hosts ≤ hosts_bound) read.built.hosts read.built.sound.few_hosts;
   nested = read.built.nested;
   starts_within = read.built.starts_within;
 }

@@ -1,12 +1,13 @@
 -- What `limits` writes of an inventory's text.
-use Rattle.std.specs.Prelude.{ℕ, Option, List}
+use Rattle.std.specs.Prelude.{ℕ, ◌≤◌, Option, List, length}
 use Rattle.std.specs.Io.KnownBytes.{Appends, Keeps}
 use Rattle.bounded_io.specs.Sending.{SendsFirst}
 use Rattle.inventory_model.specs.Places.{Inventory}
 use Rattle.inventory_read.specs.Reads.{IsReadAs, IsTrueOf}
+use Rattle.domains.specs.Hosts.{hosts_of}
 use Rattle.domains.specs.Nested.{IsNested}
 use Rattle.domains.specs.Starts.{StartsWithin}
-use Rattle.domains.specs.Faults.{IsFaultOf}
+use Rattle.domains.specs.Faults.{IsFaultOf, hosts_bound}
 use Rattle.domains.specs.declared.fault.FleetFault.{FleetFault}
 use Rattle.domains.specs.FleetViews.{FleetView}
 use Rattle.domains.specs.Fleets.{IsFleetOf}
@@ -14,10 +15,11 @@ use Rattle.recap.specs.LimitsTable.{limits_table}
 use Rattle.rollout.specs.declared.fault.Fault.{Fault}
 use Rattle.rollout.specs.declared.fault.Fault.TheVariants.{Line, Input, Read, Fleet, Playbook, Pattern, Write, Memory}
 
--- the text says this inventory, its limited groups lie inside each other wherever they share a host, and none has more
--- hosts down than its limit when a run starts
+-- the text says this inventory, which has no more hosts than a fleet may have; its limited groups lie inside each other
+-- wherever they share a host, and none has more hosts down than its limit when a run starts
 pub record IsAcceptedAs (text : List ℕ) (inventory : Inventory) : Type 0 where
   pub reads : IsReadAs text inventory
+  pub few_hosts : length (hosts_of inventory) ≤ hosts_bound
   pub nested : IsNested inventory
   pub starts_within : StartsWithin inventory
 

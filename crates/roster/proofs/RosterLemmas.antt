@@ -197,6 +197,16 @@ safe_kept ledger statuses seats kept k d inside =
     let counted : down_in ledger k ≡ down_count statuses (list_at ledger.fleet.members k) = ap (λ (l : LedgerView). down_in l k) (ledger_is ledger statuses seats kept) ∙ down_in-statuses ledger.fleet statuses k in
     subst Under (sym (get_or-groups_of ledger.fleet k d here)) (sym (ap (exceeds limit) counted) ∙ kept.within k)
 
+-- the members of a group, of a number that no group has too
+pub members_at : (fleet : FleetView) → length fleet.members ≡ length fleet.groups → (group : ℕ) → (group_at (groups_of fleet) group).members ≡ list_at fleet.members group
+members_at fleet all group = by_case (cases_lt group (length fleet.groups))
+  where
+    by_case : (group < length fleet.groups) ⊎ (length fleet.groups ≤ group) → (group_at (groups_of fleet) group).members ≡ list_at fleet.members group
+    by_case (inl within) =
+        ap (λ (g : FleetGroup). g.members) (get_or-groups_of fleet group no_group within)
+    by_case (inr past) =
+        ap (λ (g : FleetGroup). g.members) (get_or_past (groups_of fleet) group no_group (omega (arith, past, length-groups_of fleet))) ∙ sym (get_or_past fleet.members group [] (omega (arith, past, all)))
+
 abbrev bare_seat : Option Share
 bare_seat = None
 

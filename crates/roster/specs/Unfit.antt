@@ -1,10 +1,10 @@
 -- What is wrong with hosts that do not make a batch.
-use Rattle.std.specs.Prelude.{◌≡◌, ℕ, ◌+◌, ◌<◌, Bool, true, false, List, [], ◌∷◌, length, take, slice_index_or}
-use Rattle.std.specs.List.{list_all, list_any}
+use Rattle.std.specs.Prelude.{◌≡◌, ℕ, ◌+◌, ◌<◌, true, false, List, [], ◌∷◌, length, take, slice_index_or}
+use Rattle.std.specs.List.{list_all}
 use Rattle.fleet_states.specs.declared.status.Status.{Status}
 use Rattle.fleet_states.specs.declared.status.Status.TheVariants.{Running}
 use Rattle.fleet_states.specs.Statuses.{are_ready, changed}
-use Rattle.fleet_states.specs.Groups.{FleetGroup, Fits, group_at, is_full_for}
+use Rattle.fleet_states.specs.Groups.{FleetGroup, Fits, group_at, is_full_for, is_stuck}
 
 -- the hosts before it are ready, and with it they are not
 pub record IsFirstUnready (statuses : List Status) (hosts : List ℕ) (host : ℕ) : Type 0 where
@@ -28,10 +28,6 @@ pub record IsShort (groups : List FleetGroup) (statuses : List Status) (hosts : 
   pub inside : place < length hosts
   pub before : Fits groups statuses (take place hosts)
   pub full : IsFirstFull groups (changed (λ _. Running) (take place hosts) statuses) (slice_index_or hosts place 0 ∷ []) group
-
--- some group that holds the host has no room for it
-abbrev pub is_stuck : List FleetGroup → List Status → ℕ → Bool
-is_stuck groups statuses host = list_any (is_full_for statuses (host ∷ [])) groups
 
 -- each group that holds the host has room for it, and no host before it is such
 pub record IsFirstWithRoom (groups : List FleetGroup) (statuses : List Status) (hosts : List ℕ) (host : ℕ) : Type 0 where

@@ -1,9 +1,8 @@
 //! A fleet's hosts: what is known of each, and the shares that rest.
 ghost use Rattle.std.specs.Prelude.{◌≡◌, ◌∷◌, [], ◌<◌, true, false, length, replicate, slice_set, slice_index_or, None, IfOk, IfErr, OnOk, OnErr, MatchOption};
 ghost use Rattle.fleet_states.specs.declared.status.Status.TheVariants.{Held, Running};
-ghost use Rattle.fleet_states.specs.Groups.{Fits, IsSafe, groups_of};
-ghost use Rattle.fleet_states.specs.Statuses.{is_down, is_waiting, status_at};
-ghost use Rattle.down_ledger.specs.Ledgers.{down_in, ledger_of};
+ghost use Rattle.fleet_states.specs.Groups.{Fits, IsSafe, group_at, groups_of};
+ghost use Rattle.fleet_states.specs.Statuses.{down_count, is_down, is_waiting, status_at};
 ghost use Rattle.roster.specs.Rosters.{seated_at, with_host};
 ghost use Rattle.roster.specs.Unfit.{IsFirstFull};
 
@@ -85,9 +84,18 @@ impl<'f> Roster<'f> {
         self.ledger.fleet()
     }
 
-    /// How many of the group's members are down.
+    /// The status of each host; no group is over its limit.
+    pub fn statuses(&self) -> &[Status]
+        ensures value { result.now ≡ self.now.statuses }
+        ensures all { length self.now.statuses ≡ length self.now.fleet.hosts }
+        ensures safe { IsSafe (groups_of self.now.fleet) self.now.statuses }
+    {
+        self.statuses.as_slice()
+    }
+
+    /// How many of the group's members are down: the number that its limit bounds.
     pub fn down(&self, group: GroupId) -> u32
-        ensures { result ≡ down_in (ledger_of self.now.fleet self.now.statuses) group.index }
+        ensures { result ≡ down_count self.now.statuses (group_at (groups_of self.now.fleet) group.index).members }
     {
         self.ledger.down(group)
     }

@@ -2,7 +2,5 @@
 #![tactic(auto)]
 
 mod groups;
-mod largest;
 
 pub use groups::{fleet_of, group, with};
-pub use largest::{deepest, widest};

@@ -31,9 +31,3 @@ passes {Y = Y} g p numbers i number old new here within is was pass more made =
 pub fails : {Y : Type 0} (g : ℕ → Y) (p : ℕ → Bool) (numbers : List ℕ) (i number : ℕ) (old : List Y) → i < length numbers → number ≡ get_or numbers i number → old ≡ map g (filter p (take i numbers)) → p number ≡ false → old ≡ map g (filter p (take (i + 1) numbers))
 fails g p numbers i number old within is was fail =
     was ∙ sym (ap (map g) (filter_more p numbers i number within ∙ ap (λ (n : ℕ). filter p (take i numbers) ++ cond (p n) (n ∷ []) []) (sym is) ∙ ap (λ (b : Bool). filter p (take i numbers) ++ cond b (number ∷ []) []) fail ∙ append-nil (filter p (take i numbers))))
-
-abbrev record_of : Name → (Name → Option Scalar) → LayerView
-record_of name value = record { name = name; value = value }
-
-pub same_layer : (a b : Name) (f g : Name → Option Scalar) → a ≡ b → ((name : Name) → f name ≡ g name) → record_of a f ≡ record_of b g
-same_layer a b f g names values = λ i. record { name = names i; value = λ name. values name i }

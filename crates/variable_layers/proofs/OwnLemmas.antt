@@ -1,13 +1,12 @@
 -- A host's own variables, list by list.
-use Rattle.std.proofs.Common.{◌≡◌, ℕ, ◌+◌, ◌<◌, Bool, true, false, cond, List, [], ◌∷◌, ◌++◌, length, filter, get_or, take, map, sym, ap, ◌∙◌, append-nil}
+use Rattle.std.proofs.Common.{◌≡◌, ℕ, ◌+◌, ◌<◌, Bool, true, false, cond, List, [], ◌∷◌, ◌++◌, length, filter, get_or, take, sym, ap, ◌∙◌, append-nil}
 use Rattle.std.specs.List.{flat_map}
 use Rattle.std.proofs.lemmas.Grind.{flat_map-append}
-use Rattle.std.proofs.lemmas.List.{take_more, map-append}
 use Rattle.std.proofs.lemmas.List.Elements.{filter_more}
 use Rattle.inventory_model.specs.Names.{Name, same_name}
 use Rattle.inventory_model.specs.Variables.{Variable}
-use Rattle.inventory_model.specs.Subtrees.{Host, Subtree}
-use Rattle.variable_layers.specs.Own.{own_in, own_below}
+use Rattle.inventory_model.specs.Subtrees.{Host}
+use Rattle.variable_layers.specs.Own.{own_in}
 
 abbrev variables : Host → List Variable
 variables host = host.variables
@@ -23,7 +22,3 @@ module _ (name : Name) (hosts : List Host) (i : ℕ) (host : Host) (within : i <
 
   pub own_elsewhere : same_name name host.name ≡ false → own_in name (take (i + 1) hosts) ≡ own_in name (take i hosts)
   own_elsewhere e = next false e ∙ append-nil (own_in name (take i hosts))
-
-pub own_more : {X : Type 0} (view : X → Subtree × ℕ) (name : Name) (groups : List X) (i : ℕ) (group : X) → i < length groups → group ≡ get_or groups i group → own_below name (map view (take (i + 1) groups)) ≡ own_below name (map view (take i groups)) ++ own_in name (view group).0.hosts
-own_more {X = X} view name groups i group within is =
-    ap (λ (l : List X). own_below name (map view l)) (take_more groups i group within) ∙ ap (own_below name) (map-append view (take i groups) (get_or groups i group ∷ [])) ∙ flat_map-append (λ (w : Subtree × ℕ). own_in name w.0.hosts) (map view (take i groups)) (view (get_or groups i group) ∷ []) ∙ ap (λ (l : List Variable). own_below name (map view (take i groups)) ++ l) (append-nil (own_in name (view (get_or groups i group)).0.hosts)) ∙ ap (λ (x : X). own_below name (map view (take i groups)) ++ own_in name (view x).0.hosts) (sym is)

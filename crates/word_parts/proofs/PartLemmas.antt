@@ -1,15 +1,12 @@
 -- A word's parts, from the one in front.
 use Rattle.std.proofs.Common.{◌≡◌, ℕ, suc, zero, ◌<◌, ◌≤◌, Bool, true, false, cond, Option, Some, None, List, [], ◌∷◌, length, drop, arith, refl, sym, ap, ◌∙◌, length-drop, ◌==◌}
 use Rattle.std.proofs.lemmas.Bool.Decides.{nat_tests}
-use Rattle.word_parts.specs.Words.{Ref, Part, is_opening, is_dotted, behind_dot, plain_length, part_in, behind_part, behind_ref, behind_word, without_blanks, hole_in, behind_hole_or_braces, first_parts, parts_of}
+use Rattle.word_parts.specs.Words.{Ref, Part, is_opening, is_dotted, behind_dot, plain_length, part_in, behind_part, behind_ref, behind_word, hole_in, behind_hole_or_braces, first_parts, parts_of}
 use Rattle.word_parts.proofs.PlainLemmas.{plain_length-other}
 
 pub parts_of-nil : parts_of [] ≡ []
 unfolding parts_of first_parts
 parts_of-nil = refl
-
-without_blanks-le : (bytes : List ℕ) → length (without_blanks bytes) ≤ length bytes
-without_blanks-le bytes = omega (arith, length-drop {A = ℕ})
 
 behind_word-le : (bytes : List ℕ) → length (behind_word bytes) ≤ length bytes
 unfolding behind_word

@@ -8,9 +8,6 @@ use crate::hole::cut_hole;
 use crate::part::Part;
 use crate::runs::starts_with_pair;
 
-#[cfg(test)]
-mod tests;
-
 /// The first part of the word, and the rest of the word behind it; `None` where the word is empty. It takes no memory.
 /// To walk over all parts, go on with the rest, which is shorter each time.
 pub fn first_part(word: &str) -> Option<(Part<'_>, &str)>

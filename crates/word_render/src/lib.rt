@@ -5,6 +5,7 @@ mod fault;
 mod print;
 mod rendering;
 mod values;
+mod worked;
 
 pub use fault::RenderFault;
 pub use rendering::{MAX_RENDERED, render};

@@ -12,9 +12,6 @@ use itoa::Buffer;
 use std::alloc::{AllocError, Allocator};
 use word_parts::{check_word, first_part};
 
-#[cfg(test)]
-mod tests;
-
 /// The longest rendered word, in bytes.
 pub const MAX_RENDERED: usize = 65536;
 

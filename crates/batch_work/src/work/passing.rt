@@ -35,6 +35,13 @@ impl<'p> BatchWork<'p> {
         awaited_of(self.batch.as_slice(), self.turns.as_slice())
     }
 
+    /// How many hosts of the batch have failed until now. Time linear in the batch.
+    pub fn failures(&self) -> usize
+        ensures { (roll : Roll) (state : State) → IsWorkOf roll state self.now → result ≡ states.failures state }
+    {
+        failures_in(self.summaries.as_slice(), self.batch.as_slice())
+    }
+
     /// Passes the present step: the batch halts, ends, or begins the next. Time linear in the batch; it takes no memory.
     pub fn pass(&mut self, step: usize)
         requires working { self.old.stage ≡ Working step }

@@ -1,8 +1,9 @@
 //! A batch passes a step, and is over.
 ghost use Rattle.std.specs.Prelude.{◌≡◌, ℕ, Option, IfErr, IfOk, OnErr, Some, true};
-ghost use Rattle.roll_logs.specs.Columns.{Columns, EndsByColumns, Tells};
+ghost use Rattle.batch_outcome.specs.Batches.{statuses_after};
+ghost use Rattle.roll_logs.specs.Columns.{Columns, Tells, fails_by};
 ghost use Rattle.roll_logs.specs.Events.{closed};
-ghost use Rattle.roll_logs.specs.States.{ended};
+ghost use Rattle.roll_logs.specs.States.{between, ended};
 ghost use Rattle.roll_kernel.specs.Barriers.{HasPassed, first_busy, is_over, is_working};
 ghost use Rattle.roll_kernel.specs.Views.{roll_of, state_of};
 ghost use Rattle.roll_core.specs.Boards.{with_event};
@@ -26,13 +27,15 @@ impl<'f, R: Runner, L: Ledger> Board<'f, R, L> {
         Ok(next)
     }
 
-    /// Closes a batch that is over: its live hosts are up again, or halted and down where it was halted. Its hosts end as each does by
-    /// itself on the ends that were reported. It takes no memory.
+    /// Closes a batch that is over: its live hosts are up again, or halted and down where it was halted. The statuses of
+    /// the fleet are then those at its opening, but for what becomes of each of its hosts by itself on the ends that were reported. It takes no
+    /// memory.
     pub fn close(&mut self)
         requires { is_over (state_of self.old.kernel).phase ≡ true }
         ensures event { self.new ≡ with_event self.old closed }
-        ensures tracks { (columns : Columns) (halt : Option ℕ) → Tells columns (roll_of self.old.kernel) self.old.kernel.log → (state_of self.old.kernel).phase ≡ ended halt
-            → EndsByColumns (roll_of self.old.kernel) columns (state_of self.old.kernel) halt }
+        ensures boundary { (state_of self.new.kernel).phase ≡ between }
+        ensures statuses { (columns : Columns) (halt : Option ℕ) → Tells columns (roll_of self.old.kernel) self.old.kernel.log → (state_of self.old.kernel).phase ≡ ended halt
+            → (state_of self.new.kernel).statuses ≡ statuses_after halt (fails_by (roll_of self.old.kernel) columns) (state_of self.old.kernel).batch (state_of self.old.kernel).opening }
     {
         self.kernel.close();
     }

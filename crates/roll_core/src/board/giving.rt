@@ -27,7 +27,9 @@ impl<'f, R: Runner, L: Ledger> Board<'f, R, L> {
 
     /// Gives a claim up whose worker found no memory. The claim stays out, its host stays down, and its batch doesn't pass the step unless
     /// a `Done` of an equal claim is reported for it.
-    pub fn strand(&mut self, _claim: Claim)
+    pub fn strand(&mut self, claim: Claim)
         ensures { self.new ≡ self.old }
-    {}
+    {
+        self.kernel.strand(claim);
+    }
 }

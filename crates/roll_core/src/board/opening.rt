@@ -2,6 +2,7 @@
 ghost use Rattle.std.specs.Prelude.{◌≡◌, ◌<◌, IfErr, OnErr, OnOk, length};
 ghost use Rattle.domains.specs.Ids.{host_numbers};
 ghost use Rattle.roll_logs.specs.Events.{opened, set_aside};
+ghost use Rattle.roll_logs.specs.States.{working};
 ghost use Rattle.roll_logs.specs.Logs.{MayOpen, MaySetAside};
 ghost use Rattle.roll_kernel.specs.HoldRefusals.{IsHoldRefusalOf};
 ghost use Rattle.roll_kernel.specs.Refusals.{IsRefusalOf};
@@ -16,11 +17,12 @@ use std::alloc::Global;
 use std::sync::ledger::Ledger;
 
 impl<'f, R: Runner, L: Ledger> Board<'f, R, L> {
-    /// Begins a batch: its hosts are down from now on, and the closing brings those up that neither failed nor were halted. A refusal
+    /// Begins a batch at the first step: its hosts are down from now on, and the closing brings those up that neither failed nor were halted. A refusal
     /// leaves everything as it was.
     pub fn open(&mut self, alloc: Global, hosts: &[HostId]) -> Result<(), OpenFault>
         requires { 0 < length hosts.now }
         ensures ok { OnOk result (self.new ≡ with_event self.old (opened (host_numbers hosts.now))) }
+        ensures working { OnOk result ((state_of self.new.kernel).phase ≡ working 0) }
         ensures allowed { OnOk result (MayOpen (roll_of self.old.kernel) (state_of self.old.kernel) (host_numbers hosts.now)) }
         ensures err { IfErr result (IsRefusalOf (roll_of self.old.kernel) (state_of self.old.kernel) (host_numbers hosts.now)) }
         ensures unchanged { OnErr result (self.new ≡ self.old) }

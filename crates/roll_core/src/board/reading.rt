@@ -1,9 +1,10 @@
 //! What others see of a board.
 ghost use Rattle.std.specs.Prelude.{◌≡◌, ◌<◌, ◌≤◌, [], count_by, length};
-ghost use Rattle.fleet_states.specs.Statuses.{status_at};
-ghost use Rattle.down_ledger.specs.Ledgers.{down_in, ledger_of};
+ghost use Rattle.fleet_states.specs.Statuses.{NobodyRuns, down_count, status_at};
+ghost use Rattle.fleet_states.specs.Groups.{IsSafe, group_at, groups_of};
+ghost use Rattle.domains.specs.Ids.{host_numbers};
 ghost use Rattle.host_track.specs.Tracks.{counts_in};
-ghost use Rattle.roll_logs.specs.States.{start_state};
+ghost use Rattle.roll_logs.specs.States.{between, failures, start_state};
 ghost use Rattle.roll_logs.specs.Logs.{IsLegal};
 ghost use Rattle.batch_work.specs.Works.{is_awaited_in, phase_of};
 ghost use Rattle.roll_kernel.specs.Views.{FrontsAreSafe, RestsAtBoundaries, events_of, roll_of, state_of};
@@ -54,7 +55,9 @@ impl<'f, R: Runner, L: Ledger> Board<'f, R, L> {
 
     /// How many claims may be out at once.
     pub fn forks(&self) -> usize
-        ensures { result ≡ self.now.kernel.forks }
+        ensures value { result ≡ self.now.kernel.forks }
+        ensures some { 0 < result }
+        ensures few { result ≤ 64 }
     {
         self.kernel.forks()
     }
@@ -74,10 +77,34 @@ impl<'f, R: Runner, L: Ledger> Board<'f, R, L> {
         self.kernel.status(host)
     }
 
-    /// How many of the group's members are down now. Near-constant time for a group that has a limit; the members of another are
-    /// counted.
+    /// The status of each host now. No group is over its limit, and nobody runs where no batch is open.
+    pub fn statuses(&self) -> &[Status]
+        ensures value { result.now ≡ (state_of self.now.kernel).statuses }
+        ensures all { length result.now ≡ length self.now.kernel.fleet.hosts }
+        ensures safe { IsSafe (groups_of self.now.kernel.fleet) result.now }
+        ensures rests { (state_of self.now.kernel).phase ≡ between → NobodyRuns result.now }
+    {
+        self.kernel.statuses()
+    }
+
+    /// The hosts of the open batch, in its order; none where no batch is open.
+    pub fn batch(&self) -> &[HostId]
+        ensures { host_numbers result.now ≡ (state_of self.now.kernel).batch }
+    {
+        self.kernel.batch()
+    }
+
+    /// How many hosts of the open batch have failed until now. Time linear in the batch.
+    pub fn failures(&self) -> usize
+        ensures { result ≡ failures (state_of self.now.kernel) }
+    {
+        self.kernel.failures()
+    }
+
+    /// How many of the group's members are down now: the number that its limit bounds. Near-constant time for a group that has a
+    /// limit; the members of another are counted.
     pub fn down(&self, group: GroupId) -> u32
-        ensures { result ≡ down_in (ledger_of self.now.kernel.fleet (state_of self.now.kernel).statuses) group.index }
+        ensures { result ≡ down_count (state_of self.now.kernel).statuses (group_at (groups_of self.now.kernel.fleet) group.index).members }
     {
         self.kernel.down(group)
     }

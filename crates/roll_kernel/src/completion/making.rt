@@ -2,7 +2,7 @@
 ghost use Rattle.std.specs.Prelude.{◌≡◌, IfErr, IfOk, true};
 ghost use Rattle.outcome_results.specs.Endings.{ending_of};
 ghost use Rattle.roll_logs.specs.Rolls.{is_of_program};
-ghost use Rattle.roll_kernel.specs.Claims.{IsCompletionOf};
+ghost use Rattle.roll_kernel.specs.Claims.{completion_of};
 
 use crate::claim::Claim;
 use crate::completion::Completion;
@@ -19,7 +19,7 @@ impl Completion {
         outcome: Outcome,
     ) -> Result<Completion, (Claim, AllocError)>
         requires { is_of_program (ending_of outcome) ≡ true }
-        ensures ok { IfOk result (IsCompletionOf claim outcome) }
+        ensures ok { IfOk result (λ completion. completion ≡ completion_of claim (ending_of outcome)) }
         ensures err { IfErr result (λ refused. refused.0 ≡ claim) }
     {
         let row = match outcome.row(alloc) {
@@ -41,7 +41,7 @@ impl Completion {
 
     /// The host of the claim.
     pub fn host(&self) -> HostId
-        ensures { result ≡ self.now.share.host }
+        ensures { result.index ≡ self.now.host }
     {
         self.share.host()
     }

@@ -30,6 +30,12 @@ impl<'f> Kernel<'f> {
         keep(&mut self.log, Event::Claim(taken.host, taken.step));
         Ok(Some(claimed(share, taken)))
     }
+
+    /// Gives a claim up whose worker found no memory. The claim stays out, its host stays down, and its batch doesn't pass the step
+    /// unless a `Completion` of an equal claim is reported for it.
+    pub fn strand(&mut self, _claim: Claim)
+        ensures { self.new ≡ self.old }
+    {}
 }
 
 /// What a worker is given, with the host's share.

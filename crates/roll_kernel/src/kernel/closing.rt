@@ -1,8 +1,9 @@
 //! A batch is over.
 ghost use Rattle.std.specs.Prelude.{◌≡◌, ℕ, Option, true};
-ghost use Rattle.roll_logs.specs.Columns.{Columns, EndsByColumns, Tells};
+ghost use Rattle.batch_outcome.specs.Batches.{statuses_after};
+ghost use Rattle.roll_logs.specs.Columns.{Columns, Tells, fails_by};
 ghost use Rattle.roll_logs.specs.Events.{closed};
-ghost use Rattle.roll_logs.specs.States.{ended};
+ghost use Rattle.roll_logs.specs.States.{between, ended};
 ghost use Rattle.roll_kernel.specs.Barriers.{is_over};
 ghost use Rattle.roll_kernel.specs.Views.{roll_of, state_of, with_event};
 
@@ -12,13 +13,14 @@ use crate::kernel::{Kernel, keep};
 use batch_work::Stage;
 
 impl<'f> Kernel<'f> {
-    /// Closes a batch that is over: its live hosts are up again, or halted and down where it was halted. Its hosts end as each does by itself
-    /// on the ends that were reported. It takes no memory.
+    /// Closes a batch that is over: its live hosts are up again, or halted and down where it was halted. The statuses of the
+    /// fleet are then those at its opening, but for what becomes of each of its hosts by itself on the ends that were reported. It takes no memory.
     pub fn close(&mut self)
         requires { is_over (state_of self.old).phase ≡ true }
         ensures event { self.new ≡ with_event self.old closed }
-        ensures tracks { (columns : Columns) (halt : Option ℕ) → Tells columns (roll_of self.old) self.old.log → (state_of self.old).phase ≡ ended halt
-            → EndsByColumns (roll_of self.old) columns (state_of self.old) halt }
+        ensures boundary { (state_of self.new).phase ≡ between }
+        ensures statuses { (columns : Columns) (halt : Option ℕ) → Tells columns (roll_of self.old) self.old.log → (state_of self.old).phase ≡ ended halt
+            → (state_of self.new).statuses ≡ statuses_after halt (fails_by (roll_of self.old) columns) (state_of self.old).batch (state_of self.old).opening }
     {
         let Stage::Ended(halt) = self.work.stage() else {
             unreachable!()

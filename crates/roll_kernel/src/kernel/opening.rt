@@ -6,6 +6,7 @@ ghost use Rattle.fleet_states.specs.Statuses.{are_ready};
 ghost use Rattle.fleet_states.specs.Groups.{Fits, IsSafe, groups_of};
 ghost use Rattle.roster.specs.Rosters.{HasChanged, NobodyRests};
 ghost use Rattle.roll_logs.specs.Events.{opened};
+ghost use Rattle.roll_logs.specs.States.{working};
 ghost use Rattle.roll_logs.specs.Logs.{MayOpen};
 ghost use Rattle.roll_kernel.specs.Refusals.{IsRefusalOf};
 ghost use Rattle.roll_kernel.specs.Views.{roll_of, state_of, with_event};
@@ -21,11 +22,12 @@ use roster::Roster;
 use std::alloc::Global;
 
 impl<'f> Kernel<'f> {
-    /// Begins a batch: its hosts are down from now on, and the closing brings those up that neither failed nor were halted. A refusal
+    /// Begins a batch at the first step: its hosts are down from now on, and the closing brings those up that neither failed nor were halted. A refusal
     /// leaves everything as it was.
     pub fn open(&mut self, alloc: Global, hosts: &[HostId]) -> Result<(), OpenFault>
         requires { 0 < length hosts.now }
         ensures ok { OnOk result (self.new ≡ with_event self.old (opened (host_numbers hosts.now))) }
+        ensures working { OnOk result ((state_of self.new).phase ≡ working 0) }
         ensures allowed { OnOk result (MayOpen (roll_of self.old) (state_of self.old) (host_numbers hosts.now)) }
         ensures err { IfErr result (IsRefusalOf (roll_of self.old) (state_of self.old) (host_numbers hosts.now)) }
         ensures unchanged { OnErr result (self.new ≡ self.old) }

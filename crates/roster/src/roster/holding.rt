@@ -4,8 +4,8 @@ ghost use Rattle.std.specs.List.{list_all};
 ghost use Rattle.fleet_states.specs.declared.status.Status.TheVariants.{Held};
 ghost use Rattle.domains.specs.Ids.{host_numbers};
 ghost use Rattle.fleet_states.specs.Statuses.{are_ready, changed};
-ghost use Rattle.fleet_states.specs.Groups.{groups_of};
-ghost use Rattle.roster.specs.Unfit.{IsFirstWithRoom, is_stuck};
+ghost use Rattle.fleet_states.specs.Groups.{groups_of, is_stuck};
+ghost use Rattle.roster.specs.Unfit.{IsFirstWithRoom};
 
 use crate::roster::Roster;
 use group_tree::HostId;

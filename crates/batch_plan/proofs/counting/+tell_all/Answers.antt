@@ -1,4 +1,4 @@
-use Rattle.std.proofs.Common.{◌≡◌, ◌<◌, None, Option, List, length, get_or, sym, ap, ◌∙◌, arith, rules, subst}
+use Rattle.std.proofs.Common.{◌≡◌, ◌<◌, None, List, length, get_or, sym, ap, ◌∙◌, arith, rules, subst}
 use Rattle.domain_counts.specs.Nodes.{Node, Subtree, nodes_below, side_by_side}
 use Rattle.domain_counts.proofs.TreeLemmas.{nodes_below_less}
 use Rattle.batch_plan.specs.Inside.{told_by}

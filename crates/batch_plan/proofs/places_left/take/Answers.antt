@@ -1,4 +1,4 @@
-use Rattle.std.proofs.Common.{◌≡◌, ℕ, ◌<◌, true, length, get_or, refl, ◌∙◌, arith}
+use Rattle.std.proofs.Common.{◌<◌, length, get_or, refl, ◌∙◌, arith}
 use Rattle.std.proofs.lemmas.List.{length-set}
 use Rattle.group_tree.specs.declared.ids.GroupId.{GroupId}
 use Rattle.batch_plan.proofs.PlacesLemmas.{below_group, lowered_group, some_left_group}

@@ -21,3 +21,8 @@ invariant_of-result c =
       sound = c.requires.sound (host_numbers c.in_ok-order.order.items) once dealt;
       places = rw c.as_slice-2.ensures.value at c.in_ok-places.ensures;
     }
+
+pub returns-clause-sound : goal.returns-clause-sound
+returns-clause-sound c =
+    c.requires.sound (host_numbers c.in_ok-order.order.items) (rw c.as_slice.ensures.value at c.in_ok-order.ensures.each_once)
+    (rw c.as_slice.ensures.value at c.in_ok-order.ensures.dealt)

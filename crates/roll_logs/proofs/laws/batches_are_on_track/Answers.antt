@@ -1,4 +1,4 @@
-use Rattle.roll_logs.proofs.ChangeLaws.{on_track}
+use Rattle.roll_logs.proofs.ColumnFronts.{on_track}
 use Rattle.roll_logs.proofs.laws.batches_are_on_track.Goals as goal
 
 -- src/laws.rt:63:1

@@ -1,7 +1,9 @@
-use Rattle.std.proofs.Common.{◌≤◌, Global, map, length, sym, subst, arith}
+use Rattle.std.proofs.Common.{◌≡◌, ◌≤◌, Global, map, length, sym, subst, arith}
 use Rattle.std.specs.String.{string_bytes}
 use Rattle.std.proofs.lemmas.List.{length-map}
+use Rattle.domains.specs.FleetViews.{FleetView, IsSound}
 use Rattle.domains.specs.Fleets.{IsFleetOf}
+use Rattle.domains.specs.Outcomes.{dealt_fleet}
 use Rattle.domains.specs.Search.{IsUnbroken, IsFirstBreach}
 use Rattle.domains.proofs.BreachLemmas.{fault_of}
 use Rattle.domains.proofs.BuildLemmas.{chains_rise, chains_below, sound, fleet_of}
@@ -39,5 +41,8 @@ returns-in_ok-deal-in-None-clause-ok g c =
     let n = c.in_ok-numbers.numbers in
     let l = c.in_ok-lists.lists in
     let held : IsUnbroken l n.off.items = rw c.as_slice.ensures.value at c.in-None.ensures in
-    subst (IsFleetOf c.args.tree.now) (sym c.in_ok-deal-in-None.ensures)
-    (fleet_of c.args.tree.now n l c.in_ok-numbers.ensures.numbered c.in_ok-numbers.ensures.within c.in_ok-lists.ensures c.in_ok-deal-in-None.field-0.order held.0 held.1)
+    let fleet : FleetView = c.in_ok-deal-in-None.field-0 in
+    let dealt : fleet ≡ dealt_fleet n l fleet.order = c.in_ok-deal-in-None.ensures.dealt in
+    subst (IsFleetOf c.args.tree.now) (sym dealt)
+    (fleet_of c.args.tree.now n l c.in_ok-numbers.ensures.numbered c.in_ok-numbers.ensures.within c.in_ok-lists.ensures fleet.order held.0 held.1
+    (subst IsSound dealt c.in_ok-deal-in-None.ensures.sound))

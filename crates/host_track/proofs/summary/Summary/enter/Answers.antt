@@ -20,7 +20,7 @@ returns-clause-row c =
       failed = c.either-self.ensures ∙ ap (λ b. c.args.self.now.failed || b) c.is_failed.ensures;
       handlers = same_length;
       notified = λ handler below. ap (λ (m : List Bool). mark_at m handler) kept ∙ marks_follow c.args.self.now.notified.items c.notify.new.marks _ _ _ _ _ c.deref_mut.ensures.value c.deref.ensures.value c.notifies.ensures c.notify.ensures handler below;
-      counts = c.add.ensures;
+      counts = c.add.ensures.rows;
     } in
     λ play start entries place shown at.
     shows_row play start entries place c.args.step.now (ending_of c.args.outcome.now) c.judge-finding.result old new c.judge-finding.ensures follows shown at

@@ -1,12 +1,12 @@
 -- Each of the five counts takes the row where it passes.
-use Rattle.std.proofs.Common.{◌≡◌, ℕ, ap, List}
-use Rattle.outcome_results.specs.Counting.{counts_of, counts_as_ok, counts_as_changed, is_failed, is_skipped, is_ignored}
+use Rattle.std.proofs.Common.{ap}
+use Rattle.outcome_results.specs.Counting.{counts_as_ok, counts_as_changed, is_failed, is_skipped, is_ignored}
 use Rattle.outcome_results.specs.declared.counts.Counts.{Counts}
 use Rattle.outcome_results.proofs.CountLemmas.{counted_next, same_counts}
 use Rattle.outcome_results.proofs.counts.Counts.add.Goals as goal
 
-pub returns : goal.returns
-returns c =
+pub returns-clause-rows : goal.returns-clause-rows
+returns-clause-rows c =
     λ rows few was.
     same_counts _ _ _ _ _ _ _ _ _ _
     (counted_next counts_as_ok rows c.args.judged _ _ _ few (ap (λ (k : Counts). k.ok) was) c.counts_as_ok.ensures c.one_more_if-self.ensures)

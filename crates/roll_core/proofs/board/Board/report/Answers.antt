@@ -1,8 +1,10 @@
-use Rattle.std.proofs.Common.{◌<◌, length, sym, subst, refl}
-use Rattle.outcome_results.specs.Endings.{ending_of}
+use Rattle.std.proofs.Common.{◌≡◌, ◌<◌, ◌∙◌, length, sym, ap, subst, refl, inr, ◌⊎◌}
 use Rattle.roll_kernel.specs.Claims.{event_in}
 use Rattle.roll_kernel.specs.Views.{KernelView, roll_of, state_of}
-use Rattle.roll_kernel.specs.Ways.{outcome_in, request_of}
+use Rattle.roll_kernel.specs.Ways.{Completed}
+use Rattle.roll_core.specs.Boards.{BoardView}
+use Rattle.roll_core.specs.Dones.{DoneView}
+use Rattle.roll_core.specs.Reports.{IsStranger}
 use Rattle.roll_core.specs.Inside.{IsKept}
 use Rattle.roll_core.proofs.GrowLemmas.{end_by, kept_report, tells}
 use Rattle.roll_core.proofs.board.Board.report.Goals as goal
@@ -15,9 +17,19 @@ invariant_of-self-2 g c =
     -- what the runner keeps it keeps in this world
     let laws = g.met.R.Runner g.world.𝓛 g.world.𝓜 g.world.𝓡 ((λ s x. x), (λ x. x), (λ x. x), λ x. x) in
     let alike = c.same.ensures.0 c.if-not-same.false in
-    let mine = end_by (g.R.Runner.may c.done.inside.runner.now) may (λ work ending. (laws.one_relation old.runner.now c.done.inside.runner.now alike work ending).1) completion.share.host.index completion.step (request_of completion.way) (ending_of (outcome_in completion.way)) c.done.invariant in
+    let mine = end_by (g.R.Runner.may c.done.inside.runner.now) may (λ work ending. (laws.one_relation old.runner.now c.done.inside.runner.now alike work ending).1) completion.host completion.step completion.request completion.ending c.done.invariant in
     let told = tells may (roll_of old.kernel) (state_of old.kernel) completion c.in-Ok.ensures.allowed mine in
     let counted = c.count_one.ensures in
     let now = c.count_one.new in
     let kept = kept_report may old.kernel old.tallies old.reports.total g.L.Ledger.parts old.rest.parts old.rest.amount old.joined c.self.invariant (event_in completion) now.reports.total now.rest.parts now.rest.amount told refl counted.total counted.parts counted.amount counted.apart (subst (λ (k : KernelView). length k.log < 9223372036854775808) c.in-Ok.ensures.ok c.in-Ok.ensures.few) in
     subst (λ (k : KernelView). IsKept may k old.tallies now.reports.total g.L.Ledger.parts now.rest.parts now.rest.amount old.joined) (sym c.in-Ok.ensures.ok) kept
+
+pub returns-in-Err-clause-err : goal.returns-in-Err-clause-err
+returns-in-Err-clause-err g c =
+    let old : BoardView g.row.R.Denot = record { kernel = c.self.inside.kernel; runner = c.self.inside.runner.now; tallies = c.self.inside.tallies; joined = c.self.inside.joined } in
+    let mine : DoneView g.row.R.Denot = record { completion = c.done.inside.completion; runner = c.done.inside.runner.now } in
+    let refused = c.in-Err.ensures.err in
+    let same = c.of.ensures ∙ ap (λ (k : Completed). record mine { completion = k }) refused.same in
+    let made : IsStranger g.R.Runner.alike old mine (record { done = c.of.result }) = record { same = same; why = inr refused.why } in
+    let of_done = subst (λ (d : DoneView g.row.R.Denot). IsStranger g.R.Runner.alike old d (record { done = c.of.result })) c.done.view_is made in
+    subst (λ (v : BoardView g.row.R.Denot). IsStranger g.R.Runner.alike v c.args.done (record { done = c.of.result })) c.self.view_is of_done

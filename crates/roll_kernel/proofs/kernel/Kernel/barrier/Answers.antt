@@ -3,18 +3,19 @@ use Rattle.std.proofs.lemmas.List.{length-map}
 use Rattle.group_tree.specs.declared.ids.HostId.{HostId}
 use Rattle.fleet_numbers.specs.NumberLists.{has_number}
 use Rattle.roll_logs.specs.Events.{passed}
-use Rattle.roll_logs.specs.States.{State, has_row}
+use Rattle.roll_logs.specs.States.{Phase, State, has_row, phase_after}
 use Rattle.roll_logs.specs.Logs.{MayPass}
 use Rattle.roll_logs.proofs.WorkLemmas.{passed_out}
 use Rattle.batch_work.specs.Works.{phase_of}
 use Rattle.roll_kernel.specs.declared.event.Event.TheVariants.{Barrier}
-use Rattle.roll_kernel.specs.Barriers.{HasPassed, next_by}
+use Rattle.roll_kernel.specs.Barriers.{HasPassed, IsNext}
+use Rattle.roll_kernel.specs.Inside.{GoesOn}
 use Rattle.roll_kernel.specs.declared.event.Event.{Event}
 use Rattle.roll_kernel.specs.Views.{KernelView, event_of, roll_of, state_of, view_of}
 use Rattle.roll_kernel.proofs.HeldLemmas.{held_passed}
 use Rattle.roll_kernel.proofs.KeptLemmas.{kept_at_work, kept_behind, kept_few, kept_grown, state_more, view_more}
 use Rattle.roll_kernel.proofs.PlaceLemmas.{owed_passed}
-use Rattle.roll_kernel.proofs.StepLemmas.{may_pass, step_within}
+use Rattle.roll_kernel.proofs.StepLemmas.{goes_on, may_pass, step_within}
 use Rattle.roll_kernel.proofs.kernel.Kernel.barrier.Goals as goal
 
 pub pass-requires-clause-few : goal.pass-requires-clause-few
@@ -57,11 +58,13 @@ returns-clause-ok c =
     let ahead : (host : ℕ) → has_number host (state_of kernel).batch ≡ true → has_row ((state_of kernel).rows host) (suc step) ≡ false = λ host here. (kept_behind kernel old work _ kept).rows host step (suc step) may.at here (omega arith) in
     let passes = c.pass.ensures (roll_of kernel) (state_of kernel) kept.held.works may none ahead in
     let seen = view_more old old c.self.inside.play.now c.self.inside.forks c.self.inside.start.now c.self.inside.vars.now log c.keep.new.log.items (Barrier step) refl c.keep.ensures.items in
-    let told = c.next_of.ensures ∙ ap (λ s. next_by (phase_of s)) c.stage-2.ensures ∙ ap next_by passes.phase in
+    let at_stage : phase_of c.stage-2.result ≡ phase_after kernel.play (state_of kernel) step = ap phase_of c.stage-2.ensures ∙ passes.phase in
+    let in_log : (state_of (view c.keep.new.log.items)).phase ≡ phase_after kernel.play (state_of kernel) step = ap (λ (v : KernelView). (state_of v).phase) seen ∙ ap (λ (s : State). s.phase) (state_more kernel (passed step)) in
+    let told = c.next_of.ensures step (subst (GoesOn step) (sym at_stage) (goes_on kernel.play (state_of kernel) step)) in
     let made : HasPassed kernel (view c.keep.new.log.items) c.next_of.result = record {
       step = step;
       may = may;
       grown = seen;
-      next = told ∙ sym (ap (λ (v : KernelView). next_by (state_of v).phase) seen ∙ ap (λ (s : State). next_by s.phase) (state_more kernel (passed step)));
+      next = subst (λ (phase : Phase). IsNext step phase c.next_of.result) (at_stage ∙ sym in_log) told;
     } in
     subst (λ (v : KernelView). HasPassed v (view c.keep.new.log.items) c.next_of.result) c.self.view_is made

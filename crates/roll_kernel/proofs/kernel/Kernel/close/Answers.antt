@@ -6,16 +6,19 @@ use Rattle.fleet_states.specs.declared.status.Status.{Status}
 use Rattle.fleet_states.specs.declared.status.Status.TheVariants.{Running, Failed}
 use Rattle.fleet_states.specs.Statuses.{is_down, status_at}
 use Rattle.host_track.specs.Tracks.{has_failed}
-use Rattle.roster.specs.Rosters.{HasChanged}
-use Rattle.roll_logs.specs.Columns.{Columns, EndsByColumns, Tells}
+use Rattle.batch_outcome.specs.Batches.{statuses_after}
+use Rattle.roster.specs.Rosters.{HasChanged, RosterView}
+use Rattle.roll_logs.specs.Columns.{Columns, Tells, fails_by}
 use Rattle.roll_logs.specs.Events.{closed}
-use Rattle.roll_logs.specs.States.{at_rest, ended}
+use Rattle.roll_logs.specs.States.{Phase, State, at_rest, ended}
+use Rattle.roll_logs.specs.Logs.{closed_state, next}
 use Rattle.roll_logs.proofs.ColumnFronts.{ends_by_columns}
 use Rattle.batch_work.specs.declared.stage.Stage.TheVariants.{Ended}
+use Rattle.roll_kernel.specs.declared.event.Event.{Event}
 use Rattle.roll_kernel.specs.declared.event.Event.TheVariants.{Close}
 use Rattle.roll_kernel.specs.Views.{KernelView, event_of, roll_of, state_of, view_of}
 use Rattle.roll_kernel.proofs.HeldLemmas.{held_closed}
-use Rattle.roll_kernel.proofs.KeptLemmas.{kept_at_work, kept_grown, kept_over_out, kept_phase}
+use Rattle.roll_kernel.proofs.KeptLemmas.{kept_at_work, kept_grown, kept_over_out, kept_phase, state_more, view_more}
 use Rattle.roll_kernel.proofs.PlaceLemmas.{owed_closed}
 use Rattle.roll_kernel.proofs.kernel.Kernel.close.Goals as goal
 
@@ -50,7 +53,23 @@ invariant_of-self c =
     (held_closed (roll_of kernel) (state_of kernel) old work kept.held halt c.end_hosts.new.roster c.end.new.self at changes over)
     (omega (arith, owes, kept.places, length-map log event_of, c.keep.ensures.capacity))
 
-pub returns-clause-tracks : goal.returns-clause-tracks
-returns-clause-tracks c =
-    let kernel : KernelView = view_of c.self.inside.roster c.self.inside.play.now c.self.inside.forks c.self.inside.start.now c.self.inside.vars.now c.self.inside.log.items in
-    subst (λ (v : KernelView). (columns : Columns) (halt : Option ℕ) → Tells columns (roll_of v) v.log → (state_of v).phase ≡ ended halt → EndsByColumns (roll_of v) columns (state_of v) halt) c.self.view_is (λ columns halt tells at. ends_by_columns (roll_of kernel) kernel.log columns halt c.self.invariant.legal tells at)
+pub returns-clause-boundary : goal.returns-clause-boundary
+returns-clause-boundary c =
+    let old = c.self.inside.roster in
+    let log = c.self.inside.log.items in
+    let kernel : KernelView = view_of old c.self.inside.play.now c.self.inside.forks c.self.inside.start.now c.self.inside.vars.now log in
+    let at = kept_phase kernel old c.self.inside.work _ c.self.invariant (Ended c.in-Ended.halt) (sym c.stage.ensures ∙ c.in-Ended.is) in
+    let seen = view_more old c.end_hosts.new.roster c.self.inside.play.now c.self.inside.forks c.self.inside.start.now c.self.inside.vars.now log c.keep.new.log.items Close c.end_hosts.ensures.fleet c.keep.ensures.items in
+    ap (λ (v : KernelView). (state_of v).phase) seen ∙ ap (λ (s : State). s.phase) (state_more kernel closed) ∙ ap (λ (p : Phase). (closed_state p (state_of kernel)).phase) at
+
+pub returns-clause-statuses : goal.returns-clause-statuses
+returns-clause-statuses c =
+    let old = c.self.inside.roster in
+    let log = c.self.inside.log.items in
+    let view : RosterView → List Event → KernelView = λ r l. view_of r c.self.inside.play.now c.self.inside.forks c.self.inside.start.now c.self.inside.vars.now l in
+    let kernel : KernelView = view old log in
+    let seen = view_more old c.end_hosts.new.roster c.self.inside.play.now c.self.inside.forks c.self.inside.start.now c.self.inside.vars.now log c.keep.new.log.items Close c.end_hosts.ensures.fleet c.keep.ensures.items in
+    let left : List Status = (state_of (view c.end_hosts.new.roster c.keep.new.log.items)).statuses in
+    let grown : left ≡ (next (roll_of kernel) (state_of kernel) closed).statuses = ap (λ (v : KernelView). (state_of v).statuses) seen ∙ ap (λ (s : State). s.statuses) (state_more kernel closed) in
+    let Ends : KernelView → Type 0 = λ v. (columns : Columns) (halt : Option ℕ) → Tells columns (roll_of v) v.log → (state_of v).phase ≡ ended halt → left ≡ statuses_after halt (fails_by (roll_of v) columns) (state_of v).batch (state_of v).opening in
+    subst Ends c.self.view_is (λ columns halt tells at. grown ∙ (ends_by_columns (roll_of kernel) kernel.log columns halt c.self.invariant.legal tells at).statuses)

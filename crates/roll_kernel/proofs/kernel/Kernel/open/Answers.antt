@@ -4,13 +4,14 @@ use Rattle.fleet_numbers.specs.NumberLists.{are_below}
 use Rattle.domains.specs.Ids.{host_numbers}
 use Rattle.fleet_states.proofs.ReadyLemmas.{ready_below}
 use Rattle.roll_logs.specs.Events.{opened}
+use Rattle.roll_logs.specs.States.{State}
 use Rattle.roll_logs.specs.Logs.{MayOpen, next}
 use Rattle.batch_work.specs.Works.{IsFresh, IsWorkOf}
 use Rattle.roll_kernel.specs.declared.event.Event.{Event}
 use Rattle.roll_kernel.specs.declared.event.Event.TheVariants.{Open}
-use Rattle.roll_kernel.specs.Views.{KernelView, roll_of, state_of, view_of}
+use Rattle.roll_kernel.specs.Views.{KernelView, roll_of, state_of, view_of, with_event}
 use Rattle.roll_kernel.proofs.HeldLemmas.{held_opened}
-use Rattle.roll_kernel.proofs.KeptLemmas.{kept_bare, kept_fresh, kept_grown, kept_many, kept_nobody, kept_none_out, kept_safe}
+use Rattle.roll_kernel.proofs.KeptLemmas.{kept_bare, kept_fresh, kept_grown, kept_many, kept_nobody, kept_none_out, kept_safe, state_more, view_more}
 use Rattle.roll_kernel.proofs.PlaceLemmas.{owed_opened}
 use Rattle.roll_kernel.proofs.kernel.Kernel.open.Goals as goal
 
@@ -52,3 +53,14 @@ invariant_of-self-2 c =
     kept_grown old new c.self.inside.play.now c.self.inside.forks c.self.inside.start.now c.self.inside.vars.now log c.keep.new.log.items (Open c.in_ok-batch.batch) (opened numbers) work c.begin.new.self _ _ kept (ap opened c.in_ok-batch.ensures) c.take_down.ensures.fleet grown may
     (held_opened (roll_of kernel) (state_of kernel) old work kept.held numbers new c.begin.new.self (kept_bare kernel old work _ kept may.boundary) none c.take_down.ensures begun)
     (omega (arith, owes, ap length c.steps.ensures.value, reserves.ok, reserves.len, c.self.inside.log.ok, c.keep.ensures.capacity))
+
+pub returns-clause-working : goal.returns-clause-working
+returns-clause-working c =
+    let old = c.self.inside.roster in
+    let new = c.take_down.new.roster in
+    let log = c.self.inside.log.items in
+    let kernel : KernelView = view_of old c.self.inside.play.now c.self.inside.forks c.self.inside.start.now c.self.inside.vars.now log in
+    let numbers : List ℕ = host_numbers c.args.hosts.now in
+    let grown = c.keep.ensures.items ∙ ap (λ (l : List Event). l ++ Open c.in_ok-batch.batch ∷ []) c.in_ok-reserve.ensures.items in
+    let seen = view_more old new c.self.inside.play.now c.self.inside.forks c.self.inside.start.now c.self.inside.vars.now log c.keep.new.log.items (Open c.in_ok-batch.batch) c.take_down.ensures.fleet grown ∙ ap (λ hosts. with_event kernel (opened hosts)) c.in_ok-batch.ensures in
+    ap (λ (v : KernelView). (state_of v).phase) seen ∙ ap (λ (s : State). s.phase) (state_more kernel (opened numbers))

@@ -16,11 +16,11 @@ use Rattle.roll_logs.proofs.WorkLemmas.{runs}
 use Rattle.roll_kernel.specs.declared.event.Event.TheVariants.{Report}
 use Rattle.roll_kernel.specs.Claims.{IsOut}
 use Rattle.roll_kernel.specs.Views.{KernelView, event_of, roll_of, state_of, view_of}
-use Rattle.roll_kernel.specs.Ways.{outcome_in}
+use Rattle.roll_kernel.specs.Ways.{Completed, completed, outcome_in}
 use Rattle.roll_kernel.proofs.KeptLemmas.{kept_at_work, kept_grown}
 use Rattle.roll_kernel.proofs.PlaceLemmas.{owed_reported}
 use Rattle.roll_kernel.proofs.ReportLemmas.{held_reported}
-use Rattle.roll_kernel.proofs.StepLemmas.{may_report, out_given}
+use Rattle.roll_kernel.proofs.StepLemmas.{ends_as, may_report, out_given}
 use Rattle.roll_kernel.proofs.kernel.Kernel.report.Goals as goal
 
 pub enter-failed-requires-clause-place : goal.enter-failed-requires-clause-place
@@ -28,21 +28,24 @@ enter-failed-requires-clause-place c =
     let work = c.self.inside.work in
     let kernel : KernelView = view_of c.self.inside.roster c.self.inside.play.now c.self.inside.forks c.self.inside.start.now c.self.inside.vars.now c.self.inside.log.items in
     let works = c.self.invariant.held.works in
-    let out : IsOut (roll_of kernel) (state_of kernel) c.args.completion = (c.is_out_for.ensures (roll_of kernel) (state_of kernel) works).0 c.if-not-is_out_for.false in
-    let given = out_given (roll_of kernel) (state_of kernel) work works c.args.completion.share.host.index out.out in
+    let mine : Completed = completed c.completion.inside.share.host.index c.completion.inside.step c.completion.inside.way in
+    let told : IsOut (roll_of kernel) (state_of kernel) c.args.completion = (c.is_out_for.ensures (roll_of kernel) (state_of kernel) works).0 c.if-not-is_out_for.false in
+    let out = subst (IsOut (roll_of kernel) (state_of kernel)) (sym c.completion.view_is) told in
+    let given = out_given (roll_of kernel) (state_of kernel) work works mine.host out.out in
     λ summary task got named.
-    let here : slice_get work.summaries.items c.args.completion.share.host.index ≡ Some summary = sym (ap (λ (h : HostId). slice_get work.summaries.items h.index) c.host-host.ensures) ∙ got in
-    let asks = sym (ap (λ (p : Play). step_at p c.args.completion.step) works.play) ∙ named in
-    (works.given c.args.completion.share.host.index c.args.completion.step given.0 summary task given.1 here out.at asks).place
+    let here : slice_get work.summaries.items mine.host ≡ Some summary = sym (ap (λ (h : HostId). slice_get work.summaries.items h.index) c.host-host.ensures) ∙ got in
+    let asks = sym (ap (λ (p : Play). step_at p mine.step) works.play) ∙ named in
+    (works.given mine.host mine.step given.0 summary task given.1 here out.at asks).place
 
 pub rest-requires-clause-was : goal.rest-requires-clause-was
 rest-requires-clause-was c =
     let work = c.self.inside.work in
     let kernel : KernelView = view_of c.self.inside.roster c.self.inside.play.now c.self.inside.forks c.self.inside.start.now c.self.inside.vars.now c.self.inside.log.items in
     let kept = c.self.invariant in
-    let out : IsOut (roll_of kernel) (state_of kernel) c.args.completion = (c.is_out_for.ensures (roll_of kernel) (state_of kernel) kept.held.works).0 c.if-not-is_out_for.false in
-    let host = c.args.completion.share.host.index in
-    ap is_down (ap (λ l. status_at l host) kept.held.statuses ∙ runs (roll_of kernel) (state_of kernel) host c.args.completion.step (kept_at_work kernel c.self.inside.roster work _ kept) out.out out.at)
+    let mine : Completed = completed c.completion.inside.share.host.index c.completion.inside.step c.completion.inside.way in
+    let told : IsOut (roll_of kernel) (state_of kernel) c.args.completion = (c.is_out_for.ensures (roll_of kernel) (state_of kernel) kept.held.works).0 c.if-not-is_out_for.false in
+    let out = subst (IsOut (roll_of kernel) (state_of kernel)) (sym c.completion.view_is) told in
+    ap is_down (ap (λ l. status_at l mine.host) kept.held.statuses ∙ runs (roll_of kernel) (state_of kernel) mine.host mine.step (kept_at_work kernel c.self.inside.roster work _ kept) out.out out.at)
 
 pub invariant_of-self : goal.invariant_of-self
 invariant_of-self c =
@@ -51,18 +54,22 @@ invariant_of-self c =
     let log = c.self.inside.log.items in
     let kernel : KernelView = view_of old c.self.inside.play.now c.self.inside.forks c.self.inside.start.now c.self.inside.vars.now log in
     let kept = c.self.invariant in
-    let completion = c.args.completion in
+    let way = c.completion.inside.way in
+    let step = c.completion.inside.step in
     let host : HostId = c.host-host.result in
     let outcome : Outcome = c.into_outcome-outcome.result in
-    let out : IsOut (roll_of kernel) (state_of kernel) completion = (c.is_out_for.ensures (roll_of kernel) (state_of kernel) kept.held.works).0 c.if-not-is_out_for.false in
-    let of_host = subst (λ (h : HostId). MayReport (roll_of kernel) (state_of kernel) h.index completion.step (ending_of (outcome_in completion.way))) (sym c.host-host.ensures) (may_report (roll_of kernel) (state_of kernel) completion out) in
-    let may = subst (λ (o : Outcome). MayReport (roll_of kernel) (state_of kernel) host.index completion.step (ending_of o)) (sym c.into_outcome-outcome.ensures) of_host in
+    let mine : Completed = completed c.completion.inside.share.host.index c.completion.inside.step c.completion.inside.way in
+    let told : IsOut (roll_of kernel) (state_of kernel) c.args.completion = (c.is_out_for.ensures (roll_of kernel) (state_of kernel) kept.held.works).0 c.if-not-is_out_for.false in
+    let out = subst (IsOut (roll_of kernel) (state_of kernel)) (sym c.completion.view_is) told in
+    let reports = may_report (roll_of kernel) (state_of kernel) mine (ends_as way c.completion.invariant.ends) out in
+    let of_host = subst (λ (h : HostId). MayReport (roll_of kernel) (state_of kernel) h.index step (ending_of (outcome_in way))) (sym c.host-host.ensures) reports in
+    let may = subst (λ (o : Outcome). MayReport (roll_of kernel) (state_of kernel) host.index step (ending_of o)) (sym c.into_outcome-outcome.ensures) of_host in
     let entered = c.enter-failed.ensures.work (roll_of kernel) (state_of kernel) kept.held.works may in
     let failed = c.enter-failed.ensures.failed (roll_of kernel) (state_of kernel) kept.held.works may in
     let shown : c.rest.new.self ≡ with_host old host.index (cond c.enter-failed.result Failed Running) true = c.rest.ensures ∙ ap (λ (h : HostId). with_host old h.index c.status_after.result true) (sym c.host-host.ensures) ∙ ap (λ (s : Status). with_host old host.index s true) c.status_after.ensures in
-    let owes = owed_reported (roll_of kernel) (state_of kernel) host.index completion.step (ending_of outcome) kept.held.works.single may.claimed in
-    kept_grown old c.rest.new.self c.self.inside.play.now c.self.inside.forks c.self.inside.start.now c.self.inside.vars.now log c.keep.new.log.items (Report host completion.step outcome) (reported host.index completion.step (ending_of outcome)) work c.enter-failed.new.self _ _ kept refl (ap (λ (r : RosterView). r.fleet) c.rest.ensures) c.keep.ensures.items may
-    (held_reported (roll_of kernel) (state_of kernel) old work kept.held (kept_at_work kernel old work _ kept) host.index completion.step (ending_of outcome) may c.enter-failed.result c.rest.new.self c.enter-failed.new.self failed shown entered)
+    let owes = owed_reported (roll_of kernel) (state_of kernel) host.index step (ending_of outcome) kept.held.works.single may.claimed in
+    kept_grown old c.rest.new.self c.self.inside.play.now c.self.inside.forks c.self.inside.start.now c.self.inside.vars.now log c.keep.new.log.items (Report host step outcome) (reported host.index step (ending_of outcome)) work c.enter-failed.new.self _ _ kept refl (ap (λ (r : RosterView). r.fleet) c.rest.ensures) c.keep.ensures.items may
+    (held_reported (roll_of kernel) (state_of kernel) old work kept.held (kept_at_work kernel old work _ kept) host.index step (ending_of outcome) may c.enter-failed.result c.rest.new.self c.enter-failed.new.self failed shown entered)
     (omega (arith, owes, kept.places, length-map log event_of, c.keep.ensures.capacity))
 
 pub returns-clause-allowed : goal.returns-clause-allowed

@@ -3,10 +3,9 @@ use Rattle.std.specs.List.{list_all}
 use Rattle.std.proofs.lemmas.List.{take_all}
 use Rattle.group_tree.specs.declared.ids.HostId.{HostId}
 use Rattle.domains.specs.Ids.{host_numbers}
-use Rattle.fleet_states.specs.Groups.{groups_of}
+use Rattle.fleet_states.specs.Groups.{groups_of, is_stuck}
 use Rattle.fleet_states.proofs.HostLemmas.{length-host_numbers}
 use Rattle.fleet_states.proofs.StatusLemmas.{waiting_within}
-use Rattle.roster.specs.Unfit.{is_stuck}
 use Rattle.roster.proofs.HoldingLemmas.{first_with_room, room_where_fits, stuck_more, stuck_where_full, waits_here}
 use Rattle.roster.proofs.roster.Roster.test_stuck.Goals as goal
 

@@ -1,8 +1,7 @@
 use Rattle.std.proofs.Common.{◌≡◌, take, true}
 use Rattle.std.specs.List.{list_all}
 use Rattle.domains.specs.Ids.{host_numbers}
-use Rattle.fleet_states.specs.Groups.{groups_of}
-use Rattle.roster.specs.Unfit.{is_stuck}
+use Rattle.fleet_states.specs.Groups.{groups_of, is_stuck}
 use Rattle.roster.proofs.roster.Roster.test_stuck.Given as goal
 
 abbrev pub invariant-loop-place : goal.invariant-loop-place

@@ -1,0 +1,4 @@
+pub mod SameLemmas
+pub mod CourseLaws
+pub mod OpenedLemmas
+pub mod PlannedLemmas

@@ -1,0 +1,117 @@
+-- The course of a play: its boundaries and its end.
+use Rattle.std.specs.Prelude.{◌≡◌, ℕ, ◌+◌, ◌==◌, Bool, true, false, Option, Some, None, List, [], ◌∷◌, length, if◌then◌else◌}
+use Rattle.std.specs.List.{list_any}
+use Rattle.std.specs.Option.{option_or}
+use Rattle.fleet_numbers.specs.NumberLists.{list_at}
+use Rattle.domains.specs.FleetViews.{FleetView}
+use Rattle.domains.specs.Ids.{host_numbers}
+use Rattle.fleet_states.specs.declared.status.Status.{Status}
+use Rattle.fleet_states.specs.declared.status.Status.TheVariants.{Idle, Waiting, Running, Updated, Failed, Halted, Off, Held}
+use Rattle.play_model.specs.declared.on_blocked.OnBlocked.{OnBlocked}
+use Rattle.play_model.specs.declared.size.Size.{Size}
+use Rattle.play_model.specs.Sizes.{cap}
+use Rattle.play_plan.specs.PlayPlans.{aside_by}
+use Rattle.batch_outcome.specs.Batches.{Fails, failed_count, failed_in, halt, statuses_after}
+use Rattle.batch_plan.specs.declared.answers.Answer.{Answer}
+use Rattle.batch_plan.specs.declared.answers.Answer.TheVariants.{Planned, Blocked}
+use Rattle.batch_plan.specs.Answers.{IsBest, IsDealtAnswer}
+use Rattle.batch_plan.specs.Holding.{set_aside}
+use Rattle.batch_plan.specs.Plans.{batch_numbers}
+use Rattle.play_course.specs.declared.boundary.Boundary.{Boundary}
+use Rattle.play_course.specs.declared.end.End.{End}
+use Rattle.play_course.specs.declared.end.End.TheVariants as ending
+
+-- what stays the same throughout a play: the fleet, what is done with hosts that may not go down, the sizes of batches, how many hosts the play is for, how
+-- many of each hundred may fail, how many steps there are, and the step at which each host fails, if at one
+pub record Setting : Type 0 where
+  pub fleet : FleetView
+  pub mode : OnBlocked
+  pub sizes : List Size
+  pub targeted : ℕ
+  pub percentage : Option ℕ
+  pub steps : ℕ
+  pub fails : Fails
+
+-- the boundary before which so many batches were opened, and to which these statuses led: hosts are set aside, and the rest is planned anew
+pub record IsBoundary (setting : Setting) (opened : ℕ) (statuses : List Status) (boundary : Boundary) : Type 0 where
+  pub held_are : host_numbers boundary.held.items ≡ aside_by setting.mode setting.fleet statuses
+  pub statuses_are : boundary.statuses.items ≡ set_aside (aside_by setting.mode setting.fleet statuses) statuses
+  pub best : IsBest setting.fleet boundary.statuses.items (cap setting.sizes setting.targeted opened) boundary.answer
+  pub dealt : IsDealtAnswer setting.fleet boundary.statuses.items (cap setting.sizes setting.targeted opened) boundary.answer
+
+-- the batches of an answer
+abbrev pub batches_of : Answer → List (List ℕ)
+batches_of (Planned plan) = batch_numbers plan.batches.items
+batches_of (Blocked group waiting) = []
+
+-- the batch that is opened: the first one of the plan, and nobody where there is none
+abbrev pub next_batch : Answer → List ℕ
+next_batch answer = list_at (batches_of answer) 0
+
+-- the host is set aside
+abbrev pub is_held : Status → Bool
+is_held Idle = false
+is_held Waiting = false
+is_held Running = false
+is_held Updated = false
+is_held Failed = false
+is_held Halted = false
+is_held Off = false
+is_held Held = true
+
+-- how a play ends where nobody waits
+abbrev pub end_at_rest : List Status → End
+end_at_rest statuses = if list_any is_held statuses then ending.Held else ending.Finished
+
+-- how a play ends where no batch can be opened: a group blocks every plan, or nobody waits
+abbrev pub end_without_batch : List Status → Answer → Option End
+end_without_batch statuses (Blocked group waiting) = Some (ending.Blocked group)
+end_without_batch statuses (Planned plan) = if length (batch_numbers plan.batches.items) == 0 then Some (end_at_rest statuses) else None
+
+-- the step at which the batch halts, if at one
+abbrev pub halt_of : Setting → List ℕ → Option ℕ
+halt_of setting batch = halt setting.fails batch setting.percentage setting.steps
+
+-- how the play ends with a batch: too many of its hosts failed, or all of them
+abbrev pub end_by_failures : Setting → List ℕ → Option ℕ → Option End
+end_by_failures setting batch (Some step) = Some (ending.TooManyFailed step (failed_count setting.fails batch step) (length batch))
+end_by_failures setting batch None = if failed_in setting.fails batch None == length batch then Some ending.AllFailed else None
+
+-- the statuses once the boundary's batch is over
+abbrev pub statuses_behind : Setting → Boundary → List Status
+statuses_behind setting boundary =
+    statuses_after (halt_of setting (next_batch boundary.answer)) setting.fails (next_batch boundary.answer) boundary.statuses.items
+
+-- how the play ends with the boundary's batch, if it does
+abbrev pub end_behind : Setting → Boundary → Option End
+end_behind setting boundary = end_by_failures setting (next_batch boundary.answer) (halt_of setting (next_batch boundary.answer))
+
+-- how the play ends at the boundary, if it does: as the batch before it ended the play, or since no batch can be opened
+abbrev pub end_here : Option End → Boundary → Option End
+end_here before boundary = option_or before (end_without_batch boundary.statuses.items boundary.answer)
+
+-- nothing follows the boundary at which a play ends
+abbrev pub Goes : Option End → List Boundary → Option End → Type 0 → Type 0
+Goes (Some here) rest end goes_on = (rest ≡ []) × (end ≡ Some here)
+Goes None rest end goes_on = goes_on
+
+-- the boundaries from these statuses on, before which so many batches were opened, the last of which ended the play as told, if it did
+abbrev pub Continues : Setting → ℕ → List Status → Option End → List Boundary → Option End → Type 0
+Continues setting opened statuses before [] end = end ≡ None
+Continues setting opened statuses before (boundary ∷ rest) end =
+    IsBoundary setting opened statuses boundary
+    × Goes (end_here before boundary) rest end (Continues setting (opened + 1) (statuses_behind setting boundary) (end_behind setting boundary) rest end)
+
+-- the first boundaries of a play that begins with these statuses, and its end; where it has none yet, it goes on behind them
+abbrev pub IsCourse : Setting → List Status → List Boundary → Option End → Type 0
+IsCourse setting statuses boundaries end = Continues setting 0 statuses None boundaries end
+
+-- the statuses to which boundaries lead with their batches
+abbrev pub led_to : Setting → List Status → List Boundary → List Status
+led_to setting statuses [] = statuses
+led_to setting statuses (boundary ∷ rest) = led_to setting (statuses_behind setting boundary) rest
+
+-- how the last one's batch ended the play, if it did
+abbrev pub ended_by : Setting → Option End → List Boundary → Option End
+ended_by setting before [] = before
+ended_by setting before (boundary ∷ rest) = ended_by setting (end_behind setting boundary) rest

@@ -1,0 +1,3 @@
+mod HandLemmas
+mod StepLemmas
+mod RuleLaws

@@ -1,0 +1,51 @@
+//! An end of a line that takes tickets.
+ghost use Rattle.std.specs.Prelude.{◌≡◌, ◌++◌, [], ◌∷◌, IfSome, IfNone, length};
+ghost use Rattle.ticket_line.specs.Ends.{TakeView};
+
+use crate::hand::Hand;
+use crate::rule::{Take, TakenOnce};
+use crossbeam_channel::{Pass, RuledReceiver};
+use std::marker::Model;
+use std::sync::Wait;
+
+/// An end of a line that takes tickets, for one worker.
+#[derive(Drop)]
+pub struct TakeEnd<T: Drop> {
+    pub(crate) receiver: RuledReceiver<T, Hand<T>, TakenOnce>,
+    pub(crate) pass: Pass<T, Hand<T>>,
+    pub(crate) count: u64,
+}
+
+impl<T: Drop> Model for TakeEnd<T> {
+    ghost use Rattle.std.specs.Prelude.{◌≡◌, [], length};
+    ghost use Rattle.crossbeam_channel.specs.Claims.{IsSeatAt};
+    ghost use Rattle.crossbeam_channel.specs.Claims as passes;
+    ghost use Rattle.crossbeam_channel.specs.Ends.{receives_on};
+    ghost use Rattle.ticket_line.specs.Ends.{TakeView, line_of};
+
+    ghost Value = { TakeView T };
+
+    ghost view = { λ e. record { line = line_of e.pass; taken = (passes.view e.pass).taken } };
+
+    ghost invariant = { λ e. IsSeatAt (receives_on e.receiver) e.pass × ((passes.view e.pass).parts ≡ 1) × ((passes.view e.pass).put ≡ []) × (e.count ≡ length (passes.view e.pass).taken) };
+}
+
+impl<T: Drop> TakeEnd<T> {
+    /// Takes the next ticket, and waits for one while there is none. None is told where none can come any more.
+    pub fn take<R: Wait>(&mut self, rt: &R) -> Option<T>
+        ensures some { IfSome result (λ ticket. self.new ≡ record self.old { taken = self.old.taken ++ ticket ∷ [] }) }
+        ensures none { IfNone result (self.new ≡ self.old) }
+    {
+        let more = self.count.checked_add(1)?;
+        let ticket = self.receiver.recv_as::<Take, R>(rt, &mut self.pass).ok()?;
+        self.count = more;
+        Some(ticket)
+    }
+
+    /// How many tickets this end took.
+    pub fn taken(&self) -> u64
+        ensures { result ≡ length self.now.taken }
+    {
+        self.count
+    }
+}
