@@ -11,7 +11,7 @@ use Rattle.play_model.specs.declared.on_blocked.OnBlocked.{OnBlocked}
 use Rattle.play_model.specs.declared.size.Size.{Size}
 use Rattle.play_model.specs.Sizes.{cap}
 use Rattle.play_plan.specs.PlayPlans.{aside_by}
-use Rattle.batch_outcome.specs.Batches.{Fails, failed_count, failed_in, halt, statuses_after}
+use Rattle.batch_outcome.specs.Batches.{Fails, failed_in, halt, statuses_after}
 use Rattle.batch_plan.specs.declared.answers.Answer.{Answer}
 use Rattle.batch_plan.specs.declared.answers.Answer.TheVariants.{Planned, Blocked}
 use Rattle.batch_plan.specs.Answers.{IsBest, IsDealtAnswer}
@@ -72,10 +72,13 @@ end_without_batch statuses (Planned plan) = if length (batch_numbers plan.batche
 abbrev pub halt_of : Setting → List ℕ → Option ℕ
 halt_of setting batch = halt setting.fails batch setting.percentage setting.steps
 
--- how the play ends with a batch: too many of its hosts failed, or all of them
+-- how a play ends with a batch that halted at a step, or at none, and of which so many hosts failed: too many of them, or all
+abbrev pub end_with : Option ℕ → ℕ → ℕ → Option End
+end_with (Some step) failed size = Some (ending.TooManyFailed step failed size)
+end_with None failed size = if failed == size then Some ending.AllFailed else None
+
 abbrev pub end_by_failures : Setting → List ℕ → Option ℕ → Option End
-end_by_failures setting batch (Some step) = Some (ending.TooManyFailed step (failed_count setting.fails batch step) (length batch))
-end_by_failures setting batch None = if failed_in setting.fails batch None == length batch then Some ending.AllFailed else None
+end_by_failures setting batch halt = end_with halt (failed_in setting.fails batch halt) (length batch)
 
 -- the statuses once the boundary's batch is over
 abbrev pub statuses_behind : Setting → Boundary → List Status

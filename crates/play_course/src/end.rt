@@ -1,4 +1,7 @@
 //! How a play ends.
+ghost use Rattle.std.specs.Prelude.{◌≡◌};
+ghost use Rattle.play_course.specs.Courses as model;
+
 use group_tree::GroupId;
 
 /// How a play ends.
@@ -20,4 +23,15 @@ pub enum End {
     },
     /// All hosts of a batch have failed.
     AllFailed,
+}
+
+/// How a play ends with a batch that halted at this step, or at none, and of which so many hosts failed: too many of them, or all.
+pub fn end_with(halt: Option<usize>, failed: usize, size: usize) -> Option<End>
+    ensures { result ≡ model.end_with halt failed size }
+{
+    match halt {
+        Some(step) => Some(End::TooManyFailed { step, failed, size }),
+        None if failed == size => Some(End::AllFailed),
+        None => None,
+    }
 }

@@ -7,7 +7,7 @@ use std::io::Write;
 
 /// Writes a word that ends in `=`, or the like, and its number.
 #[tactic(auto, using(bounded_io::proofs::Pieces::pieces_of_text))]
-pub(crate) fn write_field<W: Write>(text: &mut TextWriter<'_, W>, word: &str, number: u64)
+pub fn write_field<W: Write>(text: &mut TextWriter<'_, W>, word: &str, number: u64)
     ensures { Writes W.contents text.old text.new (field_text word.now number) }
 {
     text.write_str(word);

@@ -6,5 +6,7 @@ mod limits;
 mod names;
 mod plan;
 
+pub use fields::write_field;
 pub use limits::write_limits;
-pub use plan::write_plan;
+pub use names::{group_name, host_name, write_names_line};
+pub use plan::{write_answer_line, write_held, write_plan};

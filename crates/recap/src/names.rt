@@ -11,7 +11,7 @@ use group_tree::{GroupId, HostId};
 use std::io::Write;
 
 /// The host's name; a number that no host has is given an empty one.
-fn host_name(fleet: &Fleet, host: HostId) -> &str
+pub fn host_name(fleet: &Fleet, host: HostId) -> &str
     ensures { result.now ≡ host_at fleet.now.hosts host.index }
 {
     if host.index < fleet.hosts() {
@@ -22,7 +22,7 @@ fn host_name(fleet: &Fleet, host: HostId) -> &str
 }
 
 /// The group's name; a number that no group has is given an empty one.
-pub(crate) fn group_name(fleet: &Fleet, group: GroupId) -> &str
+pub fn group_name(fleet: &Fleet, group: GroupId) -> &str
     ensures { result.now ≡ host_at fleet.now.groups group.index }
 {
     if group.index < fleet.groups() {
@@ -58,7 +58,7 @@ fn write_names<W: Write>(text: &mut TextWriter<'_, W>, fleet: &Fleet, hosts: &[H
 
 /// Writes the word, the names of the hosts and the end of the line.
 #[tactic(auto, using(bounded_io::proofs::Pieces::pieces_of_text))]
-pub(crate) fn write_names_line<W: Write>(
+pub fn write_names_line<W: Write>(
     text: &mut TextWriter<'_, W>,
     word: &str,
     fleet: &Fleet,

@@ -91,8 +91,8 @@ fn write_batches<W: Write>(text: &mut TextWriter<'_, W>, fleet: &Fleet, batches:
     }
 }
 
-/// Writes the first line of the text.
-fn write_answer_line<W: Write>(text: &mut TextWriter<'_, W>, fleet: &Fleet, answer: &Answer)
+/// Writes the first line of a plan's text: how many batches it has and why no fewer, or the group that blocks it.
+pub fn write_answer_line<W: Write>(text: &mut TextWriter<'_, W>, fleet: &Fleet, answer: &Answer)
     ensures { Writes W.contents text.old text.new (answer_line fleet.now answer.now) }
 {
     match answer {
@@ -116,8 +116,9 @@ fn write_answer_lines<W: Write>(text: &mut TextWriter<'_, W>, fleet: &Fleet, ans
     }
 }
 
+/// Writes the line of the hosts that were set aside, where there are any.
 #[tactic(auto, using(bounded_io::proofs::Pieces::pieces_of_text))]
-fn write_held<W: Write>(text: &mut TextWriter<'_, W>, fleet: &Fleet, held: &[HostId])
+pub fn write_held<W: Write>(text: &mut TextWriter<'_, W>, fleet: &Fleet, held: &[HostId])
     ensures { Writes W.contents text.old text.new (held_line fleet.now (host_numbers held.now)) }
 {
     if !held.is_empty() {

@@ -1,0 +1,11 @@
+//! The recap of a run.
+#![tactic(auto)]
+
+mod boundaries;
+mod ends;
+mod hosts;
+mod parts;
+mod writing;
+
+pub use parts::Recap;
+pub use writing::{write_recap, write_recaps};
