@@ -100,7 +100,7 @@ module _ (setting : Setting) (others : Fails) (batch : List ℕ) (agree : AgreeO
   halt_alike = alike.halts setting.percentage setting.steps
 
   end_alike : (halt : Option ℕ) → end_by_failures setting batch halt ≡ end_by_failures (with_fails others setting) batch halt
-  end_alike (Some step) = ap (λ n. Some (TooManyFailed step n (length batch))) (counts_alike step)
+  end_alike (Some step) = ap (λ n. Some (TooManyFailed (step + 1) n (length batch))) (counts_alike step)
   end_alike None = ap (λ n. if n == length batch then Some AllFailed else None) all_alike
 
 module _ (setting : Setting) (others : Fails) (boundary : Boundary) (agree : AgreeOn (next_batch boundary.answer) setting.fails others) where
@@ -125,24 +125,28 @@ boundary_alike setting others opened statuses boundary is =
 continues_alike : (setting : Setting) (others : Fails) (opened : ℕ) (statuses : List Status) (before : Option End) (boundaries : List Boundary) (end : Option End)
     → Continues setting opened statuses before boundaries end → AgreeOnEach setting.fails others boundaries → Continues (with_fails others setting) opened statuses before boundaries end
 continues_alike setting others opened statuses before [] end is agree = is
-continues_alike setting others opened statuses before (b ∷ bs) end is agree = (
+continues_alike setting others opened statuses before (b ∷ []) end is agree =
+    (boundary_alike setting others opened statuses b is.0, behind (end_here before b) is.1)
+  where
+    behind : (x : Option End) → Goes x [] end (end ≡ None) → Goes x [] end (end ≡ None)
+    behind (Some here) goes = goes
+    behind None goes = goes
+continues_alike setting others opened statuses before (b ∷ c ∷ bs) end is agree = (
   boundary_alike setting others opened statuses b is.0,
-  behind (λ goes. continues_alike setting others (opened + 1) (statuses_behind setting b) (end_behind setting b) bs end goes agree.1) (end_here before b) is.1,
+  behind (λ goes. continues_alike setting others (opened + 1) (statuses_behind setting b) (end_behind setting b) (c ∷ bs) end goes agree.1) (end_here before b) is.1,
 )
   where
-    too : Setting
-    too = with_fails others setting
-
-    moved : Continues too (opened + 1) (statuses_behind setting b) (end_behind setting b) bs end → Continues too (opened + 1) (statuses_behind too b) (end_behind too b) bs end
+    moved : Continues (with_fails others setting) (opened + 1) (statuses_behind setting b) (end_behind setting b) (c ∷ bs) end
+        → Continues (with_fails others setting) (opened + 1) (statuses_behind (with_fails others setting) b) (end_behind (with_fails others setting) b) (c ∷ bs) end
     moved goes =
-        subst (λ s. Continues too (opened + 1) s (end_behind too b) bs end) (behind_alike setting others b agree.0)
-        (subst (λ e. Continues too (opened + 1) (statuses_behind setting b) e bs end) (end_behind_alike setting others b agree.0) goes)
+        subst (λ s. Continues (with_fails others setting) (opened + 1) s (end_behind (with_fails others setting) b) (c ∷ bs) end) (behind_alike setting others b agree.0)
+        (subst (λ e. Continues (with_fails others setting) (opened + 1) (statuses_behind setting b) e (c ∷ bs) end) (end_behind_alike setting others b agree.0) goes)
 
     Before : Type 0
-    Before = Continues setting (opened + 1) (statuses_behind setting b) (end_behind setting b) bs end
+    Before = Continues setting (opened + 1) (statuses_behind setting b) (end_behind setting b) (c ∷ bs) end
 
-    behind : (Before → Continues too (opened + 1) (statuses_behind setting b) (end_behind setting b) bs end) → (x : Option End) → Goes x bs end Before
-        → Goes x bs end (Continues too (opened + 1) (statuses_behind too b) (end_behind too b) bs end)
+    behind : (Before → Continues (with_fails others setting) (opened + 1) (statuses_behind setting b) (end_behind setting b) (c ∷ bs) end) → (x : Option End) → Goes x (c ∷ bs) end Before
+        → Goes x (c ∷ bs) end (Continues (with_fails others setting) (opened + 1) (statuses_behind (with_fails others setting) b) (end_behind (with_fails others setting) b) (c ∷ bs) end)
     behind later (Some here) goes = goes
     behind later None goes = moved (later goes)
 

@@ -8,7 +8,6 @@ use Rattle.fleet_states.specs.Groups.{groups_of}
 use Rattle.fleet_states.specs.Statuses.{is_waiting, status_at}
 use Rattle.fleet_states.proofs.ReadyLemmas.{ready_waits}
 use Rattle.fleet_states.proofs.StatusLemmas.{status_at-changed, status_at-changed_past}
-use Rattle.play_model.specs.Sizes.{cap}
 use Rattle.play_plan.specs.PlayPlans.{aside_by}
 use Rattle.batch_outcome.specs.Batches.{statuses_after}
 use Rattle.batch_outcome.proofs.BatchLaws.{none_waits_after, others_stay}
@@ -20,7 +19,7 @@ use Rattle.batch_plan.specs.Plans.{IsPlan, batch_numbers}
 use Rattle.batch_plan.proofs.PlanLaws.{first_may_be_opened}
 use Rattle.play_course.specs.declared.boundary.Boundary.{Boundary}
 use Rattle.play_course.specs.declared.end.End.{End}
-use Rattle.play_course.specs.Courses.{Continues, Goes, IsBoundary, Setting, end_behind, end_here, halt_of, next_batch, statuses_behind}
+use Rattle.play_course.specs.Courses.{Continues, Goes, IsBoundary, Setting, end_behind, end_here, halt_of, led_to, next_batch, statuses_behind}
 use Rattle.play_course.specs.Laws.{OpenedOnce, opened_batches}
 
 -- who doesn't wait doesn't wait once hosts are set aside
@@ -41,7 +40,7 @@ opened_waits : (setting : Setting) (opened : ℕ) (statuses : List Status) (boun
 opened_waits setting opened statuses boundary host is here = by_answer boundary.answer is.best here
   where
     bound : Option ℕ
-    bound = cap setting.sizes setting.targeted opened
+    bound = setting.caps opened
 
     by_batches : (batches : List (List ℕ)) → IsPlan (groups_of setting.fleet) boundary.statuses.items bound batches → has_number host (list_at batches 0) ≡ true
         → is_waiting (status_at boundary.statuses.items host) ≡ true
@@ -131,3 +130,40 @@ once_from setting opened statuses before (b ∷ bs) end is host (suc first) (suc
 
 pub opened_once : OpenedOnce
 opened_once setting statuses boundaries end is = once_from setting 0 statuses None boundaries end is
+
+never_waits : (setting : Setting) (opened : ℕ) (statuses : List Status) (before : Option End) (boundaries : List Boundary) (host : ℕ) → Continues setting opened statuses before boundaries None
+    → is_waiting (status_at statuses host) ≡ false → is_waiting (status_at (led_to setting statuses boundaries) host) ≡ false
+never_waits setting opened statuses before [] host is not = not
+never_waits setting opened statuses before (b ∷ bs) host is not =
+    behind (λ goes. never_waits setting (opened + 1) (statuses_behind setting b) (end_behind setting b) bs host goes (still_waits_not setting opened statuses b host is.0 not)) (end_here before b) is.1
+  where
+    On : Type 0
+    On = Continues setting (opened + 1) (statuses_behind setting b) (end_behind setting b) bs None
+
+    behind : (On → is_waiting (status_at (led_to setting (statuses_behind setting b) bs) host) ≡ false) → (x : Option End) → Goes x bs None On
+        → is_waiting (status_at (led_to setting (statuses_behind setting b) bs) host) ≡ false
+    behind later (Some last) goes = absurd (cc)
+    behind later None goes = later goes
+
+-- who was opened waits nowhere behind
+pub opened_before : (setting : Setting) (opened : ℕ) (statuses : List Status) (before : Option End) (boundaries : List Boundary) (host place : ℕ) → Continues setting opened statuses before boundaries None
+    → has_number host (list_at (opened_batches boundaries) place) ≡ true → is_waiting (status_at (led_to setting statuses boundaries) host) ≡ false
+opened_before setting opened statuses before [] host place is here = absurd (cc)
+opened_before setting opened statuses before (b ∷ bs) host zero is here =
+    behind (end_here before b) is.1
+  where
+    behind : (x : Option End) → Goes x bs None (Continues setting (opened + 1) (statuses_behind setting b) (end_behind setting b) bs None)
+        → is_waiting (status_at (led_to setting (statuses_behind setting b) bs) host) ≡ false
+    behind (Some last) goes = absurd (cc)
+    behind None goes =
+        never_waits setting (opened + 1) (statuses_behind setting b) (end_behind setting b) bs host goes (opened_waits_not setting opened statuses b host is.0 here)
+opened_before setting opened statuses before (b ∷ bs) host (suc place) is here =
+    behind (λ goes. opened_before setting (opened + 1) (statuses_behind setting b) (end_behind setting b) bs host place goes here) (end_here before b) is.1
+  where
+    On : Type 0
+    On = Continues setting (opened + 1) (statuses_behind setting b) (end_behind setting b) bs None
+
+    behind : (On → is_waiting (status_at (led_to setting (statuses_behind setting b) bs) host) ≡ false) → (x : Option End) → Goes x bs None On
+        → is_waiting (status_at (led_to setting (statuses_behind setting b) bs) host) ≡ false
+    behind later (Some last) goes = absurd (cc)
+    behind later None goes = later goes

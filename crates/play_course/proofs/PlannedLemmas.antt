@@ -12,8 +12,6 @@ use Rattle.fleet_states.proofs.CountLemmas.{count_none_in}
 use Rattle.fleet_states.proofs.StatusLemmas.{changed_none}
 use Rattle.play_model.specs.declared.on_blocked.OnBlocked.{OnBlocked}
 use Rattle.play_model.specs.declared.on_blocked.OnBlocked.TheVariants.{Stop, Hold}
-use Rattle.play_model.specs.declared.size.Size.{Size}
-use Rattle.play_model.specs.Sizes.{bound, cap}
 use Rattle.play_plan.specs.PlayPlans.{aside_by}
 use Rattle.batch_outcome.specs.Batches.{failed_in, statuses_after}
 use Rattle.batch_outcome.specs.Laws.{IsUpdatedWhole}
@@ -32,21 +30,10 @@ use Rattle.play_course.specs.declared.end.End.TheVariants.{AllFailed}
 use Rattle.play_course.specs.Courses.{Continues, Goes, IsBoundary, Setting, end_behind, end_at_rest, end_by_failures, end_here, end_without_batch, halt_of, next_batch, statuses_behind}
 use Rattle.play_course.specs.Laws.{AreAsPlanned, AsManyAsPlanned, IsFollowedByAll}
 
--- one size serves on
-min_zero : (n : ℕ) → min 0 n ≡ 0
-min_zero n = omega arith
-
-cap_stays : (sizes : List Size) (size : Size) (targeted opened : ℕ) → sizes ≡ size ∷ [] → cap sizes targeted opened ≡ bound size targeted
-cap_stays sizes size targeted opened one =
-    ap (λ list. cap list targeted opened) one ∙ ap (λ place. option_and_then (λ entry. bound entry targeted) (slice_get (size ∷ []) place)) (min_zero opened)
-
-module _ (setting : Setting) (size : Size) (one : setting.sizes ≡ size ∷ []) (never : (host : ℕ) → setting.fails host ≡ None) where
-  abbrev most : Option ℕ
-  most = bound size setting.targeted
-
+module _ (setting : Setting) (most : Option ℕ) (one : (opened : ℕ) → setting.caps opened ≡ most) (never : (host : ℕ) → setting.fails host ≡ None) where
   best_within : (opened : ℕ) (statuses : List Status) (b : Boundary) → IsBoundary setting opened statuses b → IsBest setting.fleet b.statuses.items most b.answer
   best_within opened statuses b is =
-      subst (λ bound. IsBest setting.fleet b.statuses.items bound b.answer) (cap_stays setting.sizes size setting.targeted opened one) is.best
+      subst (λ bound. IsBest setting.fleet b.statuses.items bound b.answer) (one opened) is.best
 
   updated : (batch : List ℕ) → IsUpdatedWhole setting.fails batch
   updated batch = updated_where_none_fails setting.fails batch (λ host here. never host)
@@ -134,4 +121,4 @@ module _ (setting : Setting) (size : Size) (one : setting.sizes ≡ size ∷ [])
       by_answer later (Blocked group waiting) same = (subst (λ a. After (end_without_batch b.statuses.items a)) same is.1).0
 
 pub as_many_as_planned : AsManyAsPlanned
-as_many_as_planned setting size statuses boundaries end one never is = as_planned setting size one never 0 statuses boundaries end is
+as_many_as_planned setting most statuses boundaries end one never is = as_planned setting most one never 0 statuses boundaries end is

@@ -4,7 +4,6 @@ use Rattle.std.proofs.lemmas.Option.{same_Some}
 use Rattle.std.specs.Prelude.{if◌then◌else◌}
 use Rattle.std.specs.Option.{option_or}
 use Rattle.fleet_states.specs.declared.status.Status.{Status}
-use Rattle.play_model.specs.Sizes.{cap}
 use Rattle.batch_plan.specs.declared.answers.Answer.{Answer}
 use Rattle.batch_plan.specs.declared.answers.Answer.TheVariants.{Planned, Blocked}
 use Rattle.batch_plan.specs.Answers.{IsBest, IsDealtAnswer, IsSameAnswer}
@@ -15,7 +14,7 @@ use Rattle.play_course.specs.declared.boundary.Boundary.{Boundary}
 use Rattle.play_course.specs.declared.end.End.{End}
 use Rattle.play_course.specs.declared.end.End.TheVariants as ending
 use Rattle.play_course.specs.Courses.{Continues, Goes, IsBoundary, IsCourse, Setting, batches_of, end_at_rest, end_behind, end_by_failures, end_here, end_without_batch, ended_by, halt_of, led_to, next_batch, statuses_behind}
-use Rattle.play_course.specs.Laws.{AreSameBoundaries, AreSameSoFar, IsSameBoundary, OneBoundaryMore, OneCourse, OneWay}
+use Rattle.play_course.specs.Laws.{AreSameBoundaries, AreSameSoFar, IsSameBoundary, OneBoundaryMore, OneCourse, OneWay, WentOn}
 use Rattle.fleet_numbers.specs.NumberLists.{list_at}
 
 same_batches : (answer other : Answer) → IsSameAnswer answer other → batches_of answer ≡ batches_of other
@@ -36,7 +35,7 @@ module _ (setting : Setting) (opened : ℕ) (statuses : List Status) (boundary o
   same_statuses = is.statuses_are ∙ sym too.statuses_are
 
   abbrev bound : Option ℕ
-  bound = cap setting.sizes setting.targeted opened
+  bound = setting.caps opened
 
   one_boundary : IsSameBoundary boundary other
   one_boundary =
@@ -107,9 +106,9 @@ continues_once setting opened statuses before (b ∷ bs) [] end other is too = a
 continues_once setting opened statuses before (b ∷ bs) (c ∷ cs) end other is too =
     let same = one_boundary setting opened statuses b c is.0 too.0 in
     let rest = alike setting opened b c bs cs (Some end) (Some other) same (AreSameBoundaries bs cs × (end ≡ other))
-            (λ here one two ends too. (none_more bs cs one two, same_Some _ _ (ends ∙ sym too)))
-            (λ goes later. continues_once setting (opened + 1) (statuses_behind setting b) (end_behind setting b) bs cs end other goes later)
-            (end_here before b) (end_here before c) (same_end_here setting b c same before) is.1 too.1 in
+    (λ here one two ends too. (none_more bs cs one two, same_Some _ _ (ends ∙ sym too)))
+    (λ goes later. continues_once setting (opened + 1) (statuses_behind setting b) (end_behind setting b) bs cs end other goes later)
+    (end_here before b) (end_here before c) (same_end_here setting b c same before) is.1 too.1 in
     ((same, rest.0), rest.1)
 
 pub one_course : OneCourse
@@ -122,8 +121,8 @@ same_so_far setting opened statuses before (b ∷ bs) [] end other is too = tt
 same_so_far setting opened statuses before (b ∷ bs) (c ∷ cs) end other is too =
     let same = one_boundary setting opened statuses b c is.0 too.0 in
     let rest = alike setting opened b c bs cs end other same (AreSameSoFar bs cs) (λ here one two ends too. none_after bs cs one)
-            (λ goes later. same_so_far setting (opened + 1) (statuses_behind setting b) (end_behind setting b) bs cs end other goes later)
-            (end_here before b) (end_here before c) (same_end_here setting b c same before) is.1 too.1 in
+    (λ goes later. same_so_far setting (opened + 1) (statuses_behind setting b) (end_behind setting b) bs cs end other goes later)
+    (end_here before b) (end_here before c) (same_end_here setting b c same before) is.1 too.1 in
     (same, rest)
 
 pub one_way : OneWay
@@ -139,13 +138,12 @@ one_more setting opened statuses before [] boundary is next =
     last : (x : Option End) → Goes x [] x (x ≡ None)
     last (Some here) = (refl, refl)
     last None = refl
-one_more setting opened statuses before (b ∷ bs) boundary is next =
-    (
-      is.0,
-      behind (end_here before b)
+one_more setting opened statuses before (b ∷ bs) boundary is next = (
+  is.0,
+  behind (end_here before b)
       (λ goes. one_more setting (opened + 1) (statuses_behind setting b) (end_behind setting b) bs boundary goes (subst (λ n. IsBoundary setting n (led_to setting (statuses_behind setting b) bs) boundary) (omega arith) next))
       is.1,
-    )
+)
   where
     behind : (x : Option End) {On More : Type 0} → (On → More) → Goes x bs None On → Goes x (bs ++ boundary ∷ []) (end_here (ended_by setting (end_behind setting b) bs) boundary) More
     behind (Some here) later goes = absurd (cc)
@@ -153,3 +151,30 @@ one_more setting opened statuses before (b ∷ bs) boundary is next =
 
 pub one_boundary_more : OneBoundaryMore
 one_boundary_more setting statuses boundaries boundary is next = one_more setting 0 statuses None boundaries boundary is (subst (λ n. IsBoundary setting n (led_to setting statuses boundaries) boundary) (omega arith) next)
+
+-- a boundary less
+one_less : (setting : Setting) (opened : ℕ) (statuses : List Status) (before : Option End) (boundaries : List Boundary) (boundary : Boundary) (end : Option End)
+    → Continues setting opened statuses before (boundaries ++ boundary ∷ []) end → Continues setting opened statuses before boundaries None
+one_less setting opened statuses before [] boundary end is = refl
+one_less setting opened statuses before (b ∷ bs) boundary end is =
+    (is.0, behind (end_here before b) (λ goes. one_less setting (opened + 1) (statuses_behind setting b) (end_behind setting b) bs boundary end goes) is.1)
+  where
+    some : (xs : List Boundary) {X : Type 0} → xs ++ boundary ∷ [] ≡ [] → X
+    some [] empty = absurd (cc)
+    some (x ∷ xs) empty = absurd (cc)
+
+    behind : (x : Option End) {On Less : Type 0} → (On → Less) → Goes x (bs ++ boundary ∷ []) end On → Goes x bs None Less
+    behind (Some here) later goes = some bs goes.0
+    behind None later goes = later goes
+
+pub went_on : WentOn
+went_on setting statuses boundaries boundary end is = one_less setting 0 statuses None boundaries boundary end is
+
+-- where boundaries lead is where the last one does
+pub led_to-push : (setting : Setting) (statuses : List Status) (boundaries : List Boundary) (boundary : Boundary) → led_to setting statuses (boundaries ++ boundary ∷ []) ≡ statuses_behind setting boundary
+led_to-push setting statuses [] boundary = refl
+led_to-push setting statuses (b ∷ bs) boundary = led_to-push setting (statuses_behind setting b) bs boundary
+
+pub ended_by-push : (setting : Setting) (before : Option End) (boundaries : List Boundary) (boundary : Boundary) → ended_by setting before (boundaries ++ boundary ∷ []) ≡ end_behind setting boundary
+ended_by-push setting before [] boundary = refl
+ended_by-push setting before (b ∷ bs) boundary = ended_by-push setting (end_behind setting b) bs boundary

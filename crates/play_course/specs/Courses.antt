@@ -8,8 +8,6 @@ use Rattle.domains.specs.Ids.{host_numbers}
 use Rattle.fleet_states.specs.declared.status.Status.{Status}
 use Rattle.fleet_states.specs.declared.status.Status.TheVariants.{Idle, Waiting, Running, Updated, Failed, Halted, Off, Held}
 use Rattle.play_model.specs.declared.on_blocked.OnBlocked.{OnBlocked}
-use Rattle.play_model.specs.declared.size.Size.{Size}
-use Rattle.play_model.specs.Sizes.{cap}
 use Rattle.play_plan.specs.PlayPlans.{aside_by}
 use Rattle.batch_outcome.specs.Batches.{Fails, failed_in, halt, statuses_after}
 use Rattle.batch_plan.specs.declared.answers.Answer.{Answer}
@@ -21,13 +19,12 @@ use Rattle.play_course.specs.declared.boundary.Boundary.{Boundary}
 use Rattle.play_course.specs.declared.end.End.{End}
 use Rattle.play_course.specs.declared.end.End.TheVariants as ending
 
--- what stays the same throughout a play: the fleet, what is done with hosts that may not go down, the sizes of batches, how many hosts the play is for, how
--- many of each hundred may fail, how many steps there are, and the step at which each host fails, if at one
+-- what stays the same throughout a play: the fleet, what is done with hosts that may not go down, how many hosts the batch may have before which so many were
+-- opened, how many of each hundred may fail, how many steps there are, and the step at which each host fails, if at one
 pub record Setting : Type 0 where
   pub fleet : FleetView
   pub mode : OnBlocked
-  pub sizes : List Size
-  pub targeted : ℕ
+  pub caps : ℕ → Option ℕ
   pub percentage : Option ℕ
   pub steps : ℕ
   pub fails : Fails
@@ -36,8 +33,8 @@ pub record Setting : Type 0 where
 pub record IsBoundary (setting : Setting) (opened : ℕ) (statuses : List Status) (boundary : Boundary) : Type 0 where
   pub held_are : host_numbers boundary.held.items ≡ aside_by setting.mode setting.fleet statuses
   pub statuses_are : boundary.statuses.items ≡ set_aside (aside_by setting.mode setting.fleet statuses) statuses
-  pub best : IsBest setting.fleet boundary.statuses.items (cap setting.sizes setting.targeted opened) boundary.answer
-  pub dealt : IsDealtAnswer setting.fleet boundary.statuses.items (cap setting.sizes setting.targeted opened) boundary.answer
+  pub best : IsBest setting.fleet boundary.statuses.items (setting.caps opened) boundary.answer
+  pub dealt : IsDealtAnswer setting.fleet boundary.statuses.items (setting.caps opened) boundary.answer
 
 -- the batches of an answer
 abbrev pub batches_of : Answer → List (List ℕ)
@@ -72,9 +69,9 @@ end_without_batch statuses (Planned plan) = if length (batch_numbers plan.batche
 abbrev pub halt_of : Setting → List ℕ → Option ℕ
 halt_of setting batch = halt setting.fails batch setting.percentage setting.steps
 
--- how a play ends with a batch that halted at a step, or at none, and of which so many hosts failed: too many of them, or all
+-- how a play ends with a batch that halted at a step, or at none, and of which so many hosts failed: too many of them, or all. The end counts steps from 1
 abbrev pub end_with : Option ℕ → ℕ → ℕ → Option End
-end_with (Some step) failed size = Some (ending.TooManyFailed step failed size)
+end_with (Some step) failed size = Some (ending.TooManyFailed (step + 1) failed size)
 end_with None failed size = if failed == size then Some ending.AllFailed else None
 
 abbrev pub end_by_failures : Setting → List ℕ → Option ℕ → Option End

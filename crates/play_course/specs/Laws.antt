@@ -9,7 +9,6 @@ use Rattle.batch_plan.specs.declared.answers.Answer.{Answer}
 use Rattle.batch_plan.specs.declared.answers.Answer.TheVariants.{Planned, Blocked}
 use Rattle.batch_plan.specs.Answers.{IsSameAnswer}
 use Rattle.batch_plan.specs.Plans.{batch_numbers}
-use Rattle.play_model.specs.declared.size.Size.{Size}
 use Rattle.play_course.specs.declared.boundary.Boundary.{Boundary}
 use Rattle.play_course.specs.declared.end.End.{End}
 use Rattle.play_course.specs.Courses.{IsBoundary, IsCourse, Setting, end_here, ended_by, led_to, next_batch}
@@ -52,6 +51,12 @@ OneBoundaryMore =
     → IsBoundary setting (length boundaries) (led_to setting statuses boundaries) boundary
     → IsCourse setting statuses (boundaries ++ boundary ∷ []) (end_here (ended_by setting None boundaries) boundary)
 
+-- before its last boundary a play went on
+abbrev pub WentOn : Type 0
+WentOn =
+    (setting : Setting) (statuses : List Status) (boundaries : List Boundary) (boundary : Boundary) (end : Option End) → IsCourse setting statuses (boundaries ++ boundary ∷ []) end
+    → IsCourse setting statuses boundaries None
+
 abbrev pub AreSameCourses : List Course → List Course → Type 0
 AreSameCourses [] [] = Unit {0}
 AreSameCourses [] (other ∷ others) = ⊥
@@ -80,12 +85,13 @@ OpenedOnce =
 abbrev pub with_fails : Fails → Setting → Setting
 with_fails fails setting = record setting { fails = fails }
 
--- the failing steps agree on the hosts of each batch that is opened
+-- the failing steps agree on the hosts of each batch behind which a boundary follows
 abbrev pub AgreeOnEach : Fails → Fails → List Boundary → Type 0
 AgreeOnEach fails others [] = Unit {0}
-AgreeOnEach fails others (boundary ∷ rest) = AgreeOn (next_batch boundary.answer) fails others × AgreeOnEach fails others rest
+AgreeOnEach fails others (boundary ∷ []) = Unit {0}
+AgreeOnEach fails others (boundary ∷ next ∷ rest) = AgreeOn (next_batch boundary.answer) fails others × AgreeOnEach fails others (next ∷ rest)
 
--- a course is as it is whatever would have failed on hosts that it didn't come to
+-- a course is as it is whatever would have failed on hosts whose batch is not behind it
 abbrev pub OthersDecideNothing : Type 0
 OthersDecideNothing =
     (setting : Setting) (others : Fails) (statuses : List Status) (boundaries : List Boundary) (end : Option End) → IsCourse setting statuses boundaries end
@@ -103,5 +109,5 @@ AreAsPlanned (boundary ∷ rest) = IsFollowedByAll boundary.answer rest
 -- where no host fails and all batches have one size, there are as many batches as the first plan has
 abbrev pub AsManyAsPlanned : Type 0
 AsManyAsPlanned =
-    (setting : Setting) (size : Size) (statuses : List Status) (boundaries : List Boundary) (end : End) → setting.sizes ≡ size ∷ []
+    (setting : Setting) (most : Option ℕ) (statuses : List Status) (boundaries : List Boundary) (end : End) → ((opened : ℕ) → setting.caps opened ≡ most)
     → ((host : ℕ) → setting.fails host ≡ None) → IsCourse setting statuses boundaries (Some end) → AreAsPlanned boundaries

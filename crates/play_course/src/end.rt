@@ -1,5 +1,5 @@
 //! How a play ends.
-ghost use Rattle.std.specs.Prelude.{◌≡◌};
+ghost use Rattle.std.specs.Prelude.{◌≡◌, ◌<◌, ◌+◌, ◌^◌, IfSome};
 ghost use Rattle.play_course.specs.Courses as model;
 
 use group_tree::GroupId;
@@ -15,7 +15,7 @@ pub enum End {
     Blocked {
         group: GroupId,
     },
-    /// So many hosts of a batch of this size had failed by this step, which is more than the play allows.
+    /// So many hosts of a batch of this size had failed by this step, counted from 1, which is more than the play allows.
     TooManyFailed {
         step: usize,
         failed: usize,
@@ -25,12 +25,18 @@ pub enum End {
     AllFailed,
 }
 
-/// How a play ends with a batch that halted at this step, or at none, and of which so many hosts failed: too many of them, or all.
+/// How a play ends with a batch that halted at this step, counted from 0, or at none, and of which so many hosts failed: too many
+/// of them, or all.
 pub fn end_with(halt: Option<usize>, failed: usize, size: usize) -> Option<End>
+    requires { IfSome halt (λ step. step + 1 < 2 ^ 64) }
     ensures { result ≡ model.end_with halt failed size }
 {
     match halt {
-        Some(step) => Some(End::TooManyFailed { step, failed, size }),
+        Some(step) => Some(End::TooManyFailed {
+            step: step + 1,
+            failed,
+            size,
+        }),
         None if failed == size => Some(End::AllFailed),
         None => None,
     }

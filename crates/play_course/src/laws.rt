@@ -1,5 +1,5 @@
 //! What holds of every course.
-ghost use Rattle.play_course.specs.Laws.{AsManyAsPlanned, OneBoundaryMore, OneCourse, OneFileCourse, OneWay, OpenedOnce, OthersDecideNothing};
+ghost use Rattle.play_course.specs.Laws.{AsManyAsPlanned, OneBoundaryMore, OneCourse, OneFileCourse, OneWay, OpenedOnce, OthersDecideNothing, WentOn};
 
 /// What a play does to a fleet is one function of the statuses with which it begins and of the step at which each host fails: how
 /// many programs run at once, and in which order they end, doesn't show in it.
@@ -18,6 +18,11 @@ pub fn a_play_comes_to_its_next_boundary()
     ensures { OneBoundaryMore }
 {}
 
+/// Before its last boundary a play went on.
+pub fn a_play_went_on_before_its_last_boundary()
+    ensures { WentOn }
+{}
+
 /// The same for the plays of a file: they have one list of courses.
 pub fn plays_have_one_course()
     ensures { OneFileCourse }
@@ -28,7 +33,7 @@ pub fn no_host_is_opened_twice()
     ensures { OpenedOnce }
 {}
 
-/// A course is as it is whatever would have failed on hosts that it didn't come to.
+/// A course is as it is whatever would have failed on hosts whose batch is not behind it.
 pub fn failures_of_other_hosts_decide_nothing()
     ensures { OthersDecideNothing }
 {}
