@@ -117,22 +117,17 @@ module _ (setting : Setting) (others : Fails) (boundary : Boundary) (agree : Agr
       ap (λ h. end_by_failures setting batch h) (halt_alike setting others batch agree)
       ∙ end_alike setting others batch agree (halt_of (with_fails others setting) batch)
 
-boundary_alike : (setting : Setting) (others : Fails) (opened : ℕ) (statuses : List Status) (boundary : Boundary)
-    → IsBoundary setting opened statuses boundary → IsBoundary (with_fails others setting) opened statuses boundary
-boundary_alike setting others opened statuses boundary is =
-    record { held_are = is.held_are; statuses_are = is.statuses_are; best = is.best; dealt = is.dealt }
-
 continues_alike : (setting : Setting) (others : Fails) (opened : ℕ) (statuses : List Status) (before : Option End) (boundaries : List Boundary) (end : Option End)
     → Continues setting opened statuses before boundaries end → AgreeOnEach setting.fails others boundaries → Continues (with_fails others setting) opened statuses before boundaries end
 continues_alike setting others opened statuses before [] end is agree = is
 continues_alike setting others opened statuses before (b ∷ []) end is agree =
-    (boundary_alike setting others opened statuses b is.0, behind (end_here before b) is.1)
+    (is.0, behind (end_here before b) is.1)
   where
     behind : (x : Option End) → Goes x [] end (end ≡ None) → Goes x [] end (end ≡ None)
     behind (Some here) goes = goes
     behind None goes = goes
 continues_alike setting others opened statuses before (b ∷ c ∷ bs) end is agree = (
-  boundary_alike setting others opened statuses b is.0,
+  is.0,
   behind (λ goes. continues_alike setting others (opened + 1) (statuses_behind setting b) (end_behind setting b) (c ∷ bs) end goes agree.1) (end_here before b) is.1,
 )
   where

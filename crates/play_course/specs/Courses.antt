@@ -29,12 +29,16 @@ pub record Setting : Type 0 where
   pub steps : ℕ
   pub fails : Fails
 
--- the boundary before which so many batches were opened, and to which these statuses led: hosts are set aside, and the rest is planned anew
-pub record IsBoundary (setting : Setting) (opened : ℕ) (statuses : List Status) (boundary : Boundary) : Type 0 where
-  pub held_are : host_numbers boundary.held.items ≡ aside_by setting.mode setting.fleet statuses
-  pub statuses_are : boundary.statuses.items ≡ set_aside (aside_by setting.mode setting.fleet statuses) statuses
-  pub best : IsBest setting.fleet boundary.statuses.items (setting.caps opened) boundary.answer
-  pub dealt : IsDealtAnswer setting.fleet boundary.statuses.items (setting.caps opened) boundary.answer
+-- the boundary to which statuses lead: hosts are set aside where they are not to stop the play, and the rest is planned anew
+pub record IsPlannedFrom (fleet : FleetView) (mode : OnBlocked) (bound : Option ℕ) (statuses : List Status) (boundary : Boundary) : Type 0 where
+  pub held_are : host_numbers boundary.held.items ≡ aside_by mode fleet statuses
+  pub statuses_are : boundary.statuses.items ≡ set_aside (aside_by mode fleet statuses) statuses
+  pub best : IsBest fleet boundary.statuses.items bound boundary.answer
+  pub dealt : IsDealtAnswer fleet boundary.statuses.items bound boundary.answer
+
+-- the boundary before which so many batches were opened
+abbrev pub IsBoundary : Setting → ℕ → List Status → Boundary → Type 0
+IsBoundary setting opened statuses boundary = IsPlannedFrom setting.fleet setting.mode (setting.caps opened) statuses boundary
 
 -- the batches of an answer
 abbrev pub batches_of : Answer → List (List ℕ)

@@ -1,5 +1,5 @@
 //! A moment at which no batch is open.
-ghost use Rattle.std.specs.Prelude.{◌≡◌, ◌<◌, IfOk, IfSome};
+ghost use Rattle.std.specs.Prelude.{◌≡◌, ◌<◌, IfOk, IfSome, length};
 ghost use Rattle.std.specs.List.{list_any};
 ghost use Rattle.domains.specs.Ids.{host_numbers};
 ghost use Rattle.batch_plan.specs.Answers.{IsBest, IsDealtAnswer};
@@ -7,10 +7,13 @@ ghost use Rattle.batch_plan.specs.Places.{AreCountsOf};
 ghost use Rattle.play_course.specs.Courses as model;
 
 use crate::end::End;
-use batch_plan::{Answer, plan_over};
+use batch_plan::{Answer, plan, plan_over, set_aside};
 use domain_counts::Domains;
+use domains::Fleet;
 use fleet_states::Status;
 use group_tree::HostId;
+use play_model::OnBlocked;
+use play_plan::list_aside;
 use std::alloc::{AllocError, Allocator, Global};
 
 /// A moment at which no batch is open: the hosts that were set aside at it, by name, the status of each host then, and the planner's answer.
@@ -40,6 +43,29 @@ impl Boundary {
     {
         let answer = plan_over(alloc, domains, cap)?;
         let statuses = Vec::from_slice(alloc, statuses)?;
+        Ok(Boundary {
+            held,
+            statuses,
+            answer,
+        })
+    }
+
+    /// The boundary to which these statuses lead: hosts are set aside where they are not to stop the play, and the rest is planned anew. Only
+    /// want of memory refuses it.
+    pub fn from_statuses(
+        alloc: Global,
+        fleet: &Fleet,
+        mode: OnBlocked,
+        mut statuses: Vec<Status>,
+        cap: Option<u32>,
+    ) -> Result<Boundary, AllocError>
+        requires hosts { length statuses.items ≡ length fleet.now.hosts }
+        requires cap { IfSome cap (λ size. 0 < size) }
+        ensures { IfOk result (model.IsPlannedFrom fleet.now mode cap statuses.items) }
+    {
+        let held = list_aside(alloc, fleet, statuses.as_slice(), mode)?;
+        set_aside(statuses.as_mut_slice(), held.as_slice());
+        let answer = plan(alloc, fleet, statuses.as_slice(), cap)?;
         Ok(Boundary {
             held,
             statuses,

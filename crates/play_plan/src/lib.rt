@@ -5,4 +5,4 @@ mod patterns;
 mod play_plan;
 
 pub use patterns::look_up_all;
-pub use play_plan::{PlayPlan, plan_play};
+pub use play_plan::{PlayPlan, list_aside, plan_play};

@@ -18,8 +18,8 @@ pub struct PlayPlan {
     pub answer: Answer,
 }
 
-/// The hosts that are set aside, where they are not to stop the play.
-fn list_aside(
+/// The hosts that are set aside, by name, where they are not to stop the play. Only want of memory refuses it.
+pub fn list_aside(
     alloc: Global,
     fleet: &Fleet,
     statuses: &[Status],
