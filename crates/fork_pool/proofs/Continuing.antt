@@ -1,0 +1,61 @@
+-- A board that continues another, while workers are at work on its step.
+use Rattle.std.proofs.Common.{◌≡◌, ℕ, true, false, ◌&&◌, Bool, List, [], ◌∷◌, ◌++◌, sym, ap, ◌∙◌, subst, refl, append_assoc}
+use Rattle.std.specs.Prelude.{Result, Ok, Err, OnErr, OnOk}
+use Rattle.std.specs.List.{list_all}
+use Rattle.std.proofs.lemmas.List.{append-nil}
+use Rattle.std.proofs.lemmas.List.Folds.{list_all-append}
+use Rattle.roll_logs.specs.Events.{Event, is_work}
+use Rattle.roll_kernel.specs.Views.{KernelView}
+use Rattle.roll_kernel.specs.Views as kernels
+use Rattle.roll_core.specs.Boards.{BoardView, with_event}
+use Rattle.fork_pool.specs.Steps.{Continues}
+use Rattle.fork_pool.specs.Inside.{GoesOn}
+
+both_work : (some more : List Event) → list_all is_work some ≡ true → list_all is_work more ≡ true → list_all is_work (some ++ more) ≡ true
+both_work some more first second =
+    list_all-append is_work some more ∙ ap (λ b. b && list_all is_work more) first ∙ second
+
+module _ {R : Type 0} where
+  -- where nothing but the tallies changes
+  pub stays : (before after : BoardView R) → after.runner ≡ before.runner → after.kernel ≡ before.kernel → Continues before after
+  stays before after runner kernel =
+      record { runner = runner; more = []; work = refl; kernel = kernel ∙ ap (λ (log : List Event). record before.kernel { log = log }) (sym (append-nil before.kernel.log)) }
+
+  pub one_more : (before : BoardView R) (event : Event) → is_work event ≡ true → Continues before (with_event before event)
+  one_more before event work =
+      record { runner = refl; more = event ∷ []; work = ap (λ b. b && true) work; kernel = refl }
+
+  pub goes_further : (first second third : BoardView R) → Continues first second → Continues second third → Continues first third
+  goes_further first second third one other =
+      let grown : (KernelView → KernelView) = λ kernel. record kernel { log = kernel.log ++ other.more } in
+      record {
+        runner = other.runner ∙ one.runner;
+        more = one.more ++ other.more;
+        work = both_work one.more other.more one.work other.work;
+        kernel = other.kernel ∙ ap grown one.kernel ∙ ap (λ (log : List Event). record first.kernel { log = log }) (append_assoc first.kernel.log one.more other.more);
+      }
+
+  pub unchanged : (before after : BoardView R) → after ≡ before → GoesOn before after
+  unchanged before after same =
+      record { continues = stays before after (ap (λ (b : BoardView R). b.runner) same) (ap (λ (b : BoardView R). b.kernel) same); tallies = ap (λ (b : BoardView R). b.tallies) same }
+
+  pub on_and_on : (first second third : BoardView R) → GoesOn first second → GoesOn second third → GoesOn first third
+  on_and_on first second third one other =
+      record { continues = goes_further first second third one.continues other.continues; tallies = other.tallies ∙ one.tallies }
+
+  pub by_event : (before after : BoardView R) (event : Event) → is_work event ≡ true → after ≡ with_event before event → GoesOn before after
+  by_event before after event work grown =
+      subst (λ (b : BoardView R). GoesOn before b) (sym grown) (record { continues = one_more before event work; tallies = refl })
+
+  pub by_answer : {V E : Type 0} (answer : Result V E) (before after : BoardView R) (event : Event) → is_work event ≡ true
+      → OnOk answer (after ≡ with_event before event) → OnErr answer (after ≡ before) → GoesOn before after
+  by_answer (Ok value) before after event work grown same = by_event before after event work grown
+  by_answer (Err fault) before after event work grown same = unchanged before after same
+
+  pub after_join : (before after : BoardView R) (tallies joined : ℕ) → after ≡ record before { tallies = tallies; joined = joined } → Continues before after
+  after_join before after tallies joined back =
+      stays before after (ap (λ (b : BoardView R). b.runner) back) (ap (λ (b : BoardView R). b.kernel) back)
+
+  pub after_split : (before after : BoardView R) (tallies : ℕ) → after ≡ record before { tallies = tallies } → Continues before after
+  after_split before after tallies split =
+      stays before after (ap (λ (b : BoardView R). b.runner) split) (ap (λ (b : BoardView R). b.kernel) split)

@@ -1,0 +1,6 @@
+use Rattle.fork_pool.proofs.Continuing.{after_split, goes_further}
+use Rattle.fork_pool.proofs.front.Front.step.Goals as goal
+
+pub returns-clause-continues : goal.returns-clause-continues
+returns-clause-continues g c =
+    goes_further _ _ _ (goes_further _ _ _ (after_split _ _ _ c.begin-step.ensures.board) c.go_on.ensures.board.continues) c.end.ensures.continues

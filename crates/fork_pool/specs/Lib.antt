@@ -1,0 +1,4 @@
+pub mod Faults
+pub mod Replies
+pub mod Steps
+pub mod Inside

@@ -1,0 +1,12 @@
+-- What a worker answers.
+use Rattle.std.specs.Prelude.{◌≡◌, true}
+use Rattle.outcome_results.specs.Endings.{Ending}
+use Rattle.roll_logs.specs.Rolls.{is_of_program}
+use Rattle.roll_logs.specs.Told.{Work}
+use Rattle.roll_core.specs.Dones.{DoneView, done_of}
+
+-- the program of the claim ended, as this runner tells
+pub record IsEndOf {R : Type 0} (runner : R) (claim : Work) (done : DoneView R) : Type 0 where
+  pub ending : Ending
+  pub program : is_of_program ending ≡ true
+  pub told : done ≡ done_of runner claim ending

@@ -1,0 +1,23 @@
+//! The workers of a step: they run the programs that a board hands out, as many at once as it has forks, while the board stays with one
+//! thread.
+#![tactic(auto)]
+
+mod fault;
+mod front;
+mod making;
+mod owed;
+mod reply;
+mod running;
+mod step;
+mod ticket;
+mod worker_end;
+mod working;
+
+pub use fault::{StepFault, WorkFault};
+pub use front::Front;
+pub use making::pool;
+pub use running::run_step;
+pub use ticket::Ticket;
+pub use worker_end::{WorkerEnd, serve};
+pub use working::work;
+

@@ -1,0 +1,38 @@
+//! Making a pool.
+ghost use Rattle.std.specs.Prelude.{◌≡◌, ◌<◌, ◌≤◌, All, IfOk, map, vec_len};
+ghost use Rattle.std.specs.List.{range_with_len};
+ghost use Rattle.ticket_line.specs.Ends.{new_put, new_take};
+
+use crate::front::Front;
+use crate::reply::Reply;
+use crate::worker_end::WorkerEnd;
+use crossbeam_channel::bounded;
+use roll_core::Runner;
+use std::alloc::{AllocError, Global};
+use ticket_line::line;
+
+/// A pool of so many workers: the end of its coordinator, and one end a worker, by their places. All memory that its channels need
+/// is taken here.
+pub fn pool<'f, R: Runner>(
+    alloc: Global,
+    forks: usize,
+) -> Result<(Front<'f, R>, Vec<WorkerEnd<'f, R>>), AllocError>
+    requires some { 0 < forks }
+    requires few { forks ≤ 64 }
+    ensures front { IfOk result (λ (front, _). (front.forks ≡ forks) × (front.tickets ≡ new_put front.tickets.line forks)) }
+    ensures count { IfOk result (λ (_, ends). vec_len ends ≡ forks) }
+    ensures places { IfOk result (λ (_, ends). map (λ end. end.place) ends.items ≡ range_with_len 0 forks) }
+    ensures line { IfOk result (λ (front, ends). All (λ end. end.tickets ≡ new_take front.tickets.line) ends.items) }
+{
+    let (tickets, take_ends) = line(alloc, forks, forks)?;
+    let (reply, replies) = bounded(alloc, forks)?;
+    let mut ends = Vec::with_capacity(alloc, forks)?;
+    for take_end in take_ends {
+        ends.push(WorkerEnd {
+            place: ends.len(),
+            tickets: take_end,
+            replies: reply.clone()?,
+        })?;
+    }
+    Ok((Front::new(tickets, replies, forks), ends))
+}

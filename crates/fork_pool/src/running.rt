@@ -1,0 +1,106 @@
+//! One step on a pool of its own.
+ghost use Rattle.std.specs.Prelude.{◌≡◌, IfErr, IfOk};
+ghost use Rattle.fork_pool.specs.Faults.{IsPlacedBelow};
+ghost use Rattle.fork_pool.specs.Steps.{Continues, IsAtRest, IsStepDone, board_in};
+
+use crate::fault::StepFault;
+use crate::front::Front;
+use crate::making::pool;
+use crate::worker_end::{WorkerEnd, serve};
+use roll_core::{Board, Runner};
+use std::alloc::Global;
+use std::process::{Processes, SystemProcess};
+use std::sync::Wait;
+use std::sync::ledger::Ledger;
+use std::thread;
+use std::thread::Threads;
+
+/// Works on the present step of the board until each host on which it is due has reported it. It starts as many workers as there are forks or
+/// hosts due, whichever is less, and joins them.
+pub fn run_step<
+    'f,
+    R: Runner,
+    L: Ledger,
+    H: Threads + Wait + Processes<Started = SystemProcess> + Sync,
+>(
+    rt: &H,
+    alloc: Global,
+    board: Board<'f, R, L>,
+    runner: &'f R,
+    forks: usize,
+) -> Result<Board<'f, R, L>, (StepFault, Board<'f, R, L>)>
+    requires forks { board.kernel.forks ≡ forks }
+    requires tallies { board.tallies ≡ 0 }
+    ensures done { IfOk result IsStepDone }
+    ensures fault { IfErr result (λ refused. IsPlacedBelow forks refused.0) }
+    ensures continues { Continues board.entry (board_in result) }
+    ensures rest { IsAtRest (board_in result) }
+{
+    let workers = forks.min(board.due());
+    match pool(alloc, forks) {
+        Ok((front, mut ends)) => {
+            ends.truncate(workers);
+            with_workers(rt, alloc, front, ends, board, runner)
+        }
+        Err(_refused) => Err((StepFault::Mem, board)),
+    }
+}
+
+/// Starts a worker for each of these ends. Where one can't be started, the others finish.
+fn with_workers<
+    'f,
+    R: Runner,
+    L: Ledger,
+    H: Threads + Wait + Processes<Started = SystemProcess> + Sync,
+>(
+    rt: &H,
+    alloc: Global,
+    front: Front<'f, R>,
+    ends: Vec<WorkerEnd<'f, R>>,
+    board: Board<'f, R, L>,
+    runner: &'f R,
+) -> Result<Board<'f, R, L>, (StepFault, Board<'f, R, L>)>
+    requires forks { front.forks ≡ board.kernel.forks }
+    requires tallies { board.tallies ≡ 0 }
+    ensures done { IfOk result IsStepDone }
+    ensures fault { IfErr result (λ refused. IsPlacedBelow front.entry.forks refused.0) }
+    ensures continues { Continues board.entry (board_in result) }
+    ensures rest { IsAtRest (board_in result) }
+{
+    thread::scope(
+        thread::scope_env(),
+        rt,
+        move |scope| -> Result<Board<'_, R, L>, (StepFault, Board<'_, R, L>)>
+            requires forks { front.forks ≡ board.kernel.forks }
+            requires tallies { board.tallies ≡ 0 }
+            ensures done { IfOk result IsStepDone }
+            ensures fault { IfErr result (λ refused. IsPlacedBelow front.entry.forks refused.0) }
+            ensures continues { Continues board.entry (board_in result) }
+            ensures rest { IsAtRest (board_in result) }
+        {
+            let mut front = front;
+            let mut missing = false;
+            for end in ends {
+                let started = scope.spawn(move || serve(rt, alloc, end, runner));
+                missing |= started.is_err();
+            }
+            let answer = front.step(rt, alloc, board);
+            if missing {
+                return Err((StepFault::Mem, board_of(answer)));
+            }
+            answer
+        },
+    )
+}
+
+/// The board, whichever way the step ended.
+fn board_of<'f, R: Runner, L: Ledger>(
+    answer: Result<Board<'f, R, L>, (StepFault, Board<'f, R, L>)>,
+) -> Board<'f, R, L>
+    ensures { result ≡ board_in answer.entry }
+{
+    match answer {
+        Ok(board) => board,
+        Err((_fault, board)) => board,
+    }
+}

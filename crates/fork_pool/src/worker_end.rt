@@ -1,0 +1,79 @@
+//! The end of a pool that works.
+ghost use Rattle.std.specs.Prelude.{◌≡◌, ◌++◌, ◌∷◌, [], IfSome, IfNone, length};
+
+use crate::owed::Owed;
+use crate::reply::Reply;
+use crate::ticket::Ticket;
+use crossbeam_channel::Sender;
+use roll_core::Runner;
+use std::alloc::Global;
+use std::process::{Processes, SystemProcess};
+use std::sync::Wait;
+use std::thread::Threads;
+use ticket_line::TakeEnd;
+
+/// What one worker of a pool holds: its place, its end of the line of tickets, and its end of the channel for replies.
+#[derive(Drop)]
+pub struct WorkerEnd<'f, R: Runner> {
+    pub(crate) place: usize,
+    pub(crate) tickets: TakeEnd<Ticket>,
+    pub(crate) replies: Sender<Reply<'f, R>, Global>,
+}
+
+impl<'f, R: Runner> WorkerEnd<'f, R> {
+    /// Runs the programs of tickets until none can come. Each ticket is answered once; the reply is dropped where nobody is left to
+    /// receive it. Answers how many tickets this end has taken.
+    pub fn serve<H: Threads + Wait + Processes<Started = SystemProcess> + Sync>(
+        &mut self,
+        rt: &H,
+        alloc: Global,
+        runner: &'f R,
+    ) -> u64
+        ensures { result ≡ length self.new.tickets.taken }
+    {
+        for _ in rt.forever() {
+            let Some(owed) = self.take(rt) else {
+                break;
+            };
+            self.answer(rt, alloc, owed, runner);
+        }
+        self.tickets.taken()
+    }
+
+    /// Takes a ticket, and waits for one while there is none.
+    fn take<H: Wait>(&mut self, rt: &H) -> Option<Owed>
+        ensures some { IfSome result (λ owed. self.new.tickets ≡ record self.old.tickets { taken = self.old.tickets.taken ++ owed.ticket ∷ [] }) }
+        ensures none { IfNone result (self.new.tickets ≡ self.old.tickets) }
+    {
+        match self.tickets.take(rt) {
+            Some(ticket) => Some(Owed::new(ticket)),
+            None => None,
+        }
+    }
+
+    /// Runs the program of a ticket, and replies.
+    fn answer<H: Threads + Wait + Processes<Started = SystemProcess> + Sync>(
+        &self,
+        rt: &H,
+        alloc: Global,
+        owed: Owed,
+        runner: &'f R,
+    ) {
+        let done = owed.run(rt, alloc, runner);
+        let reply = Reply {
+            place: self.place,
+            done,
+        };
+        let _ = self.replies.send(rt, reply);
+    }
+}
+
+/// The same with an end that nobody needs afterwards: it is dropped, so that the coordinator sees when no worker is left.
+pub fn serve<'f, R: Runner, H: Threads + Wait + Processes<Started = SystemProcess> + Sync>(
+    rt: &H,
+    alloc: Global,
+    mut end: WorkerEnd<'f, R>,
+    runner: &'f R,
+) -> u64 {
+    end.serve(rt, alloc, runner)
+}
