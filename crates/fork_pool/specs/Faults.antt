@@ -2,14 +2,16 @@
 use Rattle.std.specs.Prelude.{ℕ, ◌<◌, Option, Some, None}
 use Rattle.fork_pool.specs.declared.fault.StepFault.{StepFault}
 use Rattle.fork_pool.specs.declared.fault.StepFault.TheVariants.{Mem, WorkerMem, Mixed}
+use Rattle.roll_core.specs.Boards.{BoardView}
+use Rattle.fork_pool.specs.Steps.{IsStepDone}
 
 abbrev pub number_of : StepFault → Option ℕ
 number_of Mem = None
 number_of (WorkerMem at) = Some 821
 number_of Mixed = Some 822
 
--- the place that it names is one of so many
-abbrev pub IsPlacedBelow : ℕ → StepFault → Type 0
-IsPlacedBelow forks Mem = Unit {0}
-IsPlacedBelow forks (WorkerMem at) = at < forks
-IsPlacedBelow forks Mixed = Unit {0}
+-- what it says is so: the place is one of so many; a claim is out, or a host on which the step is due has not reported it
+abbrev pub IsFaultOf : {R : Type 0} → ℕ → BoardView R → StepFault → Type 0
+IsFaultOf forks board Mem = Unit {0}
+IsFaultOf forks board (WorkerMem at) = at < forks
+IsFaultOf forks board Mixed = IsStepDone board → ⊥

@@ -1,6 +1,6 @@
 //! The end of a pool that gives out tickets.
 ghost use Rattle.std.specs.Prelude.{◌≡◌, ◌<◌, ◌≤◌, IfErr, IfOk};
-ghost use Rattle.fork_pool.specs.Faults.{IsPlacedBelow};
+ghost use Rattle.fork_pool.specs.Faults.{IsFaultOf};
 ghost use Rattle.fork_pool.specs.Inside.{GoesOn};
 ghost use Rattle.fork_pool.specs.Steps.{Continues, IsAtRest, IsStepDone, board_in};
 
@@ -59,7 +59,7 @@ impl<'f, R: Runner> Front<'f, R> {
         requires forks { self.old.forks ≡ board.kernel.forks }
         requires tallies { board.tallies ≡ 0 }
         ensures done { IfOk result IsStepDone }
-        ensures fault { IfErr result (λ refused. IsPlacedBelow self.old.forks refused.0) }
+        ensures fault { IfErr result (λ refused. IsFaultOf self.old.forks refused.1 refused.0) }
         ensures continues { Continues board.entry (board_in result) }
         ensures rest { IsAtRest (board_in result) }
         ensures forks { self.new.forks ≡ self.old.forks }

@@ -18,6 +18,9 @@ pub use front::Front;
 pub use making::pool;
 pub use running::run_step;
 pub use ticket::Ticket;
+pub use ticket_line::{each_ticket_once, none_is_made_up, numbers_agree};
 pub use worker_end::{WorkerEnd, serve};
 pub use working::work;
 
+#[cfg(test)]
+mod tests;

@@ -1,5 +1,5 @@
 //! Making a pool.
-ghost use Rattle.std.specs.Prelude.{◌≡◌, ◌<◌, ◌≤◌, All, IfOk, map, vec_len};
+ghost use Rattle.std.specs.Prelude.{◌≡◌, ◌<◌, All, IfOk, map, vec_len};
 ghost use Rattle.std.specs.List.{range_with_len};
 ghost use Rattle.ticket_line.specs.Ends.{new_put, new_take};
 
@@ -17,8 +17,7 @@ pub fn pool<'f, R: Runner>(
     alloc: Global,
     forks: usize,
 ) -> Result<(Front<'f, R>, Vec<WorkerEnd<'f, R>>), AllocError>
-    requires some { 0 < forks }
-    requires few { forks ≤ 64 }
+    requires { 0 < forks }
     ensures front { IfOk result (λ (front, _). (front.forks ≡ forks) × (front.tickets ≡ new_put front.tickets.line forks)) }
     ensures count { IfOk result (λ (_, ends). vec_len ends ≡ forks) }
     ensures places { IfOk result (λ (_, ends). map (λ end. end.place) ends.items ≡ range_with_len 0 forks) }

@@ -1,6 +1,6 @@
 //! One step on a pool of its own.
 ghost use Rattle.std.specs.Prelude.{◌≡◌, IfErr, IfOk};
-ghost use Rattle.fork_pool.specs.Faults.{IsPlacedBelow};
+ghost use Rattle.fork_pool.specs.Faults.{IsFaultOf};
 ghost use Rattle.fork_pool.specs.Steps.{Continues, IsAtRest, IsStepDone, board_in};
 
 use crate::fault::StepFault;
@@ -32,7 +32,7 @@ pub fn run_step<
     requires forks { board.kernel.forks ≡ forks }
     requires tallies { board.tallies ≡ 0 }
     ensures done { IfOk result IsStepDone }
-    ensures fault { IfErr result (λ refused. IsPlacedBelow forks refused.0) }
+    ensures fault { IfErr result (λ refused. IsFaultOf forks refused.1 refused.0) }
     ensures continues { Continues board.entry (board_in result) }
     ensures rest { IsAtRest (board_in result) }
 {
@@ -63,7 +63,7 @@ fn with_workers<
     requires forks { front.forks ≡ board.kernel.forks }
     requires tallies { board.tallies ≡ 0 }
     ensures done { IfOk result IsStepDone }
-    ensures fault { IfErr result (λ refused. IsPlacedBelow front.entry.forks refused.0) }
+    ensures fault { IfErr result (λ refused. IsFaultOf front.entry.forks refused.1 refused.0) }
     ensures continues { Continues board.entry (board_in result) }
     ensures rest { IsAtRest (board_in result) }
 {
@@ -74,7 +74,7 @@ fn with_workers<
             requires forks { front.forks ≡ board.kernel.forks }
             requires tallies { board.tallies ≡ 0 }
             ensures done { IfOk result IsStepDone }
-            ensures fault { IfErr result (λ refused. IsPlacedBelow front.entry.forks refused.0) }
+            ensures fault { IfErr result (λ refused. IsFaultOf front.entry.forks refused.1 refused.0) }
             ensures continues { Continues board.entry (board_in result) }
             ensures rest { IsAtRest (board_in result) }
         {

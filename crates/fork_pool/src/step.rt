@@ -1,7 +1,7 @@
 //! A step in progress.
 ghost use Rattle.std.specs.Prelude.{◌≡◌, ◌<◌, ◌≤◌, suc, IfErr, IfOk};
 ghost use Rattle.roll_core.specs.Givings.{HasItsGo};
-ghost use Rattle.fork_pool.specs.Faults.{IsPlacedBelow};
+ghost use Rattle.fork_pool.specs.Faults.{IsFaultOf};
 ghost use Rattle.fork_pool.specs.Inside.{GoesOn};
 ghost use Rattle.fork_pool.specs.Steps.{Continues, IsAtRest, IsStepDone, board_in};
 
@@ -154,7 +154,7 @@ impl<'f, R: Runner, L: Ledger> Step<'f, R, L> {
     pub(crate) fn end(self) -> Result<Board<'f, R, L>, (StepFault, Board<'f, R, L>)>
         requires { self.board.tallies ≡ 1 }
         ensures done { IfOk result IsStepDone }
-        ensures fault { IfErr result (λ refused. IsPlacedBelow (suc self.entry.at) refused.0) }
+        ensures fault { IfErr result (λ refused. IsFaultOf (suc self.entry.at) refused.1 refused.0) }
         ensures continues { Continues self.entry.board (board_in result) }
         ensures rest { IsAtRest (board_in result) }
     {

@@ -1,0 +1,76 @@
+//! Workers over a locked board.
+ghost use Rattle.std.specs.Prelude.{◌≡◌};
+
+use crate::tests::rows::{BATCHES, script_again, six_hosts};
+use crate::tests::setting::board_of;
+use crate::work;
+use roll_core::{Board, Runner, Tally};
+use script_runner::Script;
+use std::alloc::Global;
+use std::marker::Brand;
+use std::process::{Processes, SystemProcess};
+use std::sync::ledger::{Blank, Ledger};
+use std::sync::{Mutex, Wait};
+use std::test::Fail;
+use std::thread::Threads;
+
+/// A tally of the board, if one can be had.
+fn tally_of<R: Runner, L: Ledger, H: Wait>(
+    rt: &H,
+    board: &Mutex<Board<'_, R, L>>,
+) -> Option<Tally<L>> {
+    let mut board = board.lock(rt);
+    if board.tallies() < 128 {
+        Some(board.split_tally())
+    } else {
+        None
+    }
+}
+
+/// One worker, whose tally goes back to the board.
+fn work_and_join<
+    's,
+    R: Runner,
+    L: Ledger,
+    H: Threads + Wait + Processes<Started = SystemProcess> + Sync,
+>(rt: &H, alloc: Global, board: &Mutex<Board<'s, R, L>>, runner: &'s R) {
+    let Some(tally) = tally_of(rt, board) else {
+        return;
+    };
+    let tally = match work(rt, alloc, board, runner, tally) {
+        Ok(tally) => tally,
+        Err((_fault, tally)) => tally,
+    };
+    board.lock(rt).join_tally(tally);
+}
+
+/// A first step of two hosts, by two workers in turn: the first leaves nothing to the second.
+fn worked<L: Ledger, H: Threads + Wait + Processes<Started = SystemProcess> + Sync>(
+    rt: &H,
+    alloc: Global,
+    blank: Blank,
+) -> Result<(), Fail>
+    requires name { blank.name ≡ L.name }
+    requires parts { blank.parts ≡ L.parts }
+    requires many { blank.parts ≡ 129 }
+{
+    let setting = six_hosts(alloc)?;
+    let script = script_again(alloc)?;
+    let mut board = board_of::<Script, L>(alloc, &setting, &script, 2, blank)?;
+    if board.open(alloc, BATCHES[0]).is_err() {
+        return Err(Fail::new("the batch was not opened"));
+    }
+    let shared = Mutex::new(board);
+    work_and_join(rt, alloc, &shared, &script);
+    work_and_join(rt, alloc, &shared, &script);
+    let board = shared.into_inner();
+    if board.due() != 0 || board.out() != 0 || board.tallies() != 0 || board.joined() != 2 {
+        return Err(Fail::new("not each host has reported, or a tally is out"));
+    }
+    Ok(())
+}
+
+#[test]
+fn workers_share_a_locked_board(rt: HostRuntime) -> Result<(), Fail> {
+    worked::<Brand, HostRuntime>(&rt, rt.alloc(), Blank::new(129))
+}

@@ -1,0 +1,136 @@
+//! Fleets with a play and variables, and boards over them on which all hosts wait. A call that was refused memory is made again.
+ghost use Rattle.std.specs.Prelude.{◌≡◌, ◌<◌, ◌≤◌, IfOk, length, replicate};
+ghost use Rattle.domains.specs.Fleets.{IsFleetOf};
+ghost use Rattle.fleet_states.specs.declared.status.Status.TheVariants.{Waiting};
+
+use domains::{Fleet, FleetFault};
+use group_tree::{Group, GroupFault, Tree};
+use host_vars::{Vars, layered_all};
+use play_faults::PlayFault;
+use play_model::Play;
+use play_read::read_play;
+use roll_core::{Board, Runner, Status};
+use sample_fleets::{group, with};
+use std::alloc::{AllocError, Global};
+use std::sync::ledger::{Blank, Ledger};
+use std::test::Fail;
+
+/// A fleet all of whose hosts wait, and a play.
+#[derive(Drop)]
+pub struct Setting {
+    pub fleet: Fleet,
+    pub play: Play,
+    pub vars: Vec<Vars>,
+    pub statuses: Vec<Status>,
+    ghost wait: { statuses.items ≡ replicate (length fleet.hosts) Waiting },
+    ghost each: { length vars.items ≡ length fleet.hosts },
+}
+
+fn waiting(alloc: Global, count: usize) -> Result<Vec<Status>, AllocError>
+    ensures { IfOk result (λ statuses. statuses.items ≡ replicate count Waiting) }
+{
+    vec![in alloc; Status::Waiting; count]
+}
+
+fn fleet_again(alloc: Global, tree: &Tree<Global>) -> Result<Fleet, FleetFault>
+    ensures { IfOk result (IsFleetOf tree.now) }
+{
+    match Fleet::build(alloc, tree) {
+        Err(FleetFault::Memory) => Fleet::build(alloc, tree),
+        answer => answer,
+    }
+}
+
+fn vars_again(alloc: Global, tree: &Tree<Global>, fleet: &Fleet) -> Result<Vec<Vars>, AllocError>
+    requires { IsFleetOf tree.now fleet.now }
+{
+    match layered_all(alloc, tree, fleet) {
+        Err(AllocError) => layered_all(alloc, tree, fleet),
+        answer => answer,
+    }
+}
+
+fn play_again(alloc: Global, playbook: &str) -> Result<Play, PlayFault> {
+    match read_play(alloc, playbook.as_bytes()) {
+        Err(PlayFault::Memory) => read_play(alloc, playbook.as_bytes()),
+        answer => answer,
+    }
+}
+
+fn waiting_again(alloc: Global, count: usize) -> Result<Vec<Status>, AllocError>
+    ensures { IfOk result (λ statuses. statuses.items ≡ replicate count Waiting) }
+{
+    match waiting(alloc, count) {
+        Err(AllocError) => waiting(alloc, count),
+        answer => answer,
+    }
+}
+
+fn fleet_of(alloc: Global, all: Group<Global>) -> Result<(Fleet, Vec<Vars>), Fail> {
+    let Ok(tree) = Tree::new(all) else {
+        return Err(Fail::new("no tree"));
+    };
+    let fleet = fleet_again(alloc, &tree)?;
+    let vars = vars_again(alloc, &tree, &fleet)?;
+    Ok((fleet, vars))
+}
+
+/// The fleet of a group, and the play of a playbook.
+pub fn set_up(alloc: Global, all: Group<Global>, playbook: &str) -> Result<Setting, Fail> {
+    let (fleet, vars) = fleet_of(alloc, all)?;
+    let statuses = waiting_again(alloc, fleet.hosts())?;
+    if vars.len() != fleet.hosts() {
+        return Err(Fail::new("not one list of variables a host"));
+    }
+    Ok(Setting {
+        play: play_again(alloc, playbook)?,
+        fleet,
+        vars,
+        statuses,
+    })
+}
+
+/// So many hosts, of which as many may be down as `limit` says.
+fn limited(alloc: Global, limit: u16, hosts: &[&str]) -> Result<Group<Global>, GroupFault> {
+    let limited = group(alloc, "g", Some(limit), hosts)?;
+    with(group(alloc, "all", None, &[])?, limited)
+}
+
+pub fn limited_again(
+    alloc: Global,
+    limit: u16,
+    hosts: &[&str],
+) -> Result<Group<Global>, GroupFault> {
+    match limited(alloc, limit, hosts) {
+        Err(GroupFault::Memory) => limited(alloc, limit, hosts),
+        answer => answer,
+    }
+}
+
+/// A board on which nothing has happened.
+pub fn board_of<'s, R: Runner, L: Ledger>(
+    alloc: Global,
+    setting: &'s Setting,
+    runner: &'s R,
+    forks: usize,
+    blank: Blank,
+) -> Result<Board<'s, R, L>, AllocError>
+    requires some { 0 < forks }
+    requires few { forks ≤ 64 }
+    requires name { blank.name ≡ L.name }
+    requires parts { blank.parts ≡ L.parts }
+    requires many { blank.parts ≡ 129 }
+    ensures forks { IfOk result (λ board. board.kernel.forks ≡ forks) }
+    ensures tallies { IfOk result (λ board. board.tallies ≡ 0) }
+{
+    Board::new(
+        alloc,
+        &setting.fleet,
+        &setting.play,
+        runner,
+        forks,
+        setting.statuses.as_slice(),
+        setting.vars.as_slice(),
+        blank,
+    )
+}
