@@ -1,8 +1,8 @@
 //! A step in progress.
-ghost use Rattle.std.specs.Prelude.{◌≡◌, ◌<◌, ◌≤◌, suc, IfErr, IfOk};
+ghost use Rattle.std.specs.Prelude.{◌≡◌, ◌<◌, ◌≤◌, suc, true, false, IfErr, IfOk, OnErr, OnOk};
 ghost use Rattle.roll_core.specs.Givings.{HasItsGo};
 ghost use Rattle.fork_pool.specs.Faults.{IsFaultOf};
-ghost use Rattle.fork_pool.specs.Inside.{GoesOn};
+ghost use Rattle.fork_pool.specs.Inside.{GoesOn, fault_by};
 ghost use Rattle.fork_pool.specs.Steps.{Continues, IsAtRest, IsStepDone, board_in};
 
 use crate::fault::StepFault;
@@ -108,6 +108,8 @@ impl<'f, R: Runner, L: Ledger> Step<'f, R, L> {
     pub(crate) fn enter(&mut self, reply: Reply<'f, R>)
         ensures board { GoesOn self.old.board self.new.board }
         ensures at { self.new.at ≤ self.old.at }
+        ensures told { OnErr reply.entry.done ((self.new.told ≡ true) × (self.new.at ≤ reply.entry.place)) }
+        ensures else_same { OnOk reply.entry.done ((self.new.told ≡ self.old.told) × (self.new.at ≡ self.old.at)) }
     {
         let Reply { place, done } = reply;
         match done {
@@ -135,7 +137,8 @@ impl<'f, R: Runner, L: Ledger> Step<'f, R, L> {
     /// A ticket is back whose program has not come to an end that can be told.
     pub(crate) fn strand(&mut self, claim: Claim)
         ensures board { GoesOn self.old.board self.new.board }
-        ensures at { self.new.at ≤ self.old.at }
+        ensures at { self.new.at ≡ self.old.at }
+        ensures told { self.new.told ≡ self.old.told }
     {
         self.out = self.out.saturating_sub(1);
         self.board.strand(claim);
@@ -144,7 +147,8 @@ impl<'f, R: Runner, L: Ledger> Step<'f, R, L> {
     /// A report that is handed back is dropped: its host has then not reported.
     fn report(&mut self, done: Done<'f, R>)
         ensures board { GoesOn self.old.board self.new.board }
-        ensures at { self.new.at ≤ self.old.at }
+        ensures at { self.new.at ≡ self.old.at }
+        ensures told { self.new.told ≡ self.old.told }
     {
         let _ = self.board.report(done, &mut self.tally);
     }
@@ -154,6 +158,8 @@ impl<'f, R: Runner, L: Ledger> Step<'f, R, L> {
     pub(crate) fn end(self) -> Result<Board<'f, R, L>, (StepFault, Board<'f, R, L>)>
         requires { self.board.tallies ≡ 1 }
         ensures done { IfOk result IsStepDone }
+        ensures clean { OnOk result ((self.entry.wants ≡ false) × (self.entry.told ≡ false)) }
+        ensures order { IfErr result (λ refused. refused.0 ≡ fault_by self.entry.wants self.entry.told self.entry.at) }
         ensures fault { IfErr result (λ refused. IsFaultOf (suc self.entry.at) refused.1 refused.0) }
         ensures continues { Continues self.entry.board (board_in result) }
         ensures rest { IsAtRest (board_in result) }
