@@ -29,7 +29,9 @@ impl<'f, R: Runner> WorkerEnd<'f, R> {
         alloc: Global,
         runner: &'f R,
     ) -> u64
-        ensures { result ≡ length self.new.tickets.taken }
+        ensures count { result ≡ length self.new.tickets.taken }
+        ensures place { self.new.place ≡ self.old.place }
+        ensures line { self.new.tickets.line ≡ self.old.tickets.line }
     {
         for _ in rt.forever() {
             let Some(owed) = self.take(rt) else {
@@ -44,6 +46,7 @@ impl<'f, R: Runner> WorkerEnd<'f, R> {
     fn take<H: Wait>(&mut self, rt: &H) -> Option<Owed>
         ensures some { IfSome result (λ owed. self.new.tickets ≡ record self.old.tickets { taken = self.old.tickets.taken ++ owed.ticket ∷ [] }) }
         ensures none { IfNone result (self.new.tickets ≡ self.old.tickets) }
+        ensures place { self.new.place ≡ self.old.place }
     {
         match self.tickets.take(rt) {
             Some(ticket) => Some(Owed::new(ticket)),

@@ -1,4 +1,4 @@
-use Rattle.std.proofs.Common.{◌≡◌, ◌+◌, ◌∙◌, ap, vec_len, rules}
+use Rattle.std.proofs.Common.{◌≡◌, ℕ, ◌+◌, ◌∙◌, ap, vec_len, rules}
 use Rattle.std.proofs.lemmas.List.Elements.{All-push}
 use Rattle.ticket_line.specs.Ends.{TakeView, line_of, new_take}
 use Rattle.fork_pool.specs.declared.ticket.Ticket.{Ticket}
@@ -13,10 +13,11 @@ loop-take_end-preserved g c =
     let line = line_of c.tickets.inside.pass in
     let FromLine : WorkerEnd g.row.R.Denot → Type 0 = λ end. end.tickets ≡ new_take line in
     let first : c.in-Some.take_end ≡ new_take line = let h = was.left 0 c.in-Some.take_end in grind rules in
+    let at : WorkerEnd g.row.R.Denot → ℕ = λ end. end.place in
     let made = All-push FromLine c.loop-take_end.ends.items _ was.made first in
     record {
       count = grind rules;
-      places = rw c.in_ok-push.ensures.items (rw c.in_ok-push.ensures.len (placed_more (λ (end : WorkerEnd g.row.R.Denot). end.place) c.loop-take_end.ends.items _ (vec_len c.loop-take_end.ends) was.places c.len.ensures));
+      places = rw c.in_ok-push.ensures.items (rw c.in_ok-push.ensures.len (placed_more at c.loop-take_end.ends.items _ (vec_len c.loop-take_end.ends) was.places c.len.ensures));
       made = rw c.in_ok-push.ensures.items made;
       left = λ k d below. let h = was.left (k + 1) d in grind rules;
     }

@@ -9,5 +9,6 @@ pub new-requires-clause-safe : goal.new-requires-clause-safe
 new-requires-clause-safe g c =
     let setting = c.args.setting.now in
     let groups = groups_of setting.fleet in
-    let safe : IsSafe groups c.as_slice.result.now = subst (λ (l : List Status). IsSafe groups l) (sym (c.as_slice.ensures.value ∙ setting.wait)) (safe_replicate groups (length setting.fleet.hosts) Waiting refl) in
+    let waits = c.as_slice.ensures.value ∙ setting.wait in
+    let safe : IsSafe groups c.as_slice.result.now = subst (λ (l : List Status). IsSafe groups l) (sym waits) (safe_replicate groups (length setting.fleet.hosts) Waiting refl) in
     search rules

@@ -1,0 +1,5 @@
+use Rattle.std.proofs.Common.{◌≡◌}
+use Rattle.fork_pool.proofs.worker_end.WorkerEnd.serve.Given as goal
+
+abbrev pub invariant-loop : goal.invariant-loop
+invariant-loop g l = record { place : l.self.place ≡ l.initial.self.place; line : l.self.tickets.line ≡ l.initial.self.tickets.line }
