@@ -170,5 +170,6 @@ host_vars_tests memory::a_call_that_was_refused_memory_answers_again
 host_track_tests memory::a_step_that_was_refused_memory_is_taken_again
 ticket_line tests::each_ticket_is_taken_once
 ticket_line tests::gathered::what_was_put_is_what_all_took
+fork_pool tests::memory::a_roll_ends_or_memory_is_wanting
 TESTS
 finish
