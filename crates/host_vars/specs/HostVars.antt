@@ -1,11 +1,11 @@
 -- What a host's variables and registered results say.
-use Rattle.std.specs.Prelude.{◌≡◌, ℤ, Bool, false, IsTrue, Option, Some, None, option_and_then}
+use Rattle.std.specs.Prelude.{◌≡◌, ℤ, Bool, false, is_some, IsTrue, Option, Some, None, option_and_then}
 use Rattle.std.specs.Arc.{arc_value}
 use Rattle.inventory_model.specs.Names.{Name}
 use Rattle.inventory_model.specs.Variables.{Scalar, Text, Int, Truth}
 use Rattle.registered_results.specs.Registers.{is_register}
 use Rattle.registered_results.specs.declared.registers.Registers.{Registers}
-use Rattle.registered_results.specs.Results.{Row, has_place, result_of}
+use Rattle.registered_results.specs.Results.{Row, has_place, result_of, shared_number}
 use Rattle.variable_layers.specs.Layers.{HostView}
 use Rattle.variable_layers.specs.Shown.{shown}
 use Rattle.word_parts.specs.Words.{Ref, whole, part, hostname}
@@ -60,6 +60,7 @@ values_of vars hostname = Some (Text (variables_of vars).name)
 pub record IsSameHost (one other : Vars) : Type 0 where
   pub variables : variables_of one ≡ variables_of other
   pub results : (name : Name) → result_in one name ≡ result_in other name
+  pub places : (name : Name) → IsTrue (is_some (shared_number other.results name)) → IsTrue (has_place_in one name)
 
 -- the host as it begins a play with these registers: it has its variables and results, and a place for each register
 pub record BeginsPlay (registers : Registers) (begun vars : Vars) : Type 0 where

@@ -31,7 +31,8 @@ impl Results {
 
     /// The same results. Places without a result are kept only for the registers of its play. It fails for want of memory alone.
     pub fn copy(&self, alloc: Global) -> Result<Results, AllocError>
-        ensures { IfOk result (λ copy. (name : Name) → result_of copy name ≡ result_of self.now name) }
+        ensures results { IfOk result (λ copy. (name : Name) → result_of copy name ≡ result_of self.now name) }
+        ensures places { IfOk result (λ copy. (name : Name) → IsTrue (is_some (shared_number self.now name)) → IsTrue (has_place copy name)) }
     {
         match &self.registers {
             Some(registers) => self.begin_play(alloc, registers),
