@@ -3,7 +3,8 @@ ghost use Rattle.std.specs.Prelude.{◌≡◌, ℕ, Option, IfErr, IfOk, OnErr, 
 ghost use Rattle.batch_outcome.specs.Batches.{statuses_after};
 ghost use Rattle.roll_logs.specs.Columns.{Columns, Tells, fails_by};
 ghost use Rattle.roll_logs.specs.Events.{closed};
-ghost use Rattle.roll_logs.specs.States.{between, ended};
+ghost use Rattle.roll_logs.specs.Logs.{IsLegal};
+ghost use Rattle.roll_logs.specs.States.{between, ended, start_state};
 ghost use Rattle.roll_kernel.specs.Barriers.{HasPassed, first_busy, is_over, is_working};
 ghost use Rattle.roll_kernel.specs.Views.{roll_of, state_of};
 ghost use Rattle.roll_core.specs.Boards.{with_event};
@@ -28,12 +29,13 @@ impl<'f, R: Runner, L: Ledger> Board<'f, R, L> {
     }
 
     /// Closes a batch that is over: its live hosts are up again, or halted and down where it was halted. The statuses of
-    /// the fleet are then those at its opening, but for what becomes of each of its hosts by itself on the ends that were reported. It takes no
-    /// memory.
+    /// the fleet are then those at its opening, but for what becomes of each of its hosts by itself on the ends that were reported. Its log is
+    /// legal. It takes no memory.
     pub fn close(&mut self)
         requires { is_over (state_of self.old.kernel).phase ≡ true }
         ensures event { self.new ≡ with_event self.old closed }
         ensures boundary { (state_of self.new.kernel).phase ≡ between }
+        ensures legal { IsLegal (roll_of self.new.kernel) (start_state (roll_of self.new.kernel)) self.new.kernel.log }
         ensures statuses { (columns : Columns) (halt : Option ℕ) → Tells columns (roll_of self.old.kernel) self.old.kernel.log → (state_of self.old.kernel).phase ≡ ended halt
             → (state_of self.new.kernel).statuses ≡ statuses_after halt (fails_by (roll_of self.old.kernel) columns) (state_of self.old.kernel).batch (state_of self.old.kernel).opening }
     {

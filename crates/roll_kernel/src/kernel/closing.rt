@@ -3,7 +3,8 @@ ghost use Rattle.std.specs.Prelude.{◌≡◌, ℕ, Option, true};
 ghost use Rattle.batch_outcome.specs.Batches.{statuses_after};
 ghost use Rattle.roll_logs.specs.Columns.{Columns, Tells, fails_by};
 ghost use Rattle.roll_logs.specs.Events.{closed};
-ghost use Rattle.roll_logs.specs.States.{between, ended};
+ghost use Rattle.roll_logs.specs.Logs.{IsLegal};
+ghost use Rattle.roll_logs.specs.States.{between, ended, start_state};
 ghost use Rattle.roll_kernel.specs.Barriers.{is_over};
 ghost use Rattle.roll_kernel.specs.Views.{roll_of, state_of, with_event};
 
@@ -14,11 +15,13 @@ use batch_work::Stage;
 
 impl<'f> Kernel<'f> {
     /// Closes a batch that is over: its live hosts are up again, or halted and down where it was halted. The statuses of the
-    /// fleet are then those at its opening, but for what becomes of each of its hosts by itself on the ends that were reported. It takes no memory.
+    /// fleet are then those at its opening, but for what becomes of each of its hosts by itself on the ends that were reported. Its log is
+    /// legal. It takes no memory.
     pub fn close(&mut self)
         requires { is_over (state_of self.old).phase ≡ true }
         ensures event { self.new ≡ with_event self.old closed }
         ensures boundary { (state_of self.new).phase ≡ between }
+        ensures legal { IsLegal (roll_of self.new) (start_state (roll_of self.new)) self.new.log }
         ensures statuses { (columns : Columns) (halt : Option ℕ) → Tells columns (roll_of self.old) self.old.log → (state_of self.old).phase ≡ ended halt
             → (state_of self.new).statuses ≡ statuses_after halt (fails_by (roll_of self.old) columns) (state_of self.old).batch (state_of self.old).opening }
     {

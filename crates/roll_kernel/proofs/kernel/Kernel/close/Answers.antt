@@ -62,6 +62,9 @@ returns-clause-boundary c =
     let seen = view_more old c.end_hosts.new.roster c.self.inside.play.now c.self.inside.forks c.self.inside.start.now c.self.inside.vars.now log c.keep.new.log.items Close c.end_hosts.ensures.fleet c.keep.ensures.items in
     ap (λ (v : KernelView). (state_of v).phase) seen ∙ ap (λ (s : State). s.phase) (state_more kernel closed) ∙ ap (λ (p : Phase). (closed_state p (state_of kernel)).phase) at
 
+pub returns-clause-legal : goal.returns-clause-legal
+returns-clause-legal c = (invariant_of-self c).legal
+
 pub returns-clause-statuses : goal.returns-clause-statuses
 returns-clause-statuses c =
     let old = c.self.inside.roster in
