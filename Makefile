@@ -1,5 +1,5 @@
 # `make` builds the program and runs it. The gate is `make check`: every proof, test and edit of must-fail/, then the scripts on the program that this built.
-.PHONY: build check edits scripts touched
+.PHONY: build check drawn edits scripts touched
 
 build:
 	@sh tests/build.sh
@@ -18,3 +18,7 @@ touched:
 # All edits, those too that the gate doesn't try. `make edits`, `make edits SINCE=main`, `make edits CRATES="cond recap"`
 edits:
 	@SINCE="$(SINCE)" CRATES="$(CRATES)" sh tests/edits.sh
+
+# Drawn cases, as many as you like: the built program beside the slow one of tests/slow. `make drawn`, `make drawn SEED=7 CASES=30000`
+drawn:
+	@SEED="$(SEED)" CASES="$(CASES)" sh tests/drawn.sh

@@ -1,0 +1,167 @@
+"""The reading of JSON, written anew: what is JSON, what a number is, and what a repeated key means.
+
+A value is None, a bool, a str, an int (a whole number that fits 64 signed bits), a float (any other number), a list or a dict.
+"""
+
+import re
+
+from rules import turned
+
+DEEPEST = 127
+NUMBER = re.compile(rb"-?(?:0|[1-9][0-9]*)(?P<rest>(?:\.[0-9]+)?(?:[eE][+-]?[0-9]+)?)")
+ESCAPES = {b"n": "\n", b"t": "\t", b"r": "\r", b"b": "\b", b"f": "\f", b"/": "/", b"\\": "\\", b'"': '"'}
+WORDS = {b"null": None, b"true": True, b"false": False}
+
+
+class NotJson(Exception):
+    """The bytes are no JSON text."""
+
+
+def read_json(text):
+    """The value of a whole text; NotJson where it isn't one."""
+    reader = _Reader(text)
+    value = reader.value(0)
+    reader.blanks()
+    if reader.at < len(text) and not turned("json-nothing-behind"):
+        raise NotJson
+    return value
+
+
+class _Reader:
+    def __init__(self, text):
+        self.text = text
+        self.at = 0
+
+    def blanks(self):
+        blanks = b" \t\n\r\v\f" if turned("json-blanks") else b" \t\n\r"
+        while self.at < len(self.text) and self.text[self.at] in blanks:
+            self.at += 1
+
+    def sign(self, sign):
+        """Whether the next byte behind blanks is this one; it is passed over then."""
+        self.blanks()
+        found = self.text[self.at : self.at + 1] == sign
+        self.at += found
+        return found
+
+    def value(self, depth):
+        self.blanks()
+        first = self.text[self.at : self.at + 1]
+        if first in (b"{", b"["):
+            if depth >= DEEPEST + turned("json-depth"):
+                raise NotJson
+            self.at += 1
+            return self.members(depth + 1) if first == b"{" else self.entries(depth + 1)
+        if first == b'"':
+            self.at += 1
+            return self.string()
+        for word, value in WORDS.items():
+            if self.text.startswith(word, self.at):
+                self.at += len(word)
+                return value
+        return self.number()
+
+    def entries(self, depth):
+        found = []
+        if self.sign(b"]"):
+            return found
+        while True:
+            found.append(self.value(depth))
+            if self.sign(b"]"):
+                return found
+            if not self.sign(b","):
+                raise NotJson
+
+    def members(self, depth):
+        found = {}
+        if self.sign(b"}"):
+            return found
+        while True:
+            if not self.sign(b'"'):
+                raise NotJson
+            key = self.string()
+            if not self.sign(b":"):
+                raise NotJson
+            value = self.value(depth)
+            if not (turned("json-last-key-stays") and key in found):
+                found[key] = value
+            if self.sign(b"}"):
+                return found
+            if not self.sign(b","):
+                raise NotJson
+
+    def number(self):
+        found = NUMBER.match(self.text, self.at)
+        if not found:
+            raise NotJson
+        self.at = found.end()
+        written = found[0].decode()
+        if found["rest"]:
+            return _real(written)
+        whole = int(written)
+        if written == "-0" and not turned("json-minus-nought"):
+            return -0.0
+        return whole if -(2**63) <= whole < 2**63 else _real(written)
+
+    def string(self):
+        """The text up to the closing quote; the opening one has been passed over."""
+        raw = b""
+        while True:
+            byte = self.text[self.at : self.at + 1]
+            self.at += 1
+            if byte == b"":
+                raise NotJson
+            if byte == b'"':
+                return _utf8(raw)
+            if byte == b"\\":
+                raw += self.escape()
+            elif byte[0] < 0x20 and not turned("json-control-characters"):
+                raise NotJson
+            else:
+                raw += byte
+
+    def escape(self):
+        kind = self.text[self.at : self.at + 1]
+        self.at += 1
+        if kind in ESCAPES:
+            return ESCAPES[kind].encode()
+        if kind != b"u":
+            raise NotJson
+        unit = self.hex()
+        if 0xD800 <= unit < 0xDC00 and self.text.startswith(b"\\u", self.at):
+            self.at += 2
+            low = self.hex()
+            if 0xDC00 <= low < 0xE000:
+                return chr(0x10000 + ((unit - 0xD800) << 10) + (low - 0xDC00)).encode()
+            raise NotJson
+        if 0xD800 <= unit < 0xE000:
+            if turned("json-lone-surrogates"):
+                return b"?"
+            raise NotJson
+        return chr(unit).encode()
+
+    def hex(self):
+        digits = self.text[self.at : self.at + 4]
+        self.at += 4
+        if not re.fullmatch(rb"[0-9a-fA-F]{4}", digits):
+            raise NotJson
+        return int(digits, 16)
+
+
+def _real(written):
+    """A number that isn't whole; one past the largest float is no JSON."""
+    value = float(written)
+    if value in (float("inf"), float("-inf")) and not turned("json-largest-number"):
+        raise NotJson
+    if turned("json-whole-as-written") and value == int(value if abs(value) < 1e300 else 0) and abs(value) < 2**63:
+        return int(value)
+    return value
+
+
+def _utf8(raw):
+    try:
+        return raw.decode()
+    except UnicodeDecodeError:
+        if turned("json-utf8"):
+            return raw.decode(errors="replace")
+        raise NotJson from None
