@@ -6,15 +6,22 @@ from random import Random
 import commands
 from draw_inventory import draw_inventory
 from draw_inventory import draw_right as draw_right_inventory
+from draw_lines import draw_lines
 from draw_playbook import draw_playbook
-from draw_steps import draw_command
+from draw_playbook import draw_right as draw_right_playbook
+from draw_programs import RunStyle
+from draw_steps import AnyStyle
 from faults import Fault
 from inventory import read_inventory
 from json_draw import write
-from json_text import NotJson, read_json
+from mutate import mutate
+from planning import start
+from programs import Unmodelled
+from rehearsal import Rehearsal
 
 INVENTORY = "inventory.json"
 PLAYBOOK = "playbook.json"
+FORKS = (1, 2, 5, 64)
 KINDS = ("limits", "plan", "run", "rehearse")
 MISSING = ["missing.json", "inventory.json/", ".", "./", "", "caf\u00e9 \x7f", "no/such/folder"]
 
@@ -35,24 +42,29 @@ class Case:
 
     def said(self):
         """What the slow program says."""
-        names = {INVENTORY: self.inventory, PLAYBOOK: self.playbook}
-        for name in self.words[1:3]:
-            if name not in names:
+        files = {INVENTORY: self.inventory, PLAYBOOK: self.playbook}
+        named = self.words[1:3]
+        for name in named:
+            if name not in files:
                 return commands.refused(Fault(902, "File", name=name))
-        if not self.words:
-            return commands.limits(self.typed)
-        if self.kind == "limits":
-            return commands.limits(self.inventory)
-        return commands.plan(self.inventory, self.playbook)
+        return commands.command(self.words, [files[name] for name in named] or [self.typed], self.typed)
+
+    def variants(self):
+        """The calls that have to say the same: a run with several numbers of programs at once."""
+        if self.kind != "run":
+            return [self]
+        return [self, *(replace(self, words=(*self.words, "--forks", str(forks))) for forks in FORKS)]
 
 
 def draw_case(seed, number):
     """The case of this number; the same seed and number always draw the same one."""
     random = Random(f"{seed}/{number}")
     kind = random.random()
-    if kind < 0.35:
+    if kind < 0.25:
         return _limits(random)
-    return _plan(random)
+    if kind < 0.6:
+        return _plan(random)
+    return _run(random) if kind < 0.8 else _rehearse(random)
 
 
 def _limits(random):
@@ -67,7 +79,7 @@ def _limits(random):
 
 def _plan(random):
     inventory = draw_inventory(random) if random.random() < 0.3 else write(draw_right_inventory(random, crossing=0.02, down=0.08), random)
-    playbook = draw_playbook(random, names_in(inventory), draw_command)
+    playbook = draw_playbook(random, names_in(inventory), AnyStyle())
     case = Case(("plan", INVENTORY, PLAYBOOK), inventory, playbook)
     if random.random() < 0.02:
         missing = [random.choice([INVENTORY, random.choice(MISSING)]), random.choice(MISSING)]
@@ -75,12 +87,46 @@ def _plan(random):
     return case
 
 
+def _run(random):
+    """A run of programs whose outcomes are known."""
+    while True:
+        inventory = write(draw_right_inventory(random, crossing=0.02, down=0.05, limited=0.35, dense=True), random)
+        names = names_in(inventory)
+        value = draw_right_playbook(random, names, RunStyle(hosts_in(inventory)), random.choice([1, 1, 1, 2, 3]))
+        playbook = write(mutate(value, random) if random.random() < 0.03 else value, random)
+        case = Case(("run", INVENTORY, PLAYBOOK), inventory, playbook)
+        try:
+            case.said()
+            return case
+        except Unmodelled:
+            continue
+
+
+def _rehearse(random):
+    inventory = write(draw_right_inventory(random, crossing=0.02, down=0.05, limited=0.4), random)
+    value = draw_right_playbook(random, names_in(inventory), RunStyle([]))
+    playbook = write(mutate(value, random) if random.random() < 0.03 else value, random)
+    try:
+        fleet, plays, targets = commands.accepted(inventory, playbook)
+    except Fault:
+        typed = b"show\n"
+    else:
+        typed = draw_lines(random, Rehearsal(fleet, plays[0], start(fleet, targets[0]), len(targets[0])))
+    return Case(("rehearse", INVENTORY, PLAYBOOK), inventory, playbook, typed)
+
+
 def names_in(inventory):
     """The names of groups and hosts of an inventory, as far as it can be read."""
     try:
-        read_json(inventory)
         places = read_inventory(inventory)
-    except (Fault, NotJson):
+    except Fault:
         return ["all", "a", "r1"]
-    hosts = {row.name for place in places[:20] for row in place.rows[:20]}
-    return ["all", *sorted({place.name for place in places[:20]} | hosts)]
+    return ["all", *sorted({place.name for place in places[:20]} | set(hosts_in(inventory)))]
+
+
+def hosts_in(inventory):
+    """The names of hosts, as far as it can be read."""
+    try:
+        return sorted({row.name for place in read_inventory(inventory)[:20] for row in place.rows[:20]})
+    except Fault:
+        return []

@@ -2,11 +2,15 @@
 
 from dataclasses import dataclass
 
+from course import next_boundary
 from faults import Fault
 from fleet import Fleet
 from inventory import read_inventory
-from planning import Blocked, answer, set_aside, start
+from planning import Blocked, start
 from playbook import read_playbook
+from plays import recaps, run_plays, status_of
+from rehearsal import Rehearsal
+from rehearsal import rehearse as answers
 from rules import turned
 from sizes import cap
 from texts import limits_text, plan_text
@@ -22,11 +26,15 @@ class Said:
 
 
 def command(words, files, typed):
-    """What is said to a line of words, its files having been read; `typed` is standard input, to be read where it is needed."""
+    """What is said to a line of words, its files having been read; `typed` is standard input."""
     if not words or words[0] == "limits":
         return limits(*files)
     if words[0] == "plan":
         return plan(*files)
+    if words[0] == "run":
+        return run(*files)
+    if words[0] == "rehearse":
+        return rehearse(*files, typed)
     return refused(Fault(901, "BadLine"))
 
 
@@ -45,11 +53,30 @@ def plan(inventory, playbook):
     except Fault as fault:
         return refused(fault)
     state = start(fleet, targets[0])
-    aside = hold(fleet, plays[0], state)
-    bound = cap(plays[0].sizes, targeted(fleet, targets[0]), 0)
-    found = answer(fleet, state, bound)
-    left_out = aside and not turned("held-hosts-make-status-three")
-    return Said(plan_text(found, aside), "", 3 if isinstance(found, Blocked) or left_out else 0)
+    boundary = next_boundary(fleet, plays[0], state, cap(plays[0].sizes, targeted(fleet, targets[0]), 0))
+    left_out = boundary.aside and not turned("held-hosts-make-status-three")
+    return Said(plan_text(boundary.answer, boundary.aside), "", 3 if isinstance(boundary.answer, Blocked) or left_out else 0)
+
+
+def run(inventory, playbook):
+    """The recap of a whole run; how many are worked on at once makes no difference to it."""
+    try:
+        fleet, plays, targets = accepted(inventory, playbook)
+    except Fault as fault:
+        return refused(fault)
+    courses = run_plays(fleet, plays, targets, lambda target: targeted(fleet, target))
+    return Said(recaps(courses, len(plays) > 1), "", status_of(courses))
+
+
+def rehearse(inventory, playbook, typed):
+    """The answers to what is typed, for the first play."""
+    try:
+        fleet, plays, targets = accepted(inventory, playbook)
+    except Fault as fault:
+        return refused(fault)
+    state = start(fleet, targets[0])
+    out, fault = answers(Rehearsal(fleet, plays[0], state, targeted(fleet, targets[0])), typed)
+    return refused(fault, out) if fault else Said(out, "", 0)
 
 
 def accepted(inventory, playbook):
@@ -63,14 +90,6 @@ def accepted(inventory, playbook):
     plays = read_playbook(playbook)
     looked_up = plays[:1] if turned("patterns-of-all-plays") else plays
     return fleet, plays, [fleet.target(play.parts) for play in looked_up]
-
-
-def hold(fleet, play, state):
-    """Sets aside, in a play that holds, the hosts without room; answers their names."""
-    aside = set_aside(fleet, state) if play.hold else []
-    for host in aside:
-        state[host] = "held"
-    return aside
 
 
 def targeted(fleet, target):

@@ -7,6 +7,7 @@ from json_draw import write
 GROUPS = ["r1", "r2", "eu", "us", "web", "db", "g", "a", "Z", "r10", "_x", "g-1"]
 HOSTS = ["a", "b", "c", "d", "e", "f", "h0", "h1", "h10", "h2", "A", "a.b", "a-b", "web"]
 NAMES = ["v", "w", "tier", "flag", "x", "_n", "r", "max_down", "inventory_hostname", "a b", "down"]
+DENSE = ["v", "v", "v", "w", "w", "flag", "tier", "inventory_hostname"]
 VALUES = ["", "a", "1", "True", "true", "b c", "{{ v }}", "caf\u00e9", 0, 1, -1, 7, 2**63 - 1, True, False, None, 1.5, [], [1], Members([("k", 1)]), Raw(b"-0"), Raw(b"1.0")]
 SHARES = ["0%", "33%", "34%", "50%", "66%", "67%", "99%", "100%", "007%", "07%"]
 
@@ -24,8 +25,11 @@ def draw_inventory(random):
     return spoil(write(value, random), random)
 
 
-def draw_right(random, crossing=0.0, down=0.12, limited=0.5):
-    """An inventory as a value. With some chance a host stands in groups that cross, or more hosts are down than may be."""
+def draw_right(random, crossing=0.0, down=0.12, limited=0.5, dense=False):
+    """An inventory as a value. With some chance a host stands in groups that cross, or more hosts are down than may be.
+
+    Where it is `dense`, few variables have few values at many places, so that it shows which place wins.
+    """
     count = random.choice([0, 1, 1, 2, 2, 3, 3, 4, 5, 7])
     names = random.sample(GROUPS, count)
     above = {name: random.choice([None, *names[:place]]) for place, name in enumerate(names)}
@@ -45,7 +49,7 @@ def draw_right(random, crossing=0.0, down=0.12, limited=0.5):
 
     def body(name):
         children = Members((child, body(child)) for child in names if above[child] == name)
-        return _body(random, homes[name], children, limits.get(name), down)
+        return _body(random, homes[name], children, limits.get(name), down, dense)
 
     return _top(random, body(None))
 
@@ -54,33 +58,38 @@ def _limit(random):
     return random.choice([0, 1, 1, 1, 2, 2, 3, 4, 65_535, random.choice(SHARES), random.choice(SHARES)])
 
 
-def _body(random, hosts, children, limit, down):
+def _body(random, hosts, children, limit, down, dense):
     parts = Members()
     if hosts or random.random() < 0.1:
-        parts.append(("hosts", Members((host, _host(random, down)) for host in hosts) if hosts else random.choice([None, Members()])))
+        parts.append(("hosts", Members((host, _host(random, down, dense)) for host in hosts) if hosts else random.choice([None, Members()])))
     if children or random.random() < 0.1:
         parts.append(("children", children or random.choice([None, Members()])))
-    given = _variables(random)
+    given = Members(pair for pair in _variables(random, dense) if pair[0] != "max_down")
     if limit is not None:
-        given = Members(pair for pair in given if pair[0] != "max_down")
         given.append(("max_down", limit))
-    else:
-        given = Members(pair for pair in given if pair[0] != "max_down")
     if given or random.random() < 0.1:
         parts.append(("vars", given or random.choice([None, Members()])))
     return parts if parts or random.random() < 0.5 else None
 
 
-def _host(random, down):
-    given = Members(pair for pair in _variables(random) if pair[0] != "down")
+def _host(random, down, dense):
+    given = Members(pair for pair in _variables(random, dense) if pair[0] != "down")
     if random.random() < down:
         given.append(("down", random.random() < 0.8))
     return given if given or random.random() < 0.5 else None
 
 
-def _variables(random):
+def _variables(random, dense):
+    if dense:
+        names = _distinct(random, DENSE, random.choice([0, 1, 1, 2]))
+        return Members((name, random.choice([1, 1, "1", "a", True, 0, 2, "", "out"])) for name in names)
     names = random.sample(NAMES, random.choice([0, 0, 1, 1, 2, 3]))
     return Members((name, random.choice(VALUES)) for name in names)
+
+
+def _distinct(random, names, count):
+    """So many names drawn, each once; names that stand often are drawn often."""
+    return list(dict.fromkeys(random.sample(names, count)))
 
 
 def _top(random, body):

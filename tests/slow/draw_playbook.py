@@ -1,6 +1,5 @@
 """Drawn playbooks: plays with patterns of the names of an inventory, sizes, bounds, tasks and handlers."""
 
-from draw_conditions import draw_condition
 from draw_steps import draw_steps
 from json_draw import Members, write
 from mutate import mutate, spoil
@@ -8,10 +7,10 @@ from mutate import mutate, spoil
 SIZES = [0, 1, 1, 2, 2, 3, 4, 65_535, "0", "1", "2", "00", "0%", "1%", "30%", "34%", "50%", "67%", "99%", "100%", "007%"]
 
 
-def draw_playbook(random, names, programs):
-    """The bytes of a playbook. `names` are those of groups and hosts; `programs` draws the command of a step."""
+def draw_playbook(random, names, style):
+    """The bytes of a playbook. `names` are those of groups and hosts."""
     kind = random.random()
-    value = draw_right(random, names, programs)
+    value = draw_right(random, names, style)
     if kind < 0.5:
         return write(value, random)
     if kind < 0.93:
@@ -19,19 +18,19 @@ def draw_playbook(random, names, programs):
     return spoil(write(value, random), random)
 
 
-def draw_right(random, names, programs, condition=draw_condition, plays=None):
+def draw_right(random, names, style, plays=None):
     """A playbook as a value."""
     count = plays or random.choice([1] * 40 + [2] * 12 + [3] * 3 + [16, 17])
     if count > 3:
         return [_small(random, names) for _ in range(count)]
-    return [_play(random, names, programs, condition) for _ in range(count)]
+    return [_play(random, names, style) for _ in range(count)]
 
 
 def _small(random, names):
     return Members([("hosts", _pattern(random, names)), ("tasks", [Members([("command", "true")])])])
 
 
-def _play(random, names, programs, condition):
+def _play(random, names, style):
     play = Members([("hosts", _patterns(random, names))])
     if random.random() < 0.45:
         play.append(("serial", _sizes(random)))
@@ -42,7 +41,7 @@ def _play(random, names, programs, condition):
     for key in ("name", "gather_facts", "connection"):
         if random.random() < 0.05:
             play.append((key, random.choice([None, "x", False, 1, []])))
-    tasks, handlers = draw_steps(random, programs, condition)
+    tasks, handlers = draw_steps(random, style)
     play.append(("tasks", tasks))
     if handlers or random.random() < 0.1:
         play.append(("handlers", handlers or random.choice([None, []])))

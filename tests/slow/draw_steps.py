@@ -1,69 +1,95 @@
-"""Drawn tasks and handlers of a play."""
+"""Drawn tasks and handlers of a play. A style says how commands and conditions are drawn, and how often a step has which key."""
 
+from draw_conditions import draw_condition
 from draw_words import draw_free_form, draw_word
 from json_draw import Members
 
-REGISTERS = ["r", "q", "x", "v"]
+REGISTERS = ["r", "r", "r", "q", "x", "v"]
 HANDLERS = ["H1", "H2", "H3", ""]
 
 
-def draw_steps(random, programs, condition):
+class AnyStyle:
+    """Steps that are read and not run: any words and conditions, and now and then a key that isn't right."""
+
+    chances = {"register": 0.35, "when": 0.3, "changed_when": 0.12, "failed_when": 0.12, "ignore_errors": 0.25, "notify": 0.5}
+    wrong = 0.03
+
+    def command(self, random):
+        kind = random.random()
+        if kind < 0.5:
+            return draw_free_form(random)
+        if kind < 0.6:
+            return Members([("cmd", draw_free_form(random))])
+        words = [draw_word(random) for _ in range(random.choice([1, 1, 2, 3]))]
+        if random.random() < 0.2:
+            words.append(random.choice([0, 7, -1, 2**63 - 1]))
+        return Members([("argv", words)])
+
+    def condition(self, random, register=None):
+        return draw_condition(random)
+
+    def step(self, random):
+        """A step of its own making, or None."""
+        return None
+
+
+def draw_steps(random, style):
     """The lists of tasks and of handlers; tasks notify handlers of their play, and now and then one that isn't there."""
-    names = random.sample(HANDLERS, random.choice([0, 0, 1, 2, 3]))
-    if random.random() < 0.02:
+    names = random.sample(HANDLERS, random.choice([0, 0, 1, 2, 2, 3]))
+    if random.random() < style.wrong:
         names.append(random.choice(names or ["H1"]))
-    tasks = [_task(random, programs, condition, names) for _ in range(random.choice([1, 1, 1, 2, 2, 3, 4]))]
-    if random.random() < 0.01:
+    tasks = [_task(random, style, names) for _ in range(random.choice([1, 1, 2, 2, 3, 4]))]
+    if random.random() < style.wrong / 3:
         tasks = [tasks[0]] * (random.choice([256, 257]) - len(names))
-    handlers = [_handler(random, programs, condition, name) for name in names]
+    handlers = [_handler(random, style, name) for name in names]
     return tasks, handlers
 
 
-def _task(random, programs, condition, names):
-    step = _step(random, programs, condition)
+def _task(random, style, names):
+    step = _step(random, style)
     if random.random() < 0.1:
         step.append(("name", random.choice(["", "t", "a task"])))
-    if names and random.random() < 0.5:
-        notified = [random.choice(names) for _ in range(random.choice([0, 1, 1, 2]))]
+    if names and random.random() < style.chances["notify"]:
+        notified = [random.choice(names) for _ in range(random.choice([0, 1, 1, 2, 2]))]
         step.append(("notify", notified[0] if len(notified) == 1 and random.random() < 0.5 else notified))
-    elif random.random() < 0.02:
+    elif random.random() < style.wrong:
         step.append(("notify", random.choice(["H9", ["H9", "H8"], []])))
     return step
 
 
-def _handler(random, programs, condition, name):
-    return Members([("name", name), *_step(random, programs, condition)])
-
-
-def _step(random, programs, condition):
-    step = Members([(random.choice(["command"] * 5 + ["ansible.builtin.command"]), programs(random))])
-    if random.random() < 0.35:
-        step.append(("register", random.choice(REGISTERS)))
-    for key, chance in (("when", 0.3), ("changed_when", 0.12), ("failed_when", 0.12)):
-        if random.random() < chance:
-            step.append((key, _conditions(random, condition)))
-    if random.random() < 0.25:
-        step.append(("ignore_errors", random.random() < 0.7))
+def _handler(random, style, name):
+    step = Members([("name", name), *_step(random, style)])
+    if random.random() < style.wrong:
+        return Members(step[1:])
+    if random.random() < style.wrong:
+        step.append(("notify", name))
     return step
 
 
-def _conditions(random, condition):
+def _step(random, style):
+    made = style.step(random)
+    if made is not None:
+        return made
+    step = Members([(random.choice(["command"] * 5 + ["ansible.builtin.command"]), style.command(random))])
+    register = None
+    if random.random() < style.chances["register"]:
+        register = random.choice(REGISTERS)
+        step.append(("register", register))
+    for key in ("when", "changed_when", "failed_when"):
+        if random.random() < style.chances[key]:
+            step.append((key, _conditions(random, style, None if key == "when" else register)))
+    if random.random() < style.chances["ignore_errors"]:
+        step.append(("ignore_errors", random.random() < 0.8))
+    return step
+
+
+def _conditions(random, style, register):
     kind = random.random()
     if kind < 0.6:
-        return condition(random)
+        return style.condition(random, register)
     if kind < 0.7:
         return random.choice([True, True, False, None, []])
-    return [random.random() < 0.8 if random.random() < 0.2 else condition(random) for _ in range(random.choice([1, 2, 2, 3]))]
-
-
-def draw_command(random):
-    """Any command; it isn't run."""
-    kind = random.random()
-    if kind < 0.5:
-        return draw_free_form(random)
-    if kind < 0.6:
-        return Members([("cmd", draw_free_form(random))])
-    words = [draw_word(random) for _ in range(random.choice([1, 1, 2, 3]))]
-    if random.random() < 0.2:
-        words.append(random.choice([0, 7, -1, 2**63 - 1]))
-    return Members([("argv", words)])
+    entries = [random.random() < 0.7 if random.random() < 0.2 else style.condition(random, register) for _ in range(random.choice([1, 2, 2, 3]))]
+    if random.random() < style.wrong:
+        entries.insert(random.randint(0, len(entries)), random.choice([None, 1, [], ["true"], Members()]))
+    return entries

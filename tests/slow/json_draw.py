@@ -59,6 +59,8 @@ class _Writer:
         return first + (b",".join(between) or self.blanks()) + last
 
     def text(self, text):
+        if len(text) > 1_000 and text.isalnum():
+            return b'"' + text.encode() + b'"'
         return b'"' + b"".join(self.letter(letter) for letter in text) + b'"'
 
     def letter(self, letter):

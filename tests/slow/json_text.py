@@ -9,6 +9,7 @@ from rules import turned
 
 DEEPEST = 127
 NUMBER = re.compile(rb"-?(?:0|[1-9][0-9]*)(?P<rest>(?:\.[0-9]+)?(?:[eE][+-]?[0-9]+)?)")
+PLAIN = re.compile(rb'[^"\\\x00-\x1f]*')
 ESCAPES = {b"n": "\n", b"t": "\t", b"r": "\r", b"b": "\b", b"f": "\f", b"/": "/", b"\\": "\\", b'"': '"'}
 WORDS = {b"null": None, b"true": True, b"false": False}
 
@@ -107,18 +108,20 @@ class _Reader:
         """The text up to the closing quote; the opening one has been passed over."""
         raw = b""
         while True:
-            byte = self.text[self.at : self.at + 1]
-            self.at += 1
+            plain = PLAIN.match(self.text, self.at)
+            raw += plain[0]
+            self.at = plain.end() + 1
+            byte = self.text[plain.end() : self.at]
             if byte == b"":
                 raise NotJson
             if byte == b'"':
                 return _utf8(raw)
             if byte == b"\\":
                 raw += self.escape()
-            elif byte[0] < 0x20 and not turned("json-control-characters"):
-                raise NotJson
-            else:
+            elif turned("json-control-characters"):
                 raw += byte
+            else:
+                raise NotJson
 
     def escape(self):
         kind = self.text[self.at : self.at + 1]

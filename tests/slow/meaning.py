@@ -92,6 +92,9 @@ def _true(host, operand):
 
 
 def _operand(host, operand):
+    if isinstance(operand, tuple):
+        # A tree is an operand only where it is turned what `not` holds.
+        return evaluate(operand, host)
     return operand if isinstance(operand, (str, int)) else host.value(operand)
 
 

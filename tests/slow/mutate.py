@@ -85,20 +85,33 @@ ODD = [
     Members([("argv", ["true"])]),
     Members([("cmd", "true")]),
 ]
+TELLING = {"down", "max_down", "serial", "max_fail_percentage", "when", "name", "register", "notify", "handlers", "tasks", "vars", "hosts"}
 KEYS = ["x", "", "hosts", "children", "vars", "max_down", "down", "all", "name", "when", "notify", "tasks", "serial", "Hosts", "a", "zz", "\u00e9", "A B"]
 
 
 def mutate(value, random):
-    """The same value with one to three changes, anywhere in it."""
+    """The same value with one to three changes, anywhere in it, or two to four in one object."""
+    if random.random() < 0.45:
+        paths = [path for path in _places(value, ()) if isinstance(_part(value, path), Members)]
+        if paths:
+            return _rebuilt(value, random.choice(paths), lambda part: _much_changed(part, random))
     for _ in range(random.choice([1, 1, 1, 2, 2, 3])):
-        value = _change(value, random)
+        path = random.choice(list(_places(value, ())))
+        value = _rebuilt(value, path, lambda part: _changed(part, random))
     return value
 
 
-def _change(value, random):
-    places = list(_places(value, ()))
-    path = random.choice(places)
-    return _rebuilt(value, path, lambda part: _changed(part, random))
+def _much_changed(pairs, random):
+    for _ in range(random.choice([2, 2, 3, 4])):
+        pairs = _changed_members(pairs, random)
+    return pairs
+
+
+def _part(value, path):
+    """The part at a path."""
+    for place in path:
+        value = value[place][1] if isinstance(value, Members) else value[place]
+    return value
 
 
 def _places(value, path):
@@ -133,11 +146,12 @@ def _changed(part, random):
 
 def _changed_members(pairs, random):
     pairs = Members(pairs)
-    kind = random.choice(["add", "add", "drop", "rename", "twice", "odd"])
+    kind = random.choice(["add", "drop", "rename", "twice", "odd", "odd"])
     if kind == "add" or not pairs:
         pairs.insert(random.randint(0, len(pairs)), (random.choice(KEYS), random.choice(ODD)))
         return pairs
-    place = random.randrange(len(pairs))
+    telling = [place for place, (key, _) in enumerate(pairs) if key in TELLING]
+    place = random.choice(telling) if telling and random.random() < 0.5 else random.randrange(len(pairs))
     key, part = pairs[place]
     if kind == "drop":
         del pairs[place]

@@ -18,7 +18,8 @@ def main(words):
         files = [_read(name) for name in words[1:3]] if words else [_whole(sys.stdin.buffer, "-")]
     except Fault as fault:
         return commands.refused(fault)
-    return commands.command(words, files, sys.stdin.buffer)
+    typed = sys.stdin.buffer.read(MOST_BYTES + 1) if words[:1] == ["rehearse"] else b""
+    return commands.command(words, files, typed)
 
 
 def _read(name):

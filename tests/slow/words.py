@@ -11,6 +11,7 @@ RESERVED = {"not", "and", "or", "is", "in", "true", "false", "True", "False", "g
 FIELDS = ("rc", "stdout", "stderr", "changed", "failed", "skipped")
 NOT_PASSED_ON = ("creates=", "removes=", "chdir=", "stdin=")
 NAME = "[A-Za-z_][A-Za-z0-9_]*"
+SIGN = re.compile(r"\{\{|\}\}|\{%|\{#")
 HOLE = re.compile(rf"\{{\{{[ \t\n\r]*(?P<name>{NAME})(?:[ \t\n\r]*\.[ \t\n\r]*(?P<field>{NAME}))?[ \t\n\r]*\}}\}}")
 
 
@@ -60,23 +61,31 @@ def split(text):
 def parts(word):
     """A word as plain texts and refs; BadBraces where `{{` isn't followed by a ref and `}}`, and at `{%` and `{#`."""
     found, plain, at = [], "", 0
-    while at < len(word):
-        if word.startswith("{{", at):
-            hole = HOLE.match(word, at)
-            if not hole or not is_ref(hole["name"], hole["field"]):
+    for sign in iter(lambda: SIGN.search(word, at), None):
+        plain += word[at : sign.start()]
+        at = sign.end()
+        if sign[0] == "{{":
+            found += [plain, _ref(word, sign.start())]
+            plain, at = "", HOLE.match(word, sign.start()).end()
+        elif sign[0] == "}}":
+            if turned("lone-closing-braces"):
                 raise BadBraces
-            if turned("no-blanks-round-a-dot") and hole["field"] and not re.search(rf"{NAME}\.{NAME}", hole[0]):
-                raise BadBraces
-            found += [plain, Ref(hole["name"], hole["field"])]
-            plain, at = "", hole.end()
-        elif word.startswith(("{%", "{#"), at) and not turned("statements-in-braces"):
-            raise BadBraces
-        elif word.startswith("}}", at) and turned("lone-closing-braces"):
-            raise BadBraces
+            plain += sign[0]
+        elif turned("statements-in-braces"):
+            plain += sign[0]
         else:
-            plain += word[at]
-            at += 1
-    return [part for part in [*found, plain] if part != ""]
+            raise BadBraces
+    return [part for part in [*found, plain + word[at:]] if part != ""]
+
+
+def _ref(word, at):
+    """The ref between the braces that open at a place."""
+    hole = HOLE.match(word, at)
+    if not hole or not is_ref(hole["name"], hole["field"]):
+        raise BadBraces
+    if turned("blanks-round-a-dot") and hole["field"] and not re.search(rf"{NAME}\.{NAME}", hole[0]):
+        raise BadBraces
+    return Ref(hole["name"], hole["field"])
 
 
 def is_ref(name, field):

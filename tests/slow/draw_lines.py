@@ -1,0 +1,64 @@
+"""Drawn lines of a rehearsal: mostly advances that name hosts of the batch at hand, and undos; some that are no command."""
+
+BAD = [b"jump", b"undo x", b"Show", b"plan plan", b"show\v", b"advance\va", b"help", b"\xff", b"und", b"adv ance"]
+STRANGERS = [b"nobody", b"all", b"r1", b"\xff\xfe", b"caf\xc3\xa9", b"a\r"]
+
+
+def draw_lines(random, rehearsal):
+    """The bytes of a session. The rehearsal goes along, so that the batch at hand is known."""
+    typed = b""
+    for _ in range(random.choice([1, 3, 5, 8, 12])):
+        line = _line(random, rehearsal)
+        rehearsal.answer(line)
+        typed += line + (b"\r\n" if random.random() < 0.05 else b"\n")
+    kind = random.random()
+    if kind < 0.05:
+        return typed + b"undo\r"
+    if kind < 0.1:
+        return typed.rstrip(b"\n")
+    if kind < 0.17:
+        return typed + _long(random)
+    return typed
+
+
+def _line(random, rehearsal):
+    kind = random.random()
+    if kind < 0.45:
+        return _spaced(random, [b"advance", *_names(random, rehearsal)])
+    if kind < 0.6:
+        return _spaced(random, [b"undo"])
+    if kind < 0.72:
+        return _spaced(random, [b"plan"])
+    if kind < 0.9:
+        return _spaced(random, [b"show"])
+    if kind < 0.95:
+        return random.choice([b"", b" ", b"\t \t", b"\r", b"  "])
+    return random.choice(BAD)
+
+
+def _names(random, rehearsal):
+    """Names to fail: none or some of the plan's first batch; now and then another host, or what is no host."""
+    batches = getattr(rehearsal.stack[-1][1], "batches", None) or [[]]
+    batch = [host.encode() for host in batches[0]]
+    names = random.sample(batch, random.randint(0, len(batch))) if random.random() < 0.6 else []
+    if random.random() < 0.15 and rehearsal.fleet.hosts:
+        names += [random.choice(rehearsal.fleet.hosts).encode() for _ in range(random.choice([1, 2]))]
+    if random.random() < 0.07:
+        names.insert(random.randint(0, len(names)), random.choice(STRANGERS))
+    if names and random.random() < 0.1:
+        names.append(names[0])
+    return names
+
+
+def _spaced(random, words):
+    if random.random() < 0.9:
+        return b" ".join(words)
+    return random.choice([b"", b" ", b"\t"]) + random.choice([b"  ", b"\t", b" \t "]).join(words) + random.choice([b"", b" ", b"\t"])
+
+
+def _long(random):
+    """A line at the bound on its length, or just beyond, and one behind it."""
+    line = b"show" + b" " * (65_532 + random.choice([0, 0, 1, 2]))
+    if random.random() < 0.3:
+        line = line[:-1] + b"\r"
+    return line + random.choice([b"", b"\n", b"\nshow\n"])

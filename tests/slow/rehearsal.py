@@ -1,0 +1,128 @@
+"""A rehearsal: lines are read one after the other, and the batches of a play are advanced and undone without anything that runs."""
+
+from course import close, end_at, halting, next_boundary
+from faults import Fault
+from plays import end_line
+from rules import turned
+from sizes import cap
+from texts import as_text, listed, plan_text
+
+LONGEST_LINE = 65_536
+MOST_BYTES = 16_777_216
+
+
+class Rehearsal:
+    """A stack of states, each with the planner's answer and the end, if it has one."""
+
+    def __init__(self, fleet, play, state, targeted):
+        self.fleet, self.play, self.targeted = fleet, play, targeted
+        self.stack = []
+        self._push(dict(state), None)
+
+    def _push(self, state, end):
+        """Adds a boundary behind all that were advanced."""
+        opened = 0 if turned("later-sizes-in-a-rehearsal") else len(self.stack)
+        boundary = next_boundary(self.fleet, self.play, state, cap(self.play.sizes, self.targeted, opened), end)
+        self.stack.append((state, boundary.answer, end or end_at(state, boundary.answer)))
+
+    def answer(self, line):
+        """The lines that answer a line; nothing to one without words."""
+        words = line.replace(b"\t", b" ").split(b" ")
+        words = [word for word in words if word]
+        if not words:
+            return []
+        if words[0] == b"advance":
+            return [self.advance(words[1:])]
+        if words in ([b"undo"], [b"plan"], [b"show"]):
+            return getattr(self, words[0].decode())()
+        if turned("no-words-behind-a-command") and words[0] in (b"undo", b"plan", b"show"):
+            return getattr(self, words[0].decode())()
+        return [refused(Fault(905, "BadCommand"))]
+
+    def advance(self, names):
+        """Opens the plan's first batch and closes it, the named hosts failing at the first step."""
+        state, found, end = self.stack[-1]
+        tests = [self._unknown, self._over, self._outside]
+        if turned("unknown-before-over"):
+            tests = [self._over, self._unknown, self._outside]
+        if turned("over-before-outside"):
+            tests = [self._unknown, self._outside, self._over]
+        for test in tests:
+            fault = test(names, found, end)
+            if fault:
+                return refused(fault)
+        batch = found.batches[0]
+        failing = {host: 1 if host.encode() in names else None for host in batch}
+        halt = halting(failing, self.play)
+        if turned("a-rehearsal-may-halt"):
+            halt = None
+        after = dict(state)
+        end = close(after, batch, failing, halt, self.play.most_failed)
+        self._push(after, end)
+        return listed("advanced:", batch)
+
+    def _unknown(self, names, found, end):
+        hosts = {host.encode() for host in self.fleet.hosts}
+        if turned("groups-are-no-hosts-to-fail"):
+            hosts |= {place.name.encode() for place in self.fleet.places}
+        return next((Fault(304, "NoSuchName", name=name) for name in names if name not in hosts), None)
+
+    def _over(self, names, found, end):
+        return Fault(832, "Over") if end else None
+
+    def _outside(self, names, found, end):
+        batches = getattr(found, "batches", None) or [[]]
+        batch = {host.encode() for host in batches[0]}
+        outside = [name for name in names if name not in batch]
+        if turned("first-host-outside"):
+            outside.sort()
+        return Fault(831, "NotInBatch", host=outside[0]) if outside else None
+
+    def undo(self):
+        """Takes the last boundary back, with its end."""
+        if len(self.stack) == 1:
+            return ["nothing to undo"]
+        state, found, end = self.stack.pop()
+        if turned("undo-takes-the-end-back") and end:
+            self.stack[-1] = (*self.stack[-1][:2], end)
+        return ["undone"]
+
+    def plan(self):
+        """The plan of the state, also behind an end."""
+        _, found, end = self.stack[-1]
+        if end and turned("plan-behind-an-end"):
+            return [refused(Fault(832, "Over"))]
+        return plan_text(found).splitlines()
+
+    def show(self):
+        """The status of each host that isn't idle, and the end."""
+        state, _, end = self.stack[-1]
+        listed_too = ("idle",) if turned("idle-hosts-are-not-shown") else ()
+        lines = [f"{host} {status}" for host, status in state.items() if status != "idle" or status in listed_too]
+        return [*lines, end_line(end)]
+
+
+def refused(fault):
+    """The answer to a line that is refused."""
+    return f"refused {fault.words()}"
+
+
+def rehearse(rehearsal, typed):
+    """The answers to all lines that are typed, and the fault that ended the session, or None."""
+    out = ""
+    too_many = len(typed) > MOST_BYTES
+    *lines, last = typed[:MOST_BYTES].split(b"\n")
+    for place, line in enumerate([*lines, last]):
+        ended = place < len(lines)
+        if len(line) > LONGEST_LINE + turned("longest-line"):
+            return out, Fault(906, "LongLine")
+        if ended or not too_many:
+            out += as_text(rehearsal.answer(_without_return(line, ended)))
+    return out, Fault(903, "InputTooLarge") if too_many else None
+
+
+def _without_return(line, ended):
+    """A line without the carriage return directly before its end."""
+    if (ended or turned("carriage-return-before-its-line-end")) and not turned("carriage-returns-are-cut"):
+        return line.removesuffix(b"\r")
+    return line

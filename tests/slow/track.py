@@ -1,0 +1,113 @@
+"""One host's column: what becomes of each step of a play on it, as if no other host and no halt were there."""
+
+from dataclasses import dataclass
+
+from meaning import holds
+from programs import outcome
+from results import NOT_STARTED, SKIPPED, UNDEFINED, Result, judge
+from rules import turned
+from words import TooLong, Undefined, render
+
+
+@dataclass
+class Row:
+    """A step's number, how it was judged, and its result."""
+
+    step: int
+    judged: str
+    result: Result
+
+
+def track(play, host):
+    """The rows of a host's steps, up to the first that failed. The host keeps what was registered."""
+    rows, notified = [], []
+    if turned("notifications-end-with-the-play"):
+        notified = host.__dict__.setdefault("notified", [])
+    for step in play.tasks:
+        if not _taken(step, host, rows, notified) and not turned("failed-hosts-run-no-handlers"):
+            return rows
+        if rows[-1].judged == "failed":
+            break
+    for step in _due(play.handlers, notified):
+        if not _taken(step, host, rows, notified):
+            return rows
+    return rows
+
+
+def _due(handlers, notified):
+    """The notified handlers, once each, in the order in which they are written."""
+    if turned("handlers-as-written"):
+        first = {name: notified.index(name) for name in notified}
+        return sorted((step for step in handlers if step.name in first), key=lambda step: first[step.name])
+    if turned("handlers-once-each"):
+        return [step for step in handlers for name in notified if name == step.name]
+    if turned("handlers-only-where-notified"):
+        return handlers
+    return [step for step in handlers if step.name in notified]
+
+
+def _taken(step, host, rows, notified):
+    """Adds a step's row; whether the host goes on behind it."""
+    result, judged = judge(step, _outcome(step, host), lambda conditions, seen: _evaluated(conditions, step, host, seen))
+    rows.append(Row(step.number, judged, result))
+    if judged == "ok" and (result.changed or turned("only-changed-notifies")):
+        notified += step.notify
+    if judged == "ignored" and result.changed and turned("ignored-notifies-nobody"):
+        notified += step.notify
+    if step.register is not None:
+        _register(step, host, result, judged)
+    return judged != "failed"
+
+
+def _register(step, host, result, judged):
+    """A result takes the place of an earlier one of its name, also where the step was skipped or has failed."""
+    if judged == "skipped" and turned("skipped-results-are-registered"):
+        return
+    if judged in ("failed", "ignored") and turned("failures-are-registered"):
+        return
+    if step.register in host.results and turned("later-result-wins"):
+        return
+    host.results[step.register] = result
+
+
+def _outcome(step, host):
+    """Skipped where `when` is false, undefined where it has no value; else the first word that can't be made decides; else the program."""
+    if turned("when-before-words"):
+        unrendered = _rendered(step, host)
+        if not isinstance(unrendered, list):
+            return unrendered
+    try:
+        if step.when is not None and not holds(step.when, host):
+            return SKIPPED
+    except Undefined:
+        return SKIPPED if turned("undefined-when-fails") else UNDEFINED
+    words = _rendered(step, host)
+    return outcome(words) if isinstance(words, list) else words
+
+
+def _rendered(step, host):
+    """The words, or how the step ends for want of them."""
+    words, too_long = [], False
+    for word in step.words:
+        try:
+            words.append(render(word, host))
+        except Undefined:
+            return UNDEFINED if not turned("undefined-words-fail") else NOT_STARTED
+        except TooLong:
+            if not turned("first-word-decides"):
+                return NOT_STARTED
+            too_long = True
+    return NOT_STARTED if too_long else words
+
+
+def _evaluated(conditions, step, host, seen):
+    """The value of `changed_when` or `failed_when`, which see the result under the step's own name; None where undefined."""
+    before = dict(host.results)
+    if step.register is not None and not turned("conditions-see-their-result"):
+        host.results[step.register] = seen
+    try:
+        return holds(conditions, host)
+    except Undefined:
+        return None
+    finally:
+        host.results = before

@@ -1,0 +1,55 @@
+"""Shows that the drawn cases of the gate tell each rule from its turned one, and with which case.
+
+For each rule the slow program says with that rule turned what it says of the cases, one after the other, until it says something else than with
+all rules right. `python3 turned.py [SEED [CASES [NAME..]]]` prints a line a rule; its last line counts them.
+"""
+
+import os
+import sys
+from multiprocessing import Pool
+
+from cases import draw_case
+from gate import CASES, SEED
+from programs import Unmodelled
+from rule_list import RULES
+from rules import turn, turn_none
+
+_cases = []
+_right = []
+
+
+def main(seed, count, names):
+    # Cases are drawn with all rules right, before the first is turned; the workers take them over.
+    for number in range(count):
+        _cases.append(draw_case(seed, number))
+        _right.append(_cases[-1].said())
+    told = 0
+    with Pool(os.cpu_count()) as pool:
+        for name, number in pool.imap(_first, names):
+            told += number is not None
+            by = f"{_cases[number].kind} {number}" if number is not None else "FAILED: no case tells it"
+            print(f"{name:40} {by:15} {RULES[name]}", flush=True)
+    print(f"{told} passed, {len(names) - told} failed")
+    return 0 if told == len(names) else 1
+
+
+def _first(name):
+    """The number of the first case that tells a rule from its turned one."""
+    turn(name)
+    try:
+        return name, next((number for number, case in enumerate(_cases) if _differs(case, _right[number])), None)
+    finally:
+        turn_none()
+
+
+def _differs(case, right):
+    """Whether the turned rule shows in a case. Where it makes a program run that isn't known, nobody can say."""
+    try:
+        return case.said() != right
+    except Unmodelled:
+        return False
+
+
+if __name__ == "__main__":
+    words = sys.argv[1:]
+    sys.exit(main(words[0] if words else SEED, int(words[1]) if words[1:] else CASES, words[2:] or list(RULES)))
