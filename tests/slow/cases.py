@@ -60,11 +60,11 @@ def draw_case(seed, number):
     """The case of this number; the same seed and number always draw the same one."""
     random = Random(f"{seed}/{number}")
     kind = random.random()
-    if kind < 0.25:
+    if kind < 0.22:
         return _limits(random)
     if kind < 0.6:
         return _plan(random)
-    return _run(random) if kind < 0.8 else _rehearse(random)
+    return _run(random) if kind < 0.85 else _rehearse(random)
 
 
 def _limits(random):
@@ -79,7 +79,7 @@ def _limits(random):
 
 def _plan(random):
     inventory = draw_inventory(random) if random.random() < 0.3 else write(draw_right_inventory(random, crossing=0.02, down=0.08), random)
-    playbook = draw_playbook(random, names_in(inventory), AnyStyle())
+    playbook = draw_playbook(random, names_in(inventory), AnyStyle(random.choice([0, 0, 0.02, 0.02, 0.2])))
     case = Case(("plan", INVENTORY, PLAYBOOK), inventory, playbook)
     if random.random() < 0.02:
         missing = [random.choice([INVENTORY, random.choice(MISSING)]), random.choice(MISSING)]

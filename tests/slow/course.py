@@ -29,10 +29,10 @@ class Course:
     counts: dict = field(default_factory=dict)
 
 
-def run_play(fleet, play, state, hosts, targeted):
-    """A whole play from a state; `targeted` is the number of which sizes in percent are taken."""
+def run_play(fleet, play, state, hosts, targeted, opened=0):
+    """A whole play from a state; `targeted` is the number of which sizes in percent are taken, `opened` the first size."""
     course = Course(state=state, counts={host: dict.fromkeys(COUNTED, 0) for host in fleet.hosts})
-    opened, end = 0, None
+    end = None
     while True:
         boundary = next_boundary(fleet, play, state, cap(play.sizes, targeted, opened), end)
         course.boundaries.append(boundary)
@@ -125,12 +125,8 @@ def _count(counts, tracks, halt):
         for row in rows:
             if halt is not None and row.step > halt[0] and not turned("counts-up-to-the-halt"):
                 break
-            counts[host][_judged(row)] += 1
+            counts[host][row.judged] += 1
             if row.judged == "ignored":
                 counts[host]["ok"] += not turned("ignored-counts-as-ok")
             if row.judged in ("ok", "ignored") and row.result.changed:
                 counts[host]["changed"] += not (row.judged == "ignored" and turned("ignored-counts-as-changed"))
-
-
-def _judged(row):
-    return row.judged

@@ -4,16 +4,16 @@ from words import FIELDS
 
 REFS = ["v", "w", "tier", "flag", "x", "_n", "r", "q", "inventory_hostname", "failed"]
 TEXTS = ["", "a", "b", "1", "True", "true", "eu", "r1", "web", "all", "g", "caf\u00e9", "b c", "it's"]
-NUMBERS = ["0", "1", "-1", "7", "007", "-0", "3", "9223372036854775807", "-9223372036854775808", "9223372036854775808", "-9223372036854775809"]
-ODD = ["$", "=", "!", "-", "'a", '"', "'a\\n'", "is", "not", "in", "and", "or", "(", ")", ".", "==", "rc", "group_names", "true", "5", "'t'", "\u00e9", "{{", "5ab", "1-2", "\v", "defined", "inventory_hostname"]
+NUMBERS = ["0", "1", "-1", "7", "007", "-0", "3", "9223372036854775807", "-9223372036854775808"]
+ODD = ["9223372036854775808", "-9223372036854775809", "$", "=", "!", "-", "'a", '"', "'a\\n'", "'\\'", '"b\\"', "is", "not", "in", "and", "or", "(", ")", ".", "==", "rc", "group_names", "true", "5", "'t'", "\u00e9", "{{", "5ab", "1-2", "\v", "defined", "inventory_hostname"]
 
 
 def draw_condition(random, names=REFS, safe=False):
     """The text of a condition; where `safe`, one of the grammar and not the longest."""
     kind = random.random()
-    if safe or kind < 0.92:
+    if safe or kind < 0.9:
         return _joined(_any(random, names, random.choice([0, 1, 1, 2, 3])), random, safe)
-    if kind < 0.985:
+    if kind < 0.97:
         return _joined(_odd(_any(random, names, random.choice([0, 1, 2])), random), random, safe)
     return _greatest(random)
 
@@ -51,7 +51,7 @@ def _operand(random, names):
     if kind == "text":
         return [_text(random)]
     if kind == "number":
-        return [random.choice(NUMBERS[:-2] if random.random() < 0.95 else NUMBERS)]
+        return [random.choice(NUMBERS)]
     return [random.choice(["true", "false", "True", "False"])]
 
 
@@ -98,7 +98,7 @@ def _joined(tokens, random, safe):
 def _greatest(random):
     """Depths and lengths at the bound, and just beyond it."""
     more = random.choice([0, 0, 1, 2])
-    kind = random.choice(["brackets", "not", "both", "chain", "long", "beside"])
+    kind = random.choice(["brackets", "not", "both", "chain", "long", "long", "beside"])
     if kind == "brackets":
         return "(" * (32 + more) + "true" + ")" * (32 + more)
     if kind == "not":
@@ -109,4 +109,4 @@ def _greatest(random):
         return "true or " * 500 + "true"
     if kind == "beside":
         return " and ".join(["(not (v is not defined))"] * 40)
-    return " " * (4_092 + more) + random.choice(["true", "(tru"])
+    return " " * (4_092 + random.choice([0, 1, 1, 2])) + random.choice(["true", "(tru"])

@@ -1,9 +1,15 @@
 """Drawn playbooks: plays with patterns of the names of an inventory, sizes, bounds, tasks and handlers."""
 
 from draw_steps import draw_steps
-from json_draw import Members, write
+from json_draw import Members, Raw, write
 from mutate import mutate, spoil
 
+WRONG = {
+    "hosts": [None, [], "", " ,:", ["all", 1], 1],
+    "serial": [None, -1, 65_536, "65536", "000003", "000003", "000000", "", "0007%", "101%", "x", Raw(b"-0"), Raw(b"2.0"), [], [1, -1], ["1", []], [1] * 65, [-1] * 65, True],
+    "max_fail_percentage": [None, -1, 101, "50", Raw(b"1.0"), True],
+    "on_blocked": [None, "wait", True, "Hold"],
+}
 SIZES = [0, 1, 1, 2, 2, 3, 4, 65_535, "0", "1", "2", "00", "0%", "1%", "30%", "34%", "50%", "67%", "99%", "100%", "007%"]
 
 
@@ -32,19 +38,33 @@ def _small(random, names):
 
 def _play(random, names, style):
     play = Members([("hosts", _patterns(random, names))])
-    if random.random() < 0.45:
+    if random.random() < 0.4:
         play.append(("serial", _sizes(random)))
-    if random.random() < 0.35:
+    if random.random() < 0.4:
         play.append(("max_fail_percentage", random.choice([0, 1, 20, 25, 33, 34, 49, 50, 66, 75, 99, 100])))
     if random.random() < 0.3:
         play.append(("on_blocked", random.choice(["hold", "hold", "hold", "stop"])))
+    play = _made_wrong(random, style, play)
     for key in ("name", "gather_facts", "connection"):
         if random.random() < 0.05:
             play.append((key, random.choice([None, "x", False, 1, []])))
     tasks, handlers = draw_steps(random, style)
-    play.append(("tasks", tasks))
-    if handlers or random.random() < 0.1:
+    spoiled = random.random() < style.wrong / 2
+    play.append(("tasks", random.choice([None, [], "x"]) if spoiled else tasks))
+    if random.random() < (0.5 if spoiled else style.wrong / 4):
+        play.append(("handlers", random.choice(["x", Members(), 0])))
+    elif handlers or random.random() < 0.1:
         play.append(("handlers", handlers or random.choice([None, []])))
+    return play
+
+
+def _made_wrong(random, style, play):
+    """The same play, in which keys have a wrong value or an unknown one stands beside them."""
+    for key in random.sample(list(WRONG), random.choice([1, 2])) if random.random() < style.wrong else []:
+        play = Members(pair for pair in play if pair[0] != key)
+        play.append((key, random.choice(WRONG[key])))
+    if random.random() < style.wrong / 3:
+        play += [(key, None) for key in random.sample(["roles", "vars", "strategy", "order"], 2)]
     return play
 
 

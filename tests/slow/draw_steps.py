@@ -5,6 +5,16 @@ from draw_words import draw_free_form, draw_word
 from json_draw import Members
 
 REGISTERS = ["r", "r", "r", "q", "x", "v"]
+WRONG = {
+    "name": [None, 1, []],
+    "command": [None, [], "", "it's", Members(), Members([("argv", [])]), Members([("argv", ["a", None])]), Members([("argv", ["a"]), ("chdir", "/")]), Members([("cmd", 1)]), "{{ v | x }}", "echo {{ v creates=x", "creates=x"],
+    "register": [None, "", "is", "true", "inventory_hostname", "1x", "a-b", "caf\u00e9", "group_names", 1],
+    "when": [1, Members(), "a b", [1], ["a b", 1]],
+    "changed_when": [0, Members(), "$", ["is"]],
+    "failed_when": [1.5, Members(), "(true", ["or"]],
+    "ignore_errors": [None, "yes", 1],
+    "notify": [None, 1, ["H1", None], Members()],
+}
 HANDLERS = ["H1", "H2", "H3", ""]
 
 
@@ -12,10 +22,16 @@ class AnyStyle:
     """Steps that are read and not run: any words and conditions, and now and then a key that isn't right."""
 
     chances = {"register": 0.35, "when": 0.3, "changed_when": 0.12, "failed_when": 0.12, "ignore_errors": 0.25, "notify": 0.5}
-    wrong = 0.03
+
+    def __init__(self, wrong):
+        self.wrong = wrong
+        # The names that the steps drawn so far register.
+        self.known = []
 
     def command(self, random):
         kind = random.random()
+        if random.random() < self.wrong / 2:
+            return random.choice(WRONG["command"])
         if kind < 0.5:
             return draw_free_form(random)
         if kind < 0.6:
@@ -39,7 +55,7 @@ def draw_steps(random, style):
     if random.random() < style.wrong:
         names.append(random.choice(names or ["H1"]))
     tasks = [_task(random, style, names) for _ in range(random.choice([1, 1, 2, 2, 3, 4]))]
-    if random.random() < style.wrong / 3:
+    if 0 < style.wrong < 0.1 and random.random() < 0.03:
         tasks = [tasks[0]] * (random.choice([256, 257]) - len(names))
     handlers = [_handler(random, style, name) for name in names]
     return tasks, handlers
@@ -60,7 +76,7 @@ def _task(random, style, names):
 def _handler(random, style, name):
     step = Members([("name", name), *_step(random, style)])
     if random.random() < style.wrong:
-        return Members(step[1:])
+        step = Members(step[1:])
     if random.random() < style.wrong:
         step.append(("notify", name))
     return step
@@ -69,6 +85,7 @@ def _handler(random, style, name):
 def _step(random, style):
     made = style.step(random)
     if made is not None:
+        style.known.append("r")
         return made
     step = Members([(random.choice(["command"] * 5 + ["ansible.builtin.command"]), style.command(random))])
     register = None
@@ -78,8 +95,23 @@ def _step(random, style):
     for key in ("when", "changed_when", "failed_when"):
         if random.random() < style.chances[key]:
             step.append((key, _conditions(random, style, None if key == "when" else register)))
+    if register is not None:
+        style.known.append(register)
     if random.random() < style.chances["ignore_errors"]:
         step.append(("ignore_errors", random.random() < 0.8))
+    return _made_wrong(random, style, step)
+
+
+def _made_wrong(random, style, step):
+    """The same step, in which keys have a wrong value, stand beside an unknown one, or command has both its forms."""
+    keys = [key for key in WRONG if key != "command"]
+    for key in random.sample(keys, 2) if random.random() < style.wrong else []:
+        step = Members(pair for pair in step if pair[0] != key)
+        step.append((key, random.choice(WRONG[key])))
+    if random.random() < style.wrong / 2:
+        step.append((random.choice(["shell", "args", "x", "become"]), None))
+    if random.random() < style.wrong / 2:
+        step.append((random.choice([key for key in ("command", "ansible.builtin.command") if key not in step.names()]), "true"))
     return step
 
 

@@ -7,12 +7,13 @@ from words import Undefined
 
 def holds(conditions, host):
     """Whether all of several conditions hold, from the first on; what isn't evaluated can't be undefined."""
-    found = [True]
+    stop = turned("lists-joined-by-and")
+    found = []
     for tree in conditions:
         found.append(evaluate(tree, host))
-        if not found[-1] and not turned("lists-end-early"):
-            return False
-    return any(found[1:]) or len(found) == 1 if turned("lists-joined-by-and") else all(found)
+        if found[-1] == stop and not turned("lists-end-early"):
+            break
+    return stop if stop in found else not stop
 
 
 def evaluate(tree, host):

@@ -18,10 +18,25 @@ def run_plays(fleet, plays, targets, counted):
         if turned("results-last-into-later-plays"):
             for host in hosts.values():
                 host.results = {}
-        courses.append(run_play(fleet, play, state, hosts, counted(target)))
+        courses.append(run_play(fleet, play, state, hosts, counted(target), _opened_before(courses)))
+        if len(courses) > 1 and turned("counts-of-the-play-alone"):
+            _add_counts(courses[-2], courses[-1])
         if courses[-1].end != ("finished",) and not turned("only-finished-plays-go-on"):
             break
     return courses
+
+
+def _opened_before(courses):
+    """How many batches a play's sizes have behind them when it begins: none, whatever earlier plays opened."""
+    opened = [boundary for course in courses for boundary in course.boundaries if boundary.opened]
+    return len(opened) if turned("sizes-begin-anew") else 0
+
+
+def _add_counts(earlier, later):
+    """The turned rule: what earlier plays counted is counted again."""
+    for host, counts in later.counts.items():
+        for name in counts:
+            counts[name] += earlier.counts[host][name]
 
 
 def restart(before, target):

@@ -71,8 +71,7 @@ def _replaced(step, before, evaluated, undefined):
     if step.changed_when is not None and not (turned("changed-when-of-failures") and before.failed):
         changed = evaluated(step.changed_when, before)
         if changed is None:
-            kept = False if turned("undefined-changed-stays") else before.changed
-            return replace(result, changed=kept, failed=not turned("undefined-changed-when-fails")), True
+            return replace(result, failed=not turned("undefined-changed-when-fails")), True
         result = replace(result, changed=changed)
     if step.failed_when is not None:
         failed = evaluated(step.failed_when, result if turned("failed-when-sees-the-table") else before)
