@@ -1,13 +1,43 @@
 #!/bin/sh
-# Draws cases from a seed and compares what the built program says of each with what the slow program of tests/slow says: both outputs, whole, and
-# the exit status. A case that differs is made smaller and printed as its files and a command. `SEED=7 CASES=30000 sh tests/drawn.sh`; ROLLOUT is
-# another program than that of crates/rollout/out.
+# Compares the built program with the slow program of tests/slow: both outputs, whole, and the exit status, on worked rows, on cases that are drawn
+# from a seed, and on the greatest inputs. A case that differs is made smaller and printed as its files and a command. Of a command that the program
+# doesn't have yet no case is tried. `SEED=7 CASES=30000 sh tests/drawn.sh` draws others; ROLLOUT is another program than that of crates/rollout/out.
 set -u
 top=$(cd "$(dirname "$0")/.." && pwd)
 rollout=${ROLLOUT:-$top/crates/rollout/out/rollout}
+work=$(mktemp -d)
+trap 'rm -rf "$work"' EXIT
+passed=0
+failed=0
+
 if [ ! -x "$rollout" ]; then
     echo "FAILED: $rollout isn't built: make builds it"
     echo '0 passed, 1 failed'
     exit 1
 fi
-exec python3 "$top/tests/slow/drawn.py" "$rollout" "${SEED:-1}" "${CASES:-3000}"
+
+# counted SCRIPT WORDS: runs a script of tests/slow whose last line is its count, and adds that.
+counted() {
+    script=$1
+    shift
+    {
+        python3 "$top/tests/slow/$script.py" "$@"
+        echo $? >"$work/status"
+    } >"$work/output"
+    counts=$(tail -n 1 "$work/output" | sed -n 's/^\([0-9]*\) passed, \([0-9]*\) failed$/\1 \2/p')
+    sed '$d' "$work/output"
+    # Ending otherwise than by its count, or failing beside it, is a failure.
+    set -- ${counts:-0 1}
+    more=$2
+    [ "$more" -eq 0 ] && [ "$(cat "$work/status")" -ne 0 ] && more=1
+    echo "$script: $1 passed, $more failed"
+    passed=$((passed + $1))
+    failed=$((failed + more))
+}
+
+# The slow program by itself, and then beside the built one.
+counted rows
+counted leasts
+counted drawn "$rollout" "${SEED:-}" "${CASES:-}"
+echo "$passed passed, $failed failed"
+[ "$failed" -eq 0 ]

@@ -3,7 +3,7 @@
 import subprocess
 from pathlib import Path
 
-from cases import INVENTORY, PLAYBOOK
+from cases import INVENTORY, PLAYBOOK, Case
 from commands import Said
 
 LONGEST_RUN = 60
@@ -27,8 +27,6 @@ def _text(raw):
 
 def knows(program, kind, folder):
     """Whether the program has a command: a line of it is answered by something else than that it is none."""
-    words = {"limits": ("limits", INVENTORY), "plan": ("plan", INVENTORY, PLAYBOOK)}.get(kind, (kind, INVENTORY, PLAYBOOK))
+    words = (kind, INVENTORY) if kind == "limits" else (kind, INVENTORY, PLAYBOOK)
     # The inventory is refused, so that nothing is started.
-    from cases import Case
-
     return not call(program, Case(words, b"[]"), folder).errors.startswith("rollout: 901 ")

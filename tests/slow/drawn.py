@@ -1,6 +1,6 @@
 """Draws cases from a seed, has both programs say what they say of each, and tells where they differ.
 
-`python3 drawn.py PROGRAM SEED CASES` prints each case that differs, made smaller, as two files and a command; its last line counts.
+`python3 drawn.py PROGRAM [SEED [CASES]]` prints each case that differs, made smaller, as two files and a command; its last line counts.
 """
 
 import os
@@ -10,7 +10,10 @@ from multiprocessing import Pool
 from pathlib import Path
 
 from built import call, knows
-from cases import INVENTORY, KINDS, PLAYBOOK, draw_case
+from cases import KINDS, draw_case
+from gate import CASES, SEED
+from generate import keep
+from programs import Unmodelled
 from shrink import smallest
 
 MOST_SHOWN = 20
@@ -43,27 +46,24 @@ def _try(work):
     if case.kind not in known:
         return number, None
     with tempfile.TemporaryDirectory() as folder:
-        if not _differs(program, case, folder):
-            return number, ""
-        small = smallest(case, lambda smaller: _differs(program, smaller, folder))
-        return number, shown(program, small, folder, f"{seed}-{number}")
+        for variant in case.variants():
+            if _differs(program, variant, folder):
+                small = smallest(variant, lambda smaller: _differs(program, smaller, folder))
+                return number, shown(program, small, folder, f"{seed}-{number}")
+    return number, ""
 
 
 def _differs(program, case, folder):
-    return call(program, case, folder) != case.said()
+    """Whether the programs say something else. A smaller case whose programs aren't known doesn't count."""
+    try:
+        return call(program, case, folder) != case.said()
+    except Unmodelled:
+        return False
 
 
 def shown(program, case, folder, name):
-    """The files of a case, kept in a folder of their own, the command, and both answers."""
-    kept = Path(tempfile.gettempdir()) / f"drawn-{name}"
-    kept.mkdir(exist_ok=True)
-    (kept / INVENTORY).write_bytes(case.inventory)
-    (kept / PLAYBOOK).write_bytes(case.playbook)
-    typed = "/dev/null"
-    if case.typed:
-        (kept / "typed").write_bytes(case.typed)
-        typed = "typed"
-    lines = [f"cd {kept} && {program} {' '.join(map(repr, case.words))} <{typed}"]
+    """The command of a case, whose files are kept in a folder of their own, and both answers."""
+    lines = [keep(case, Path(tempfile.gettempdir()) / f"drawn-{name}", program)]
     for label, said in (("slow", case.said()), ("built", call(program, case, folder))):
         lines += [f"  {label}: status {said.status}"]
         lines += [f"    {line[:300]}" for line in (said.out + said.errors).splitlines()[:12]]
@@ -71,4 +71,5 @@ def shown(program, case, folder, name):
 
 
 if __name__ == "__main__":
-    sys.exit(main(sys.argv[1], sys.argv[2], int(sys.argv[3])))
+    words = [*sys.argv[1:], "", ""]
+    sys.exit(main(words[0], words[1] or SEED, int(words[2] or CASES)))
