@@ -54,11 +54,12 @@ def _try(work):
 
 
 def _differs(program, case, folder):
-    """Whether the programs say something else. A smaller case whose programs aren't known doesn't count."""
+    """Whether the programs say something else. A smaller case whose programs aren't known is not tried: nobody knows what they would do."""
     try:
-        return call(program, case, folder) != case.said()
+        said = case.said()
     except Unmodelled:
         return False
+    return call(program, case, folder) != said
 
 
 def shown(program, case, folder, name):

@@ -181,6 +181,9 @@ def _changed_list(entries, random):
 
 
 def _changed_text(text, random):
+    if "kill" in text:
+        # Another number behind it would be another process.
+        return text
     at = random.randint(0, len(text))
     return text[:at] + random.choice([" ", "'", '"', "\\", "{{", "}}", "{%", ":", ",", ".", "\u00e9", "\v", "x", "\n", "0"]) + text[at:]
 

@@ -1,75 +1,88 @@
-"""Makes a case that differs smaller, as long as it still differs: members and entries go first, then bytes."""
+"""Makes a case that differs smaller, as long as it still differs: runs of members and entries go first, then bytes.
+
+Texts are never cut within a quoted word where programs are run, so that no other program than a drawn one is ever started.
+"""
 
 from dataclasses import replace
 
-MOST_TRIED = 3_000
+MOST_TRIED = 1_500
+LONGEST_CUT = 2_000
 
 
 def smallest(case, differs):
-    """A case that differs and from which no single part can be taken."""
-    left = [MOST_TRIED]
-
-    def tried(smaller):
-        left[0] -= 1
-        return left[0] >= 0 and differs(smaller)
-
+    """A case that differs and from which no single part can be taken, as far as so many tries go."""
+    shrinker = _Shrinker(differs)
     for part in ("typed", "playbook", "inventory"):
-        case = _shrunk(case, part, tried)
+        case = shrinker.shrunk(case, part)
     return case
 
 
-def _shrunk(case, part, differs):
-    """The same case with one of its texts made smaller."""
+class _Shrinker:
+    def __init__(self, differs):
+        self.differs = differs
+        self.left = MOST_TRIED
 
-    def still(text):
-        return differs(replace(case, **{part: text}))
+    def shrunk(self, case, part):
+        """The same case with one of its texts made smaller."""
 
-    text = getattr(case, part)
-    if text and still(b""):
-        return replace(case, **{part: b""})
-    for pieces in (_json_pieces, _byte_pieces):
-        text = _without_pieces(text, pieces, still)
-    return replace(case, **{part: text})
+        def still(text):
+            self.left -= 1
+            return self.left >= 0 and self.differs(replace(case, **{part: text}))
 
+        text = getattr(case, part)
+        if text and still(b""):
+            return replace(case, **{part: b""})
+        text = self.without(text, _members, _cut_member, still)
+        if case.kind != "run":
+            text = self.without(text, _runs_of_bytes, lambda text, first, last: [text[:first] + text[last:]], still)
+        return replace(case, **{part: text})
 
-def _without_pieces(text, pieces, still):
-    again = True
-    while again:
-        again = False
-        for smaller in pieces(text):
-            if len(smaller) < len(text) and still(smaller):
-                text, again = smaller, True
-                break
-    return text
-
-
-def _byte_pieces(text):
-    """The text without a run of bytes, long runs first."""
-    size = len(text) // 2
-    while size:
-        for at in range(0, len(text), size):
-            yield text[:at] + text[at + size :]
-        size //= 2
-
-
-def _json_pieces(text):
-    """The text without one member or entry, or with a part in the place of the whole."""
-    spans = _spans(text)
-    for first, last in sorted(spans, key=lambda span: span[0] - span[1]):
-        before, behind = text[:first].rstrip(), text[last:].lstrip()
-        if behind.startswith(b","):
-            yield before + behind[1:]
-        elif before.endswith(b","):
-            yield before[:-1] + behind
-        else:
-            yield before + behind
-        yield text[:first] + b"null" + text[last:]
+    def without(self, text, spans_of, cut, still):
+        """The text without all pieces that it can do without, until none is left that can go."""
+        before = None
+        while text != before and self.left > 0:
+            before, spans, place = text, spans_of(text), 0
+            while place < len(spans) and self.left > 0:
+                smaller = next((piece for piece in cut(text, *spans[place]) if len(piece) < len(text) and still(piece)), None)
+                if smaller is None:
+                    place += 1
+                else:
+                    # Behind a piece that went the next one has its place.
+                    text, spans = smaller, spans_of(smaller)
+        return text
 
 
-def _spans(text):
-    """The places of what stands between commas and brackets, found by the signs alone, so that text that is no JSON has some too."""
-    found, open_at, at, quoted = [], [], 0, False
-    starts = []
+def _runs_of_bytes(text):
+    """The places of runs of bytes, long runs first; none in a long text."""
+    if len(text) > LONGEST_CUT:
+        return []
+    sizes = [len(text) >> shift for shift in range(1, len(text).bit_length())]
+    return [(at, at + size) for size in sizes for at in range(0, len(text), size)]
+
+
+def _cut_member(text, first, last):
+    """The text without what stands between two places and a comma beside it, or with null there."""
+    before, behind = text[:first].rstrip(), text[last:].lstrip()
+    if behind.startswith(b","):
+        yield before + behind[1:]
+    else:
+        yield before.removesuffix(b",") + behind
+    yield text[:first] + b"null" + text[last:]
+
+
+def _members(text):
+    """The places of members and entries, and of runs of them in one object or list; long ones first."""
+    spans = set()
+    for entries in _siblings(text):
+        for shift in range(len(entries).bit_length()):
+            size = len(entries) >> shift
+            spans.update((entries[at][0], entries[at + size - 1][1]) for at in range(0, len(entries) - size + 1, size))
+    return sorted(spans, key=lambda span: (span[0] - span[1], span))
+
+
+def _siblings(text):
+    """For each bracket the places of what stands between its commas, found by the signs alone, so that text that is no JSON has some too."""
+    found, open_now, at, quoted = [], [], 0, False
     while at < len(text):
         sign = text[at : at + 1]
         if quoted:
@@ -78,13 +91,13 @@ def _spans(text):
         elif sign == b'"':
             quoted = True
         elif sign in (b"{", b"["):
-            open_at.append(at)
-            starts.append(at + 1)
-        elif sign in (b"}", b"]", b",") and starts:
-            found.append((starts[-1], at))
-            starts[-1] = at + 1
-            if sign != b",":
-                starts.pop()
-                found.append((open_at.pop(), at + 1))
+            open_now.append((at + 1, []))
+        elif sign in (b"}", b"]", b",") and open_now:
+            first, entries = open_now.pop()
+            entries.append((first, at))
+            if sign == b",":
+                open_now.append((at + 1, entries))
+            else:
+                found.append(entries)
         at += 1
     return found
