@@ -50,12 +50,14 @@ impl<'f, R: Runner> Front<'f, R> {
     }
 
     /// Works on the present step of the board until each host on which it is due has reported it, with the workers of the pool.
-    pub fn step<L: Ledger, H: Wait>(
+    pub fn step<'b, L: Ledger, H: Wait>(
         &mut self,
         rt: &H,
         alloc: Global,
-        board: Board<'f, R, L>,
-    ) -> Result<Board<'f, R, L>, (StepFault, Board<'f, R, L>)>
+        board: Board<'b, R, L>,
+    ) -> Result<Board<'b, R, L>, (StepFault, Board<'b, R, L>)>
+    where
+        'f: 'b,
         requires forks { self.old.forks ≡ board.kernel.forks }
         requires tallies { board.tallies ≡ 0 }
         ensures done { IfOk result IsStepDone }
@@ -70,7 +72,9 @@ impl<'f, R: Runner> Front<'f, R> {
     }
 
     /// Until nothing is left to put, and each ticket that was put has come back.
-    fn go_on<L: Ledger, H: Wait>(&mut self, rt: &H, alloc: Global, step: &mut Step<'f, R, L>)
+    fn go_on<'b, L: Ledger, H: Wait>(&mut self, rt: &H, alloc: Global, step: &mut Step<'b, R, L>)
+    where
+        'f: 'b,
         ensures board { GoesOn step.old.board step.new.board }
         ensures at { step.new.at ≤ step.old.at }
         ensures forks { self.new.forks ≡ self.old.forks }
@@ -83,7 +87,14 @@ impl<'f, R: Runner> Front<'f, R> {
     }
 
     /// Puts what can be put, and enters one reply. False is told where none is to come.
-    fn turn<L: Ledger, H: Wait>(&mut self, rt: &H, alloc: Global, step: &mut Step<'f, R, L>) -> bool
+    fn turn<'b, L: Ledger, H: Wait>(
+        &mut self,
+        rt: &H,
+        alloc: Global,
+        step: &mut Step<'b, R, L>,
+    ) -> bool
+    where
+        'f: 'b,
         ensures board { GoesOn step.old.board step.new.board }
         ensures at { step.new.at ≤ step.old.at }
         ensures forks { self.new.forks ≡ self.old.forks }
@@ -99,7 +110,7 @@ impl<'f, R: Runner> Front<'f, R> {
     }
 
     /// Puts a ticket for each host that can be claimed now.
-    fn give_out<L: Ledger, H: Wait>(&mut self, rt: &H, alloc: Global, step: &mut Step<'f, R, L>)
+    fn give_out<L: Ledger, H: Wait>(&mut self, rt: &H, alloc: Global, step: &mut Step<'_, R, L>)
         ensures board { GoesOn step.old.board step.new.board }
         ensures at { step.new.at ≤ step.old.at }
         ensures forks { self.new.forks ≡ self.old.forks }
@@ -116,7 +127,7 @@ impl<'f, R: Runner> Front<'f, R> {
         &mut self,
         rt: &H,
         alloc: Global,
-        step: &mut Step<'f, R, L>,
+        step: &mut Step<'_, R, L>,
     ) -> bool
         ensures board { GoesOn step.old.board step.new.board }
         ensures at { step.new.at ≤ step.old.at }
@@ -133,7 +144,7 @@ impl<'f, R: Runner> Front<'f, R> {
     }
 
     /// The line has room for as many tickets as may be out.
-    fn put<L: Ledger, H: Wait>(&mut self, rt: &H, step: &mut Step<'f, R, L>, ticket: Ticket)
+    fn put<L: Ledger, H: Wait>(&mut self, rt: &H, step: &mut Step<'_, R, L>, ticket: Ticket)
         ensures board { GoesOn step.old.board step.new.board }
         ensures at { step.new.at ≤ step.old.at }
         ensures forks { self.new.forks ≡ self.old.forks }
@@ -145,7 +156,9 @@ impl<'f, R: Runner> Front<'f, R> {
     }
 
     /// Waits for a reply, and enters it. False is told where no worker is left to reply: the tickets that are left come back.
-    fn receive<L: Ledger, H: Wait>(&mut self, rt: &H, step: &mut Step<'f, R, L>) -> bool
+    fn receive<'b, L: Ledger, H: Wait>(&mut self, rt: &H, step: &mut Step<'b, R, L>) -> bool
+    where
+        'f: 'b,
         ensures board { GoesOn step.old.board step.new.board }
         ensures at { step.new.at ≤ step.old.at }
         ensures forks { self.new.forks ≡ self.old.forks }
@@ -163,7 +176,7 @@ impl<'f, R: Runner> Front<'f, R> {
     }
 
     /// Takes the tickets back that no worker has taken.
-    fn call_back<L: Ledger, H: Wait>(&mut self, rt: &H, step: &mut Step<'f, R, L>)
+    fn call_back<L: Ledger, H: Wait>(&mut self, rt: &H, step: &mut Step<'_, R, L>)
         ensures board { GoesOn step.old.board step.new.board }
         ensures at { step.new.at ≤ step.old.at }
         ensures forks { self.new.forks ≡ self.old.forks }

@@ -84,13 +84,30 @@ fn with_workers<
                 let started = scope.spawn(move || serve(rt, alloc, end, runner));
                 missing |= started.is_err();
             }
-            let answer = front.step(rt, alloc, board);
+            let answer = step_alone(rt, alloc, &mut front, board);
             if missing {
                 return Err((StepFault::Mem, board_of(answer)));
             }
             answer
         },
     )
+}
+
+/// A step on a board that lives as long as the pool.
+fn step_alone<'f, R: Runner, L: Ledger, H: Wait>(
+    rt: &H,
+    alloc: Global,
+    front: &mut Front<'f, R>,
+    board: Board<'f, R, L>,
+) -> Result<Board<'f, R, L>, (StepFault, Board<'f, R, L>)>
+    requires forks { front.old.forks ≡ board.kernel.forks }
+    requires tallies { board.tallies ≡ 0 }
+    ensures done { IfOk result IsStepDone }
+    ensures fault { IfErr result (λ refused. IsFaultOf front.old.forks refused.1 refused.0) }
+    ensures continues { Continues board.entry (board_in result) }
+    ensures rest { IsAtRest (board_in result) }
+{
+    front.step(rt, alloc, board)
 }
 
 /// The board, whichever way the step ended.

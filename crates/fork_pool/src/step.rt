@@ -13,8 +13,8 @@ use std::alloc::Global;
 use std::sync::ledger::Ledger;
 
 /// A board on whose step workers are at work, and what went wrong until now. One tally counts its reports: the coordinator makes them all.
-pub(crate) struct Step<'f, R: Runner, L: Ledger> {
-    board: Board<'f, R, L>,
+pub(crate) struct Step<'b, R: Runner, L: Ledger> {
+    board: Board<'b, R, L>,
     tally: Tally<L>,
     forks: usize,
     /// How many tickets are in the line or with workers.
@@ -39,8 +39,8 @@ pub(crate) enum Given {
     Ticket(Ticket),
 }
 
-impl<'f, R: Runner, L: Ledger> Step<'f, R, L> {
-    pub(crate) fn begin(mut board: Board<'f, R, L>, forks: usize) -> Step<'f, R, L>
+impl<'b, R: Runner, L: Ledger> Step<'b, R, L> {
+    pub(crate) fn begin(mut board: Board<'b, R, L>, forks: usize) -> Step<'b, R, L>
         requires some { 0 < forks }
         requires few { board.tallies ≡ 0 }
         ensures board { result.board ≡ record board.entry { tallies = 1 } }
@@ -87,7 +87,7 @@ impl<'f, R: Runner, L: Ledger> Step<'f, R, L> {
         }
     }
 
-    fn given(&mut self, claimed: Claimed<'f, R>) -> Given
+    fn given(&mut self, claimed: Claimed<'b, R>) -> Given
         requires { HasItsGo claimed }
         ensures board { GoesOn self.old.board self.new.board }
         ensures at { self.new.at ≤ self.old.at }
@@ -105,7 +105,9 @@ impl<'f, R: Runner, L: Ledger> Step<'f, R, L> {
     }
 
     /// Enters what a worker answered to a ticket. A program whose worker found no memory for its end is not run again: its claim is stranded.
-    pub(crate) fn enter(&mut self, reply: Reply<'f, R>)
+    pub(crate) fn enter<'f>(&mut self, reply: Reply<'f, R>)
+    where
+        'f: 'b,
         ensures board { GoesOn self.old.board self.new.board }
         ensures at { self.new.at ≤ self.old.at }
         ensures told { OnErr reply.entry.done ((self.new.told ≡ true) × (self.new.at ≤ reply.entry.place)) }
@@ -145,7 +147,7 @@ impl<'f, R: Runner, L: Ledger> Step<'f, R, L> {
     }
 
     /// A report that is handed back is dropped: its host has then not reported.
-    fn report(&mut self, done: Done<'f, R>)
+    fn report(&mut self, done: Done<'b, R>)
         ensures board { GoesOn self.old.board self.new.board }
         ensures at { self.new.at ≡ self.old.at }
         ensures told { self.new.told ≡ self.old.told }
@@ -155,7 +157,7 @@ impl<'f, R: Runner, L: Ledger> Step<'f, R, L> {
 
     /// The board, with its tally back. The coordinator's want of memory goes before that of a worker, and this before a host that has not
     /// reported.
-    pub(crate) fn end(self) -> Result<Board<'f, R, L>, (StepFault, Board<'f, R, L>)>
+    pub(crate) fn end(self) -> Result<Board<'b, R, L>, (StepFault, Board<'b, R, L>)>
         requires { self.board.tallies ≡ 1 }
         ensures done { IfOk result IsStepDone }
         ensures clean { OnOk result ((self.entry.wants ≡ false) × (self.entry.told ≡ false)) }

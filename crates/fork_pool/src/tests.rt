@@ -5,6 +5,7 @@ mod gate;
 mod locked;
 mod memory;
 mod paced;
+mod plays;
 mod rolling;
 mod rows;
 mod setting;

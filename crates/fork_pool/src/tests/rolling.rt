@@ -96,13 +96,17 @@ pub fn roll_apart<
     Err(Fail::new("the roll does not end"))
 }
 
-fn roll_on<'s, R: Runner, L: Ledger, H: Wait>(
+/// All steps on a pool that may outlive the board.
+pub fn roll_on<'f, 's, R: Runner, L: Ledger, H: Wait>(
     rt: &H,
     alloc: Global,
-    front: &mut Front<'s, R>,
+    front: &mut Front<'f, R>,
     mut board: Board<'s, R, L>,
     batches: &[Batch<'_>],
-) -> Result<Rolled<'s, R, L>, Fail> {
+) -> Result<Rolled<'s, R, L>, Fail>
+where
+    'f: 's,
+{
     let mut opened = 0;
     for _turn in 0..1000u32 {
         match move_on(alloc, &mut board, batches, &mut opened)? {
@@ -119,6 +123,17 @@ fn roll_on<'s, R: Runner, L: Ledger, H: Wait>(
         }
     }
     Err(Fail::new("the roll does not end"))
+}
+
+/// The same on a pool that lives as long as the board.
+fn roll_once<'s, R: Runner, L: Ledger, H: Wait>(
+    rt: &H,
+    alloc: Global,
+    front: &mut Front<'s, R>,
+    board: Board<'s, R, L>,
+    batches: &[Batch<'_>],
+) -> Result<Rolled<'s, R, L>, Fail> {
+    roll_on(rt, alloc, front, board, batches)
 }
 
 /// All steps on one pool, which has as many workers as the board has forks.
@@ -167,7 +182,7 @@ fn with_workers<
             if missing {
                 return Ok(Rolled::NoMemory);
             }
-            roll_on(rt, alloc, &mut front, board, batches)
+            roll_once(rt, alloc, &mut front, board, batches)
         },
     )
 }

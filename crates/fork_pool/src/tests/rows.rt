@@ -69,7 +69,7 @@ fn is_row(counts: Counts, rows: (u32, u32, u32)) -> bool {
 }
 
 /// Each host has its rows and its status, and each report is counted.
-fn is_as_worked<R: Runner, L: Ledger>(board: &Board<'_, R, L>) -> bool {
+pub fn is_as_worked<R: Runner, L: Ledger>(board: &Board<'_, R, L>) -> bool {
     for index in 0..SIX.len() {
         let host = HostId { index };
         let (rows, status) = if host == FAILS {
