@@ -1,0 +1,157 @@
+-- A run is over: it came to its end, or a fault broke it off.
+use Rattle.std.proofs.Common.{◌≡◌, ℕ, ◌<◌, ◌⊎◌, inl, inr, Option, Some, None, List, [], ◌∷◌, ◌++◌, length, take, get_or, refl, sym, ap, ◌∙◌, subst, arith}
+use Rattle.std.specs.List.{count_by}
+use Rattle.std.specs.Prelude.{slice_index_or}
+use Rattle.std.proofs.Math.Seq.{take-nil}
+use Rattle.std.proofs.lemmas.List.{append-nil}
+use Rattle.std.proofs.lemmas.Option.{slice_get-get_or}
+use Rattle.domains.specs.FleetViews.{FleetView}
+use Rattle.fleet_states.specs.declared.status.Status.{Status}
+use Rattle.fleet_states.specs.Groups.{IsSafe, groups_of}
+use Rattle.fleet_states.specs.Statuses.{NobodyRuns}
+use Rattle.host_track.specs.Tracks.{counts_in}
+use Rattle.outcome_results.specs.Endings.{Ending}
+use Rattle.outcome_results.specs.declared.counts.Counts.{Counts}
+use Rattle.play_course.specs.declared.boundary.Boundary.{Boundary}
+use Rattle.play_course.specs.declared.end.End.{End}
+use Rattle.play_course.specs.Courses.{IsCourse, end_here, next_batch}
+use Rattle.play_course.specs.Laws.{opened_batches}
+use Rattle.play_course.proofs.SameLemmas.{one_boundary_more}
+use Rattle.roll_logs.specs.Rolls.{Roll}
+use Rattle.roll_logs.specs.Events.{Event}
+use Rattle.roll_logs.specs.States.{start_state}
+use Rattle.roll_logs.specs.Logs.{IsLegal, end_state, state_after}
+use Rattle.roll_logs.specs.Columns.{Columns, Tells}
+use Rattle.roll_logs.specs.Told.{AreTold, Work}
+use Rattle.roll_logs.proofs.GrowthLaws.{beginnings_tell}
+use Rattle.roll_kernel.specs.Leavings.{AreKnown}
+use Rattle.roll_kernel.specs.Leavings as leavings
+use Rattle.roll_kernel.specs.Views.{FrontsAreSafe, KernelView, RestsAtBoundaries, event_of, events_of, roll_of, state_of}
+use Rattle.roll_core.specs.Boards.{BoardView}
+use Rattle.fork_pool.specs.declared.fault.StepFault.{StepFault}
+use Rattle.roll_run.specs.Runs.{AreCounted, IsBrokenOff, IsRun, IsSafeLog, NamesAWorker, TookItsCourse, WasOnCourse, batches_in}
+use Rattle.roll_run.specs.Plays.{IsNotBegun}
+use Rattle.roll_run.specs.declared.run.Run.{Run}
+use Rattle.roll_run.specs.declared.fault.RunFault.{RunFault}
+use Rattle.roll_run.specs.Inside.{HasBroken, HasComeTo, IsAt, IsBetween, IsEnded, IsOnCourse, grown, opens, setting_by}
+use Rattle.roll_run.proofs.Behind.{batches-append, opened_are, opened_batches-push}
+
+-- the play ends at its last boundary
+pub ends_here : (kernel : KernelView) (behind boundaries : List Boundary) (boundary : Boundary) (before : Option End) (end : End) → IsAt kernel behind boundary before → boundaries ≡ behind ++ boundary ∷ [] → end_here before boundary ≡ Some end → IsEnded kernel boundaries end
+ends_here kernel behind boundaries boundary before end at are here = record { phase = at.phase; by = by }
+  where
+    by : (columns : Columns) → Tells columns (roll_of kernel) kernel.log → TookItsCourse kernel.fleet (roll_of kernel) columns boundaries kernel.log (state_of kernel).statuses end
+    by columns tells =
+        let setting = setting_by columns kernel in
+        let come = at.come columns tells in
+        record {
+          course = subst (λ bs. IsCourse setting kernel.start bs (Some end)) (sym are)
+              (subst (IsCourse setting kernel.start (behind ++ boundary ∷ [])) (ap (λ b. end_here b boundary) (sym come.before_is) ∙ here) (one_boundary_more setting kernel.start behind boundary come.course come.here));
+          behind = behind;
+          last = boundary;
+          boundaries_are = are;
+          batches = at.batches;
+          statuses_are = at.statuses;
+          rows = come.rows;
+        }
+
+-- it is broken off before it has come to its next boundary
+pub broken_between : (kernel new : KernelView) (behind : List Boundary) (before : Option End) (more : List Event) → IsBetween kernel behind before → batches_in more ≡ [] → new ≡ grown kernel more → IsOnCourse new behind
+broken_between kernel new behind before more at none is =
+    subst (λ (k : KernelView). IsOnCourse k behind) (sym is) on
+  where
+    on : IsOnCourse (grown kernel more) behind
+    on columns tells = record {
+      course = (at.come columns (beginnings_tell columns (roll_of kernel) kernel.log more tells)).course;
+      behind = behind;
+      rest = [];
+      boundaries_are = sym (append-nil behind);
+      few = omega arith;
+      batches = batches-append kernel.log more ∙ ap (λ b. batches_in kernel.log ++ b) none ∙ append-nil (batches_in kernel.log) ∙ at.batches;
+    }
+
+-- it is broken off as it opens the batch of a boundary, or within it
+pub broken_at : {R : Type 0} (old new : BoardView R) (behind boundaries : List Boundary) (boundary : Boundary) (before : Option End) → IsAt old.kernel behind boundary before → boundaries ≡ behind ++ boundary ∷ [] → end_here before boundary ≡ None → HasBroken (next_batch boundary.answer) old new → IsOnCourse new.kernel boundaries
+broken_at old new behind boundaries boundary before at are goes_on broken =
+    subst (λ (k : KernelView). IsOnCourse k boundaries) (sym broken.kernel) (subst (IsOnCourse (grown kernel broken.more)) (sym are) (on broken.opens_it))
+  where
+    kernel : KernelView
+    kernel = old.kernel
+
+    course : (columns : Columns) → Tells columns (roll_of old.kernel) (grown old.kernel broken.more).log → IsCourse (setting_by columns old.kernel) old.kernel.start (behind ++ boundary ∷ []) None
+    course columns tells =
+        let setting = setting_by columns old.kernel in
+        let come = at.come columns (beginnings_tell columns (roll_of old.kernel) old.kernel.log broken.more tells) in
+        subst (IsCourse setting old.kernel.start (behind ++ boundary ∷ [])) (ap (λ b. end_here b boundary) (sym come.before_is) ∙ goes_on) (one_boundary_more setting old.kernel.start behind boundary come.course come.here)
+
+    on : (batches_in broken.more ≡ []) ⊎ (batches_in broken.more ≡ next_batch boundary.answer ∷ []) → IsOnCourse (grown old.kernel broken.more) (behind ++ boundary ∷ [])
+    on (inl none) columns tells = record {
+      course = course columns tells;
+      behind = behind;
+      rest = boundary ∷ [];
+      boundaries_are = refl;
+      few = omega arith;
+      batches = batches-append old.kernel.log broken.more ∙ ap (λ b. batches_in old.kernel.log ++ b) none ∙ append-nil (batches_in old.kernel.log) ∙ at.batches;
+    }
+    on (inr one) columns tells = record {
+      course = course columns tells;
+      behind = behind ++ boundary ∷ [];
+      rest = [];
+      boundaries_are = sym (append-nil (behind ++ boundary ∷ []));
+      few = omega arith;
+      batches = batches-append old.kernel.log broken.more ∙ ap (λ b. batches_in old.kernel.log ++ b) one ∙ ap (λ b. b ++ next_batch boundary.answer ∷ []) at.batches ∙ sym (opened_batches-push behind boundary);
+    }
+
+-- what the board hands out, of which the log is written by these entries
+module _ (may : Work → Ending → Type 0) (kernel : KernelView) where
+  safe_log : (log : List Event) → log ≡ kernel.log → IsLegal (roll_of kernel) (start_state (roll_of kernel)) kernel.log → FrontsAreSafe (roll_of kernel) kernel.log → RestsAtBoundaries (roll_of kernel) kernel.log
+      → AreTold may (roll_of kernel) (start_state (roll_of kernel)) kernel.log → IsSafeLog may (roll_of kernel) log
+  safe_log log is legal safe rests told = subst (IsSafeLog may (roll_of kernel)) (sym is) (record { legal = legal; safe = safe; rests = rests; told = told })
+
+  counted_by : (log : List Event) (counts : List Counts) → log ≡ kernel.log → leavings.AreCounted (roll_of kernel) (state_of kernel) counts → AreCounted (roll_of kernel) (end_state (roll_of kernel) log) counts
+  counted_by log counts is are host within =
+      are.each host (get_or counts host (counts_in [])) (slice_get-get_or counts host (counts_in []) (subst (λ n. host < n) (sym are.all) within))
+      ∙ ap (λ l. counts_in ((end_state (roll_of kernel) l).rows host)) (sym is)
+
+  pub is_run : (run : Run) → events_of run.log.items ≡ kernel.log → IsLegal (roll_of kernel) (start_state (roll_of kernel)) kernel.log → FrontsAreSafe (roll_of kernel) kernel.log → RestsAtBoundaries (roll_of kernel) kernel.log
+      → AreTold may (roll_of kernel) (start_state (roll_of kernel)) kernel.log → run.statuses.items ≡ (state_of kernel).statuses → AreKnown (roll_of kernel) (state_of kernel) run.vars.items → leavings.AreCounted (roll_of kernel) (state_of kernel) run.counts.items
+      → IsEnded kernel run.boundaries.items run.end → IsRun may kernel.fleet (roll_of kernel) run
+  is_run run is legal safe rests told statuses vars counts ended = record {
+    log = safe_log (events_of run.log.items) is legal safe rests told;
+    over = ap (λ l. (end_state (roll_of kernel) l).phase) is ∙ ended.phase;
+    statuses = statuses ∙ ap (λ l. (end_state (roll_of kernel) l).statuses) (sym is);
+    vars = subst (λ l. AreKnown (roll_of kernel) (end_state (roll_of kernel) l) run.vars.items) (sym is) vars;
+    counts = counted_by (events_of run.log.items) run.counts.items is counts;
+    by = λ columns tells. subst (λ l. TookItsCourse kernel.fleet (roll_of kernel) columns run.boundaries.items l run.statuses.items run.end) (sym is)
+        (subst (λ s. TookItsCourse kernel.fleet (roll_of kernel) columns run.boundaries.items kernel.log s run.end) (sym statuses) (ended.by columns (subst (Tells columns (roll_of kernel)) is tells)));
+  }
+
+  pub is_broken : (fault : RunFault) → events_of fault.log.items ≡ kernel.log → IsLegal (roll_of kernel) (start_state (roll_of kernel)) kernel.log → FrontsAreSafe (roll_of kernel) kernel.log → RestsAtBoundaries (roll_of kernel) kernel.log
+      → AreTold may (roll_of kernel) (start_state (roll_of kernel)) kernel.log → fault.statuses.items ≡ (state_of kernel).statuses → leavings.AreCounted (roll_of kernel) (state_of kernel) fault.counts.items
+      → fault.opened ≡ count_by (λ event. opens (event_of event)) fault.log.items → IsOnCourse kernel fault.boundaries.items → NamesAWorker kernel.forks fault.why → IsBrokenOff may kernel.fleet (roll_of kernel) fault
+  is_broken fault is legal safe rests told statuses counts opened on names = record {
+    log = safe_log (events_of fault.log.items) is legal safe rests told;
+    statuses = statuses ∙ ap (λ l. (end_state (roll_of kernel) l).statuses) (sym is);
+    counts = counted_by (events_of fault.log.items) fault.counts.items is counts;
+    worker = names;
+    opened_are = opened ∙ sym (opened_are fault.log.items);
+    by = λ columns tells. subst (WasOnCourse kernel.fleet (roll_of kernel) columns fault.boundaries.items) (sym is) (on columns (subst (Tells columns (roll_of kernel)) is tells));
+  }
+
+-- memory was wanting before there was a board
+pub is_unbegun : (may : Work → Ending → Type 0) (fleet : FleetView) (roll : Roll) (fault : RunFault) → IsSafe roll.groups roll.start → NobodyRuns roll.start → IsNotBegun roll.start fault → IsBrokenOff may fleet roll fault
+is_unbegun may fleet roll fault safe rests not = record {
+  log = subst (IsSafeLog may roll) (sym empty) (record { legal = tt; safe = λ n. subst (IsSafe roll.groups) (sym (start_at n)) safe; rests = λ n _. subst NobodyRuns (sym (start_at n)) rests; told = tt });
+  statuses = not.statuses_are ∙ ap (λ l. (end_state roll l).statuses) (sym empty);
+  counts = λ host within. ap (λ l. slice_index_or l host (counts_in [])) not.counts ∙ ap (λ l. counts_in ((end_state roll l).rows host)) (sym empty);
+  worker = subst (NamesAWorker roll.forks) (sym not.why) tt;
+  opened_are = not.opened ∙ ap (λ l. length (batches_in l)) (sym empty);
+  by = λ columns tells. subst (λ l. WasOnCourse fleet roll columns fault.boundaries.items l) (sym empty)
+      (subst (λ bs. WasOnCourse fleet roll columns bs []) (sym not.boundaries) (record { course = refl; behind = []; rest = []; boundaries_are = refl; few = omega arith; batches = refl }));
+}
+  where
+    empty : events_of fault.log.items ≡ []
+    empty = ap events_of not.log
+
+    start_at : (n : ℕ) → (state_after roll (start_state roll) (take n [])).statuses ≡ roll.start
+    start_at n = ap (λ l. (state_after roll (start_state roll) l).statuses) (take-nil n)

@@ -1,0 +1,9 @@
+pub mod Behind
+pub mod Closing
+pub mod Coming
+pub mod Counting
+pub mod Ending
+pub mod Following
+pub mod Lengths
+pub mod Passing
+pub mod Turning

@@ -1,0 +1,172 @@
+-- What single calls of a board add up to.
+use Rattle.std.proofs.Common.{◌≡◌, ℕ, Bool, true, false, ◌&&◌, ◌<◌, ◌⊎◌, inl, inr, Option, Some, None, List, [], ◌∷◌, ◌++◌, refl, sym, ap, ◌∙◌, subst, append_assoc}
+use Rattle.std.specs.List.{list_all}
+use Rattle.std.proofs.lemmas.Bool.{and_parts}
+use Rattle.std.proofs.lemmas.List.{append-nil}
+use Rattle.std.proofs.lemmas.List.Folds.{list_all-append}
+use Rattle.fleet_states.specs.declared.status.Status.{Status}
+use Rattle.fleet_states.proofs.StatusLemmas.{changed_none}
+use Rattle.fleet_states.specs.declared.status.Status.TheVariants.{Held}
+use Rattle.roll_logs.specs.Rolls.{Roll}
+use Rattle.roll_logs.specs.Events.{Event, set_aside, opened, claimed, reported, passed, closed, is_inside, is_work}
+use Rattle.roll_logs.specs.States.{Phase, State, between, working, ended, start_state}
+use Rattle.roll_logs.specs.Logs.{next, state_after}
+use Rattle.roll_logs.proofs.GrowthLaws.{after_all, one_event_more}
+use Rattle.roll_kernel.specs.declared.next.Next.{Next}
+use Rattle.roll_kernel.specs.declared.next.Next.TheVariants.{Step, BatchEnd, Halt}
+use Rattle.roll_kernel.specs.Barriers.{HasPassed, IsNext, is_over, is_working}
+use Rattle.roll_kernel.specs.Views.{KernelView, roll_of, state_of}
+use Rattle.roll_core.specs.Boards.{BoardView, with_event}
+use Rattle.std.specs.Prelude.{Result, Ok, Err, IfErr, IfOk}
+use Rattle.fork_pool.specs.Steps.{Continues}
+use Rattle.roll_run.specs.Inside.{GoesTo, HasBroken, HasOpened, HasPassedStep, HasRun, HasSetAside, HasWorked, IsWorkedOff, grown}
+use Rattle.roll_run.specs.Runs.{batches_in}
+use Rattle.roll_run.proofs.Behind.{inside_opens_none}
+
+work_is_inside : (more : List Event) → list_all is_work more ≡ true → list_all is_inside more ≡ true
+work_is_inside [] all = refl
+work_is_inside (event ∷ more) all =
+    let parts = and_parts (is_work event) (list_all is_work more) all in
+    ap (λ b. b && list_all is_inside more) (one event parts.0) ∙ work_is_inside more parts.1
+  where
+    one : (event : Event) → is_work event ≡ true → is_inside event ≡ true
+    one (set_aside hosts) is = absurd (cc)
+    one (opened batch) is = absurd (cc)
+    one (claimed host step) is = refl
+    one (reported host step ending) is = refl
+    one (passed step) is = absurd (cc)
+    one closed is = absurd (cc)
+
+same_phase : (roll : Roll) (state : State) (more : List Event) → list_all is_work more ≡ true → (state_after roll state more).phase ≡ state.phase
+same_phase roll state [] all = refl
+same_phase roll state (event ∷ more) all =
+    let parts = and_parts (is_work event) (list_all is_work more) all in
+    same_phase roll (next roll state event) more parts.1 ∙ one event parts.0
+  where
+    one : (event : Event) → is_work event ≡ true → (next roll state event).phase ≡ state.phase
+    one (set_aside hosts) is = absurd (cc)
+    one (opened batch) is = absurd (cc)
+    one (claimed host step) is = refl
+    one (reported host step ending) is = refl
+    one (passed step) is = absurd (cc)
+    one closed is = absurd (cc)
+
+goes_to : (step : ℕ) (phase : Phase) (told : Next) → IsNext step phase told → GoesTo told phase
+goes_to step phase Step is = ap is_working is
+goes_to step phase BatchEnd is = ap is_over is
+goes_to step phase Halt is = ap is_over is
+
+pub at_work : (told : Next) (phase : Phase) → told ≡ Step → GoesTo told phase → is_working phase ≡ true
+at_work told phase is goes = subst (λ n. GoesTo n phase) is goes
+
+pub at_its_end : (told : Next) (phase : Phase) → told ≡ BatchEnd → GoesTo told phase → is_over phase ≡ true
+at_its_end told phase is goes = subst (λ n. GoesTo n phase) is goes
+
+pub at_its_halt : (told : Next) (phase : Phase) → told ≡ Halt → GoesTo told phase → is_over phase ≡ true
+at_its_halt told phase is goes = subst (λ n. GoesTo n phase) is goes
+
+module _ {R : Type 0} where
+  -- workers leave the batch at its step
+  pub still_working : (old new : BoardView R) → Continues old new → is_working (state_of old.kernel).phase ≡ true → is_working (state_of new.kernel).phase ≡ true
+  still_working old new is here =
+      let roll = roll_of old.kernel in
+      let same = ap (λ (s : State). s.phase) (after_all roll (start_state roll) old.kernel.log is.more) ∙ same_phase roll (state_of old.kernel) is.more is.work in
+      ap (λ (k : KernelView). is_working (state_of k).phase) is.kernel ∙ ap is_working same ∙ here
+
+  pub none_yet : (board : BoardView R) → HasWorked board board
+  none_yet board =
+      record { more = []; inside = refl; kernel = ap (λ (log : List Event). record board.kernel { log = log }) (sym (append-nil board.kernel.log)); runner = refl }
+
+  works_more : (first old new : BoardView R) (more : List Event) → HasWorked first old → list_all is_inside more ≡ true → new.kernel ≡ grown old.kernel more → new.runner ≡ old.runner → HasWorked first new
+  works_more first old new more was inside kernel runner = record {
+    more = was.more ++ more;
+    inside = list_all-append is_inside was.more more ∙ ap (λ b. b && list_all is_inside more) was.inside ∙ inside;
+    kernel = kernel ∙ ap (λ (k : KernelView). grown k more) was.kernel ∙ ap (λ (log : List Event). record first.kernel { log = log }) (append_assoc first.kernel.log was.more more);
+    runner = runner ∙ was.runner;
+  }
+
+  -- workers have been at the present step
+  pub works_on : (first old new : BoardView R) → HasWorked first old → Continues old new → HasWorked first new
+  works_on first old new was is = works_more first old new is.more was (work_is_inside is.more is.work) is.kernel is.runner
+
+  -- and the batch has passed it
+  pub works_past : (first old new : BoardView R) (told : Next) → HasWorked first old → HasPassed old.kernel new.kernel told → new ≡ record old { kernel = new.kernel } → HasWorked first new
+  works_past first old new told was past rest =
+      works_more first old new (passed past.step ∷ []) was refl past.grown (ap (λ (b : BoardView R). b.runner) rest)
+
+  -- a step has been worked on, and is passed
+  pub passes_step : (old stepped new : BoardView R) (told : Next) → Continues old stepped → stepped.tallies ≡ 0 → HasPassed stepped.kernel new.kernel told → new ≡ record stepped { kernel = new.kernel } → HasPassedStep old (told, new)
+  passes_step old stepped new told is tallies past rest = record {
+    worked = works_past old stepped new told (works_on old old stepped (none_yet old) is) past rest;
+    goes = goes_to past.step (state_of new.kernel).phase told past.next;
+    tallies = ap (λ (b : BoardView R). b.tallies) rest ∙ tallies;
+  }
+
+  -- and another one before it
+  pub works_further : (first old new : BoardView R) → HasWorked first old → HasWorked old new → HasWorked first new
+  works_further first old new was is = works_more first old new is.more was is.inside is.kernel is.runner
+
+  -- a batch that was opened, and worked on until it was over
+  pub runs : (old begun new : BoardView R) (batch : List ℕ) → begun ≡ with_event old (opened batch) → IsWorkedOff begun new → HasRun batch old new
+  runs old begun new batch opens done = record {
+    more = done.worked.more;
+    inside = done.worked.inside;
+    kernel = done.worked.kernel ∙ ap (λ (b : BoardView R). grown b.kernel done.worked.more) opens ∙ ap (λ (log : List Event). record old.kernel { log = log }) (append_assoc old.kernel.log (opened batch ∷ []) done.worked.more);
+    runner = done.worked.runner ∙ ap (λ (b : BoardView R). b.runner) opens;
+    over = done.over;
+    tallies = done.tallies;
+  }
+
+  pub breaks : (old begun new : BoardView R) (batch : List ℕ) → begun ≡ with_event old (opened batch) → HasWorked begun new → HasBroken batch old new
+  breaks old begun new batch opens is = record {
+    more = opened batch ∷ is.more;
+    opens_it = inr (ap (λ rest. batch ∷ rest) (inside_opens_none is.more is.inside));
+    kernel = is.kernel ∙ ap (λ (b : BoardView R). grown b.kernel is.more) opens ∙ ap (λ (log : List Event). record old.kernel { log = log }) (append_assoc old.kernel.log (opened batch ∷ []) is.more);
+    runner = is.runner ∙ ap (λ (b : BoardView R). b.runner) opens;
+  }
+
+  -- a batch that was not
+  pub breaks_at_once : (old new : BoardView R) (batch : List ℕ) → new ≡ old → HasBroken batch old new
+  breaks_at_once old new batch same = record {
+    more = [];
+    opens_it = inl refl;
+    kernel = ap (λ (b : BoardView R). b.kernel) same ∙ ap (λ (log : List Event). record old.kernel { log = log }) (sym (append-nil old.kernel.log));
+    runner = ap (λ (b : BoardView R). b.runner) same;
+  }
+
+  -- nothing has been opened
+  pub opens_nothing : (old new : BoardView R) → new ≡ old → HasOpened [] old new
+  opens_nothing old new same = record {
+    more = [];
+    opens_them = refl;
+    kernel = ap (λ (b : BoardView R). b.kernel) same ∙ ap (λ (log : List Event). record old.kernel { log = log }) (sym (append-nil old.kernel.log));
+    runner = ap (λ (b : BoardView R). b.runner) same;
+    tallies = ap (λ (b : BoardView R). b.tallies) same;
+  }
+
+  pub sets_nobody : (board : BoardView R) → HasSetAside [] board board
+  sets_nobody board =
+      record { opening = opens_nothing board board refl; phase = refl; statuses = sym (changed_none (λ _. Held) (state_of board.kernel).statuses); rows = λ host. refl }
+
+  pub sets_aside : (old new : BoardView R) (hosts : List ℕ) → new ≡ with_event old (set_aside hosts) → HasSetAside hosts old new
+  sets_aside old new hosts is = subst (HasSetAside hosts old) (sym is) aside
+    where
+      after : state_of (with_event old (set_aside hosts)).kernel ≡ next (roll_of old.kernel) (state_of old.kernel) (set_aside hosts)
+      after = one_event_more (roll_of old.kernel) old.kernel.log (set_aside hosts)
+
+      aside : HasSetAside hosts old (with_event old (set_aside hosts))
+      aside = record {
+        opening = record { more = set_aside hosts ∷ []; opens_them = refl; kernel = refl; runner = refl; tallies = refl };
+        phase = ap (λ (s : State). s.phase) after;
+        statuses = ap (λ (s : State). s.statuses) after;
+        rows = λ host. ap (λ (s : State). s.rows host) after;
+      }
+
+module _ {R F : Type 0} (old begun : BoardView R) (batch : List ℕ) (opens : begun ≡ with_event old (opened batch)) where
+  pub run_where : (result : Result (BoardView R) (F × BoardView R)) → IfOk result (IsWorkedOff begun) → IfOk result (HasRun batch old)
+  run_where (Ok board) done = runs old begun board batch opens done
+  run_where (Err refused) done = tt
+
+  pub broken_where : (result : Result (BoardView R) (F × BoardView R)) → IfErr result (λ refused. HasWorked begun refused.1) → IfErr result (λ refused. HasBroken batch old refused.1)
+  broken_where (Ok board) worked = tt
+  broken_where (Err refused) worked = breaks old begun refused.1 batch opens worked

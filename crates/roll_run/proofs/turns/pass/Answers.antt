@@ -1,0 +1,69 @@
+use Rattle.std.proofs.Common.{◌≡◌, ◌<◌, List, length, sym, ap, ◌∙◌, subst, None, refl}
+use Rattle.domains.specs.Ids.{host_numbers}
+use Rattle.domain_counts.specs.Counts.{Counted}
+use Rattle.fleet_states.proofs.HostLemmas.{length-host_numbers}
+use Rattle.batch_plan.specs.Places.{told_places}
+use Rattle.play_course.specs.declared.boundary.Boundary.{Boundary}
+use Rattle.play_course.specs.Courses.{end_here, end_with, next_batch}
+use Rattle.roll_logs.specs.States.{failures}
+use Rattle.roll_kernel.specs.Views.{KernelView, state_of}
+use Rattle.roll_run.specs.Inside.{HasBroken, HasRun, grown, halt_in}
+use Rattle.roll_run.proofs.Counting.{told_fleet}
+use Rattle.roll_run.proofs.Ending.{broken_at, ends_here}
+use Rattle.roll_run.proofs.Turning.{is_behind, last_is, names_still, opens_some, same_behind, same_by}
+use Rattle.roll_run.proofs.turns.pass.Goals as goal
+
+pub run_batch-requires-clause-some : goal.run_batch-requires-clause-some
+run_batch-requires-clause-some g c κs within =
+    let noted = c.requires.noted in
+    let here = c.index-boundaries-boundaries.is ∙ last_is c.args.boundaries.now noted.behind noted.boundary c.index-boundaries-boundaries.result noted.boundaries_are in
+    let goes_on = ap (end_here c.args.before) (sym here) ∙ sym c.end_at.ensures ∙ c.in-None.is in
+    let batch = c.next_batch.ensures ∙ ap (λ (b : Boundary). next_batch b.answer) here in
+    subst (λ n. 0 < n) (ap length (sym batch) ∙ length-host_numbers c.next_batch.result.now) (opens_some c.args.board.kernel.fleet noted.at.bound c.args.before noted.boundary noted.at.best goes_on)
+
+pub returns-in-Some-clause-turned : goal.returns-in-Some-clause-turned
+returns-in-Some-clause-turned g c =
+    let noted = c.requires.noted in
+    let here = c.index-boundaries-boundaries.is ∙ last_is c.args.boundaries.now noted.behind noted.boundary c.index-boundaries-boundaries.result noted.boundaries_are in
+    ends_here c.args.board.kernel noted.behind c.args.boundaries.now noted.boundary c.args.before c.in-Some.end noted.at noted.boundaries_are (ap (end_here c.args.before) (sym here) ∙ sym c.end_at.ensures ∙ c.in-Some.is)
+
+pub returns-in-Ok-clause-turned : goal.returns-in-Ok-clause-turned
+returns-in-Ok-clause-turned g c =
+    let noted = c.requires.noted in
+    let here = c.index-boundaries-boundaries.is ∙ last_is c.args.boundaries.now noted.behind noted.boundary c.index-boundaries-boundaries.result noted.boundaries_are in
+    let goes_on = ap (end_here c.args.before) (sym here) ∙ sym c.end_at.ensures ∙ c.in-None.is in
+    let batch = c.next_batch.ensures ∙ ap (λ (b : Boundary). next_batch b.answer) here in
+    let again = c.next_batch-in-Ok.ensures ∙ ap (λ (b : Boundary). next_batch b.answer) here in
+    let run = subst (λ hosts. HasRun hosts c.args.board c.in-Ok.board) batch c.in-Ok.ensures.ok in
+    let told = c.close_batch-end.ensures.counts ∙ ap (λ hosts. told_places hosts (state_of c.close_batch-end.new.board.kernel).statuses c.args.domains.now) again in
+    let size = sym (length-host_numbers c.next_batch-in-Ok.result.now) ∙ ap length again in
+    let ended = c.close_batch-end.ensures.end ∙ ap (end_with (halt_in (state_of c.in-Ok.board.kernel).phase) (failures (state_of c.in-Ok.board.kernel))) size in
+    is_behind c.args.board c.in-Ok.board c.close_batch-end.new.board noted.behind noted.boundary c.args.before noted.at goes_on run c.close_batch-end.ensures.event c.close_batch-end.ensures.legal c.args.boundaries.now c.args.domains.now c.close_batch-end.new.domains c.close_batch-end.result noted.boundaries_are c.requires.counts told ended
+
+pub returns-in-Ok-clause-same : goal.returns-in-Ok-clause-same
+returns-in-Ok-clause-same g c =
+    let noted = c.requires.noted in
+    let here = c.index-boundaries-boundaries.is ∙ last_is c.args.boundaries.now noted.behind noted.boundary c.index-boundaries-boundaries.result noted.boundaries_are in
+    let goes_on = ap (end_here c.args.before) (sym here) ∙ sym c.end_at.ensures ∙ c.in-None.is in
+    let batch = c.next_batch.ensures ∙ ap (λ (b : Boundary). next_batch b.answer) here in
+    let run = subst (λ hosts. HasRun hosts c.args.board c.in-Ok.board) batch c.in-Ok.ensures.ok in
+    same_behind c.args.board c.in-Ok.board c.close_batch-end.new.board noted.behind noted.boundary c.args.before noted.at goes_on run c.close_batch-end.ensures.event c.close_batch-end.ensures.legal
+
+pub returns-in-Ok-clause-fleet : goal.returns-in-Ok-clause-fleet
+returns-in-Ok-clause-fleet g c =
+    ap (λ (d : Counted). d.fleet) c.close_batch-end.ensures.counts ∙ told_fleet (host_numbers c.next_batch-in-Ok.result.now) (state_of c.close_batch-end.new.board.kernel).statuses c.args.domains.now
+
+pub returns-in-Err-clause-turned : goal.returns-in-Err-clause-turned
+returns-in-Err-clause-turned g c =
+    let noted = c.requires.noted in
+    let here = c.index-boundaries-boundaries.is ∙ last_is c.args.boundaries.now noted.behind noted.boundary c.index-boundaries-boundaries.result noted.boundaries_are in
+    let goes_on = ap (end_here c.args.before) (sym here) ∙ sym c.end_at.ensures ∙ c.in-None.is in
+    let batch = c.next_batch.ensures ∙ ap (λ (b : Boundary). next_batch b.answer) here in
+    let broken = subst (λ hosts. HasBroken hosts c.args.board c.in-Err.board) batch c.in-Err.ensures.err in
+    let forks = c.requires.forks ∙ sym (ap (λ (k : KernelView). k.forks) broken.kernel) in
+    (broken_at c.args.board c.in-Err.board noted.behind c.args.boundaries.now noted.boundary c.args.before noted.at noted.boundaries_are goes_on broken, names_still c.in-Err.board.kernel.forks c.args.front.now.forks c.in-Err.why forks c.in-Err.ensures.worker)
+
+pub returns-in-Err-clause-same : goal.returns-in-Err-clause-same
+returns-in-Err-clause-same g c =
+    let broken = c.in-Err.ensures.err in
+    same_by c.args.board c.in-Err.board (grown c.args.board.kernel broken.more) refl broken.kernel broken.runner

@@ -1,0 +1,203 @@
+-- What only the proofs need: how far a run has come.
+use Rattle.std.specs.Prelude.{◌≡◌, ℕ, ◌<◌, ◌⊎◌, Bool, true, false, Option, Some, None, List, [], ◌∷◌, ◌++◌, length, Result, Ok, Err}
+use Rattle.std.specs.List.{list_all}
+use Rattle.domains.specs.FleetViews.{FleetView}
+use Rattle.fleet_states.specs.declared.status.Status.{Status}
+use Rattle.domain_counts.specs.Counts.{Counted}
+use Rattle.batch_plan.specs.Answers.{IsBest}
+use Rattle.batch_plan.specs.Beginnings.{IsReady}
+use Rattle.batch_plan.specs.Holding as holding
+use Rattle.batch_plan.specs.Places.{AreCountsOf}
+use Rattle.outcome_results.specs.Endings.{Ending}
+use Rattle.play_model.specs.declared.play.Play.{Play}
+use Rattle.play_course.specs.declared.boundary.Boundary.{Boundary}
+use Rattle.play_course.specs.declared.end.End.{End}
+use Rattle.play_course.specs.declared.end.End.TheVariants.{Finished, Held, Blocked, TooManyFailed, AllFailed}
+use Rattle.play_course.specs.Courses.{IsBoundary, IsCourse, Setting, ended_by, led_to}
+use Rattle.play_course.specs.Laws.{opened_batches}
+use Rattle.roll_logs.specs.Events.{Event, set_aside, opened, claimed, reported, passed, closed, is_inside}
+use Rattle.roll_logs.specs.States.{Phase, between, working, ended}
+use Rattle.roll_logs.specs.Columns.{Columns, Tells}
+use Rattle.roll_logs.specs.Told.{Work}
+use Rattle.roll_kernel.specs.declared.next.Next.{Next}
+use Rattle.roll_kernel.specs.declared.next.Next.TheVariants.{Step, BatchEnd, Halt}
+use Rattle.roll_kernel.specs.Barriers.{is_over, is_working}
+use Rattle.roll_kernel.specs.Views.{KernelView, roll_of, state_of}
+use Rattle.roll_core.specs.Boards.{BoardView}
+use Rattle.fork_pool.specs.declared.fault.StepFault.{StepFault}
+use Rattle.roll_run.specs.Runs.{NamesAWorker, TookItsCourse, WasOnCourse, batches_in, rows_behind, setting_of}
+use Rattle.roll_run.specs.Plays.{AreBrokenAfter, AreRunsAfter}
+use Rattle.roll_run.specs.declared.run.Run.{Run}
+use Rattle.roll_run.specs.declared.fault.RunFault.{RunFault}
+use Rattle.roll_run.specs.declared.turns.Turn.{Turn}
+use Rattle.roll_run.specs.declared.turns.Turn.TheVariants.{Behind, Ended, Broken}
+
+-- the event opens a batch
+abbrev pub opens : Event → Bool
+opens (set_aside hosts) = false
+opens (opened batch) = true
+opens (claimed host step) = false
+opens (reported host step ending) = false
+opens (passed step) = false
+opens closed = false
+
+-- the step at which a batch halted that has ended so
+abbrev pub halt_in : Phase → Option ℕ
+halt_in between = None
+halt_in (working step) = None
+halt_in (ended halt) = halt
+
+abbrev pub setting_by : Columns → KernelView → Setting
+setting_by columns kernel = setting_of kernel.fleet (roll_of kernel) columns
+
+-- the same roll, with more events
+abbrev pub grown : KernelView → List Event → KernelView
+grown kernel more = record kernel { log = kernel.log ++ more }
+
+-- the same roll, at another place of its log
+pub record IsSameRoll {R : Type 0} (old new : BoardView R) : Type 0 where
+  pub kernel : new.kernel ≡ record old.kernel { log = new.kernel.log }
+  pub runner : new.runner ≡ old.runner
+
+-- the log has grown by events that open these batches
+pub record HasOpened {R : Type 0} (batches : List (List ℕ)) (old new : BoardView R) : Type 0 where
+  pub more : List Event
+  pub opens_them : batches_in more ≡ batches
+  pub kernel : new.kernel ≡ grown old.kernel more
+  pub runner : new.runner ≡ old.runner
+  pub tallies : new.tallies ≡ old.tallies
+
+-- these hosts were set aside, if there are any
+pub record HasSetAside {R : Type 0} (hosts : List ℕ) (old new : BoardView R) : Type 0 where
+  pub opening : HasOpened [] old new
+  pub phase : (state_of new.kernel).phase ≡ (state_of old.kernel).phase
+  pub statuses : (state_of new.kernel).statuses ≡ holding.set_aside hosts (state_of old.kernel).statuses
+  pub rows : (host : ℕ) → (state_of new.kernel).rows host ≡ (state_of old.kernel).rows host
+
+-- the log has grown by events inside the open batch
+pub record HasWorked {R : Type 0} (old new : BoardView R) : Type 0 where
+  pub more : List Event
+  pub inside : list_all is_inside more ≡ true
+  pub kernel : new.kernel ≡ grown old.kernel more
+  pub runner : new.runner ≡ old.runner
+
+-- what is told of a batch that has passed a step: it is at the next one, or over
+abbrev pub GoesTo : Next → Phase → Type 0
+GoesTo Step phase = is_working phase ≡ true
+GoesTo BatchEnd phase = is_over phase ≡ true
+GoesTo Halt phase = is_over phase ≡ true
+
+-- the batch was worked on, and passed a step
+pub record HasPassedStep {R : Type 0} (old : BoardView R) (passed : Next × BoardView R) : Type 0 where
+  pub worked : HasWorked old passed.1
+  pub goes : GoesTo passed.0 (state_of passed.1.kernel).phase
+  pub tallies : passed.1.tallies ≡ 0
+
+-- and is over
+pub record IsWorkedOff {R : Type 0} (old new : BoardView R) : Type 0 where
+  pub worked : HasWorked old new
+  pub over : is_over (state_of new.kernel).phase ≡ true
+  pub tallies : new.tallies ≡ 0
+
+-- the batch was opened, and is over
+pub record HasRun {R : Type 0} (batch : List ℕ) (old new : BoardView R) : Type 0 where
+  pub more : List Event
+  pub inside : list_all is_inside more ≡ true
+  pub kernel : new.kernel ≡ grown old.kernel (opened batch ∷ more)
+  pub runner : new.runner ≡ old.runner
+  pub over : is_over (state_of new.kernel).phase ≡ true
+  pub tallies : new.tallies ≡ 0
+
+-- the batch was opened or it wasn't, and no other one was
+pub record HasBroken {R : Type 0} (batch : List ℕ) (old new : BoardView R) : Type 0 where
+  pub more : List Event
+  pub opens_it : (batches_in more ≡ []) ⊎ (batches_in more ≡ batch ∷ [])
+  pub kernel : new.kernel ≡ grown old.kernel more
+  pub runner : new.runner ≡ old.runner
+
+-- where programs end as the columns say, the play came to these boundaries, whose batches are over; the last of them ended it as told, if it did
+pub record HasCome (columns : Columns) (kernel : KernelView) (behind : List Boundary) (before : Option End) : Type 0 where
+  pub course : IsCourse (setting_by columns kernel) kernel.start behind None
+  pub before_is : before ≡ ended_by (setting_by columns kernel) None behind
+  pub statuses : (state_of kernel).statuses ≡ led_to (setting_by columns kernel) kernel.start behind
+  pub rows : (host : ℕ) → (state_of kernel).rows host ≡ rows_behind (roll_of kernel) columns host [] behind
+
+-- no batch is open, and so far the play has come for all columns that the log tells
+pub record IsBetween (kernel : KernelView) (behind : List Boundary) (before : Option End) : Type 0 where
+  pub phase : (state_of kernel).phase ≡ between
+  pub batches : batches_in kernel.log ≡ opened_batches behind
+  pub come : (columns : Columns) → Tells columns (roll_of kernel) kernel.log → HasCome columns kernel behind before
+
+-- and has come to its next boundary
+pub record HasComeTo (columns : Columns) (kernel : KernelView) (behind : List Boundary) (boundary : Boundary) (before : Option End) : Type 0 where
+  pub course : IsCourse (setting_by columns kernel) kernel.start behind None
+  pub before_is : before ≡ ended_by (setting_by columns kernel) None behind
+  pub here : IsBoundary (setting_by columns kernel) (length behind) (led_to (setting_by columns kernel) kernel.start behind) boundary
+  pub rows : (host : ℕ) → (state_of kernel).rows host ≡ rows_behind (roll_of kernel) columns host [] behind
+
+pub record IsAt (kernel : KernelView) (behind : List Boundary) (boundary : Boundary) (before : Option End) : Type 0 where
+  pub phase : (state_of kernel).phase ≡ between
+  pub batches : batches_in kernel.log ≡ opened_batches behind
+  pub statuses : (state_of kernel).statuses ≡ boundary.statuses.items
+  pub bound : Option ℕ
+  pub best : IsBest kernel.fleet boundary.statuses.items bound boundary.answer
+  pub come : (columns : Columns) → Tells columns (roll_of kernel) kernel.log → HasComeTo columns kernel behind boundary before
+
+-- the last boundary is the present one
+pub record IsNoted (kernel : KernelView) (boundaries : List Boundary) (before : Option End) : Type 0 where
+  pub behind : List Boundary
+  pub boundary : Boundary
+  pub boundaries_are : boundaries ≡ behind ++ boundary ∷ []
+  pub at : IsAt kernel behind boundary before
+
+-- the play has ended at the last boundary
+pub record IsEnded (kernel : KernelView) (boundaries : List Boundary) (end : End) : Type 0 where
+  pub phase : (state_of kernel).phase ≡ between
+  pub by : (columns : Columns) → Tells columns (roll_of kernel) kernel.log → TookItsCourse kernel.fleet (roll_of kernel) columns boundaries kernel.log (state_of kernel).statuses end
+
+-- the play was on its course
+abbrev pub IsOnCourse : KernelView → List Boundary → Type 0
+IsOnCourse kernel boundaries =
+    (columns : Columns) → Tells columns (roll_of kernel) kernel.log → WasOnCourse kernel.fleet (roll_of kernel) columns boundaries kernel.log
+
+-- a batch is behind the play, and the counts are those of the statuses
+pub record IsBehind {R : Type 0} (boundaries : List Boundary) (counted : Counted) (board : BoardView R) (before : Option End) : Type 0 where
+  pub is_between : IsBetween board.kernel boundaries before
+  pub counts : AreCountsOf (state_of board.kernel).statuses counted
+  pub tallies : board.tallies ≡ 0
+
+-- what a turn came to
+abbrev pub HasTurned : {R : Type 0} → List Boundary → Counted → BoardView R → Turn → Type 0
+HasTurned boundaries counted board (Behind before) = IsBehind boundaries counted board before
+HasTurned boundaries counted board (Ended end) = IsEnded board.kernel boundaries end
+HasTurned boundaries counted board (Broken why) = IsOnCourse board.kernel boundaries × NamesAWorker board.kernel.forks why
+
+-- what all turns came to
+abbrev pub HasGone : List Boundary → KernelView → Result End StepFault → Type 0
+HasGone boundaries kernel (Ok end) = IsEnded kernel boundaries end
+HasGone boundaries kernel (Err why) = IsOnCourse kernel boundaries × NamesAWorker kernel.forks why
+
+-- a plan may be made of the statuses that a run left, and it left the variables of each host
+pub record IsReadyRun (fleet : FleetView) (run : Run) : Type 0 where
+  pub ready : IsReady fleet run.statuses.items
+  pub each : length run.vars.items ≡ length fleet.hosts
+
+-- a run stands behind those that were done before it, and behind it those of the plays after it
+pub record HasRunAfter (may : Work → Ending → Type 0) (fleet : FleetView) (forks : ℕ) (plays : List Play) (before : Run) (old new : List Run) : Type 0 where
+  pub rest : List Run
+  pub items : new ≡ old ++ before ∷ rest
+  pub runs : AreRunsAfter may fleet forks plays before rest
+
+-- the same, of which a fault broke the last one off
+pub record HasBrokenAfter (may : Work → Ending → Type 0) (fleet : FleetView) (forks : ℕ) (plays : List Play) (before : Run) (old new : List Run) (last : RunFault) : Type 0 where
+  pub rest : List Run
+  pub items : new ≡ old ++ before ∷ rest
+  pub broken : AreBrokenAfter may fleet forks plays before rest last
+
+-- a play may follow one that ended so
+abbrev pub is_finished : End → Bool
+is_finished Finished = true
+is_finished Held = false
+is_finished (Blocked group) = false
+is_finished (TooManyFailed step failed size) = false
+is_finished AllFailed = false

@@ -1,0 +1,91 @@
+-- What the runs of several plays leave.
+use Rattle.std.specs.Prelude.{◌≡◌, ℕ, ◌⊎◌, List, [], ◌∷◌}
+use Rattle.domains.specs.FleetViews.{FleetView}
+use Rattle.fleet_states.specs.declared.status.Status.{Status}
+use Rattle.host_vars.specs.declared.vars.Vars.{Vars}
+use Rattle.host_vars.specs.HostVars.{IsSameHost}
+use Rattle.outcome_results.specs.Endings.{Ending}
+use Rattle.batch_plan.specs.Beginnings.{restart_statuses}
+use Rattle.play_model.specs.declared.play.Play.{Play}
+use Rattle.play_plan.specs.PlayPlans.{targets}
+use Rattle.play_course.specs.declared.end.End.{End}
+use Rattle.play_course.specs.declared.end.End.TheVariants.{Finished}
+use Rattle.roll_logs.specs.Rolls.{Roll}
+use Rattle.roll_logs.specs.Told.{Work}
+use Rattle.fork_pool.specs.declared.fault.StepFault.TheVariants.{Mem}
+use Rattle.roll_run.specs.Runs.{IsBrokenOff, IsRun, roll_by}
+use Rattle.roll_run.specs.declared.run.Run.{Run}
+use Rattle.roll_run.specs.declared.fault.RunFault.{RunFault}
+
+-- of each host the same variables and results
+abbrev pub AreSameHosts : List Vars → List Vars → Type 0
+AreSameHosts [] [] = Unit {0}
+AreSameHosts [] (other ∷ others) = ⊥
+AreSameHosts (one ∷ ones) [] = ⊥
+AreSameHosts (one ∷ ones) (other ∷ others) = IsSameHost one other × AreSameHosts ones others
+
+-- the roll of a play after a run of another: who failed, was halted or is off stays so; of the others those wait whom the play is for; and of each host is known
+-- what it had registered
+pub record IsRollAfter (fleet : FleetView) (play : Play) (forks : ℕ) (before : Run) (roll : Roll) : Type 0 where
+  pub vars : List Vars
+  pub same : AreSameHosts vars before.vars.items
+  pub roll_is : roll ≡ roll_by fleet play forks (restart_statuses before.statuses.items (targets fleet play)) vars
+
+-- a run of a play after a run of another
+pub record IsRunAfter (may : Work → Ending → Type 0) (fleet : FleetView) (play : Play) (forks : ℕ) (before run : Run) : Type 0 where
+  pub roll : Roll
+  pub begins : IsRollAfter fleet play forks before roll
+  pub run_is : IsRun may fleet roll run
+
+-- the runs of the plays after one: each play has its run while the one before it finished, and the first that ends otherwise is the last
+abbrev pub AreRunsAfter : (Work → Ending → Type 0) → FleetView → ℕ → List Play → Run → List Run → Type 0
+AreRunsAfter may fleet forks [] before runs = runs ≡ []
+AreRunsAfter may fleet forks (play ∷ plays) before [] = before.end ≡ Finished → ⊥
+AreRunsAfter may fleet forks (play ∷ plays) before (run ∷ rest) = (before.end ≡ Finished) × IsRunAfter may fleet play forks before run × AreRunsAfter may fleet forks plays run rest
+
+-- the runs of a file of plays, the first of which begins with these statuses and variables
+pub record AreRuns (may : Work → Ending → Type 0) (fleet : FleetView) (forks : ℕ) (plays : List Play) (statuses : List Status) (vars : List Vars) (runs : List Run) : Type 0 where
+  pub first : Play
+  pub later : List Play
+  pub plays_are : plays ≡ first ∷ later
+  pub run : Run
+  pub rest : List Run
+  pub runs_are : runs ≡ run ∷ rest
+  pub is_first : IsRun may fleet (roll_by fleet first forks statuses vars) run
+  pub follow : AreRunsAfter may fleet forks later run rest
+
+-- a play was to begin with these statuses, and memory was wanting before it had a board
+pub record IsNotBegun (statuses : List Status) (fault : RunFault) : Type 0 where
+  pub why : fault.why ≡ Mem
+  pub boundaries : fault.boundaries.items ≡ []
+  pub opened : fault.opened ≡ 0
+  pub log : fault.log.items ≡ []
+  pub statuses_are : fault.statuses.items ≡ statuses
+  pub counts : fault.counts.items ≡ []
+
+-- the run of a play after a run of another was broken off
+pub record IsBrokenAfter (may : Work → Ending → Type 0) (fleet : FleetView) (play : Play) (forks : ℕ) (before : Run) (fault : RunFault) : Type 0 where
+  pub roll : Roll
+  pub begins : IsRollAfter fleet play forks before roll
+  pub broken : IsBrokenOff may fleet roll fault
+
+-- of the plays after one, so many had their runs, each finished, and the next one was broken off, or not begun
+abbrev pub AreBrokenAfter : (Work → Ending → Type 0) → FleetView → ℕ → List Play → Run → List Run → RunFault → Type 0
+AreBrokenAfter may fleet forks [] before done last = ⊥
+AreBrokenAfter may fleet forks (play ∷ plays) before [] last =
+    (before.end ≡ Finished) × (IsBrokenAfter may fleet play forks before last ⊎ IsNotBegun before.statuses.items last)
+AreBrokenAfter may fleet forks (play ∷ plays) before (run ∷ rest) last =
+    (before.end ≡ Finished) × IsRunAfter may fleet play forks before run × AreBrokenAfter may fleet forks plays run rest last
+
+-- the first play's run, and those of the later ones
+abbrev pub AreBrokenOff : (Work → Ending → Type 0) → FleetView → ℕ → Play → List Play → List Status → List Vars → List Run → RunFault → Type 0
+AreBrokenOff may fleet forks first later statuses vars [] last = IsBrokenOff may fleet (roll_by fleet first forks statuses vars) last
+AreBrokenOff may fleet forks first later statuses vars (run ∷ rest) last =
+    IsRun may fleet (roll_by fleet first forks statuses vars) run × AreBrokenAfter may fleet forks later run rest last
+
+-- the runs of a file of plays that a fault broke off
+pub record AreBroken (may : Work → Ending → Type 0) (fleet : FleetView) (forks : ℕ) (plays : List Play) (statuses : List Status) (vars : List Vars) (done : List Run) (last : RunFault) : Type 0 where
+  pub first : Play
+  pub later : List Play
+  pub plays_are : plays ≡ first ∷ later
+  pub broken : AreBrokenOff may fleet forks first later statuses vars done last

@@ -1,0 +1,128 @@
+-- What a run of a play leaves: it took the course that its hosts by themselves say.
+use Rattle.std.specs.Prelude.{◌≡◌, ℕ, ◌≤◌, ◌<◌, cond, Option, Some, None, List, [], ◌∷◌, ◌++◌, flat_map, length, slice_index_or}
+use Rattle.fleet_numbers.specs.NumberLists.{has_number}
+use Rattle.domains.specs.FleetViews.{FleetView}
+use Rattle.fleet_states.specs.declared.status.Status.{Status}
+use Rattle.fleet_states.specs.Groups.{groups_of}
+use Rattle.host_vars.specs.declared.vars.Vars.{Vars}
+use Rattle.outcome_results.specs.Endings.{Ending}
+use Rattle.outcome_results.specs.declared.counts.Counts.{Counts}
+use Rattle.play_model.specs.declared.play.Play.{Play}
+use Rattle.play_model.specs.Sizes.{cap}
+use Rattle.play_plan.specs.PlayPlans.{targets}
+use Rattle.play_course.specs.declared.boundary.Boundary.{Boundary}
+use Rattle.play_course.specs.declared.end.End.{End}
+use Rattle.play_course.specs.Courses.{IsCourse, Setting, next_batch}
+use Rattle.play_course.specs.Laws.{opened_batches}
+use Rattle.host_track.specs.Tracks.{Entry, counts_in, track}
+use Rattle.batch_work.specs.Works.{known_at}
+use Rattle.roll_logs.specs.Rolls.{Roll}
+use Rattle.roll_logs.specs.Events.{Event, set_aside, opened, claimed, reported, passed, closed}
+use Rattle.roll_logs.specs.States.{State, between, start_state}
+use Rattle.roll_logs.specs.Logs.{IsLegal, end_state}
+use Rattle.roll_logs.specs.Columns.{Columns, Tells, fails_by, halt_by, steps_until}
+use Rattle.roll_logs.specs.Told.{AreTold, Work}
+use Rattle.roll_kernel.specs.Leavings.{AreKnown}
+use Rattle.roll_kernel.specs.Views.{FrontsAreSafe, RestsAtBoundaries, events_of}
+use Rattle.fork_pool.specs.declared.fault.StepFault.{StepFault}
+use Rattle.fork_pool.specs.declared.fault.StepFault.TheVariants.{Mem, WorkerMem, Mixed}
+use Rattle.roll_run.specs.declared.run.Run.{Run}
+use Rattle.roll_run.specs.declared.fault.RunFault.{RunFault}
+
+-- the roll of a play over a fleet, with so many workers, from these statuses and variables
+abbrev pub roll_by : FleetView → Play → ℕ → List Status → List Vars → Roll
+roll_by fleet play forks statuses vars =
+    record { groups = groups_of fleet; play = play; forks = forks; start = statuses; known = known_at vars }
+
+-- what the course of a roll depends on, where the programs of its hosts end as the columns say: how many run at once is not part of it
+abbrev pub setting_of : FleetView → Roll → Columns → Setting
+setting_of fleet roll columns = record {
+  fleet = fleet;
+  mode = roll.play.on_blocked;
+  caps = cap roll.play.sizes.items (length (targets fleet roll.play));
+  percentage = roll.play.max_fail;
+  steps = length roll.play.steps.items;
+  fails = fails_by roll columns;
+}
+
+-- the batch that an event opens
+abbrev pub batch_in : Event → List (List ℕ)
+batch_in (set_aside hosts) = []
+batch_in (opened batch) = batch ∷ []
+batch_in (claimed host step) = []
+batch_in (reported host step ending) = []
+batch_in (passed step) = []
+batch_in closed = []
+
+-- the batches that a log opens
+abbrev pub batches_in : List Event → List (List ℕ)
+batches_in log = flat_map batch_in log
+
+-- the rows of a host of this batch once that is over: its own track, as far as the batch came
+abbrev pub rows_of : Roll → Columns → List ℕ → ℕ → List Entry
+rows_of roll columns batch host =
+    track roll.play (roll.known host) (columns host) (steps_until roll (halt_by roll columns batch))
+
+-- the rows of a host behind these boundaries, which had the given ones before them: where it stood in a batch, those of that batch
+abbrev pub rows_behind : Roll → Columns → ℕ → List Entry → List Boundary → List Entry
+rows_behind roll columns host before [] = before
+rows_behind roll columns host before (boundary ∷ rest) =
+    rows_behind roll columns host (cond (has_number host (next_batch boundary.answer)) (rows_of roll columns (next_batch boundary.answer) host) before) rest
+
+-- of each host how its rows are judged; a list that ends before a host says that it has none
+abbrev pub AreCounted : Roll → State → List Counts → Type 0
+AreCounted roll state counts =
+    (host : ℕ) → host < length roll.start → slice_index_or counts host (counts_in []) ≡ counts_in (state.rows host)
+
+-- the log is legal; at no moment of it is a group over its limit, and nobody runs while no batch is open; and what it tells of programs may be told of them
+pub record IsSafeLog (may : Work → Ending → Type 0) (roll : Roll) (log : List Event) : Type 0 where
+  pub legal : IsLegal roll (start_state roll) log
+  pub safe : FrontsAreSafe roll log
+  pub rests : RestsAtBoundaries roll log
+  pub told : AreTold may roll (start_state roll) log
+
+-- the boundaries and the end are those of the play's course where each program ends as the columns say; a batch was opened at each boundary but the last,
+-- the first one of its plan; the statuses are those of the last boundary; and the rows of each host are those of its own track
+pub record TookItsCourse (fleet : FleetView) (roll : Roll) (columns : Columns) (boundaries : List Boundary) (log : List Event) (statuses : List Status) (end : End) : Type 0 where
+  pub course : IsCourse (setting_of fleet roll columns) roll.start boundaries (Some end)
+  pub behind : List Boundary
+  pub last : Boundary
+  pub boundaries_are : boundaries ≡ behind ++ last ∷ []
+  pub batches : batches_in log ≡ opened_batches behind
+  pub statuses_are : statuses ≡ last.statuses.items
+  pub rows : (host : ℕ) → (end_state roll log).rows host ≡ rows_behind roll columns host [] behind
+
+-- what a run that came to its end leaves: no batch is open
+pub record IsRun (may : Work → Ending → Type 0) (fleet : FleetView) (roll : Roll) (run : Run) : Type 0 where
+  pub log : IsSafeLog may roll (events_of run.log.items)
+  pub over : (end_state roll (events_of run.log.items)).phase ≡ between
+  pub statuses : run.statuses.items ≡ (end_state roll (events_of run.log.items)).statuses
+  pub vars : AreKnown roll (end_state roll (events_of run.log.items)) run.vars.items
+  pub counts : AreCounted roll (end_state roll (events_of run.log.items)) run.counts.items
+  pub by : (columns : Columns) → Tells columns roll (events_of run.log.items)
+      → TookItsCourse fleet roll columns run.boundaries.items (events_of run.log.items) run.statuses.items run.end
+
+-- the boundaries begin the play's course, which goes on behind them; a batch was opened at each, the first one of its plan, but for the last where none was
+pub record WasOnCourse (fleet : FleetView) (roll : Roll) (columns : Columns) (boundaries : List Boundary) (log : List Event) : Type 0 where
+  pub course : IsCourse (setting_of fleet roll columns) roll.start boundaries None
+  pub behind : List Boundary
+  pub rest : List Boundary
+  pub boundaries_are : boundaries ≡ behind ++ rest
+  pub few : length rest ≤ 1
+  pub batches : batches_in log ≡ opened_batches behind
+
+-- a worker that is named is one of so many
+abbrev pub NamesAWorker : ℕ → StepFault → Type 0
+NamesAWorker forks Mem = Unit {0}
+NamesAWorker forks (WorkerMem at) = at < forks
+NamesAWorker forks Mixed = Unit {0}
+
+-- what a run that a fault broke off leaves
+pub record IsBrokenOff (may : Work → Ending → Type 0) (fleet : FleetView) (roll : Roll) (fault : RunFault) : Type 0 where
+  pub log : IsSafeLog may roll (events_of fault.log.items)
+  pub statuses : fault.statuses.items ≡ (end_state roll (events_of fault.log.items)).statuses
+  pub counts : AreCounted roll (end_state roll (events_of fault.log.items)) fault.counts.items
+  pub worker : NamesAWorker roll.forks fault.why
+  pub opened_are : fault.opened ≡ length (batches_in (events_of fault.log.items))
+  pub by : (columns : Columns) → Tells columns roll (events_of fault.log.items)
+      → WasOnCourse fleet roll columns fault.boundaries.items (events_of fault.log.items)

@@ -1,0 +1,92 @@
+//! A batch goes through the steps of the play.
+ghost use Rattle.std.specs.Prelude.{◌≡◌, ◌<◌, ◌∷◌, [], IfErr, IfOk, true, length};
+ghost use Rattle.domains.specs.Ids.{host_numbers};
+ghost use Rattle.roll_kernel.specs.Barriers.{is_working};
+ghost use Rattle.roll_kernel.specs.Views.{state_of};
+ghost use Rattle.roll_run.specs.Inside.{HasBroken, HasPassedStep, HasRun, HasWorked, IsWorkedOff};
+ghost use Rattle.roll_run.specs.Runs.{NamesAWorker};
+
+use fork_pool::{Front, StepFault};
+use group_tree::HostId;
+use roll_core::{Board, Next, Runner};
+use std::alloc::Global;
+use std::sync::Wait;
+use std::sync::ledger::Ledger;
+
+/// Works on the present step of the open batch, and passes it.
+fn pass_step<'f, 'b, R: Runner, L: Ledger, H: Wait>(
+    rt: &H,
+    alloc: Global,
+    front: &mut Front<'f, R>,
+    board: Board<'b, R, L>,
+) -> Result<(Next, Board<'b, R, L>), (StepFault, Board<'b, R, L>)>
+where
+    'f: 'b,
+    requires forks { front.old.forks ≡ board.kernel.forks }
+    requires tallies { board.tallies ≡ 0 }
+    requires working { is_working (state_of board.kernel).phase ≡ true }
+    ensures ok { IfOk result (HasPassedStep board.entry) }
+    ensures err { IfErr result (λ refused. HasWorked board.entry refused.1) }
+    ensures worker { IfErr result (λ refused. NamesAWorker front.old.forks refused.0) }
+    ensures forks { front.new.forks ≡ front.old.forks }
+{
+    match front.step(rt, alloc, board) {
+        Ok(mut board) => match board.barrier() {
+            Ok(next) => Ok((next, board)),
+            Err(_busy) => Err((StepFault::Mixed, board)),
+        },
+        Err(refused) => Err(refused),
+    }
+}
+
+/// Works on the steps of the open batch, one after the other, until it is over.
+fn pass_steps<'f, 'b, R: Runner, L: Ledger, H: Wait>(
+    rt: &H,
+    alloc: Global,
+    front: &mut Front<'f, R>,
+    mut board: Board<'b, R, L>,
+) -> Result<Board<'b, R, L>, (StepFault, Board<'b, R, L>)>
+where
+    'f: 'b,
+    requires forks { front.old.forks ≡ board.kernel.forks }
+    requires tallies { board.tallies ≡ 0 }
+    requires working { is_working (state_of board.kernel).phase ≡ true }
+    ensures ok { IfOk result (IsWorkedOff board.entry) }
+    ensures err { IfErr result (λ refused. HasWorked board.entry refused.1) }
+    ensures worker { IfErr result (λ refused. NamesAWorker front.old.forks refused.0) }
+    ensures forks { front.new.forks ≡ front.old.forks }
+{
+    for _ in rt.forever() {
+        match pass_step(rt, alloc, front, board) {
+            Ok((Next::Step, after)) => board = after,
+            Ok((Next::BatchEnd, after)) => return Ok(after),
+            Ok((Next::Halt, after)) => return Ok(after),
+            Err(refused) => return Err(refused),
+        }
+    }
+    unreachable!()
+}
+
+/// Opens a batch, and works on it until it is over. Where it isn't opened, nothing has changed.
+pub(crate) fn run_batch<'f, 'b, R: Runner, L: Ledger, H: Wait>(
+    rt: &H,
+    alloc: Global,
+    front: &mut Front<'f, R>,
+    mut board: Board<'b, R, L>,
+    batch: &[HostId],
+) -> Result<Board<'b, R, L>, (StepFault, Board<'b, R, L>)>
+where
+    'f: 'b,
+    requires forks { front.old.forks ≡ board.kernel.forks }
+    requires tallies { board.tallies ≡ 0 }
+    requires some { 0 < length batch.now }
+    ensures ok { IfOk result (HasRun (host_numbers batch.now) board.entry) }
+    ensures err { IfErr result (λ refused. HasBroken (host_numbers batch.now) board.entry refused.1) }
+    ensures worker { IfErr result (λ refused. NamesAWorker front.old.forks refused.0) }
+    ensures forks { front.new.forks ≡ front.old.forks }
+{
+    match board.open(alloc, batch) {
+        Ok(()) => pass_steps(rt, alloc, front, board),
+        Err(_refused) => Err((StepFault::Mem, board)),
+    }
+}

@@ -1,0 +1,123 @@
+//! A run comes to a boundary.
+ghost use Rattle.std.specs.Prelude.{◌≡◌, ◌<◌, ℕ, Option, List, [], IfErr, IfOk, OnErr, OnOk, length, min};
+ghost use Rattle.domains.specs.Ids.{host_numbers};
+ghost use Rattle.fleet_states.specs.Statuses.{status_at};
+ghost use Rattle.domain_counts.specs.Counts.{moved};
+ghost use Rattle.batch_plan.specs.Places.{AreCountsOf, told_places};
+ghost use Rattle.batch_plan.specs.Places as places;
+ghost use Rattle.play_course.specs.declared.end.End.{End};
+ghost use Rattle.play_plan.specs.PlayPlans.{aside_by, targets};
+ghost use Rattle.roll_kernel.specs.Views.{state_of};
+ghost use Rattle.roll_run.specs.Inside.{HasOpened, HasSetAside, IsBetween, IsNoted};
+
+use batch_plan::place_of;
+use domain_counts::Domains;
+use fleet_states::{Status, status_of};
+use group_tree::HostId;
+use play_course::Boundary;
+use play_plan::list_aside;
+use roll_core::{Board, Runner};
+use std::alloc::{AllocError, Allocator, Global};
+use std::sync::ledger::Ledger;
+
+/// Counts a host as its status says; a number that no host has is passed over.
+#[tactic(auto, using(crate::proofs::Counting::moved_past))]
+fn tell_one<A: Allocator>(domains: &mut Domains<'_, A>, statuses: &[Status], host: HostId)
+    requires placed { length domains.old.places ≡ length domains.old.fleet.hosts }
+    ensures { domains.new ≡ moved domains.old host.index (places.place_of (status_at statuses.now host.index)) }
+{
+    if host.index >= domains.fleet().hosts() {
+        return;
+    }
+    domains.set(host, place_of(status_of(statuses, host)));
+}
+
+/// Counts these hosts, one after the other, as their statuses say.
+pub(crate) fn tell<A: Allocator>(
+    domains: &mut Domains<'_, A>,
+    statuses: &[Status],
+    hosts: &[HostId],
+)
+    requires placed { length domains.old.places ≡ length domains.old.fleet.hosts }
+    ensures { domains.new ≡ told_places (host_numbers hosts.now) statuses.now domains.old }
+{
+    for place in 0..hosts.len() {
+        tell_one(domains, statuses, hosts[place]);
+    }
+}
+
+/// Sets these hosts aside, and counts them so. Want of memory leaves everything as it was.
+fn hold<A: Allocator, R: Runner, L: Ledger>(
+    alloc: Global,
+    board: &mut Board<'_, R, L>,
+    domains: &mut Domains<'_, A>,
+    held: &[HostId],
+) -> Result<(), AllocError>
+    requires some { 0 < length held.now }
+    requires counts { AreCountsOf (state_of board.old.kernel).statuses domains.old }
+    ensures ok { OnOk result (HasSetAside (host_numbers held.now) board.old board.new) }
+    ensures counts { AreCountsOf (state_of board.new.kernel).statuses domains.new }
+    ensures fleet { domains.new.fleet ≡ domains.old.fleet }
+    ensures unchanged { OnErr result (board.new ≡ board.old) }
+{
+    match board.hold(alloc, held) {
+        Ok(()) => {
+            tell(domains, board.statuses(), held);
+            Ok(())
+        }
+        Err(_refused) => Err(AllocError),
+    }
+}
+
+/// The same, where any are to be set aside.
+fn set_aside<A: Allocator, R: Runner, L: Ledger>(
+    alloc: Global,
+    board: &mut Board<'_, R, L>,
+    domains: &mut Domains<'_, A>,
+    held: &[HostId],
+) -> Result<(), AllocError>
+    requires counts { AreCountsOf (state_of board.old.kernel).statuses domains.old }
+    ensures ok { OnOk result (HasSetAside (host_numbers held.now) board.old board.new) }
+    ensures counts { AreCountsOf (state_of board.new.kernel).statuses domains.new }
+    ensures fleet { domains.new.fleet ≡ domains.old.fleet }
+    ensures unchanged { OnErr result (board.new ≡ board.old) }
+{
+    match held {
+        [] => Ok(()),
+        [_, ..] => hold(alloc, board, domains, held),
+    }
+}
+
+/// How many batches were opened, one a boundary. A play has so few hosts that the number fits; past it the last entry of the sizes is in force.
+fn count(boundaries: &[Boundary]) -> u32
+    ensures { result ≡ min (length boundaries.now) 4294967295 }
+{
+    boundaries.len().min(u32::MAX as usize) as u32
+}
+
+/// Comes to the next boundary: hosts are set aside where they are not to stop the play, and the rest is planned anew over the counts
+/// that stand. Want of memory adds no boundary.
+pub(crate) fn come_to_boundary<A: Allocator, R: Runner, L: Ledger>(
+    alloc: Global,
+    board: &mut Board<'_, R, L>,
+    domains: &mut Domains<'_, A>,
+    boundaries: &mut Vec<Boundary>,
+    targeted: u32,
+) -> Result<(), AllocError>
+    requires counts { AreCountsOf (state_of board.old.kernel).statuses domains.old }
+    requires fleet { domains.old.fleet ≡ board.old.kernel.fleet }
+    requires targeted { targeted ≡ length (targets board.old.kernel.fleet board.old.kernel.play) }
+    ensures grown { HasOpened [] board.old board.new }
+    ensures ok { OnOk result ((before : Option End) → IsBetween board.old.kernel boundaries.old.items before → IsNoted board.new.kernel boundaries.new.items before) }
+    ensures counts { AreCountsOf (state_of board.new.kernel).statuses domains.new }
+    ensures fleet { domains.new.fleet ≡ domains.old.fleet }
+    ensures err { OnErr result (boundaries.new.items ≡ boundaries.old.items) }
+{
+    let play = board.play();
+    let held = list_aside(alloc, board.fleet(), board.statuses(), play.on_blocked())?;
+    set_aside(alloc, board, domains, held.as_slice())?;
+    let cap = play.cap(targeted, count(boundaries.as_slice()));
+    let boundary = Boundary::planned(alloc, domains, held, board.statuses(), cap)?;
+    boundaries.push(boundary)?;
+    Ok(())
+}

@@ -1,0 +1,60 @@
+//! A run that a fault broke off.
+ghost use Rattle.std.specs.Prelude.{◌≡◌, []};
+ghost use Rattle.roll_run.specs.Plays.{IsNotBegun};
+
+use crate::run::Run;
+use fleet_states::Status;
+use fork_pool::StepFault;
+use outcome_results::Counts;
+use play_course::Boundary;
+use roll_core::Event;
+use std::alloc::Global;
+
+/// A run that a fault broke off: why; its boundaries, of which the first `opened` ones opened a batch; the log, the oldest event first; of each
+/// host its status, and how its rows were judged. The hosts of a batch that is open are down. Where the run had no board yet, the log and
+/// the list of counts are empty: no host has a row then.
+#[derive(Drop)]
+pub struct RunFault {
+    pub why: StepFault,
+    pub boundaries: Vec<Boundary>,
+    pub opened: usize,
+    pub log: Vec<Event>,
+    pub statuses: Vec<Status>,
+    pub counts: Vec<Counts>,
+}
+
+impl RunFault {
+    /// Memory was wanting before there was a board: the statuses are those that the run was to begin with.
+    pub(crate) fn before_a_log(alloc: Global, statuses: Vec<Status>) -> RunFault
+        ensures { IsNotBegun statuses.items result }
+    {
+        RunFault {
+            why: StepFault::Mem,
+            boundaries: Vec::new(alloc),
+            opened: 0,
+            log: Vec::new(alloc),
+            statuses,
+            counts: Vec::new(alloc),
+        }
+    }
+}
+
+/// A run of several plays that a fault broke off: the runs of the plays before, each finished, and what the last one came to.
+#[derive(Drop)]
+pub struct RunsFault {
+    pub done: Vec<Run>,
+    pub last: RunFault,
+}
+
+impl RunsFault {
+    /// Memory was wanting before the first play had a board.
+    pub(crate) fn before_a_log(alloc: Global, statuses: Vec<Status>) -> RunsFault
+        ensures done { result.done.items ≡ [] }
+        ensures last { IsNotBegun statuses.items result.last }
+    {
+        RunsFault {
+            done: Vec::new(alloc),
+            last: RunFault::before_a_log(alloc, statuses),
+        }
+    }
+}

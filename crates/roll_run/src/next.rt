@@ -1,0 +1,91 @@
+//! What a later play begins with.
+ghost use Rattle.std.specs.Prelude.{◌≡◌, ◌≤◌, ◌++◌, ◌∷◌, ◌<◌, [], IfOk, None, find, length, vec_capacity, vec_len};
+ghost use Rattle.domains.specs.Patterns.{names_nothing};
+ghost use Rattle.batch_plan.specs.Beginnings.{IsReady, restart_statuses};
+ghost use Rattle.play_plan.specs.PlayPlans.{parts_of_play, targets};
+ghost use Rattle.roll_run.specs.Plays.{AreSameHosts};
+
+use crate::run::Run;
+use batch_plan::restart;
+use domains::Fleet;
+use fleet_states::Status;
+use host_vars::Vars;
+use play_model::Play;
+use std::alloc::{AllocError, Global};
+
+/// What a play begins with: of each host its status, and its variables with the results that earlier plays registered.
+#[derive(Drop)]
+pub(crate) struct Start {
+    pub(crate) statuses: Vec<Status>,
+    pub(crate) vars: Vec<Vars>,
+}
+
+fn copy_all(alloc: Global, vars: &[Vars]) -> Result<Vec<Vars>, AllocError>
+    ensures { IfOk result (λ copies. AreSameHosts copies.items vars.now) }
+{
+    let mut copies = Vec::with_capacity(alloc, vars.len())?;
+    for index in 0..vars.len() {
+        copies.push(vars[index].copy(alloc)?)?;
+    }
+    Ok(copies)
+}
+
+/// The statuses with which a play begins after a run of another: those wait whom it is for, save who failed, was halted or is off.
+fn restart_after(
+    alloc: Global,
+    fleet: &Fleet,
+    play: &Play,
+    before: &[Status],
+) -> Result<Vec<Status>, AllocError>
+    requires known { find (names_nothing fleet.now) (parts_of_play play.now) ≡ None }
+    requires ready { IsReady fleet.now before.now }
+    ensures statuses { IfOk result (λ next. next.items ≡ restart_statuses before.now (targets fleet.now play.now)) }
+    ensures ready { IfOk result (λ next. IsReady fleet.now next.items) }
+{
+    match fleet.target(alloc, play.pattern()) {
+        Ok(hosts) => restart(alloc, fleet, before, hosts.as_slice()),
+        Err(_refused) => Err(AllocError),
+    }
+}
+
+/// What a play begins with after a run of another. Want of memory leaves all as it was.
+pub(crate) fn begin_after(
+    alloc: Global,
+    fleet: &Fleet,
+    play: &Play,
+    before: &Run,
+) -> Result<Start, AllocError>
+    requires known { find (names_nothing fleet.now) (parts_of_play play.now) ≡ None }
+    requires ready { IsReady fleet.now before.now.statuses.items }
+    ensures statuses { IfOk result (λ start. start.statuses.items ≡ restart_statuses before.now.statuses.items (targets fleet.now play.now)) }
+    ensures ready { IfOk result (λ start. IsReady fleet.now start.statuses.items) }
+    ensures vars { IfOk result (λ start. AreSameHosts start.vars.items before.now.vars.items) }
+{
+    let statuses = restart_after(alloc, fleet, play, before.statuses.as_slice())?;
+    let vars = copy_all(alloc, before.vars.as_slice())?;
+    Ok(Start { statuses, vars })
+}
+
+/// Puts an item at the end, where there is room.
+pub(crate) fn keep<T: Drop>(items: &mut Vec<T>, item: T)
+    requires { vec_len items.old < vec_capacity items.old }
+    ensures items { items.new.items ≡ items.old.items ++ item ∷ [] }
+    ensures capacity { vec_capacity items.old ≤ vec_capacity items.new }
+{
+    match items.push(item) {
+        Ok(()) => {}
+        Err(_refused) => {}
+    }
+}
+
+/// The same statuses, in room that was taken before.
+pub(crate) fn copy_into(mut room: Vec<Status>, statuses: &[Status]) -> Vec<Status>
+    requires empty { room.items ≡ [] }
+    requires room { length statuses.now ≤ vec_capacity room }
+    ensures { result.items ≡ statuses.now }
+{
+    for index in 0..statuses.len() {
+        keep(&mut room, statuses[index]);
+    }
+    room
+}

@@ -1,0 +1,129 @@
+//! A run begins, and what it leaves.
+ghost use Rattle.std.specs.Prelude.{◌≡◌, ◌<◌, ◌≤◌, [], IfErr, IfOk, None, count_by, find, length};
+ghost use Rattle.fleet_states.specs.Groups.{IsSafe, groups_of};
+ghost use Rattle.fleet_states.specs.Statuses.{NobodyRuns};
+ghost use Rattle.domains.specs.Patterns.{names_nothing};
+ghost use Rattle.play_plan.specs.PlayPlans.{parts_of_play, targets};
+ghost use Rattle.roll_kernel.specs.Views.{event_of, roll_of};
+ghost use Rattle.roll_run.specs.Inside.{HasGone, opens};
+ghost use Rattle.roll_run.specs.Runs.{IsBrokenOff, IsRun, roll_by};
+
+use crate::fault::RunFault;
+use crate::run::Run;
+use crate::turns::go_on;
+use batch_plan::counted;
+use bumpalo::Bump;
+use domains::Fleet;
+use fleet_states::Status;
+use fork_pool::{Front, StepFault};
+use host_vars::Vars;
+use play_course::{Boundary, End};
+use play_model::Play;
+use roll_core::{Board, Event, Runner};
+use std::alloc::{AllocError, Global};
+use std::sync::Wait;
+use std::sync::ledger::{Blank, Ledger};
+
+fn is_opening(event: &Event) -> bool
+    ensures { result ≡ opens (event_of event.now) }
+{
+    matches!(event, Event::Open(_))
+}
+
+/// How many batches a log opens.
+fn count_opened(log: &[Event]) -> usize
+    ensures { result ≡ count_by (λ event. opens (event_of event)) log.now }
+{
+    log.iter().filter(|event| is_opening(event)).count()
+}
+
+/// What is left of a run that came to its end, or that a fault broke off.
+fn leave<R: Runner, L: Ledger>(
+    board: Board<'_, R, L>,
+    boundaries: Vec<Boundary>,
+    gone: Result<End, StepFault>,
+) -> Result<Run, RunFault>
+    requires { HasGone boundaries.items board.kernel gone }
+    ensures ok { IfOk result (IsRun (R.may board.entry.runner) board.entry.kernel.fleet (roll_of board.entry.kernel)) }
+    ensures err { IfErr result (IsBrokenOff (R.may board.entry.runner) board.entry.kernel.fleet (roll_of board.entry.kernel)) }
+{
+    let left = board.finish();
+    match gone {
+        Ok(end) => Ok(Run {
+            boundaries,
+            log: left.log,
+            statuses: left.statuses,
+            vars: left.vars,
+            counts: left.counts,
+            end,
+        }),
+        Err(why) => Err(RunFault {
+            why,
+            boundaries,
+            opened: count_opened(left.log.as_slice()),
+            log: left.log,
+            statuses: left.statuses,
+            counts: left.counts,
+        }),
+    }
+}
+
+/// How many hosts the play is for. A fleet has so few that the number fits.
+fn count_targets(alloc: Global, fleet: &Fleet, play: &Play) -> Result<u32, AllocError>
+    requires { find (names_nothing fleet.now) (parts_of_play play.now) ≡ None }
+    ensures { IfOk result (λ targeted. targeted ≡ length (targets fleet.now play.now)) }
+{
+    match fleet.target(alloc, play.pattern()) {
+        Ok(hosts) => Ok(hosts.len().min(fleet.hosts()) as u32),
+        Err(_refused) => Err(AllocError),
+    }
+}
+
+/// A run of the play with the workers of a pool. The counts of the fleet stay in an arena of the coordinator's own. Where memory is wanting before there
+/// is a board, only that is told.
+#[allow(clippy::too_many_arguments)]
+pub(crate) fn run_on<'f, 'b, R: Runner, L: Ledger, H: Wait>(
+    rt: &H,
+    alloc: Global,
+    front: &mut Front<'f, R>,
+    fleet: &'b Fleet,
+    play: &'b Play,
+    statuses: &'b [Status],
+    vars: &'b [Vars],
+    runner: &'f R,
+    forks: usize,
+    blank: Blank,
+) -> Result<Result<Run, RunFault>, AllocError>
+where
+    'f: 'b,
+    requires all { length statuses.now ≡ length fleet.now.hosts }
+    requires each { length vars.now ≡ length fleet.now.hosts }
+    requires at_rest { NobodyRuns statuses.now }
+    requires safe { IsSafe (groups_of fleet.now) statuses.now }
+    requires some { 0 < forks }
+    requires few { forks ≤ 64 }
+    requires known { find (names_nothing fleet.now) (parts_of_play play.now) ≡ None }
+    requires workers { front.old.forks ≡ forks }
+    requires name { blank.name ≡ L.name }
+    requires parts { blank.parts ≡ L.parts }
+    requires many { blank.parts ≡ 129 }
+    ensures ok { IfOk result (λ run. IfOk run (IsRun (R.may runner.now) fleet.now (roll_by fleet.now play.now forks statuses.now vars.now))) }
+    ensures err { IfOk result (λ run. IfErr run (IsBrokenOff (R.may runner.now) fleet.now (roll_by fleet.now play.now forks statuses.now vars.now))) }
+    ensures forks { front.new.forks ≡ front.old.forks }
+{
+    let targeted = count_targets(alloc, fleet, play)?;
+    let arena = Bump::new(alloc);
+    let mut domains = counted(&arena, fleet, statuses)?;
+    let board = Board::<R, L>::new(alloc, fleet, play, runner, forks, statuses, vars, blank)?;
+    let mut boundaries = Vec::new(alloc);
+    let (gone, board) = go_on(
+        rt,
+        alloc,
+        front,
+        board,
+        &mut domains,
+        &mut boundaries,
+        targeted,
+    );
+    Ok(leave(board, boundaries, gone))
+}

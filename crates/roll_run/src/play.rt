@@ -1,0 +1,63 @@
+//! A run of one play.
+ghost use Rattle.std.specs.Prelude.{◌≡◌, ◌<◌, ◌≤◌, IfErr, IfOk, None, find, length};
+ghost use Rattle.domains.specs.Patterns.{names_nothing};
+ghost use Rattle.fleet_states.specs.Groups.{IsSafe, groups_of};
+ghost use Rattle.fleet_states.specs.Statuses.{NobodyRuns};
+ghost use Rattle.play_plan.specs.PlayPlans.{parts_of_play};
+ghost use Rattle.roll_run.specs.Runs.{IsBrokenOff, IsRun, roll_by};
+
+use crate::fault::RunFault;
+use crate::pool::run_plays;
+use crate::run::Run;
+use domains::Fleet;
+use fleet_states::Status;
+use host_vars::Vars;
+use play_model::Play;
+use roll_core::Runner;
+use std::alloc::Global;
+use std::process::{Processes, SystemProcess};
+use std::slice;
+use std::sync::Wait;
+use std::thread::Threads;
+
+/// Runs a play on the hosts of its pattern, with `forks` workers, 1 to 64: at each boundary with the shortest plan that there is, and with
+/// that plan's first batch. At no moment is a group over its limit, whatever the programs answer and however many run at once. Want of
+/// memory breaks it off with what it came to; where a worker can't be started, nothing is opened.
+#[allow(clippy::too_many_arguments)]
+pub fn run_play<R: Runner, H: Threads + Wait + Processes<Started = SystemProcess> + Sync>(
+    rt: &H,
+    alloc: Global,
+    fleet: &Fleet,
+    play: &Play,
+    statuses: Vec<Status>,
+    vars: Vec<Vars>,
+    runner: &R,
+    forks: usize,
+) -> Result<Run, RunFault>
+    requires all { length statuses.items ≡ length fleet.now.hosts }
+    requires each { length vars.items ≡ length fleet.now.hosts }
+    requires at_rest { NobodyRuns statuses.items }
+    requires safe { IsSafe (groups_of fleet.now) statuses.items }
+    requires some { 0 < forks }
+    requires few { forks ≤ 64 }
+    requires known { find (names_nothing fleet.now) (parts_of_play play.now) ≡ None }
+    ensures ok { IfOk result (IsRun (R.may runner.now) fleet.now (roll_by fleet.now play.now forks statuses.items vars.items)) }
+    ensures err { IfErr result (IsBrokenOff (R.may runner.now) fleet.now (roll_by fleet.now play.now forks statuses.items vars.items)) }
+{
+    match run_plays(
+        rt,
+        alloc,
+        fleet,
+        slice::from_ref(play),
+        statuses,
+        vars,
+        runner,
+        forks,
+    ) {
+        Ok(mut runs) => match runs.pop() {
+            Some(run) => Ok(run),
+            None => unreachable!(),
+        },
+        Err(fault) => Err(fault.last),
+    }
+}

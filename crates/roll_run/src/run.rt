@@ -1,0 +1,18 @@
+//! What a run of a play leaves.
+use fleet_states::Status;
+use host_vars::Vars;
+use outcome_results::Counts;
+use play_course::{Boundary, End};
+use roll_core::Event;
+
+/// What a run of a play leaves: its boundaries, of which each but the last opened a batch; the log, the oldest event first; of each host its
+/// status, its variables with the results that it registered, and how its rows were judged; and how the play ended.
+#[derive(Drop)]
+pub struct Run {
+    pub boundaries: Vec<Boundary>,
+    pub log: Vec<Event>,
+    pub statuses: Vec<Status>,
+    pub vars: Vec<Vars>,
+    pub counts: Vec<Counts>,
+    pub end: End,
+}

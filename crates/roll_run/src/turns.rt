@@ -1,0 +1,150 @@
+//! From boundary to boundary.
+ghost use Rattle.std.specs.Prelude.{◌≡◌, None, length};
+ghost use Rattle.batch_plan.specs.Places.{AreCountsOf};
+ghost use Rattle.play_course.specs.Courses as courses;
+ghost use Rattle.play_plan.specs.PlayPlans.{targets};
+ghost use Rattle.roll_kernel.specs.Views.{state_of};
+ghost use Rattle.roll_run.specs.Inside.{HasGone, HasTurned, IsBetween, IsNoted, IsSameRoll};
+
+use crate::batch::run_batch;
+use crate::boundary::come_to_boundary;
+use crate::close::close_batch;
+use domain_counts::Domains;
+use fork_pool::{Front, StepFault};
+use play_course::{Boundary, End};
+use roll_core::{Board, Runner};
+use std::alloc::{Allocator, Global};
+use std::sync::Wait;
+use std::sync::ledger::Ledger;
+
+/// What a play came to with a boundary and its batch.
+#[derive(Clone, Copy, Debug, Drop)]
+pub(crate) enum Turn {
+    /// The batch is behind it; it ended the play at the next boundary as told, if it did.
+    Behind(Option<End>),
+    /// The play ended at the boundary.
+    Ended(End),
+    /// A fault broke it off.
+    Broken(StepFault),
+}
+
+/// How the play ends at the boundary, if it does: as the batch before it ended it, or since no batch can be opened.
+fn end_at(before: Option<End>, boundary: &Boundary) -> Option<End>
+    ensures { result ≡ courses.end_here before boundary.now }
+{
+    match before {
+        Some(end) => Some(end),
+        None => boundary.end_without_batch(),
+    }
+}
+
+/// Ends the play at the last boundary, or runs its batch.
+#[allow(clippy::too_many_arguments)]
+fn pass<'f, 'b, A: Allocator, R: Runner, L: Ledger, H: Wait>(
+    rt: &H,
+    alloc: Global,
+    front: &mut Front<'f, R>,
+    board: Board<'b, R, L>,
+    domains: &mut Domains<'_, A>,
+    boundaries: &[Boundary],
+    before: Option<End>,
+) -> (Turn, Board<'b, R, L>)
+where
+    'f: 'b,
+    requires forks { front.old.forks ≡ board.kernel.forks }
+    requires tallies { board.tallies ≡ 0 }
+    requires counts { AreCountsOf (state_of board.kernel).statuses domains.old }
+    requires noted { IsNoted board.kernel boundaries.now before }
+    ensures turned { HasTurned boundaries.now domains.new result.1 result.0 }
+    ensures same { IsSameRoll board.entry result.1 }
+    ensures fleet { domains.new.fleet ≡ domains.old.fleet }
+    ensures forks { front.new.forks ≡ front.old.forks }
+{
+    let boundary = &boundaries[boundaries.len() - 1];
+    match end_at(before, boundary) {
+        Some(end) => (Turn::Ended(end), board),
+        None => match run_batch(rt, alloc, front, board, boundary.next_batch()) {
+            Ok(mut board) => {
+                let end = close_batch(&mut board, domains, boundary.next_batch());
+                (Turn::Behind(end), board)
+            }
+            Err((why, board)) => (Turn::Broken(why), board),
+        },
+    }
+}
+
+/// Comes to the next boundary, and ends the play there or runs its batch.
+#[allow(clippy::too_many_arguments)]
+fn move_on<'f, 'b, A: Allocator, R: Runner, L: Ledger, H: Wait>(
+    rt: &H,
+    alloc: Global,
+    front: &mut Front<'f, R>,
+    mut board: Board<'b, R, L>,
+    domains: &mut Domains<'_, A>,
+    boundaries: &mut Vec<Boundary>,
+    before: Option<End>,
+    targeted: u32,
+) -> (Turn, Board<'b, R, L>)
+where
+    'f: 'b,
+    requires forks { front.old.forks ≡ board.kernel.forks }
+    requires tallies { board.tallies ≡ 0 }
+    requires counts { AreCountsOf (state_of board.kernel).statuses domains.old }
+    requires fleet { domains.old.fleet ≡ board.kernel.fleet }
+    requires targeted { targeted ≡ length (targets board.kernel.fleet board.kernel.play) }
+    requires between { IsBetween board.kernel boundaries.old.items before }
+    ensures turned { HasTurned boundaries.new.items domains.new result.1 result.0 }
+    ensures same { IsSameRoll board.entry result.1 }
+    ensures fleet { domains.new.fleet ≡ domains.old.fleet }
+    ensures forks { front.new.forks ≡ front.old.forks }
+{
+    match come_to_boundary(alloc, &mut board, domains, boundaries, targeted) {
+        Ok(()) => pass(
+            rt,
+            alloc,
+            front,
+            board,
+            domains,
+            boundaries.as_slice(),
+            before,
+        ),
+        Err(_refused) => (Turn::Broken(StepFault::Mem), board),
+    }
+}
+
+/// From the present boundary to the end of the play, or to a fault.
+pub(crate) fn go_on<'f, 'b, A: Allocator, R: Runner, L: Ledger, H: Wait>(
+    rt: &H,
+    alloc: Global,
+    front: &mut Front<'f, R>,
+    mut board: Board<'b, R, L>,
+    domains: &mut Domains<'_, A>,
+    boundaries: &mut Vec<Boundary>,
+    targeted: u32,
+) -> (Result<End, StepFault>, Board<'b, R, L>)
+where
+    'f: 'b,
+    requires forks { front.old.forks ≡ board.kernel.forks }
+    requires tallies { board.tallies ≡ 0 }
+    requires counts { AreCountsOf (state_of board.kernel).statuses domains.old }
+    requires fleet { domains.old.fleet ≡ board.kernel.fleet }
+    requires targeted { targeted ≡ length (targets board.kernel.fleet board.kernel.play) }
+    requires between { IsBetween board.kernel boundaries.old.items None }
+    ensures gone { HasGone boundaries.new.items result.1.kernel result.0 }
+    ensures same { IsSameRoll board.entry result.1 }
+    ensures forks { front.new.forks ≡ front.old.forks }
+{
+    let mut before = None;
+    for _ in rt.forever() {
+        let (turn, back) = move_on(
+            rt, alloc, front, board, domains, boundaries, before, targeted,
+        );
+        board = back;
+        match turn {
+            Turn::Behind(end) => before = end,
+            Turn::Ended(end) => return (Ok(end), board),
+            Turn::Broken(why) => return (Err(why), board),
+        }
+    }
+    unreachable!()
+}
