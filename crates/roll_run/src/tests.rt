@@ -1,17 +1,23 @@
 //! Six hosts of which two may be down, three steps, and one host that fails at the second: the run of the worked example, at any number of forks.
-use crate::{Boundary, End, Run, run_play};
+ghost use Rattle.std.specs.Prelude.{◌<◌, ◌≤◌};
+
+use crate::{Boundary, End, Run, run_plays};
 use batch_plan::{Answer, start};
 use domains::Fleet;
 use group_tree::{Group, HostId, Tree};
 use host_vars::{Vars, layered_all};
 use outcome_results::Outcome;
 use play_model::Play;
-use play_read::read_play;
+use play_plan::look_up_all;
+use play_read::read_plays;
 use roll_core::Status;
 use sample_fleets::{group, with};
 use script_runner::Script;
 use std::alloc::{AllocError, Global};
+use std::process::{Processes, SystemProcess};
+use std::sync::Wait;
 use std::test::Fail;
+use std::thread::Threads;
 
 const THREE_STEPS: &str =
     r#"[{"hosts":"all","tasks":[{"command":"x"},{"command":"y"},{"command":"z"}]}]"#;
@@ -65,20 +71,39 @@ fn is_as_worked(run: &Run) -> bool {
             .as_slice()
 }
 
+/// The runs of these plays, at so many forks.
+fn ran<H: Threads + Wait + Processes<Started = SystemProcess> + Sync>(
+    rt: &H,
+    alloc: Global,
+    plays: &[Play],
+    script: &Script,
+    forks: usize,
+) -> Result<Vec<Run>, Fail>
+    requires some { 0 < forks }
+    requires few { forks ≤ 64 }
+{
+    let (fleet, vars) = fleet_of(alloc)?;
+    if plays.is_empty() || vars.len() != fleet.hosts() {
+        return Err(Fail::new("no play, or not one list of variables a host"));
+    }
+    look_up_all(alloc, &fleet, plays)?;
+    let targets = fleet.target(alloc, plays[0].pattern())?;
+    let statuses = start(alloc, &fleet, targets.as_slice())?;
+    match run_plays(rt, alloc, &fleet, plays, statuses, vars, script, forks) {
+        Ok(runs) => Ok(runs),
+        Err(_fault) => Err(Fail::new("a fault")),
+    }
+}
+
 #[test]
 fn forks_make_no_difference(rt: HostRuntime) -> Result<(), Fail> {
     let alloc = rt.alloc();
     let script = script(alloc)?;
-    let play: Play = read_play(alloc, THREE_STEPS.as_bytes())?;
+    let plays = read_plays(alloc, THREE_STEPS.as_bytes())?;
     for forks in [1, 2, 5, 64] {
-        let (fleet, vars) = fleet_of(alloc)?;
-        let targets = fleet.target(alloc, "all")?;
-        let statuses = start(alloc, &fleet, targets.as_slice())?;
-        let run = run_play(&rt, alloc, &fleet, &play, statuses, vars, &script, forks);
-        let Ok(run) = run else {
-            return Err(Fail::new("a fault"));
-        };
-        assert!(rt; is_as_worked(&run), "{forks} forks");
+        let runs = ran(&rt, alloc, plays.as_slice(), &script, forks)?;
+        assert!(rt; runs.len() == 1, "{forks} forks");
+        assert!(rt; is_as_worked(&runs[0]), "{forks} forks");
     }
     Ok(())
 }
