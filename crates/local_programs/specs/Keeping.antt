@@ -1,0 +1,15 @@
+-- What is kept of an output.
+use Rattle.std.specs.Prelude.{ℕ, ◌+◌, ◌-◌, List, [], ◌++◌, length, take}
+
+-- the first bytes of an output, and how many of it were read
+pub record KeptView : Type 0 where
+  pub bytes : List ℕ
+  pub count : ℕ
+
+abbrev pub nothing_kept : KeptView
+nothing_kept = record { bytes = []; count = 0 }
+
+-- these bytes were read behind the others: as many are kept as make 65,536
+abbrev pub kept_after : KeptView → List ℕ → KeptView
+kept_after kept given =
+    record { bytes = kept.bytes ++ take (65536 - length kept.bytes) given; count = kept.count + length given }

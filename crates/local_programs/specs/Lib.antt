@@ -1,0 +1,4 @@
+pub mod Keeping
+pub mod Reads
+pub mod Texts
+pub mod Ends
