@@ -1,0 +1,508 @@
+#!/bin/sh
+# Runs plays whose programs do what programs do: each kind of output, of end and of start that can't be had, with the texts that are kept of
+# it compared byte by byte; many programs at once; and each call by which a program is run failing in turn. It needs a C compiler and
+# crates/rollout/out/rollout. While that has no command `run`, all is passed over.
+. "$(dirname "$0")/common.sh"
+helpers=$top/tests/programs
+
+# Runs the program, which is not to hang.
+run() {
+    timeout -k 5 120 "$rollout" "$@" <"$input" >"$work/out" 2>"$work/errors"
+    status=$?
+}
+
+printf '{"all":{"hosts":{"a":null}}}' >"$work/one.json"
+printf '[{"hosts":"all","tasks":[{"command":"true"}]}]' >"$work/true.json"
+run run "$work/one.json" "$work/true.json"
+if [ "$status" -eq 1 ] && head -n 1 "$work/errors" | grep -q '^rollout: 901 BadLine'; then
+    echo 'the program has no command "run" yet: its programs are passed over'
+    pass
+    finish
+    exit
+fi
+
+{ ${CC:-cc} -O1 -o "$work/act" "$helpers/act.c" && ${CC:-cc} -shared -fPIC -O1 -o "$work/fail.so" "$helpers/fail.c" -ldl; } || {
+    fail 'no C compiler made the helpers'
+    finish
+    exit 1
+}
+chmod 755 "$work"
+mkdir -m 777 "$work/kept"
+act=$work/act
+
+# What a step keeps of another: its two words, each in a file of its own.
+cat >"$work/keep" <<'SH'
+#!/bin/sh
+printf '%s' "$1" >"${0%/*}/kept/out"
+printf '%s' "$2" >"${0%/*}/kept/err"
+SH
+chmod 755 "$work/keep"
+
+# words WORD..: these as the words of a command. They hold nothing that a JSON text would have to hide.
+words() {
+    between=
+    printf '['
+    for word; do
+        printf '%s"%s"' "$between" "$word"
+        between=,
+    done
+    printf ']'
+}
+
+# shell TEXT: the words of a shell that runs this line, which may hold quotes.
+shell() {
+    printf '["sh","-c","%s"]' "$(printf '%s' "$1" | sed 's/\\/\\\\/g; s/"/\\"/g')"
+}
+
+# played STEPS: runs a play of these steps on one host.
+played() {
+    printf '[{"hosts":"all","tasks":[%s]}]' "$1" >"$work/play.json"
+    run run "$work/one.json" "$work/play.json"
+}
+
+# told WHAT STATUS ENDING END: the last run ended so, as did its host.
+told() {
+    check "$1" "$2" "boundary 1: plan batches=1 bound=one-host
+open: a
+boundary 2: plan batches=0 bound=nothing
+a $3
+end $4
+" ''
+}
+
+# ran WHAT CODE WORDS: the program gives back CODE, and the two texts of it that are kept are those in want.out and want.err.
+: >"$work/want.out"
+: >"$work/want.err"
+ran() {
+    rm -f "$work/kept/out" "$work/kept/err"
+    played "{\"command\":{\"argv\":$3},\"register\":\"r\",\"ignore_errors\":true},{\"command\":{\"argv\":[\"$work/keep\",\"{{ r.stdout }}\",\"{{ r.stderr }}\"]},\"when\":\"r.rc == $2\"}"
+    ignored=0
+    [ "$2" -eq 0 ] || ignored=1
+    told "$1" 0 "ok=2 changed=2 failed=0 skipped=0 ignored=$ignored state=updated" finished
+    if cmp -s "$work/kept/out" "$work/want.out" && cmp -s "$work/kept/err" "$work/want.err"; then
+        pass
+    else
+        fail "$1: other texts are kept"
+        cmp "$work/kept/out" "$work/want.out" | head -n 1
+        cmp "$work/kept/err" "$work/want.err" | head -n 1
+    fi
+    : >"$work/want.out"
+    : >"$work/want.err"
+}
+
+# acted WHAT CODE OUT ERR WORDS..: the same of what act does, of which so many first bytes of each output are kept.
+acted() {
+    what=$1
+    code=$2
+    "$act" out "$3" >"$work/want.out"
+    "$act" out "$4" >"$work/want.err"
+    shift 4
+    ran "$what" "$code" "$(words "$act" "$@")"
+}
+
+# says WHAT TEXT WORDS: the program ends well, and this text is kept of its output.
+says() {
+    printf '%s' "$2" >"$work/want.out"
+    ran "$1" 0 "$3"
+}
+
+# unstarted WHAT WORDS: there is no such program to start.
+unstarted() {
+    played "{\"command\":{\"argv\":$2},\"register\":\"r\",\"ignore_errors\":true},{\"command\":\"true\",\"when\":[\"r is failed and not r is changed and not r is skipped\",\"r.rc is not defined\",\"r.stdout == '' and r.stderr == ''\"]}"
+    told "$1" 0 'ok=2 changed=1 failed=0 skipped=0 ignored=1 state=updated' finished
+}
+
+# ---- outputs: their first 65,536 bytes are kept
+
+most=65536
+for size in 0 1 65535 65536 65537 1000000 16777216; do
+    kept=$size
+    [ "$kept" -le "$most" ] || kept=$most
+    acted "$size bytes of output" 0 "$kept" 0 out "$size"
+    acted "$size bytes of errors" 0 0 "$kept" err "$size"
+done
+acted 'as many of both, by turns' 0 "$most" "$most" both 65536
+acted 'one more of both, by turns' 0 "$most" "$most" both 65537
+acted 'a million of both, by turns' 0 "$most" "$most" both 1000000
+acted 'first the output, then the errors' 0 "$most" "$most" out 1000000 err 1000000
+acted 'first the errors, then the output' 0 "$most" "$most" err 1000000 out 1000000
+acted 'errors in the midst of an output' 0 300 5 out 100 err 5 out 200
+acted 'an output in small pieces, with rests' 0 6 0 out 1 rest 20 out 2 rest 20 out 3
+acted 'all that is read of an output, behind many errors' 0 "$most" "$most" err 16000000 out 16777216
+
+# ---- at most 16,777,216 bytes of an output are read; then nobody reads either
+
+acted 'an output that is not read to its end' -1 "$most" 0 out 20971520
+acted 'errors that are not read to their end' -1 0 "$most" err 20971520
+acted 'two outputs that are not read to their ends' -1 "$most" "$most" both 20971520
+acted 'an output that is not read to its end, behind many errors' -1 "$most" "$most" err 10000000 out 20971520
+acted 'nobody reads, and the program heeds it' 7 "$most" 0 ignore out 20971520
+acted 'nobody reads, and the program goes on' 3 "$most" 0 deaf out 20971520 rest 50 exit 3
+acted 'nobody reads the errors either' 7 "$most" 0 deaf out 20971520 ignore err 1 exit 4
+played '{"command":"cat /dev/zero"}'
+told 'an output without an end' 4 'ok=0 changed=0 failed=1 skipped=0 ignored=0 state=failed' all-failed
+
+# ---- texts
+
+says 'one line' 'a line' "$(shell 'echo "a line"')"
+says 'line ends of all kinds at the end' "a
+b" "$(shell 'printf "a\nb\r\n\n\r\r\n"')"
+says 'line ends alone' '' "$(shell 'printf "\r\n\n\r"')"
+says 'line ends and blanks at the end' 'a
+ ' "$(shell 'printf "a\n \n"')"
+says 'line ends at the front' '
+a' "$(shell 'printf "\na"')"
+printf 'x\357\277\275y' >"$work/want.out"
+ran 'a byte that is no UTF-8' 0 "$(shell 'printf "x\377y\n"')"
+printf '\357\277\275' >"$work/want.out"
+ran 'half a character' 0 "$(shell 'printf "\342\202"')"
+printf '\357\277\275\357\277\275' >"$work/want.err"
+ran 'two bytes of no character, as errors' 0 "$(shell 'printf "\300\200\n" >&2')"
+printf 'caf\303\251 \342\202\254 \360\237\230\200' >"$work/want.out"
+ran 'characters of two, three and four bytes' 0 "$(shell 'printf "caf\303\251 \342\202\254 \360\237\230\200\r\n"')"
+"$act" out 65530 >"$work/want.out"
+ran 'line ends at the end of what is kept' 0 "$(shell "$act out 65530; printf '\n\n\r\n\n\n'; echo more")"
+awk 'BEGIN { for (i = 0; i < 21845; i++) printf "\357\277\275" }' >"$work/want.out"
+ran 'as many bytes of no UTF-8 as make a word' 0 "$(shell 'head -c 21845 /dev/zero | tr "\0" "\377"')"
+# A text may be longer than a word: each bad byte takes three. The step that is to have it isn't started.
+overlong() {
+    played "{\"command\":{\"argv\":$2},\"register\":\"r\"},{\"command\":{\"argv\":[\"true\",\"{{ r.stdout }}\"]},\"register\":\"s\",\"ignore_errors\":true},{\"command\":\"true\",\"when\":\"s is failed and s.rc is not defined\"}"
+    told "$1" 0 'ok=3 changed=2 failed=0 skipped=0 ignored=1 state=updated' finished
+}
+overlong 'one byte of no UTF-8 too many for a word' "$(shell 'head -c 21846 /dev/zero | tr "\0" "\377"')"
+overlong 'a character cut in two where what is kept ends' "$(shell "$act out 65535; printf '\303\251'")"
+overlong 'all that is kept is no UTF-8' "$(shell 'head -c 70000 /dev/zero | tr "\0" "\377"')"
+
+# ---- return codes
+
+for code in 0 1 2 3 100 126 127 128 129 254 255; do
+    ran "return code $code" "$code" "$(words "$act" exit "$code")"
+done
+ran 'a return code above 255' 1 "$(shell 'exit 257')"
+
+# ---- signals
+
+for signal in 1 2 3 4 6 7 8 9 10 11 12 13 14 15 24 25 31; do
+    acted "signal $signal, behind an output" -1 1000 10 out 1000 err 10 raise "$signal"
+done
+says 'a signal that ends a child alone' '137' "$(shell '(sh -c "kill -9 \$\$"; echo $?) 2>/dev/null')"
+acted 'stops, and is made to go on' 0 30 0 child rest 100 continue meanwhile out 10 raise 19 out 20
+
+# ---- ends and outputs apart
+
+acted 'closes its outputs and goes on' 5 10 20 out 10 err 20 close 1 close 2 rest 300 exit 5
+acted 'closes its output alone' 0 10 "$most" out 10 close 1 err 70000 rest 50 err 1
+acted 'closes its errors alone' 0 "$most" 3 err 3 close 2 rest 50 out 100000
+acted 'a child that it leaves behind holds its outputs' 0 9 0 child rest 300 out 9 meanwhile
+acted 'a child that it leaves behind holds its errors alone' 6 0 9 child close 1 rest 300 err 9 meanwhile exit 6
+acted 'is ended by a signal, while a child holds its outputs' -1 8 0 child rest 200 out 8 meanwhile raise 9
+before=$(date +%s)
+acted 'a child that it leaves behind holds nothing' 0 4 0 alone rest 20000 meanwhile out 4
+[ $(($(date +%s) - before)) -lt 15 ] && pass || fail 'a child that holds nothing is waited for'
+acted 'ends before it is read' 0 60000 0 out 60000
+
+# ---- starts
+
+unstarted 'no such file' '["/no/such/program"]'
+unstarted 'no such name' '["no-such-program"]'
+unstarted 'a folder' "[\"$work\"]"
+unstarted 'below a file' "[\"$act/none\"]"
+printf '#!/bin/sh\necho no\n' >"$work/plain"
+unstarted 'a file that may not be run' "[\"$work/plain\"]"
+printf 'echo no\n' >"$work/bare"
+chmod 755 "$work/bare"
+unstarted 'a script that names no interpreter' "[\"$work/bare\"]"
+printf '#!/no/such/interpreter\n' >"$work/lost"
+chmod 755 "$work/lost"
+unstarted 'a script whose interpreter is not there' "[\"$work/lost\"]"
+: >"$work/empty"
+chmod 755 "$work/empty"
+unstarted 'an empty file' "[\"$work/empty\"]"
+unstarted 'an empty first word' '[""]'
+unstarted 'a first word of a blank' '[" "]'
+unstarted 'a NUL in the first word' '["true\u0000"]'
+unstarted 'a NUL in an argument' '["true","a\u0000b"]'
+unstarted 'no path of so many bytes' "[\"/$(head -c 5000 /dev/zero | tr '\0' x)\"]"
+long=$(head -c 65536 /dev/zero | tr '\0' x)
+says 'a word of 65,536 bytes' 65536 "[\"sh\",\"-c\",\"printf %s \\\"\$0\\\" | wc -c\",\"$long\"]"
+says '200,000 bytes of words' 200000 "[\"sh\",\"-c\",\"printf %s \\\"\$@\\\" | wc -c\",\"x\",\"$long\",\"$long\",\"$long\",\"$(printf '%.3392s' "$long")\"]"
+unstarted 'a word of 65,537 bytes' "[\"true\",\"x$long\"]"
+unstarted 'more bytes of words than the system takes' "[\"true\"$(for i in $(seq 1 120); do printf ',"%s"' "$long"; done)]"
+mkdir "$work/bin"
+printf '#!/bin/sh\necho found\n' >"$work/bin/ours"
+chmod 755 "$work/bin/ours"
+kept_path=$PATH
+PATH=$work/bin:$PATH
+says 'a program that PATH names' found '["ours"]'
+PATH=$kept_path
+unstarted 'the same, and PATH does not name it' '["ours"]'
+
+# ---- what a program sees
+
+says 'nothing to read' '0' "$(shell 'wc -c | tr -d " "')"
+ran 'a read of nothing' 1 "$(shell 'read -r line')"
+says 'the null device as its input' /dev/null '["readlink","/proc/self/fd/0"]'
+says 'words as they are, without a shell' "\$HOME|*|a b|it's|\"|\\|;|>x||caf$(printf '\303\251')" '["sh","-c","IFS=\"|\"; printf %s \"$*\"","x","$HOME","*","a b","it'"'"'s","\"","\\","\u003b",">x","","caf\u00e9"]'
+says 'a word of two lines' 'a
+b' '["printf","a\nb"]'
+says 'its own name' sh '["sh","-c","echo $0"]'
+says 'three descriptors' '0 1 2 ' "[\"$act\",\"open\"]"
+says 'no signal is ignored or held back' '' "[\"$act\",\"signals\"]"
+GREETING='a b'
+export GREETING
+says 'its environment' 'a b' '["printenv","GREETING"]'
+cd "$work/kept" || exit 1
+says 'its folder' "$(pwd -P)" '["pwd","-P"]'
+cp "$work/bin/ours" "$work/kept/here"
+says 'a program of its folder' found '["./here"]'
+played "{\"command\":{\"argv\":$(shell 'cd / && pwd')},\"register\":\"r\"},{\"command\":{\"argv\":[\"test\",\"$(pwd -P)\",\"-ef\",\".\"]},\"when\":\"r.stdout == '/'\"}"
+told 'a program that changes its folder, and the next one' 0 'ok=2 changed=2 failed=0 skipped=0 ignored=0 state=updated' finished
+cd "$top" || exit 1
+
+# ---- many at once
+
+# hosts COUNT: an inventory of so many hosts.
+hosts() {
+    awk -v count="$1" 'BEGIN { printf "{\"all\":{\"hosts\":{"; for (i = 0; i < count; i++) printf "%s\"h%04d\":null", (i ? "," : ""), i; printf "}}}" }'
+}
+
+# all COUNT ENDING END [NUMBER ENDING]: the recap of so many hosts, in one batch, of which one may have another ending.
+all() {
+    awk -v count="$1" -v ending="$2" -v end="$3" -v other="${4:--1}" -v otherwise="${5:-}" 'BEGIN {
+        print "boundary 1: plan batches=1 bound=one-host"
+        printf "open:"
+        for (i = 0; i < count; i++) printf " h%04d", i
+        print "\nboundary 2: plan batches=0 bound=nothing"
+        for (i = 0; i < count; i++) printf "h%04d %s\n", i, (i == other ? otherwise : ending)
+        print "end " end
+    }'
+}
+
+# many COUNT FORKS STEPS: runs a play of these steps on so many hosts.
+many() {
+    hosts "$1" >"$work/hosts.json"
+    printf '[{"hosts":"all","tasks":[%s]}]' "$3" >"$work/play.json"
+    run run "$work/hosts.json" "$work/play.json" --forks "$2"
+}
+
+updated='changed=1 failed=0 skipped=0 ignored=0 state=updated'
+for forks in 1 2 7 64; do
+    many 300 "$forks" '{"command":{"argv":["test","{{ inventory_hostname }}","!=","h0007"]}}'
+    check "one of 300 fails, at $forks forks" 2 "$(all 300 "ok=1 $updated" finished 7 'ok=0 changed=0 failed=1 skipped=0 ignored=0 state=failed')$newline" ''
+done
+many 4096 64 '{"command":"true"}'
+check '4,096 hosts' 0 "$(all 4096 "ok=1 $updated" finished)$newline" ''
+twice='ok=2 changed=2 failed=0 skipped=0 ignored=0 state=updated'
+many 64 64 '{"command":{"argv":["sh","-c","yes $0 | head -c 60000; yes $0.err | head -c 60000 >&2","{{ inventory_hostname }}"]},"register":"r"},{"command":{"argv":["sh","-c","test \"$(yes $0 | head -c 60000)\" = \"$1\" -a \"$(yes $0.err | head -c 60000)\" = \"$2\"","{{ inventory_hostname }}","{{ r.stdout }}","{{ r.stderr }}"]}}'
+check 'each of 64 at once keeps its own outputs' 0 "$(all 64 "$twice" finished)$newline" ''
+many 64 64 "{\"command\":{\"argv\":[\"$act\",\"both\",\"20971520\"]},\"ignore_errors\":true,\"register\":\"r\"},{\"command\":\"true\",\"when\":\"r.rc == -1\"}"
+check '64 at once whose outputs are not read to their ends' 0 "$(all 64 'ok=2 changed=2 failed=0 skipped=0 ignored=1 state=updated' finished)$newline" ''
+says_open=$(words "$act" open)
+many 64 64 "{\"command\":{\"argv\":$says_open},\"register\":\"r\"},{\"command\":\"true\",\"when\":\"r.stdout == '0 1 2 '\"}"
+check 'none of 64 at once has descriptors of another' 0 "$(all 64 "$twice" finished)$newline" ''
+
+# Each program writes down its begin and its end: never do more run at once than there are forks, and several do.
+cat >"$work/note" <<'SH'
+#!/bin/sh
+echo + >>"$1"
+sleep 0.1
+echo - >>"$1"
+SH
+chmod 755 "$work/note"
+for forks in 1 3 16; do
+    rm -f "$work/kept/notes"
+    many 16 "$forks" "{\"command\":{\"argv\":[\"$work/note\",\"$work/kept/notes\"]}}"
+    check "programs that take a while, at $forks forks" 0 "$(all 16 "ok=1 $updated" finished)$newline" ''
+    at_once=$(awk '$1 == "+" { now++ } $1 == "-" { now-- } now > most { most = now } END { print most + 0 }' "$work/kept/notes")
+    if [ "$at_once" -le "$forks" ] && { [ "$forks" -eq 1 ] || [ "$at_once" -gt 1 ]; }; then
+        pass
+    else
+        fail "$at_once programs at once, at $forks forks"
+    fi
+done
+
+# ---- nothing is left behind
+
+# What the program that started this has open, its threads, its memory, and how many of its children have ended: looked at while nothing
+# else runs, and once its ends of what this one has are closed.
+cat >"$work/look" <<'SH'
+#!/bin/sh
+sleep 0.3
+{
+    ls /proc/$PPID/fd | wc -l
+    sed -n 's/^Threads:[^0-9]*//p' /proc/$PPID/status
+    sed -n 's/^VmRSS:[^0-9]*\([0-9]*\).*/\1/p' /proc/$PPID/status
+    ps -o stat= --ppid $PPID | awk '/^Z/ { ended++ } END { print ended + 0 }'
+} >"$1"
+SH
+chmod 755 "$work/look"
+look() {
+    printf '{"command":{"argv":["%s","%s"]},"when":"inventory_hostname == '"'h0000'"'"}' "$work/look" "$work/kept/$1"
+}
+trues=$(seq 1 99 | sed 's/.*/,{"command":"true"}/' | tr -d '\n')
+many 100 64 "{\"command\":\"true\"},$(look early)$trues,$(look late)"
+check '10,000 programs' 0 "$(all 100 'ok=100 changed=100 failed=0 skipped=2 ignored=0 state=updated' finished 0 'ok=102 changed=102 failed=0 skipped=0 ignored=0 state=updated')$newline" ''
+early=$(head -n 2 "$work/kept/early" | tr '\n' ' ')
+late=$(head -n 2 "$work/kept/late" | tr '\n' ' ')
+[ "$early" = "$late" ] && pass || fail "descriptors and threads behind 100 programs: $early, behind 10,000: $late"
+[ "$(sed -n 4p "$work/kept/early")$(sed -n 4p "$work/kept/late")" = 00 ] && pass || fail 'an ended program is not waited for'
+more=$(($(sed -n 3p "$work/kept/late") - $(sed -n 3p "$work/kept/early")))
+[ "$more" -lt 16384 ] && pass || fail "9,900 programs more take $more KiB"
+
+# Few descriptors: some programs can't be started, and each host is told of.
+hosts 200 >"$work/hosts.json"
+(
+    ulimit -n 40
+    timeout -k 5 120 "$rollout" run "$work/hosts.json" "$work/true.json" --forks 64 >"$work/out" 2>"$work/errors" </dev/null
+)
+status=$?
+told_of=$(grep -c '^h[0-9]* ok=\(1 changed=1 failed=0\|0 changed=0 failed=1\) skipped=0 ignored=0 state=\(updated\|failed\)$' "$work/out")
+if [ "$told_of" -eq 200 ] && { [ "$status" -eq 2 ] || [ "$status" -eq 0 ]; } && [ ! -s "$work/errors" ] && grep -q '^end finished$' "$work/out"; then
+    pass
+else
+    fail "40 descriptors: status $status, $told_of of 200 hosts, $(head -n 1 "$work/errors")"
+fi
+
+# Few processes: programs can't be started, or threads. Of root no limit is asked, so it is run as nobody.
+as_nobody=
+[ "$(id -u)" -ne 0 ] || as_nobody='setpriv --reuid=65534 --regid=65534 --clear-groups'
+cp "$rollout" "$work/rollout"
+for processes in 1 8 40; do
+    timeout -k 5 120 prlimit --nproc="$processes" $as_nobody "$work/rollout" run "$work/hosts.json" "$work/true.json" --forks 16 >"$work/out" 2>"$work/errors" </dev/null
+    status=$?
+    told_of=$(grep -c '^h[0-9]* .* state=' "$work/out")
+    if [ "$told_of" -eq 200 ] && case $status in 0 | 2 | 4) [ ! -s "$work/errors" ] ;; 5) [ "$(cat "$work/errors")" = 'rollout: memory' ] && grep -q '^end fault$' "$work/out" ;; *) false ;; esac; then
+        pass
+    else
+        fail "$processes processes: status $status, $told_of of 200 hosts, $(head -n 1 "$work/errors")"
+    fi
+done
+
+# ---- calls that fail
+
+# failing CALL AT HOW: the program with one call failing.
+failing() {
+    rm -f "$work/failed"
+    timeout -k 5 120 env FAIL="$1" FAIL_AT="$2" FAIL_HOW="$3" FAILED="$work/failed" LD_PRELOAD="$work/fail.so" "$rollout" run "$work/one.json" "$work/play.json" --forks 1 >"$work/out" 2>"$work/errors" </dev/null
+    status=$?
+}
+
+# The program makes a file when it ends: it is waited for, whatever fails.
+printf '[{"hosts":"all","tasks":[{"command":{"argv":["sh","-c","echo some; sleep 0.2; : >%s; echo more"]},"register":"r","ignore_errors":true},{"command":"true","when":["r is failed","not r is changed","r.rc is not defined","r.stdout == %s"]}]}]' "$work/kept/done" "''" >"$work/play.json"
+
+# gone WHAT CALL AT HOW: nothing is had of a program that ran to its end.
+gone() {
+    rm -f "$work/kept/done"
+    failing "$2" "$3" "$4"
+    told "$1" 0 'ok=2 changed=1 failed=0 skipped=0 ignored=1 state=updated' finished
+    [ -e "$work/failed" ] && [ -e "$work/kept/done" ] && pass || fail "$1: the program is not waited for"
+}
+
+# none WHAT CALL AT HOW: the program isn't started.
+none() {
+    rm -f "$work/kept/done"
+    failing "$2" "$3" "$4"
+    told "$1" 0 'ok=2 changed=1 failed=0 skipped=0 ignored=1 state=updated' finished
+    [ -e "$work/failed" ] && [ ! -e "$work/kept/done" ] && pass || fail "$1: the program is started"
+}
+
+# nothing WHAT CALL AT HOW: it makes no difference.
+nothing() {
+    rm -f "$work/kept/done"
+    failing "$2" "$3" "$4"
+    told "$1" 0 'ok=1 changed=1 failed=0 skipped=1 ignored=0 state=updated' finished
+    [ -e "$work/failed" ] && [ -e "$work/kept/done" ] && pass || fail "$1: the program is not waited for"
+}
+
+errno_interrupted=4
+errno_io=5
+errno_no_child=10
+errno_again=11
+errno_memory=12
+errno_files=24
+for at in 1 2; do
+    nothing "wait $at for an output interrupted" poll $at $errno_interrupted
+    gone "wait $at for an output fails" poll $at $errno_io
+    nothing "read $at interrupted" read $at $errno_interrupted
+    gone "read $at fails" read $at $errno_io
+    none "pipe $at can't be made" pipe2 $at $errno_files
+done
+nothing 'the wait for the end interrupted' waitpid 1 $errno_interrupted
+failing waitpid 1 $errno_no_child
+told 'the end of a program is another'"'"'s' 0 'ok=2 changed=1 failed=0 skipped=0 ignored=1 state=updated' finished
+none 'the null device can'"'"'t be opened' open 1 $errno_files
+none 'no process can be had' posix_spawn 1 $errno_again
+
+# Want of memory: the run of this play with all of it, or one that a fault broke off.
+printf '[{"hosts":"all","tasks":[{"command":{"argv":["sh","-c","head -c 70000 /dev/zero | tr %s x; echo some >&2"]},"register":"r"},{"command":"true","when":"r.rc == 0"}]}]' "'\\\\0'" >"$work/play.json"
+whole='boundary 1: plan batches=1 bound=one-host
+open: a
+boundary 2: plan batches=0 bound=nothing
+a ok=2 changed=2 failed=0 skipped=0 ignored=0 state=updated
+end finished'
+wants=0
+number=0
+while [ "$number" -lt 5000 ]; do
+    number=$((number + 1))
+    failing malloc "$number" $errno_memory
+    [ -e "$work/failed" ] || break
+    case $status in
+        0) [ "$(cat "$work/out")" = "$whole" ] && [ ! -s "$work/errors" ] ;;
+        5) [ "$(cat "$work/errors")" = 'rollout: memory' ] && { [ ! -s "$work/out" ] || [ "$(tail -n 1 "$work/out")" = 'end fault' ]; } ;;
+        *) false ;;
+    esac || {
+        wants=$((wants + 1))
+        fail "allocation $number refused: status $status"
+    }
+done
+[ "$wants" -eq 0 ] && [ "$number" -gt 100 ] && [ "$number" -lt 5000 ] && pass || fail "$number allocations refused in turn"
+failing posix_spawn 1 $errno_memory
+check 'no memory for a process' 5 'boundary 1: plan batches=1 bound=one-host
+open: a
+a ok=0 changed=0 failed=0 skipped=0 ignored=0 state=running
+end fault
+' "rollout: memory$newline"
+
+# ---- from outside
+
+# Descriptors 0 to 2 of the program may be closed.
+printf '[{"hosts":"all","tasks":[{"command":{"argv":["sh","-c","echo some; echo more >&2"]},"register":"r"},{"command":"true","when":"r.stdout == %s and r.stderr == %s"}]}]' "'some'" "'more'" >"$work/play.json"
+timeout 60 "$rollout" run "$work/one.json" "$work/play.json" <&- >"$work/out" 2>"$work/errors"
+status=$?
+told 'a closed input' 0 'ok=2 changed=2 failed=0 skipped=0 ignored=0 state=updated' finished
+timeout 60 "$rollout" run "$work/one.json" "$work/play.json" <&- >"$work/out" 2>&-
+status=$?
+: >"$work/errors"
+told 'a closed input and no errors' 0 'ok=2 changed=2 failed=0 skipped=0 ignored=0 state=updated' finished
+
+# Stopped and made to go on, while it waits.
+printf '[{"hosts":"all","tasks":[{"command":{"argv":["sh","-c","echo some; sleep 0.6; echo more"]},"register":"r"},{"command":"true","when":"r.rc == 0"}]}]' >"$work/play.json"
+"$rollout" run "$work/one.json" "$work/play.json" >"$work/out" 2>"$work/errors" </dev/null &
+runner=$!
+sleep 0.2
+kill -STOP $runner
+sleep 0.2
+kill -CONT $runner
+wait $runner
+status=$?
+told 'stopped and made to go on' 0 'ok=2 changed=2 failed=0 skipped=0 ignored=0 state=updated' finished
+
+# alive GROUP: how many processes of the group have not ended.
+alive() {
+    ps -eo pgid=,stat= | awk -v group="$1" '$1 == group && $2 !~ /^Z/' | wc -l
+}
+
+# A signal to its process group ends its programs with it. What a script starts beside itself would not heed SIGINT.
+for signal in INT TERM; do
+    printf '[{"hosts":"all","tasks":[{"command":{"argv":["sleep","43"]}}]}]' >"$work/play.json"
+    setsid env --default-signal=INT "$rollout" run "$work/one.json" "$work/play.json" >"$work/out" 2>"$work/errors" </dev/null &
+    runner=$!
+    sleep 0.3
+    running=$(alive $runner)
+    env kill -$signal -- "-$runner"
+    wait $runner 2>/dev/null
+    sleep 0.2
+    left=$(alive $runner)
+    [ "$running" -eq 2 ] && [ "$left" -eq 0 ] && pass || fail "SIG$signal: $running ran, and $left are left"
+done
+finish
