@@ -1,6 +1,7 @@
 -- How long a text is that was made of bytes, and how it ends.
 use Rattle.std.proofs.Common.{◌≡◌, ℕ, zero, suc, ◌+◌, ◌-◌, ◌*◌, ◌<◌, ◌≤◌, false, List, [], ◌++◌, length, take, drop, get_or, reverse, ap, sym, ◌∙◌, refl, subst, inl, inr, arith, length-append, length-drop}
 use Rattle.std.specs.List.{slice_index, suffix_len}
+use Rattle.std.specs.Str.{IsUtf8}
 use Rattle.std.specs.Str.Lossy.{after_first_chunk, replacement_bytes, utf8_invalid_len, utf8_lossy, utf8_valid_len}
 use Rattle.std.proofs.lemmas.Bool.{cases_lt}
 use Rattle.std.proofs.lemmas.List.{append-nil, get_or-reverse, get_or-take, length-reverse, length-take-le}
@@ -56,14 +57,15 @@ trimmed_cut bytes some =
     ∙ sym (get_or-take len bytes (length (trimmed bytes) - 1) 0 (omega (arith, is, some))) in
     sym (ap is_line_end at) ∙ stops
 
-pub text_of_output : (text kept : List ℕ) → length kept ≤ 65536 → text ≡ text_in kept → IsTextOfOutput text
-text_of_output text kept few made =
+pub text_of_output : (text kept : List ℕ) → length kept ≤ 65536 → text ≡ text_in kept → ∥ IsUtf8 text ∥₁ → IsTextOfOutput text
+text_of_output text kept few made utf8 =
     let long = ap (λ (l : List ℕ). length l) made in
     let shorter = lossy_length (length kept) kept (omega arith) in
     record {
       kept = kept;
       few = few;
       made = made;
+      utf8 = utf8;
       short = omega (arith, long, trimmed_length (utf8_lossy kept), shorter, few);
       cut = subst (λ (l : List ℕ). 0 < length l → is_line_end (slice_index l (length l - 1)) ≡ false) (sym made) (trimmed_cut (utf8_lossy kept));
     }

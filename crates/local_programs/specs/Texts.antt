@@ -1,6 +1,7 @@
 -- Bytes of an output as a text.
 use Rattle.std.specs.Prelude.{◌≡◌, ℕ, ◌-◌, ◌<◌, ◌≤◌, Bool, false, ◌||◌, ◌==◌, List, length, take}
 use Rattle.std.specs.List.{slice_index, suffix_len}
+use Rattle.std.specs.Str.{IsUtf8}
 use Rattle.std.specs.Str.Lossy.{utf8_lossy}
 
 -- a carriage return or a line feed
@@ -15,10 +16,11 @@ trimmed bytes = take (length bytes - suffix_len is_line_end bytes) bytes
 abbrev pub text_in : List ℕ → List ℕ
 text_in bytes = trimmed (utf8_lossy bytes)
 
--- the text of so many first bytes of an output as are kept; it has at most three bytes for each of those, and ends in no line end
+-- the text of so many first bytes of an output as are kept: UTF-8, with at most three bytes for each of those, and without a line end at its end
 pub record IsTextOfOutput (text : List ℕ) : Type 0 where
   pub kept : List ℕ
   pub few : length kept ≤ 65536
   pub made : text ≡ text_in kept
+  pub utf8 : ∥ IsUtf8 text ∥₁
   pub short : length text ≤ 196608
   pub cut : 0 < length text → is_line_end (slice_index text (length text - 1)) ≡ false
