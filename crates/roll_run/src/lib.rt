@@ -19,6 +19,3 @@ pub use play::run_play;
 pub use play_course::{Boundary, End};
 pub use pool::run_plays;
 pub use run::Run;
-
-#[cfg(test)]
-mod tests;
