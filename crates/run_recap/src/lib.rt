@@ -8,4 +8,4 @@ mod parts;
 mod writing;
 
 pub use parts::Recap;
-pub use writing::{write_recap, write_recaps};
+pub use writing::{write_numbered, write_play, write_recap, write_recaps};

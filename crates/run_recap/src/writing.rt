@@ -13,8 +13,9 @@ use domains::Fleet;
 use recap::write_field;
 use std::io::Write;
 
+/// Goes on with the recap of the one play of a file. It takes no memory.
 #[tactic(auto, using(bounded_io::proofs::Pieces::pieces_of_text))]
-fn write_play<W: Write>(text: &mut TextWriter<'_, W>, fleet: &Fleet, recap: &Recap<'_>)
+pub fn write_play<W: Write>(text: &mut TextWriter<'_, W>, fleet: &Fleet, recap: &Recap<'_>)
     ensures { Writes W.contents text.old text.new (recap_text fleet.now recap.now) }
 {
     write_boundaries(text, fleet, recap.boundaries, recap.opened);
@@ -22,8 +23,9 @@ fn write_play<W: Write>(text: &mut TextWriter<'_, W>, fleet: &Fleet, recap: &Rec
     write_end(text, fleet, recap.end);
 }
 
+/// Goes on with the recap of one of several plays, under its number, which counts from 1. It takes no memory.
 #[tactic(auto, using(bounded_io::proofs::Pieces::pieces_of_text))]
-fn write_numbered<W: Write>(
+pub fn write_numbered<W: Write>(
     text: &mut TextWriter<'_, W>,
     fleet: &Fleet,
     number: u64,
