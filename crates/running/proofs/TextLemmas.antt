@@ -1,0 +1,92 @@
+-- What the readers and the writers say, as `run` tells it.
+use Rattle.std.proofs.Common.{◌≡◌, ℕ, ◌+◌, Bool, List, [], ◌∷◌, ◌++◌, length, take, get_or, Option, Result, Ok, Err, refl, sym, ap, ◌∙◌, subst, inl, inr, arith}
+use Rattle.std.proofs.Math.Seq.{take-length}
+use Rattle.std.proofs.lemmas.List.{take_more}
+use Rattle.std.specs.Prelude.{IfOk, IfErr}
+use Rattle.std.specs.Io.KnownBytes.{Keeps}
+use Rattle.domains.specs.FleetViews.{FleetView}
+use Rattle.fleet_states.specs.declared.status.Status.{Status}
+use Rattle.host_vars.specs.declared.vars.Vars.{Vars}
+use Rattle.outcome_results.specs.Endings.{Ending}
+use Rattle.play_model.specs.declared.play.Play.{Play}
+use Rattle.roll_logs.specs.Told.{Work}
+use Rattle.roll_run.specs.declared.run.Run.{Run}
+use Rattle.roll_run.specs.declared.fault.RunFault.{RunFault}
+use Rattle.roll_run.specs.Plays.{AreBroken, AreRuns}
+use Rattle.running.specs.Inputs.{AreHostsIn, AreInputs, IsNoInventory, IsNoPlaybook, RefusesTexts}
+use Rattle.running.specs.Recaps.{are_several, broken_text, runs_text}
+use Rattle.running.specs.RunTexts.{IsBrokenRecap, IsRecap, IsTrueFault, TellsBroken, TellsRuns, WritesRecap}
+use Rattle.running.specs.declared.end.RunEnd.{RunEnd}
+use Rattle.running.specs.declared.fault.RunTextFault.{RunTextFault}
+use Rattle.running.specs.declared.fault.RunTextFault.TheVariants.{Refused, Memory, Broken, Write}
+
+-- the list ends with its last entry
+pub ends_with : (runs : List Run) (before : ℕ) (last : Run) → before + 1 ≡ length runs → last ≡ get_or runs before last → runs ≡ take before runs ++ last ∷ []
+ends_with runs before last many is =
+    sym (take-length runs) ∙ ap (λ (n : ℕ). take n runs) (sym many) ∙ take_more runs before last (omega (arith, many)) ∙ ap (λ (run : Run). take before runs ++ run ∷ []) (sym is)
+
+pub inventory_is_refused : (inventory playbook : List ℕ) (fault : RunTextFault) → IsNoInventory inventory fault → RefusesTexts inventory playbook fault
+inventory_is_refused inventory playbook (Refused fault) refused = inl refused
+inventory_is_refused inventory playbook Memory refused = tt
+inventory_is_refused inventory playbook (Broken why) refused = absurd refused
+inventory_is_refused inventory playbook (Write fault) refused = absurd refused
+
+pub playbook_is_refused : (inventory playbook : List ℕ) (fleet : FleetView) (vars : List Vars) (fault : RunTextFault) → AreHostsIn inventory fleet vars → IsNoPlaybook fleet playbook fault
+    → RefusesTexts inventory playbook fault
+playbook_is_refused inventory playbook fleet vars (Refused fault) hosts refused =
+    inr (record { fleet = fleet; built = record { inventory = hosts.inventory; reads = hosts.reads; built = hosts.built }; refused = refused })
+playbook_is_refused inventory playbook fleet vars Memory hosts refused = tt
+playbook_is_refused inventory playbook fleet vars (Broken why) hosts refused = absurd refused
+playbook_is_refused inventory playbook fleet vars (Write fault) hosts refused = absurd refused
+
+module _ (may : Work → Ending → Type 0) (inventory playbook : List ℕ) (forks : ℕ) (old new : Option (List ℕ)) where
+  pub refusal_is_true : (fault : RunTextFault) → Keeps old new → RefusesTexts inventory playbook fault → IsTrueFault may inventory playbook forks old new fault
+  refusal_is_true (Refused fault) keeps refused = (refused, keeps)
+  refusal_is_true Memory keeps refused = keeps
+  refusal_is_true (Broken why) keeps refused = absurd refused
+  refusal_is_true (Write fault) keeps refused = absurd refused
+
+  module _ (fleet : FleetView) (vars : List Vars) (plays : List Play) (statuses : List Status) (inputs : AreInputs inventory playbook fleet vars plays statuses) where
+    recap_of : (runs : List Run) → AreRuns may fleet forks plays statuses vars runs → IsRecap may inventory playbook forks runs (runs_text fleet (are_several plays) runs)
+    recap_of runs are = record { fleet = fleet; plays = plays; are = record { vars = vars; statuses = statuses; inputs = inputs; runs_are = are }; text_is = refl }
+
+    broken_recap_of : (done : List Run) (last : RunFault) → AreBroken may fleet forks plays statuses vars done last
+        → IsBrokenRecap may inventory playbook forks done last (broken_text fleet (are_several plays) done last)
+    broken_recap_of done last broken =
+        record { fleet = fleet; plays = plays; are = record { vars = vars; statuses = statuses; inputs = inputs; broken = broken }; text_is = refl }
+
+    runs_are_told : (runs : List Run) (result : Result RunEnd RunTextFault) → AreRuns may fleet forks plays statuses vars runs
+        → TellsRuns fleet (are_several plays) runs old new result
+        → IfOk result (WritesRecap may inventory playbook forks old new) × IfErr result (IsTrueFault may inventory playbook forks old new)
+    runs_are_told runs (Ok end) are told =
+        (record { runs = runs; text = runs_text fleet (are_several plays) runs; is = recap_of runs are; written = told.1; ends = told.0 }, tt)
+    runs_are_told runs (Err (Write fault)) are told =
+        (tt, inl (record { runs = runs; text = runs_text fleet (are_several plays) runs; is = recap_of runs are; written = told }))
+    runs_are_told runs (Err (Refused fault)) are told = absurd told
+    runs_are_told runs (Err Memory) are told = absurd told
+    runs_are_told runs (Err (Broken why)) are told = absurd told
+
+    fault_is_told : (done : List Run) (last : RunFault) (fault : RunTextFault) → AreBroken may fleet forks plays statuses vars done last
+        → TellsBroken fleet (are_several plays) done last old new fault → IsTrueFault may inventory playbook forks old new fault
+    fault_is_told done last (Broken why) broken told =
+        record { done = done; last = last; text = broken_text fleet (are_several plays) done last; is = broken_recap_of done last broken; written = told.1; why_is = told.0 }
+    fault_is_told done last (Write fault) broken told =
+        inr (record { done = done; last = last; text = broken_text fleet (are_several plays) done last; is = broken_recap_of done last broken; written = told })
+    fault_is_told done last (Refused fault) broken told = absurd told
+    fault_is_told done last Memory broken told = absurd told
+
+-- the same of lists that are lent
+pub runs_told : (may : Work → Ending → Type 0) (inventory playbook : List ℕ) (forks : ℕ) (old new : Option (List ℕ)) (fleet : FleetView) (vars : List Vars) (plays lent : List Play) (statuses : List Status) (several : Bool) (runs shown : List Run)
+    (result : Result RunEnd RunTextFault) → AreInputs inventory playbook fleet vars plays statuses → lent ≡ plays → several ≡ are_several lent → AreRuns may fleet forks lent statuses vars runs → shown ≡ runs
+    → TellsRuns fleet several shown old new result → IfOk result (WritesRecap may inventory playbook forks old new) × IfErr result (IsTrueFault may inventory playbook forks old new)
+runs_told may inventory playbook forks old new fleet vars plays lent statuses several runs shown result inputs same many are listed told =
+    runs_are_told may inventory playbook forks old new fleet vars plays statuses inputs runs result
+    (subst (λ (l : List Play). AreRuns may fleet forks l statuses vars runs) same are)
+    (subst (λ (b : Bool). TellsRuns fleet b runs old new result) (many ∙ ap are_several same) (subst (λ (l : List Run). TellsRuns fleet several l old new result) listed told))
+
+pub fault_told : (may : Work → Ending → Type 0) (inventory playbook : List ℕ) (forks : ℕ) (old new : Option (List ℕ)) (fleet : FleetView) (vars : List Vars) (plays lent : List Play) (statuses : List Status) (several : Bool) (done : List Run) (last : RunFault)
+    (fault : RunTextFault) → AreInputs inventory playbook fleet vars plays statuses → lent ≡ plays → several ≡ are_several lent → AreBroken may fleet forks lent statuses vars done last
+    → TellsBroken fleet several done last old new fault → IsTrueFault may inventory playbook forks old new fault
+fault_told may inventory playbook forks old new fleet vars plays lent statuses several done last fault inputs same many broken told =
+    fault_is_told may inventory playbook forks old new fleet vars plays statuses inputs done last fault
+    (subst (λ (l : List Play). AreBroken may fleet forks l statuses vars done last) same broken) (subst (λ (b : Bool). TellsBroken fleet b done last old new fault) (many ∙ ap are_several same) told)

@@ -1,0 +1,4 @@
+pub mod Ends
+pub mod Inputs
+pub mod Recaps
+pub mod RunTexts

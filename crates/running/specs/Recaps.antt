@@ -1,0 +1,37 @@
+-- The text of the recaps of a playbook's plays.
+use Rattle.std.specs.Prelude.{ℕ, ◌+◌, ◌-◌, nat_lt, Bool, true, false, Some, None, List, ◌++◌, codes, length}
+use Rattle.domains.specs.FleetViews.{FleetView}
+use Rattle.play_model.specs.declared.play.Play.{Play}
+use Rattle.recap.specs.LimitsText.{field_text}
+use Rattle.roll_run.specs.declared.run.Run.{Run}
+use Rattle.roll_run.specs.declared.fault.RunFault.{RunFault}
+use Rattle.run_recap.specs.RecapText.{boundary_lines, end_line, host_lines, text_by_place}
+
+-- the recap of a run that came to its end: each boundary but the last opened a batch
+abbrev pub run_text : FleetView → Run → List ℕ
+run_text fleet run =
+    boundary_lines fleet (length run.boundaries.items - 1) run.boundaries.items
+    ++ (host_lines fleet run.statuses.items run.counts.items ++ end_line fleet (Some run.end))
+
+-- the recap of a run that a fault broke off
+abbrev pub fault_text : FleetView → RunFault → List ℕ
+fault_text fleet fault =
+    boundary_lines fleet fault.opened fault.boundaries.items ++ (host_lines fleet fault.statuses.items fault.counts.items ++ end_line fleet None)
+
+-- whether each recap stands under the number of its play
+abbrev pub are_several : List Play → Bool
+are_several plays = nat_lt 1 (length plays)
+
+-- `play N`, and the recap of that play; of a file of one play the recap alone
+abbrev pub headed : Bool → ℕ → List ℕ → List ℕ
+headed true number text = field_text (codes "play ") number ++ (codes "\n" ++ text)
+headed false number text = text
+
+-- the recaps of runs, numbered from 1
+abbrev pub runs_text : FleetView → Bool → List Run → List ℕ
+runs_text fleet several runs = text_by_place (λ place run. headed several (place + 1) (run_text fleet run)) 0 runs
+
+-- the recaps of runs, and behind them that of the run which a fault broke off
+abbrev pub broken_text : FleetView → Bool → List Run → RunFault → List ℕ
+broken_text fleet several done last =
+    runs_text fleet several done ++ headed several (length done + 1) (fault_text fleet last)

@@ -1,0 +1,104 @@
+-- What `run` writes of the texts of an inventory and a playbook.
+use Rattle.std.specs.Prelude.{◌≡◌, ◌⊎◌, ℕ, Bool, List, Option, Result, Ok, Err}
+use Rattle.std.specs.Io.KnownBytes.{Appends, Keeps}
+use Rattle.bounded_io.specs.Sending.{SendsFirst}
+use Rattle.domains.specs.FleetViews.{FleetView}
+use Rattle.fleet_states.specs.declared.status.Status.{Status}
+use Rattle.host_vars.specs.declared.vars.Vars.{Vars}
+use Rattle.outcome_results.specs.Endings.{Ending}
+use Rattle.play_model.specs.declared.play.Play.{Play}
+use Rattle.roll_logs.specs.Told.{Work}
+use Rattle.fork_pool.specs.declared.fault.StepFault.{StepFault}
+use Rattle.roll_run.specs.declared.run.Run.{Run}
+use Rattle.roll_run.specs.declared.fault.RunFault.{RunFault}
+use Rattle.roll_run.specs.Plays.{AreBroken, AreRuns}
+use Rattle.running.specs.Ends.{IsEndOf}
+use Rattle.running.specs.Inputs.{AreInputs, RefusesTexts}
+use Rattle.running.specs.Recaps.{are_several, broken_text, runs_text}
+use Rattle.running.specs.declared.end.RunEnd.{RunEnd}
+use Rattle.running.specs.declared.fault.RunTextFault.{RunTextFault}
+use Rattle.running.specs.declared.fault.RunTextFault.TheVariants.{Refused, Memory, Broken, Write}
+
+-- runs of the plays that both texts say, with so many workers, in which each program ends in a way that may be told of it
+pub record AreRunsIn (may : Work → Ending → Type 0) (inventory playbook : List ℕ) (forks : ℕ) (fleet : FleetView) (plays : List Play) (runs : List Run) : Type 0 where
+  pub vars : List Vars
+  pub statuses : List Status
+  pub inputs : AreInputs inventory playbook fleet vars plays statuses
+  pub runs_are : AreRuns may fleet forks plays statuses vars runs
+
+-- the same, of which a fault broke the last one off
+pub record AreBrokenIn (may : Work → Ending → Type 0) (inventory playbook : List ℕ) (forks : ℕ) (fleet : FleetView) (plays : List Play) (done : List Run) (last : RunFault) : Type 0 where
+  pub vars : List Vars
+  pub statuses : List Status
+  pub inputs : AreInputs inventory playbook fleet vars plays statuses
+  pub broken : AreBroken may fleet forks plays statuses vars done last
+
+-- the text is the recaps of such runs
+pub record IsRecap (may : Work → Ending → Type 0) (inventory playbook : List ℕ) (forks : ℕ) (runs : List Run) (text : List ℕ) : Type 0 where
+  pub fleet : FleetView
+  pub plays : List Play
+  pub are : AreRunsIn may inventory playbook forks fleet plays runs
+  pub text_is : text ≡ runs_text fleet (are_several plays) runs
+
+-- the text is the recaps of such runs that a fault broke off
+pub record IsBrokenRecap (may : Work → Ending → Type 0) (inventory playbook : List ℕ) (forks : ℕ) (done : List Run) (last : RunFault) (text : List ℕ) : Type 0 where
+  pub fleet : FleetView
+  pub plays : List Play
+  pub are : AreBrokenIn may inventory playbook forks fleet plays done last
+  pub text_is : text ≡ broken_text fleet (are_several plays) done last
+
+-- the recaps of runs of the plays went out, and nothing else; the end is that of the last of them
+pub record WritesRecap (may : Work → Ending → Type 0) (inventory playbook : List ℕ) (forks : ℕ) (old new : Option (List ℕ)) (end : RunEnd) : Type 0 where
+  pub runs : List Run
+  pub text : List ℕ
+  pub is : IsRecap may inventory playbook forks runs text
+  pub written : Appends old new text
+  pub ends : IsEndOf runs end
+
+-- the recaps of runs of the plays broke off after so many bytes
+pub record BreaksRecap (may : Work → Ending → Type 0) (inventory playbook : List ℕ) (forks : ℕ) (old new : Option (List ℕ)) (count : ℕ) : Type 0 where
+  pub runs : List Run
+  pub text : List ℕ
+  pub is : IsRecap may inventory playbook forks runs text
+  pub written : SendsFirst old new text count
+
+-- a fault broke the runs off, and the recaps of what they came to went out, and nothing else
+pub record WritesBroken (may : Work → Ending → Type 0) (inventory playbook : List ℕ) (forks : ℕ) (old new : Option (List ℕ)) (why : StepFault) : Type 0 where
+  pub done : List Run
+  pub last : RunFault
+  pub text : List ℕ
+  pub is : IsBrokenRecap may inventory playbook forks done last text
+  pub written : Appends old new text
+  pub why_is : why ≡ last.why
+
+-- a fault broke the runs off, and the recaps of what they came to broke off after so many bytes
+pub record BreaksBroken (may : Work → Ending → Type 0) (inventory playbook : List ℕ) (forks : ℕ) (old new : Option (List ℕ)) (count : ℕ) : Type 0 where
+  pub done : List Run
+  pub last : RunFault
+  pub text : List ℕ
+  pub is : IsBrokenRecap may inventory playbook forks done last text
+  pub written : SendsFirst old new text count
+
+-- what the fault says is true: a text is refused, or memory was wanting, before anything was run or went out; or the runs were broken off; or their text
+-- broke off where the fault says
+abbrev pub IsTrueFault : (Work → Ending → Type 0) → List ℕ → List ℕ → ℕ → Option (List ℕ) → Option (List ℕ) → RunTextFault → Type 0
+IsTrueFault may inventory playbook forks old new (Refused fault) = RefusesTexts inventory playbook (Refused fault) × Keeps old new
+IsTrueFault may inventory playbook forks old new Memory = Keeps old new
+IsTrueFault may inventory playbook forks old new (Broken why) = WritesBroken may inventory playbook forks old new why
+IsTrueFault may inventory playbook forks old new (Write fault) =
+    BreaksRecap may inventory playbook forks old new fault.written ⊎ BreaksBroken may inventory playbook forks old new fault.written
+
+-- the recaps of runs that came to their ends went out, or broke off
+abbrev pub TellsRuns : FleetView → Bool → List Run → Option (List ℕ) → Option (List ℕ) → Result RunEnd RunTextFault → Type 0
+TellsRuns fleet several runs old new (Ok end) = IsEndOf runs end × Appends old new (runs_text fleet several runs)
+TellsRuns fleet several runs old new (Err (Write fault)) = SendsFirst old new (runs_text fleet several runs) fault.written
+TellsRuns fleet several runs old new (Err (Refused fault)) = ⊥
+TellsRuns fleet several runs old new (Err Memory) = ⊥
+TellsRuns fleet several runs old new (Err (Broken why)) = ⊥
+
+-- the recaps of runs of which a fault broke the last one off went out, or broke off
+abbrev pub TellsBroken : FleetView → Bool → List Run → RunFault → Option (List ℕ) → Option (List ℕ) → RunTextFault → Type 0
+TellsBroken fleet several done last old new (Broken why) = (why ≡ last.why) × Appends old new (broken_text fleet several done last)
+TellsBroken fleet several done last old new (Write fault) = SendsFirst old new (broken_text fleet several done last) fault.written
+TellsBroken fleet several done last old new (Refused fault) = ⊥
+TellsBroken fleet several done last old new Memory = ⊥

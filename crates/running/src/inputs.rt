@@ -1,0 +1,86 @@
+//! What the texts of an inventory and a playbook say to a run.
+ghost use Rattle.std.specs.Prelude.{◌≡◌, IfErr, IfOk};
+ghost use Rattle.fleet_states.specs.Starts.{start_statuses};
+ghost use Rattle.batch_plan.specs.Beginnings.{IsReady};
+ghost use Rattle.play_plan.specs.PlayPlans.{targets};
+ghost use Rattle.running.specs.Inputs.{AreInputs, ArePlaysIn, IsNoPlaybook, RefusesTexts};
+
+use crate::fault::RunTextFault;
+use crate::hosts::{Hosts, read_hosts};
+use batch_plan::start;
+use domains::Fleet;
+use fleet_states::Status;
+use host_vars::Vars;
+use planning::PlanFault;
+use play_model::Play;
+use play_plan::look_up_all;
+use play_read::read_plays;
+use std::alloc::{AllocError, Global};
+
+/// What the texts of an inventory and a playbook say: the fleet, of each host its variables, the plays, and the status of each host with
+/// which the first play begins.
+#[derive(Drop)]
+pub(crate) struct Inputs {
+    pub(crate) fleet: Fleet,
+    pub(crate) vars: Vec<Vars>,
+    pub(crate) plays: Vec<Play>,
+    pub(crate) statuses: Vec<Status>,
+}
+
+/// The plays of a playbook, once the patterns of all of them were looked up.
+fn read_known_plays(
+    alloc: Global,
+    fleet: &Fleet,
+    playbook: &[u8],
+) -> Result<Vec<Play>, RunTextFault>
+    ensures ok { IfOk result (λ plays. ArePlaysIn fleet.now playbook.now plays.items) }
+    ensures err { IfErr result (IsNoPlaybook fleet.now playbook.now) }
+{
+    let plays = match read_plays(alloc, playbook) {
+        Ok(plays) => plays,
+        Err(fault) => return Err(RunTextFault::Refused(PlanFault::Playbook(fault))),
+    };
+    match look_up_all(alloc, fleet, plays.as_slice()) {
+        Ok(()) => Ok(plays),
+        Err(fault) => Err(RunTextFault::Refused(PlanFault::Pattern(fault))),
+    }
+}
+
+/// The statuses with which a first play begins. Only want of memory refuses it, where its pattern was looked up.
+fn start_first(alloc: Global, fleet: &Fleet, play: &Play) -> Result<Vec<Status>, AllocError>
+    ensures statuses { IfOk result (λ statuses. statuses.items ≡ start_statuses fleet.now (targets fleet.now play.now)) }
+    ensures ready { IfOk result (λ statuses. IsReady fleet.now statuses.items) }
+{
+    match fleet.target(alloc, play.pattern()) {
+        Ok(hosts) => start(alloc, fleet, hosts.as_slice()),
+        Err(_refused) => Err(AllocError),
+    }
+}
+
+/// Reads both texts: first the inventory's faults are told, then the playbook's, then the first part of a pattern, of any play, that names
+/// nothing.
+pub(crate) fn read_inputs(
+    alloc: Global,
+    inventory: &[u8],
+    playbook: &[u8],
+) -> Result<Inputs, RunTextFault>
+    ensures ok { IfOk result (λ inputs. AreInputs inventory.now playbook.now inputs.fleet inputs.vars.items inputs.plays.items inputs.statuses.items) }
+    ensures ready { IfOk result (λ inputs. IsReady inputs.fleet inputs.statuses.items) }
+    ensures err { IfErr result (RefusesTexts inventory.now playbook.now) }
+{
+    let Hosts { fleet, vars } = match read_hosts(alloc, inventory) {
+        Ok(hosts) => hosts,
+        Err(fault) => return Err(fault),
+    };
+    let plays = match read_known_plays(alloc, &fleet, playbook) {
+        Ok(plays) => plays,
+        Err(fault) => return Err(fault),
+    };
+    let statuses = start_first(alloc, &fleet, &plays[0])?;
+    Ok(Inputs {
+        fleet,
+        vars,
+        plays,
+        statuses,
+    })
+}

@@ -1,0 +1,16 @@
+//! The command `run`: from the bytes of an inventory and of a playbook to the recap of what the plays did.
+#![tactic(auto)]
+
+mod end;
+mod fault;
+mod hosts;
+mod inputs;
+mod printing;
+mod recaps;
+
+pub use end::RunEnd;
+pub use fault::RunTextFault;
+pub use printing::run_text;
+
+#[cfg(test)]
+mod tests;

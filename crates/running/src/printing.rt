@@ -1,0 +1,101 @@
+//! From the bytes of an inventory and a playbook to the recaps of the runs of its plays.
+ghost use Rattle.std.specs.Prelude.{◌≡◌, ◌<◌, ◌≤◌, IfErr, IfOk, length};
+ghost use Rattle.running.specs.Recaps as model;
+ghost use Rattle.running.specs.RunTexts.{IsTrueFault, TellsBroken, TellsRuns, WritesRecap};
+
+use crate::end::{RunEnd, end_of_runs};
+use crate::fault::RunTextFault;
+use crate::inputs::{Inputs, read_inputs};
+use crate::recaps::{send_broken, send_runs};
+use domains::Fleet;
+use play_model::Play;
+use roll_core::Runner;
+use roll_run::{Run, RunsFault, run_plays};
+use std::alloc::Global;
+use std::io::Write;
+use std::process::{Processes, SystemProcess};
+use std::sync::Wait;
+use std::thread::Threads;
+
+/// Whether each recap stands under the number of its play.
+fn are_several(plays: &[Play]) -> bool
+    ensures { result ≡ model.are_several plays.now }
+{
+    plays.len() > 1
+}
+
+/// Writes the recaps of runs that came to their ends.
+fn tell_runs<W: Write>(
+    fleet: &Fleet,
+    several: bool,
+    runs: &[Run],
+    out: &mut W,
+) -> Result<RunEnd, RunTextFault>
+    requires { 0 < length runs.now }
+    ensures { TellsRuns fleet.now several runs.now (W.contents out.old) (W.contents out.new) result }
+{
+    match send_runs(fleet, several, runs, out) {
+        Ok(()) => Ok(end_of_runs(runs)),
+        Err(fault) => Err(RunTextFault::Write(fault)),
+    }
+}
+
+/// Writes the recaps of runs of which a fault broke the last one off, and tells that fault, or where the text broke off.
+fn tell_broken<W: Write>(
+    fleet: &Fleet,
+    several: bool,
+    fault: &RunsFault,
+    out: &mut W,
+) -> RunTextFault
+    ensures { TellsBroken fleet.now several fault.now.done.items fault.now.last (W.contents out.old) (W.contents out.new) result }
+{
+    match send_broken(fleet, several, fault, out) {
+        Ok(()) => RunTextFault::Broken(fault.last.why),
+        Err(fault) => RunTextFault::Write(fault),
+    }
+}
+
+/// Runs the plays of a playbook on the fleet of an inventory, each given as the bytes of its text, with `forks` workers, 1 to 64, and
+/// writes the recap when the runs have ended: of each play that was begun, under its number where the file has several. Nothing is run, and
+/// nothing goes out, before both were accepted: first the inventory's faults are told, then the playbook's, then the first part of a
+/// pattern, of any play, that names nothing. Where a fault breaks the runs off, the recap of what they came to goes out, and then the answer
+/// is that fault. Where a write fails, exactly the first bytes of the text went out, as many as the fault says. Writing takes no memory.
+pub fn run_text<R: Runner, H: Threads + Wait + Processes<Started = SystemProcess> + Sync, W: Write>(
+    rt: &H,
+    alloc: Global,
+    inventory: &[u8],
+    playbook: &[u8],
+    forks: usize,
+    runner: &R,
+    out: &mut W,
+) -> Result<RunEnd, RunTextFault>
+    requires some { 0 < forks }
+    requires few { forks ≤ 64 }
+    ensures ok { IfOk result (WritesRecap (R.may runner.now) inventory.now playbook.now forks (W.contents out.old) (W.contents out.new)) }
+    ensures err { IfErr result (IsTrueFault (R.may runner.now) inventory.now playbook.now forks (W.contents out.old) (W.contents out.new)) }
+{
+    let Inputs {
+        fleet,
+        vars,
+        plays,
+        statuses,
+    } = match read_inputs(alloc, inventory, playbook) {
+        Ok(inputs) => inputs,
+        Err(fault) => return Err(fault),
+    };
+    let listed = plays.as_slice();
+    let several = are_several(listed);
+    match run_plays(
+        rt,
+        alloc,
+        &fleet,
+        listed,
+        statuses,
+        vars,
+        runner,
+        forks,
+    ) {
+        Ok(runs) => tell_runs(&fleet, several, runs.as_slice(), out),
+        Err(fault) => Err(tell_broken(&fleet, several, &fault, out)),
+    }
+}
