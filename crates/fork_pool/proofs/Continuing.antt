@@ -1,15 +1,13 @@
 -- A board that continues another, while workers are at work on its step.
-use Rattle.std.proofs.Common.{◌≡◌, ℕ, true, false, ◌&&◌, Bool, List, [], ◌∷◌, ◌++◌, sym, ap, ◌∙◌, subst, refl, append_assoc}
+use Rattle.std.proofs.Common.{◌≡◌, ℕ, true, ◌&&◌, List, [], ◌∷◌, ◌++◌, sym, ap, ◌∙◌, refl, append_assoc}
 use Rattle.std.specs.Prelude.{Result, Ok, Err, OnErr, OnOk}
 use Rattle.std.specs.List.{list_all}
 use Rattle.std.proofs.lemmas.List.{append-nil}
 use Rattle.std.proofs.lemmas.List.Folds.{list_all-append}
 use Rattle.roll_logs.specs.Events.{Event, is_work}
 use Rattle.roll_kernel.specs.Views.{KernelView}
-use Rattle.roll_kernel.specs.Views as kernels
 use Rattle.roll_core.specs.Boards.{BoardView, with_event}
 use Rattle.fork_pool.specs.Steps.{Continues}
-use Rattle.fork_pool.specs.Inside.{GoesOn}
 
 both_work : (some more : List Event) → list_all is_work some ≡ true → list_all is_work more ≡ true → list_all is_work (some ++ more) ≡ true
 both_work some more first second =
@@ -21,9 +19,18 @@ module _ {R : Type 0} where
   stays before after runner kernel =
       record { runner = runner; more = []; work = refl; kernel = kernel ∙ ap (λ (log : List Event). record before.kernel { log = log }) (sym (append-nil before.kernel.log)) }
 
-  pub one_more : (before : BoardView R) (event : Event) → is_work event ≡ true → Continues before (with_event before event)
-  one_more before event work =
-      record { runner = refl; more = event ∷ []; work = ap (λ b. b && true) work; kernel = refl }
+  pub unchanged : (before after : BoardView R) → after ≡ before → Continues before after
+  unchanged before after same =
+      stays before after (ap (λ (b : BoardView R). b.runner) same) (ap (λ (b : BoardView R). b.kernel) same)
+
+  pub by_event : (before after : BoardView R) (event : Event) → is_work event ≡ true → after ≡ with_event before event → Continues before after
+  by_event before after event work grown =
+      record {
+        runner = ap (λ (b : BoardView R). b.runner) grown;
+        more = event ∷ [];
+        work = ap (λ b. b && true) work;
+        kernel = ap (λ (b : BoardView R). b.kernel) grown;
+      }
 
   pub goes_further : (first second third : BoardView R) → Continues first second → Continues second third → Continues first third
   goes_further first second third one other =
@@ -35,20 +42,8 @@ module _ {R : Type 0} where
         kernel = other.kernel ∙ ap grown one.kernel ∙ ap (λ (log : List Event). record first.kernel { log = log }) (append_assoc first.kernel.log one.more other.more);
       }
 
-  pub unchanged : (before after : BoardView R) → after ≡ before → GoesOn before after
-  unchanged before after same =
-      record { continues = stays before after (ap (λ (b : BoardView R). b.runner) same) (ap (λ (b : BoardView R). b.kernel) same); tallies = ap (λ (b : BoardView R). b.tallies) same }
-
-  pub on_and_on : (first second third : BoardView R) → GoesOn first second → GoesOn second third → GoesOn first third
-  on_and_on first second third one other =
-      record { continues = goes_further first second third one.continues other.continues; tallies = other.tallies ∙ one.tallies }
-
-  pub by_event : (before after : BoardView R) (event : Event) → is_work event ≡ true → after ≡ with_event before event → GoesOn before after
-  by_event before after event work grown =
-      subst (λ (b : BoardView R). GoesOn before b) (sym grown) (record { continues = one_more before event work; tallies = refl })
-
   pub by_answer : {V E : Type 0} (answer : Result V E) (before after : BoardView R) (event : Event) → is_work event ≡ true
-      → OnOk answer (after ≡ with_event before event) → OnErr answer (after ≡ before) → GoesOn before after
+      → OnOk answer (after ≡ with_event before event) → OnErr answer (after ≡ before) → Continues before after
   by_answer (Ok value) before after event work grown same = by_event before after event work grown
   by_answer (Err fault) before after event work grown same = unchanged before after same
 

@@ -1,2 +1,5 @@
+pub mod Claims
 pub mod Continuing
+pub mod Outs
 pub mod Places
+pub mod UnderWay

@@ -3,15 +3,15 @@ use Rattle.std.specs.Prelude.{ℕ, ◌<◌, Option, Some, None}
 use Rattle.fork_pool.specs.declared.fault.StepFault.{StepFault}
 use Rattle.fork_pool.specs.declared.fault.StepFault.TheVariants.{Mem, WorkerMem, Mixed}
 use Rattle.roll_core.specs.Boards.{BoardView}
-use Rattle.fork_pool.specs.Steps.{IsStepDone}
+use Rattle.fork_pool.specs.Steps.{claims_out}
 
 abbrev pub number_of : StepFault → Option ℕ
 number_of Mem = None
 number_of (WorkerMem at) = Some 821
 number_of Mixed = Some 822
 
--- what it says is so: the place is one of so many; a claim is out, or a host on which the step is due has not reported it
+-- what it says is so: the place is one of so many, and a claim is out; so it is where a report is missing
 abbrev pub IsFaultOf : {R : Type 0} → ℕ → BoardView R → StepFault → Type 0
 IsFaultOf forks board Mem = Unit {0}
-IsFaultOf forks board (WorkerMem at) = at < forks
-IsFaultOf forks board Mixed = IsStepDone board → ⊥
+IsFaultOf forks board (WorkerMem at) = (at < forks) × (0 < claims_out board)
+IsFaultOf forks board Mixed = 0 < claims_out board

@@ -1,4 +1,5 @@
 pub mod Faults
+pub mod Pools
 pub mod Replies
 pub mod Steps
 pub mod Inside

@@ -2,9 +2,12 @@
 //! thread.
 #![tactic(auto)]
 
+mod boards;
 mod fault;
 mod front;
+mod given;
 mod making;
+mod notes;
 mod owed;
 mod reply;
 mod running;
@@ -13,6 +16,7 @@ mod ticket;
 mod worker_end;
 mod working;
 
+pub use boards::at_most_forks_are_out;
 pub use fault::{StepFault, WorkFault};
 pub use front::Front;
 pub use making::pool;

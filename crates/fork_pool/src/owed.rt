@@ -2,8 +2,10 @@
 ghost use Rattle.std.specs.Prelude.{◌≡◌, IfErr, IfOk};
 ghost use Rattle.fork_pool.specs.Replies.{IsEndOf};
 
+use crate::reply::Reply;
 use crate::ticket::Ticket;
-use roll_core::{Claim, Done, Runner};
+use crossbeam_channel::Sender;
+use roll_core::Runner;
 use std::alloc::Global;
 use std::process::{Processes, SystemProcess};
 use std::sync::Wait;
@@ -21,25 +23,37 @@ impl Owed {
         Owed { ticket }
     }
 
-    /// Runs the program of the ticket once. Want of memory gives the claim.
-    pub(crate) fn run<'f, R: Runner, H: Threads + Wait + Processes<Started = SystemProcess> + Sync>(
+    /// Runs the program of the ticket once, and replies for the worker at this place. The reply is dropped where nobody is left to receive it.
+    pub(crate) fn answer<
+        'f,
+        R: Runner,
+        H: Threads + Wait + Processes<Started = SystemProcess> + Sync,
+    >(
         self,
         rt: &H,
         alloc: Global,
         runner: &'f R,
-    ) -> Result<Done<'f, R>, Claim>
-        ensures ok { IfOk result (λ done. IsEndOf runner.now self.ticket.claim done) }
-        ensures err { IfErr result (λ claim. claim ≡ self.ticket.claim) }
+        place: usize,
+        replies: &Sender<Reply<'f, R>, Global>,
+    ) {
+        let _ = replies.send(rt, self.reply(rt, alloc, runner, place));
+    }
+
+    fn reply<'f, R: Runner, H: Threads + Wait + Processes<Started = SystemProcess> + Sync>(
+        self,
+        rt: &H,
+        alloc: Global,
+        runner: &'f R,
+        place: usize,
+    ) -> Reply<'f, R>
+        ensures place { result.place ≡ place }
+        ensures ok { IfOk result.done (IsEndOf runner.now self.ticket.claim) }
+        ensures err { IfErr result.done (λ claim. claim ≡ self.ticket.claim) }
     {
-        let Owed {
-            ticket: Ticket { claim, go },
-        } = self;
-        let Ok(outcome) = runner.run(rt, alloc, go, claim.job()) else {
-            return Err(claim);
-        };
-        match Done::new(alloc, runner, claim, outcome) {
-            Ok(done) => Ok(done),
-            Err((claim, _refused)) => Err(claim),
+        let Owed { ticket } = self;
+        Reply {
+            place,
+            done: ticket.run(rt, alloc, runner),
         }
     }
 }

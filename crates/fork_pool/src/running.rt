@@ -1,8 +1,9 @@
 //! One step on a pool of its own.
-ghost use Rattle.std.specs.Prelude.{◌≡◌, IfErr, IfOk};
+ghost use Rattle.std.specs.Prelude.{◌≡◌, min, vec_len, IfErr, IfOk};
 ghost use Rattle.fork_pool.specs.Faults.{IsFaultOf};
-ghost use Rattle.fork_pool.specs.Steps.{Continues, IsAtRest, IsStepDone, board_in};
+ghost use Rattle.fork_pool.specs.Steps.{Continues, FrontsHaveFewOut, IsAtRest, IsStepDone, board_in, hosts_due};
 
+use crate::boards::at_most_forks_are_out;
 use crate::fault::StepFault;
 use crate::front::Front;
 use crate::making::pool;
@@ -34,6 +35,7 @@ pub fn run_step<
     ensures done { IfOk result IsStepDone }
     ensures fault { IfErr result (λ refused. IsFaultOf forks refused.1 refused.0) }
     ensures continues { Continues board.entry (board_in result) }
+    ensures few { FrontsHaveFewOut (board_in result) }
     ensures rest { IsAtRest (board_in result) }
 {
     let workers = forks.min(board.due());
@@ -42,7 +44,10 @@ pub fn run_step<
             ends.truncate(workers);
             with_workers(rt, alloc, front, ends, board, runner)
         }
-        Err(_refused) => Err((StepFault::Mem, board)),
+        Err(_refused) => {
+            at_most_forks_are_out(&board);
+            Err((StepFault::Mem, board))
+        }
     }
 }
 
@@ -61,10 +66,12 @@ fn with_workers<
     runner: &'f R,
 ) -> Result<Board<'f, R, L>, (StepFault, Board<'f, R, L>)>
     requires forks { front.forks ≡ board.kernel.forks }
+    requires workers { vec_len ends ≡ min front.forks (hosts_due board) }
     requires tallies { board.tallies ≡ 0 }
     ensures done { IfOk result IsStepDone }
     ensures fault { IfErr result (λ refused. IsFaultOf front.entry.forks refused.1 refused.0) }
     ensures continues { Continues board.entry (board_in result) }
+    ensures few { FrontsHaveFewOut (board_in result) }
     ensures rest { IsAtRest (board_in result) }
 {
     thread::scope(
@@ -76,6 +83,7 @@ fn with_workers<
             ensures done { IfOk result IsStepDone }
             ensures fault { IfErr result (λ refused. IsFaultOf front.entry.forks refused.1 refused.0) }
             ensures continues { Continues board.entry (board_in result) }
+            ensures few { FrontsHaveFewOut (board_in result) }
             ensures rest { IsAtRest (board_in result) }
         {
             let mut front = front;
@@ -94,7 +102,7 @@ fn with_workers<
 }
 
 /// A step on a board that lives as long as the pool.
-fn step_alone<'f, R: Runner, L: Ledger, H: Wait>(
+pub(crate) fn step_alone<'f, R: Runner, L: Ledger, H: Wait>(
     rt: &H,
     alloc: Global,
     front: &mut Front<'f, R>,
@@ -105,6 +113,7 @@ fn step_alone<'f, R: Runner, L: Ledger, H: Wait>(
     ensures done { IfOk result IsStepDone }
     ensures fault { IfErr result (λ refused. IsFaultOf front.old.forks refused.1 refused.0) }
     ensures continues { Continues board.entry (board_in result) }
+    ensures few { FrontsHaveFewOut (board_in result) }
     ensures rest { IsAtRest (board_in result) }
 {
     front.step(rt, alloc, board)

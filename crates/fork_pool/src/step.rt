@@ -1,100 +1,87 @@
 //! A step in progress.
-ghost use Rattle.std.specs.Prelude.{◌≡◌, ◌<◌, ◌≤◌, suc, true, false, IfErr, IfOk, OnErr, OnOk};
+ghost use Rattle.std.specs.Prelude.{◌≡◌, ◌+◌, ◌-◌, ◌<◌, suc, nat_eq, true, false, IfErr, IfOk, OnErr, OnOk};
 ghost use Rattle.roll_core.specs.Givings.{HasItsGo};
 ghost use Rattle.fork_pool.specs.Faults.{IsFaultOf};
-ghost use Rattle.fork_pool.specs.Inside.{GoesOn, fault_by};
-ghost use Rattle.fork_pool.specs.Steps.{Continues, IsAtRest, IsStepDone, board_in};
+ghost use Rattle.fork_pool.specs.Inside.{HasLost, IsAfterClaim, IsEntered, IsGiven, IsItsOwn, IsOver, IsUnderWay, fault_by, is_stopped, nothing_yet, with_report, with_want_at};
+ghost use Rattle.fork_pool.specs.Steps.{Continues, FrontsHaveFewOut, IsAtRest, IsStepDone, board_in, claims_out};
 
+use crate::boards::{at_most_forks_are_out, nobody_is_out_twice};
 use crate::fault::StepFault;
+use crate::given::Given;
+use crate::notes::Notes;
 use crate::reply::Reply;
 use crate::ticket::Ticket;
 use roll_core::{Board, Claim, Claimed, Done, Runner, Tally};
 use std::alloc::Global;
 use std::sync::ledger::Ledger;
 
-/// A board on whose step workers are at work, and what went wrong until now. One tally counts its reports: the coordinator makes them all.
+/// A board on whose step workers are at work. One tally counts its reports: the coordinator makes them all.
 pub(crate) struct Step<'b, R: Runner, L: Ledger> {
     board: Board<'b, R, L>,
     tally: Tally<L>,
-    forks: usize,
-    /// How many tickets are in the line or with workers.
-    out: usize,
-    /// The coordinator found no memory.
-    wants: bool,
-    /// A worker told that it found none.
-    told: bool,
-    /// The least place that told so; the last one where none did.
-    at: usize,
-    /// The line had no room for a ticket.
-    full: bool,
-}
-
-/// What a claim came to.
-#[derive(Drop)]
-pub(crate) enum Given {
-    /// Nothing is to be given out now.
-    Nobody,
-    /// It had no program, and is reported.
-    Settled,
-    Ticket(Ticket),
+    notes: Notes,
+    ghost under_way: { IsUnderWay board notes },
 }
 
 impl<'b, R: Runner, L: Ledger> Step<'b, R, L> {
-    pub(crate) fn begin(mut board: Board<'b, R, L>, forks: usize) -> Step<'b, R, L>
-        requires some { 0 < forks }
-        requires few { board.tallies ≡ 0 }
+    pub(crate) fn begin(mut board: Board<'b, R, L>) -> Step<'b, R, L>
+        requires { board.tallies ≡ 0 }
         ensures board { result.board ≡ record board.entry { tallies = 1 } }
-        ensures at { result.at < forks }
+        ensures notes { result.notes ≡ nothing_yet (board.entry.kernel.forks - 1) }
     {
         let tally = board.split_tally();
+        let notes = Notes::new(board.forks() - 1);
         Step {
             board,
             tally,
-            forks,
-            out: 0,
-            wants: false,
-            told: false,
-            at: forks - 1,
-            full: false,
+            notes,
         }
     }
 
     /// Whether every ticket that was put has come back.
-    pub(crate) fn is_answered(&self) -> bool {
-        self.out == 0
+    pub(crate) fn is_answered(&self) -> bool
+        ensures { result ≡ nat_eq self.now.notes.out 0 }
+    {
+        self.notes.out == 0
     }
 
     /// Whether something went wrong, so that no ticket is put any more.
-    pub(crate) fn is_stopped(&self) -> bool {
-        self.wants || self.told || self.full
+    pub(crate) fn is_stopped(&self) -> bool
+        ensures { result ≡ is_stopped self.now.notes }
+    {
+        self.notes.is_stopped()
     }
 
     /// Claims a host. What is settled without a program is reported at once.
     pub(crate) fn give(&mut self, alloc: Global) -> Given
-        ensures board { GoesOn self.old.board self.new.board }
-        ensures at { self.new.at ≤ self.old.at }
+        ensures board { Continues self.old.board self.new.board }
+        ensures given { IsGiven self.old.board self.new.board self.old.notes self.new.notes result }
     {
-        if self.is_stopped() || self.out >= self.forks {
+        if self.is_stopped() || self.notes.out >= self.board.forks() {
             return Given::Nobody;
         }
-        match self.board.claim(alloc) {
-            Ok(Some(claimed)) => self.given(claimed),
-            Ok(None) => Given::Nobody,
-            Err(_refused) => {
-                self.wants = true;
-                Given::Nobody
-            }
+        let Ok(claimed) = self.board.claim(alloc) else {
+            self.notes.wants = true;
+            return Given::Nobody;
+        };
+        match claimed {
+            Some(claimed) => self.given(claimed),
+            None => Given::Nobody,
         }
     }
 
     fn given(&mut self, claimed: Claimed<'b, R>) -> Given
-        requires { HasItsGo claimed }
-        ensures board { GoesOn self.old.board self.new.board }
-        ensures at { self.new.at ≤ self.old.at }
+        requires leave { HasItsGo claimed }
+        requires own { IsItsOwn self.old.board claimed }
+        requires going { is_stopped self.old.notes ≡ false }
+        requires few { self.old.notes.out + self.old.notes.lost < self.old.board.kernel.forks }
+        requires claimed { self.old.notes.out + self.old.notes.lost < claims_out self.old.board }
+        ensures board { Continues self.old.board self.new.board }
+        ensures given { IsAfterClaim self.old.board self.new.board self.old.notes self.new.notes result }
     {
         match claimed {
             Claimed::Run(claim, go) => {
-                self.out = self.out.saturating_add(1);
+                self.notes.out += 1;
                 Given::Ticket(Ticket::new(claim, go))
             }
             Claimed::Settled(done) => {
@@ -108,80 +95,82 @@ impl<'b, R: Runner, L: Ledger> Step<'b, R, L> {
     pub(crate) fn enter<'f>(&mut self, reply: Reply<'f, R>)
     where
         'f: 'b,
-        ensures board { GoesOn self.old.board self.new.board }
-        ensures at { self.new.at ≤ self.old.at }
-        ensures told { OnErr reply.entry.done ((self.new.told ≡ true) × (self.new.at ≤ reply.entry.place)) }
-        ensures else_same { OnOk reply.entry.done ((self.new.told ≡ self.old.told) × (self.new.at ≡ self.old.at)) }
+        requires { 0 < self.old.notes.out }
+        ensures board { Continues self.old.board self.new.board }
+        ensures entered { IfOk reply.entry.done (IsEntered R.alike self.old.board self.new.board) }
+        ensures ok { OnOk reply.entry.done (self.new.notes ≡ with_report self.old.notes) }
+        ensures err { OnErr reply.entry.done (self.new.notes ≡ with_want_at reply.entry.place self.old.notes) }
     {
         let Reply { place, done } = reply;
         match done {
             Ok(done) => {
-                self.out = self.out.saturating_sub(1);
+                self.notes.out -= 1;
                 self.report(done);
             }
             Err(claim) => {
-                self.told = true;
-                self.at = self.at.min(place);
                 self.strand(claim);
+                self.notes.told = true;
+                self.notes.at = self.notes.at.min(place);
             }
         }
     }
 
-    /// A ticket for which the line had no room.
-    pub(crate) fn turn_away(&mut self, ticket: Ticket)
-        ensures board { GoesOn self.old.board self.new.board }
-        ensures at { self.new.at ≤ self.old.at }
+    /// A ticket is back whose program has not come to an end that can be told. One of another step is not counted.
+    pub(crate) fn strand(&mut self, claim: Claim)
+        ensures board { self.new.board ≡ self.old.board }
+        ensures notes { HasLost self.old.notes self.new.notes }
+        ensures one { self.new.notes.out ≡ self.old.notes.out - 1 }
     {
-        self.full = true;
-        self.strand(ticket.into_claim());
+        self.board.strand(claim);
+        if self.notes.out > 0 {
+            self.notes.out -= 1;
+            self.notes.lost += 1;
+        }
     }
 
-    /// A ticket is back whose program has not come to an end that can be told.
-    pub(crate) fn strand(&mut self, claim: Claim)
-        ensures board { GoesOn self.old.board self.new.board }
-        ensures at { self.new.at ≡ self.old.at }
-        ensures told { self.new.told ≡ self.old.told }
+    /// No reply can come any more.
+    pub(crate) fn cut_short(&mut self)
+        ensures board { self.new.board ≡ self.old.board }
+        ensures notes { self.new.notes ≡ record self.old.notes { ended = true } }
     {
-        self.out = self.out.saturating_sub(1);
-        self.board.strand(claim);
+        self.notes.ended = true;
     }
 
     /// A report that is handed back is dropped: its host has then not reported.
     fn report(&mut self, done: Done<'b, R>)
-        ensures board { GoesOn self.old.board self.new.board }
-        ensures at { self.new.at ≡ self.old.at }
-        ensures told { self.new.told ≡ self.old.told }
+        requires { self.old.notes.out + self.old.notes.lost < claims_out self.old.board }
+        ensures board { Continues self.old.board self.new.board }
+        ensures entered { IsEntered R.alike self.old.board self.new.board done.entry }
+        ensures notes { self.new.notes ≡ self.old.notes }
     {
+        nobody_is_out_twice(&self.board);
         let _ = self.board.report(done, &mut self.tally);
     }
 
     /// The board, with its tally back. The coordinator's want of memory goes before that of a worker, and this before a host that has not
     /// reported.
     pub(crate) fn end(self) -> Result<Board<'b, R, L>, (StepFault, Board<'b, R, L>)>
-        requires { self.board.tallies ≡ 1 }
+        requires { IsOver self.board self.notes }
         ensures done { IfOk result IsStepDone }
-        ensures clean { OnOk result ((self.entry.wants ≡ false) × (self.entry.told ≡ false)) }
-        ensures order { IfErr result (λ refused. refused.0 ≡ fault_by self.entry.wants self.entry.told self.entry.at) }
-        ensures fault { IfErr result (λ refused. IsFaultOf (suc self.entry.at) refused.1 refused.0) }
+        ensures clean { OnOk result ((self.entry.notes.wants ≡ false) × (self.entry.notes.told ≡ false)) }
+        ensures order { IfErr result (λ refused. refused.0 ≡ fault_by self.entry.notes.wants self.entry.notes.told self.entry.notes.at) }
+        ensures fault { IfErr result (λ refused. IsFaultOf self.entry.board.kernel.forks refused.1 refused.0) }
         ensures continues { Continues self.entry.board (board_in result) }
+        ensures few { FrontsHaveFewOut (board_in result) }
         ensures rest { IsAtRest (board_in result) }
     {
         let Step {
             mut board,
             tally,
-            forks: _,
-            out: _,
-            wants,
-            told,
-            at,
-            full: _,
+            notes,
         } = self;
         board.join_tally(tally);
-        if wants {
+        at_most_forks_are_out(&board);
+        if notes.wants {
             Err((StepFault::Mem, board))
-        } else if told {
-            Err((StepFault::WorkerMem { at }, board))
-        } else if board.out() > 0 || board.due() > 0 {
+        } else if notes.told {
+            Err((StepFault::WorkerMem { at: notes.at }, board))
+        } else if board.out() > 0 {
             Err((StepFault::Mixed, board))
         } else {
             Ok(board)

@@ -1,8 +1,13 @@
 //! What a worker is given.
-ghost use Rattle.std.specs.Prelude.{◌≡◌};
+ghost use Rattle.std.specs.Prelude.{◌≡◌, IfErr, IfOk};
 ghost use Rattle.roll_core.specs.Leaves.{IsGoOf};
+ghost use Rattle.fork_pool.specs.Replies.{IsEndOf};
 
-use roll_core::{Claim, Go};
+use roll_core::{Claim, Done, Go, Runner};
+use std::alloc::Global;
+use std::process::{Processes, SystemProcess};
+use std::sync::Wait;
+use std::thread::Threads;
 
 /// A claim, with the leave to run its program once. The two belong together. It can't be copied; whoever drops it leaves the host of the
 /// claim down and its batch open.
@@ -27,5 +32,25 @@ impl Ticket {
     {
         let Ticket { claim, go: _ } = self;
         claim
+    }
+
+    /// Runs the program once. Want of memory gives the claim.
+    pub(crate) fn run<'f, R: Runner, H: Threads + Wait + Processes<Started = SystemProcess> + Sync>(
+        self,
+        rt: &H,
+        alloc: Global,
+        runner: &'f R,
+    ) -> Result<Done<'f, R>, Claim>
+        ensures ok { IfOk result (IsEndOf runner.now self.claim) }
+        ensures err { IfErr result (λ claim. claim ≡ self.claim) }
+    {
+        let Ticket { claim, go } = self;
+        let Ok(outcome) = runner.run(rt, alloc, go, claim.job()) else {
+            return Err(claim);
+        };
+        match Done::new(alloc, runner, claim, outcome) {
+            Ok(done) => Ok(done),
+            Err((claim, _refused)) => Err(claim),
+        }
     }
 }

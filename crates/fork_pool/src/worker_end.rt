@@ -1,5 +1,5 @@
 //! The end of a pool that works.
-ghost use Rattle.std.specs.Prelude.{◌≡◌, ◌++◌, ◌∷◌, [], IfSome, IfNone, length};
+ghost use Rattle.std.specs.Prelude.{◌≡◌, ◌≤◌, ◌++◌, ◌∷◌, [], IfSome, IfNone, length};
 
 use crate::owed::Owed;
 use crate::reply::Reply;
@@ -30,6 +30,7 @@ impl<'f, R: Runner> WorkerEnd<'f, R> {
         runner: &'f R,
     ) -> u64
         ensures count { result ≡ length self.new.tickets.taken }
+        ensures more { length self.old.tickets.taken ≤ result }
         ensures place { self.new.place ≡ self.old.place }
         ensures line { self.new.tickets.line ≡ self.old.tickets.line }
     {
@@ -37,13 +38,13 @@ impl<'f, R: Runner> WorkerEnd<'f, R> {
             let Some(owed) = self.take(rt) else {
                 break;
             };
-            self.answer(rt, alloc, owed, runner);
+            owed.answer(rt, alloc, runner, self.place, &self.replies);
         }
         self.tickets.taken()
     }
 
     /// Takes a ticket, and waits for one while there is none.
-    fn take<H: Wait>(&mut self, rt: &H) -> Option<Owed>
+    pub(crate) fn take<H: Wait>(&mut self, rt: &H) -> Option<Owed>
         ensures some { IfSome result (λ owed. self.new.tickets ≡ record self.old.tickets { taken = self.old.tickets.taken ++ owed.ticket ∷ [] }) }
         ensures none { IfNone result (self.new.tickets ≡ self.old.tickets) }
         ensures place { self.new.place ≡ self.old.place }
@@ -53,22 +54,6 @@ impl<'f, R: Runner> WorkerEnd<'f, R> {
             None => None,
         }
     }
-
-    /// Runs the program of a ticket, and replies.
-    fn answer<H: Threads + Wait + Processes<Started = SystemProcess> + Sync>(
-        &self,
-        rt: &H,
-        alloc: Global,
-        owed: Owed,
-        runner: &'f R,
-    ) {
-        let done = owed.run(rt, alloc, runner);
-        let reply = Reply {
-            place: self.place,
-            done,
-        };
-        let _ = self.replies.send(rt, reply);
-    }
 }
 
 /// The same with an end that nobody needs afterwards: it is dropped, so that the coordinator sees when no worker is left.
@@ -77,6 +62,8 @@ pub fn serve<'f, R: Runner, H: Threads + Wait + Processes<Started = SystemProces
     alloc: Global,
     mut end: WorkerEnd<'f, R>,
     runner: &'f R,
-) -> u64 {
+) -> u64
+    ensures { length end.entry.tickets.taken ≤ result }
+{
     end.serve(rt, alloc, runner)
 }

@@ -1,8 +1,7 @@
 //! A worker over a locked board.
-ghost use Rattle.std.specs.Prelude.{◌≡◌, ◌≤◌, IfErr, IfOk};
+ghost use Rattle.std.specs.Prelude.{◌≡◌, ◌≤◌, suc, IfErr, IfOk, MatchBool, OnErr, OnOk};
 
 use crate::fault::WorkFault;
-use crate::owed::Owed;
 use crate::ticket::Ticket;
 use roll_core::{Board, Claimed, Done, Runner, Tally};
 use std::alloc::Global;
@@ -51,14 +50,15 @@ fn take_one<
     runner: &'f R,
     tally: &mut Tally<L>,
 ) -> Result<bool, WorkFault>
-    ensures { tally.old.count ≤ tally.new.count }
+    ensures ok { IfOk result (λ more. MatchBool more (tally.new.count ≡ suc tally.old.count) (tally.new.count ≡ tally.old.count)) }
+    ensures err { OnErr result (tally.new.count ≡ tally.old.count) }
 {
     let claimed = board.lock(rt).claim(alloc)?;
     let done = match claimed {
         None => return Ok(false),
         Some(Claimed::Settled(done)) => done,
         Some(Claimed::Run(claim, go)) => {
-            match Owed::new(Ticket::new(claim, go)).run(rt, alloc, runner) {
+            match Ticket::new(claim, go).run(rt, alloc, runner) {
                 Ok(done) => done,
                 Err(claim) => {
                     board.lock(rt).strand(claim);
@@ -77,7 +77,8 @@ fn report<'f, R: Runner, L: Ledger, H: Wait>(
     done: Done<'f, R>,
     tally: &mut Tally<L>,
 ) -> Result<(), WorkFault>
-    ensures { tally.old.count ≤ tally.new.count }
+    ensures ok { OnOk result (tally.new.count ≡ suc tally.old.count) }
+    ensures err { OnErr result (tally.new.count ≡ tally.old.count) }
 {
     match board.lock(rt).report(done, tally) {
         Ok(()) => Ok(()),

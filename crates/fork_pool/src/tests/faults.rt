@@ -4,6 +4,7 @@ ghost use Rattle.std.specs.Prelude.{◌≡◌, IfOk};
 use crate::tests::rows::{BATCHES, one_more_row, script_again, six_hosts};
 use crate::tests::setting::{Setting, board_of};
 use crate::{StepFault, pool, run_step};
+use group_tree::HostId;
 use roll_core::{Board, Go, Job, Outcome, Runner};
 use script_runner::Script;
 use std::alloc::{AllocError, Global};
@@ -53,11 +54,12 @@ impl Runner for Wanting {
     ghost one_relation = { λ one other alike work ending. ((λ may. may), λ may. may) };
 }
 
-/// The first batch is open on the board, of which two hosts are due.
+/// The batch is open on the board, at two forks.
 pub fn opened<'s, R: Runner, L: Ledger>(
     alloc: Global,
     setting: &'s Setting,
     runner: &'s R,
+    batch: &[HostId],
     blank: Blank,
 ) -> Result<Board<'s, R, L>, Fail>
     requires name { blank.name ≡ L.name }
@@ -67,7 +69,10 @@ pub fn opened<'s, R: Runner, L: Ledger>(
     ensures tallies { IfOk result (λ board. board.tallies ≡ 0) }
 {
     let mut board = board_of::<R, L>(alloc, setting, runner, 2, blank)?;
-    match board.open(alloc, BATCHES[0]) {
+    if batch.is_empty() {
+        return Err(Fail::new("an empty batch"));
+    }
+    match board.open(alloc, batch) {
         Ok(()) => Ok(board),
         Err(_refused) => Err(Fail::new("the batch was not opened")),
     }
@@ -107,7 +112,7 @@ fn without_memory<L: Ledger, H: Threads + Wait + Processes<Started = SystemProce
     let runner = Wanting {
         begun: AtomicU64::new(0),
     };
-    let board = opened::<Wanting, L>(alloc, &setting, &runner, blank)?;
+    let board = opened::<Wanting, L>(alloc, &setting, &runner, BATCHES[0], blank)?;
     let answer = run_step(rt, alloc, board, &runner, 2);
     came_back(answer, StepFault::WorkerMem { at: 0 }, 2)
 }
@@ -125,7 +130,7 @@ fn of_another_script<L: Ledger, H: Threads + Wait + Processes<Started = SystemPr
     let setting = six_hosts(alloc)?;
     let script = script_again(alloc)?;
     let other = one_more_row(alloc)?;
-    let board = opened::<Script, L>(alloc, &setting, &script, blank)?;
+    let board = opened::<Script, L>(alloc, &setting, &script, BATCHES[0], blank)?;
     let answer = run_step(rt, alloc, board, &other, 2);
     came_back(answer, StepFault::Mixed, 2)
 }
@@ -138,7 +143,7 @@ fn without_workers<L: Ledger, H: Wait>(rt: &H, alloc: Global, blank: Blank) -> R
 {
     let setting = six_hosts(alloc)?;
     let script = script_again(alloc)?;
-    let board = opened::<Script, L>(alloc, &setting, &script, blank)?;
+    let board = opened::<Script, L>(alloc, &setting, &script, BATCHES[0], blank)?;
     let (mut front, ends) = pool(alloc, 2)?;
     drop(ends);
     let answer = front.step(rt, alloc, board);

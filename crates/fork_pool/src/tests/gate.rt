@@ -1,6 +1,7 @@
 //! The programs of a step run at once: a call waits for another that has to be at work beside it.
 ghost use Rattle.std.specs.Prelude.{◌≡◌};
 
+use crate::StepFault;
 use crate::tests::rolling::{Rolled, roll_apart, roll_together};
 use crate::tests::setting::{board_of, limited_again, set_up};
 use group_tree::HostId;
@@ -97,6 +98,17 @@ impl Gate {
     }
 }
 
+/// A worker could not be started: the others have finished the step, or there was no pool at all.
+fn is_want_of_a_worker<L: Ledger>(rolled: &Rolled<'_, Gate, L>) -> bool {
+    match rolled {
+        Rolled::ToItsEnd(_board) => false,
+        Rolled::Stopped(fault, board) => {
+            *fault == StepFault::Mem && board.out() == 0 && board.due() == 0
+        }
+        Rolled::NoMemory => true,
+    }
+}
+
 /// No call has waited too long.
 fn all_are_updated<L: Ledger>(rolled: Rolled<'_, Gate, L>, hosts: &[HostId]) -> Result<(), Fail> {
     let Rolled::ToItsEnd(board) = rolled else {
@@ -118,6 +130,7 @@ fn gated<L: Ledger, H: Threads + Wait + Processes<Started = SystemProcess> + Syn
     hosts: usize,
     all: u64,
     apart: bool,
+    may_want: bool,
     blank: Blank,
 ) -> Result<(), Fail>
     requires name { blank.name ≡ L.name }
@@ -137,14 +150,26 @@ fn gated<L: Ledger, H: Threads + Wait + Processes<Started = SystemProcess> + Syn
     } else {
         roll_together(rt, alloc, board, &batches)?
     };
+    if may_want && is_want_of_a_worker(&rolled) {
+        return Ok(());
+    }
     all_are_updated(rolled, batch)
 }
 
 #[test]
 fn gate_two_at_once(rt: HostRuntime) -> Result<(), Fail> {
     for apart in [true, false] {
-        gated::<Brand, HostRuntime>(&rt, rt.alloc(), 2, 0, apart, Blank::new(129))?;
-        gated::<Brand, HostRuntime>(&rt, rt.alloc(), 5, 5, apart, Blank::new(129))?;
+        gated::<Brand, HostRuntime>(&rt, rt.alloc(), 2, 0, apart, false, Blank::new(129))?;
+        gated::<Brand, HostRuntime>(&rt, rt.alloc(), 5, 5, apart, false, Blank::new(129))?;
+    }
+    Ok(())
+}
+
+/// Where a thread is refused, the answer is want of memory: without it both programs have run at once.
+#[test]
+fn a_step_ends_or_a_worker_is_wanting(rt: HostRuntime) -> Result<(), Fail> {
+    for apart in [true, false] {
+        gated::<Brand, HostRuntime>(&rt, rt.alloc(), 2, 0, apart, true, Blank::new(129))?;
     }
     Ok(())
 }

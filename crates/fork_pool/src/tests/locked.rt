@@ -1,9 +1,11 @@
 //! Workers over a locked board.
 ghost use Rattle.std.specs.Prelude.{◌≡◌};
 
-use crate::tests::rows::{BATCHES, script_again, six_hosts};
+use crate::tests::by_hand::Doing;
+use crate::tests::faults::opened;
+use crate::tests::rows::{BATCHES, one_more_row, script_again, six_hosts};
 use crate::tests::setting::board_of;
-use crate::work;
+use crate::{WorkFault, work};
 use roll_core::{Board, Runner, Tally};
 use script_runner::Script;
 use std::alloc::Global;
@@ -70,7 +72,59 @@ fn worked<L: Ledger, H: Threads + Wait + Processes<Started = SystemProcess> + Sy
     Ok(())
 }
 
+/// One worker with a runner that is not the board's. It stops with this fault, has counted nothing, and leaves its claim out.
+fn stopped<R: Runner, L: Ledger, H: Threads + Wait + Processes<Started = SystemProcess> + Sync>(
+    rt: &H,
+    alloc: Global,
+    of_board: &R,
+    runner: &R,
+    fault: WorkFault,
+    blank: Blank,
+) -> Result<(), Fail>
+    requires name { blank.name ≡ L.name }
+    requires parts { blank.parts ≡ L.parts }
+    requires many { blank.parts ≡ 129 }
+{
+    let setting = six_hosts(alloc)?;
+    let mut board = opened::<R, L>(alloc, &setting, of_board, BATCHES[0], blank)?;
+    let tally = board.split_tally();
+    let shared = Mutex::new(board);
+    let (is_told, tally) = match work(rt, alloc, &shared, runner, tally) {
+        Ok(tally) => (false, tally),
+        Err((told, tally)) => (told == fault, tally),
+    };
+    let reports = tally.count();
+    shared.lock(rt).join_tally(tally);
+    let board = shared.into_inner();
+    if !is_told || reports != 0 || board.out() != 1 || board.tallies() != 0 {
+        return Err(Fail::new("another end"));
+    }
+    Ok(())
+}
+
 #[test]
 fn workers_share_a_locked_board(rt: HostRuntime) -> Result<(), Fail> {
     worked::<Brand, HostRuntime>(&rt, rt.alloc(), Blank::new(129))
+}
+
+#[test]
+fn a_worker_that_stops_leaves_its_claim_out(rt: HostRuntime) -> Result<(), Fail> {
+    let (script, other) = (script_again(rt.alloc())?, one_more_row(rt.alloc())?);
+    stopped::<Script, Brand, HostRuntime>(
+        &rt,
+        rt.alloc(),
+        &script,
+        &other,
+        WorkFault::Stranger,
+        Blank::new(129),
+    )?;
+    let (good, wanting) = (Doing { wants: false }, Doing { wants: true });
+    stopped::<Doing, Brand, HostRuntime>(
+        &rt,
+        rt.alloc(),
+        &good,
+        &wanting,
+        WorkFault::Mem,
+        Blank::new(129),
+    )
 }

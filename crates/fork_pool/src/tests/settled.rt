@@ -3,7 +3,7 @@ ghost use Rattle.std.specs.Prelude.{◌≡◌};
 
 use crate::pool;
 use crate::tests::faults::opened;
-use crate::tests::rows::SIX;
+use crate::tests::rows::{BATCHES, SIX};
 use crate::tests::setting::{limited_again, set_up};
 use script_runner::Script;
 use std::alloc::Global;
@@ -22,7 +22,7 @@ fn settled<L: Ledger, H: Wait>(rt: &H, alloc: Global, blank: Blank) -> Result<()
 {
     let setting = set_up(alloc, limited_again(alloc, 2, &SIX)?, SKIPPED)?;
     let script = Script::new(alloc);
-    let board = opened::<Script, L>(alloc, &setting, &script, blank)?;
+    let board = opened::<Script, L>(alloc, &setting, &script, BATCHES[0], blank)?;
     let (mut front, ends) = pool(alloc, 2)?;
     drop(ends);
     match front.step(rt, alloc, board) {

@@ -1,7 +1,12 @@
-use Rattle.std.proofs.Common.{◌≡◌, ◌≤◌}
-use Rattle.fork_pool.specs.Inside.{GoesOn}
+use Rattle.std.proofs.Common.{◌≡◌}
+use Rattle.fork_pool.specs.Pools.{IsSameLine}
+use Rattle.fork_pool.specs.Steps.{Continues}
 use Rattle.fork_pool.proofs.front.Front.go_on.Given as goal
 
 abbrev pub invariant-loop : goal.invariant-loop
 invariant-loop g l =
-    record { board : GoesOn l.initial.step.board l.step.board; at : l.step.at ≤ l.initial.step.at; forks : l.self.forks ≡ l.initial.self.forks }
+    record {
+      board : Continues l.initial.step.board l.step.board;
+      forks : l.self.forks ≡ l.initial.self.forks;
+      line : IsSameLine l.initial.self.tickets l.self.tickets;
+    }

@@ -1,0 +1,4 @@
+use Rattle.fork_pool.proofs.tests.locked.a_worker_that_stops_leaves_its_claim_out.Given as goal
+
+abbrev pub ghosts-stopped : goal.ghosts-stopped
+ghosts-stopped g a = record { name = a.blank.name; parts = a.blank.parts }

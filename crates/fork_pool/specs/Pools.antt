@@ -1,0 +1,9 @@
+-- What stays of a pool while it is at work.
+use Rattle.std.specs.Prelude.{◌≡◌}
+use Rattle.ticket_line.specs.Ends.{PutView}
+use Rattle.fork_pool.specs.declared.ticket.Ticket.{Ticket}
+
+-- it is the same line, with as many ends that take
+pub record IsSameLine (before after : PutView Ticket) : Type 0 where
+  pub line : after.line ≡ before.line
+  pub takers : after.takers ≡ before.takers

@@ -1,0 +1,107 @@
+//! A step on the workers of a pool.
+ghost use Rattle.std.specs.Prelude.{◌≡◌, ◌-◌, ◌<◌, ◌⊎◌, true, false, IfErr, IfOk};
+ghost use Rattle.fork_pool.specs.Faults.{IsFaultOf};
+ghost use Rattle.fork_pool.specs.Inside.{IsOver};
+ghost use Rattle.fork_pool.specs.Pools.{IsSameLine};
+ghost use Rattle.fork_pool.specs.Steps.{Continues, FrontsHaveFewOut, IsAtRest, IsStepDone, board_in};
+
+use crate::fault::StepFault;
+use crate::front::Front;
+use crate::step::Step;
+use roll_core::{Board, Runner};
+use std::alloc::Global;
+use std::sync::Wait;
+use std::sync::ledger::Ledger;
+
+impl<'f, R: Runner> Front<'f, R> {
+    /// Works on the present step of the board until each host on which it is due has reported it, with the workers of the pool. The pool may
+    /// outlive the board.
+    pub fn step<'b, L: Ledger, H: Wait>(
+        &mut self,
+        rt: &H,
+        alloc: Global,
+        board: Board<'b, R, L>,
+    ) -> Result<Board<'b, R, L>, (StepFault, Board<'b, R, L>)>
+    where
+        'f: 'b,
+        requires forks { self.old.forks ≡ board.kernel.forks }
+        requires tallies { board.tallies ≡ 0 }
+        ensures done { IfOk result IsStepDone }
+        ensures fault { IfErr result (λ refused. IsFaultOf self.old.forks refused.1 refused.0) }
+        ensures continues { Continues board.entry (board_in result) }
+        ensures few { FrontsHaveFewOut (board_in result) }
+        ensures rest { IsAtRest (board_in result) }
+        ensures forks { self.new.forks ≡ self.old.forks }
+        ensures line { IsSameLine self.old.tickets self.new.tickets }
+    {
+        let mut step = Step::begin(board);
+        self.go_on(rt, alloc, &mut step);
+        step.end()
+    }
+
+    /// Until nothing is left to put, and each ticket that was put has come back, or no reply can come any more.
+    fn go_on<'b, L: Ledger, H: Wait>(&mut self, rt: &H, alloc: Global, step: &mut Step<'b, R, L>)
+    where
+        'f: 'b,
+        ensures board { Continues step.old.board step.new.board }
+        ensures over { IsOver step.new.board step.new.notes }
+        ensures answered { (step.new.notes.out ≡ 0) ⊎ (step.new.notes.ended ≡ true) }
+        ensures forks { self.new.forks ≡ self.old.forks }
+        ensures line { IsSameLine self.old.tickets self.new.tickets }
+    {
+        for _ in rt.forever() {
+            if !self.turn(rt, alloc, step) {
+                return;
+            }
+        }
+        unreachable!()
+    }
+
+    /// Puts what can be put, and enters one reply. False is told where none is to come.
+    fn turn<'b, L: Ledger, H: Wait>(
+        &mut self,
+        rt: &H,
+        alloc: Global,
+        step: &mut Step<'b, R, L>,
+    ) -> bool
+    where
+        'f: 'b,
+        ensures board { Continues step.old.board step.new.board }
+        ensures over { result ≡ false → IsOver step.new.board step.new.notes }
+        ensures answered { result ≡ false → (step.new.notes.out ≡ 0) ⊎ (step.new.notes.ended ≡ true) }
+        ensures forks { self.new.forks ≡ self.old.forks }
+        ensures line { IsSameLine self.old.tickets self.new.tickets }
+    {
+        self.give_out(rt, alloc, step);
+        self.call_back_if_stopped(rt, step);
+        if step.is_answered() {
+            return false;
+        }
+        self.receive(rt, step)
+    }
+
+    /// Waits for a reply, and enters it. False is told where no worker is left to reply: the tickets that are left come back.
+    fn receive<'b, L: Ledger, H: Wait>(&mut self, rt: &H, step: &mut Step<'b, R, L>) -> bool
+    where
+        'f: 'b,
+        requires { 0 < step.old.notes.out }
+        ensures board { Continues step.old.board step.new.board }
+        ensures over { result ≡ false → IsOver step.new.board step.new.notes }
+        ensures ended { result ≡ false → step.new.notes.ended ≡ true }
+        ensures entered { result ≡ true → step.new.notes.out ≡ step.old.notes.out - 1 }
+        ensures forks { self.new.forks ≡ self.old.forks }
+        ensures line { IsSameLine self.old.tickets self.new.tickets }
+    {
+        match self.replies.recv(rt) {
+            Ok(reply) => {
+                step.enter(reply);
+                true
+            }
+            Err(_ended) => {
+                self.call_back(rt, step);
+                step.cut_short();
+                false
+            }
+        }
+    }
+}
