@@ -31,6 +31,7 @@ use Rattle.roll_kernel.specs.Views as kernels
 use Rattle.roll_core.specs.Boards.{BoardView, with_event}
 use Rattle.fork_pool.specs.declared.fault.StepFault.{StepFault}
 use Rattle.fork_pool.specs.declared.fault.StepFault.TheVariants.{Mem, WorkerMem, Mixed}
+use Rattle.fork_pool.specs.Faults.{IsFaultOf}
 use Rattle.roll_run.specs.Runs.{NamesAWorker}
 use Rattle.roll_run.specs.Inside.{HasRun, IsAt, IsBehind, IsBetween, IsSameRoll, halt_in}
 use Rattle.roll_run.proofs.Lengths.{as_many}
@@ -152,3 +153,9 @@ module _ {R : Type 0} (old ran new : BoardView R) (behind : List Boundary) (boun
   pub same_behind : IsSameRoll old new
   same_behind =
       same_by old new (kernels.with_event (record old.kernel { log = old.kernel.log ++ opened (next_batch boundary.answer) ∷ run.more }) closed) refl done_is (ap (λ (b : BoardView R). b.runner) close ∙ run.runner)
+
+-- a fault of a step names one of the workers
+pub worker_named : {R : Type 0} (forks : ℕ) (board : BoardView R) (why : StepFault) → IsFaultOf forks board why → NamesAWorker forks why
+worker_named forks board Mem is = tt
+worker_named forks board (WorkerMem at) is = is.0
+worker_named forks board Mixed is = tt

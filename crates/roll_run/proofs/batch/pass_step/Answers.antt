@@ -1,6 +1,7 @@
 use Rattle.std.proofs.Common.{sym, subst}
 use Rattle.roll_run.specs.Inside.{HasWorked}
 use Rattle.roll_run.proofs.Passing.{none_yet, passes_step, still_working, works_on}
+use Rattle.roll_run.proofs.Turning.{worker_named}
 use Rattle.roll_run.proofs.batch.pass_step.Goals as goal
 
 pub barrier-requires-after_bounds : goal.barrier-requires-after_bounds
@@ -16,3 +17,6 @@ returns-in-Err-barrier-clause-err g c =
 
 pub returns-in-Err-clause-err : goal.returns-in-Err-clause-err
 returns-in-Err-clause-err g c = works_on c.args.board c.args.board c.in-Err.refused.1 (none_yet c.args.board) c.in-Err.ensures.continues
+
+pub returns-in-Err-clause-worker : goal.returns-in-Err-clause-worker
+returns-in-Err-clause-worker g c = worker_named c.args.front.now.forks c.in-Err.refused.1 c.in-Err.refused.0 c.in-Err.ensures.fault
