@@ -1,1 +1,6 @@
+pub mod AlikePlays
+pub mod AlikeTracks
+pub mod SameCourses
+pub mod SameHosts
+pub mod SameRuns
 pub mod TextLemmas

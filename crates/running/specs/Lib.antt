@@ -2,3 +2,4 @@ pub mod Ends
 pub mod Inputs
 pub mod Recaps
 pub mod RunTexts
+pub mod Laws

@@ -5,11 +5,13 @@ mod end;
 mod fault;
 mod hosts;
 mod inputs;
+mod laws;
 mod printing;
 mod recaps;
 
 pub use end::RunEnd;
 pub use fault::RunTextFault;
+pub use laws::one_recap;
 pub use printing::run_text;
 
 #[cfg(test)]

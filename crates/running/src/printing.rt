@@ -85,16 +85,7 @@ pub fn run_text<R: Runner, H: Threads + Wait + Processes<Started = SystemProcess
     };
     let listed = plays.as_slice();
     let several = are_several(listed);
-    match run_plays(
-        rt,
-        alloc,
-        &fleet,
-        listed,
-        statuses,
-        vars,
-        runner,
-        forks,
-    ) {
+    match run_plays(rt, alloc, &fleet, listed, statuses, vars, runner, forks) {
         Ok(runs) => tell_runs(&fleet, several, runs.as_slice(), out),
         Err(fault) => Err(tell_broken(&fleet, several, &fault, out)),
     }
