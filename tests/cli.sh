@@ -264,6 +264,103 @@ check 'an inventory of one byte too many before a missing playbook' 1 '' "rollou
 run plan "$work/cut.json" "$work/sized.json"
 check 'a playbook of one byte too many' 1 '' "rollout: 903 InputTooLarge$newline"
 
+# ---- runs
+
+# rolled WHAT STATUS INVENTORY PLAYBOOK RECAP: a run of the two texts, with one host at once and with more, ends with this status and recap.
+rolled() {
+    printf '%s' "$3" >"$work/inventory.json"
+    printf '%s' "$4" >"$work/playbook.json"
+    for forks in 1 7; do
+        run run "$work/inventory.json" "$work/playbook.json" --forks $forks
+        check "$1, $forks at once" "$2" "$5$newline" ''
+    done
+}
+
+# counted NAME OK FAILED STATE: the line of a host that has changed by each step that was right.
+counted() {
+    echo "$1 ok=$2 changed=$2 failed=$3 skipped=0 ignored=0 state=$4"
+}
+
+# spared HOST KEYS: a playbook of one play on all hosts, with these keys before its task, which fails on this host.
+spared() {
+    printf '[{"hosts":"all",%s"tasks":[{"command":{"argv":["sh","-c","test {{ inventory_hostname }} != %s"]}}]}]' "$2" "$1"
+}
+
+four='boundary 1: plan batches=3 bound=group r1 waiting=3 room=1
+open: a d
+boundary 2: plan batches=2 bound=group r1 waiting=2 room=1
+open: b e
+boundary 3: plan batches=1 bound=group eu waiting=1 room=3
+open: c
+boundary 4: plan batches=0 bound=nothing'
+updated="$four
+$(for host in a b c d e; do counted $host 1 0 updated; done)
+end finished"
+rolled 'a run' 0 "$racks" "$all" "$updated"
+for words in 'run racks.json all.json' 'run --forks 64 racks.json all.json' 'run racks.json --forks=1 all.json' 'run -- racks.json all.json'; do
+    (
+        cd "$work" || exit 1
+        "$rollout" $words </dev/null >out 2>errors
+    )
+    status=$?
+    check "a run by $words" 0 "$updated$newline" ''
+done
+rolled 'a run of nobody' 0 '{"all":{}}' "$all" "boundary 1: plan batches=0 bound=nothing${newline}end finished"
+rolled 'a run of which a whole batch failed' 4 "$pair" "$(spared b '')" "boundary 1: plan batches=2 bound=group g waiting=2 room=1
+open: a
+boundary 2: plan batches=1 bound=group g waiting=1 room=1
+open: b
+boundary 3: plan batches=0 bound=nothing
+$(counted a 1 0 updated)
+$(counted b 0 1 failed)
+end all-failed"
+rolled 'a run that a failed host blocks' 3 "$racks" "$(spared a '')" "boundary 1: plan batches=3 bound=group r1 waiting=3 room=1
+open: a d
+boundary 2: blocked group=r1 waiting=2
+$(counted a 0 1 failed)
+$(counted b 0 0 waiting)
+$(counted c 0 0 waiting)
+$(counted d 1 0 updated)
+$(counted e 0 0 waiting)
+end blocked group=r1"
+rolled 'a run that sets the others of a rack aside' 3 "$racks" "$(spared a '"on_blocked":"hold",')" "boundary 1: plan batches=3 bound=group r1 waiting=3 room=1
+open: a d
+boundary 2: plan batches=1 bound=group eu waiting=1 room=2
+held: b c
+open: e
+boundary 3: plan batches=0 bound=nothing
+$(counted a 0 1 failed)
+$(counted b 0 0 held)
+$(counted c 0 0 held)
+$(counted d 1 0 updated)
+$(counted e 1 0 updated)
+end held"
+# tenth STATE: of ten hosts one failed, and the others are in this state
+tenth() {
+    printf '%s\n' 'boundary 1: plan batches=1 bound=one-host' 'open: h0 h1 h2 h3 h4 h5 h6 h7 h8 h9' 'boundary 2: plan batches=0 bound=nothing'
+    counted h0 1 0 "$1"
+    counted h1 0 1 failed
+    for host in h2 h3 h4 h5 h6 h7 h8 h9; do counted $host 1 0 "$1"; done
+}
+rolled 'a run with a failed host' 2 "$ten" "$(spared h1 '')" "$(tenth updated)${newline}end finished"
+rolled 'a run with as many failed hosts as may be' 2 "$ten" "$(spared h1 '"max_fail_percentage":10,')" "$(tenth updated)${newline}end finished"
+rolled 'a run with more failed hosts than may be' 4 "$ten" "$(spared h1 '"max_fail_percentage":9,')" "$(tenth halted)${newline}end too-many-failed step=1 failed=1 size=10"
+rolled 'a run of two plays' 0 "$pair" '[{"hosts":"a","tasks":[{"command":"true"}]},{"hosts":"all","tasks":[{"command":"true"},{"command":"true"}]}]' "play 1
+boundary 1: plan batches=1 bound=group g waiting=1 room=1
+open: a
+boundary 2: plan batches=0 bound=nothing
+$(counted a 1 0 updated)
+end finished
+play 2
+boundary 1: plan batches=2 bound=group g waiting=2 room=1
+open: a
+boundary 2: plan batches=1 bound=group g waiting=1 room=1
+open: b
+boundary 3: plan batches=0 bound=nothing
+$(counted a 2 0 updated)
+$(counted b 2 0 updated)
+end finished"
+
 # ---- outputs that take nothing, or not all
 
 # full WHAT WORDS: nothing can be written to standard output
@@ -277,6 +374,7 @@ full() {
 }
 full 'the table' limits "$work/racks.json"
 full 'a plan' plan "$work/racks.json" "$work/all.json"
+full 'a recap' run "$work/racks.json" "$work/all.json"
 full 'the help' --help
 full 'the help of a command' limits --help
 full 'the version' --version
@@ -340,6 +438,7 @@ Usage: rollout <COMMAND>
 Commands:
   limits  Prints each limited group: its members, how many are down, its limit and its room
   plan    Prints the fewest batches that update the hosts of a play, and what forces their number
+  run     Updates the hosts of each play batch by batch, and prints what came of them
   help    Print this message or the help of the given subcommand(s)
 
 Options:
@@ -353,7 +452,9 @@ Without any word, rollout reads an inventory from standard input and prints its 
 Exit status:
   0  what was asked for was done
   1  the line, an input or a write was refused
+  2  a run finished, and a host has failed
   3  hosts wait in a group that has no room
+  4  a batch ended the run: too many of its hosts have failed, or all
   5  want of memory
 '
 for word in --help -h help; do
@@ -391,6 +492,23 @@ for words in 'plan --help' 'plan -h' 'help plan'; do
     check "the help by $words" 0 "$plan_help" ''
 done
 
+run_help='Updates the hosts of each play batch by batch, and prints what came of them
+
+Usage: rollout run [OPTIONS] <INV> <PLAY>
+
+Arguments:
+  <INV>   The inventory: a file of JSON that lists groups with their hosts, children and variables
+  <PLAY>  The playbook: a file of JSON that lists plays with their hosts and tasks
+
+Options:
+      --forks <N>  How many hosts are worked on at once, 1 to 64 [default: 5]
+  -h, --help       Print help
+'
+for words in 'run --help' 'run -h' 'help run'; do
+    run $words
+    check "the help by $words" 0 "$run_help" ''
+done
+
 # bad WORDS USAGE EXPLANATION: the words are no line
 bad() {
     run $1
@@ -409,7 +527,10 @@ bad jump 'rollout <COMMAND>' "unrecognized subcommand 'jump'"
 bad plan 'rollout plan <INV> <PLAY>' "the following required arguments were not provided:$newline  <INV>$newline  <PLAY>"
 bad 'plan a' 'rollout plan <INV> <PLAY>' "the following required arguments were not provided:$newline  <PLAY>"
 bad 'plan a b c' 'rollout plan <INV> <PLAY>' "unexpected argument 'c' found"
-bad 'run a b' 'rollout <COMMAND>' "unrecognized subcommand 'run'"
+bad run 'rollout run <INV> <PLAY>' "the following required arguments were not provided:$newline  <INV>$newline  <PLAY>"
+bad 'run a' 'rollout run <INV> <PLAY>' "the following required arguments were not provided:$newline  <PLAY>"
+bad 'run a b c' 'rollout run [OPTIONS] <INV> <PLAY>' "unexpected argument 'c' found"
+bad 'rehearse a b' 'rollout <COMMAND>' "unrecognized subcommand 'rehearse'"
 bad '--forks 3' 'rollout <COMMAND>' "unexpected argument '--forks' found"
 run "$(printf '\377')"
 check 'a word that is no text' 1 '' "rollout: 901 BadLine$newline"

@@ -1,18 +1,13 @@
 -- clap takes the words that ask for limits or a plan, and reads the same files.
-use Rattle.std.proofs.Common.{◌≡◌, ℕ, Bool, true, false, eqb, List, [], ◌∷◌, Option, Some, None, codes, cond, refl, sym, subst, ◌∙◌, option_map}
+use Rattle.std.proofs.Common.{◌≡◌, ℕ, Bool, true, false, eqb, List, [], ◌∷◌, Option, Some, None, codes, cond, refl, sym, subst, option_map}
 use Rattle.clap.specs.Lexer.{long_of, short_of}
-use Rattle.clap.specs.Words.{Row, Text, first_of, subcommand_of, takes}
-use Rattle.clap.specs.Words.{subcommand_name_of, subcommand_rows, subcommand_rows_of}
-use Rattle.clap.specs.declared.parser.matches.ArgMatches.{ArgMatches}
-use Rattle.clap.specs.declared.parser.matches.SubCommand.{SubCommand}
-use Rattle.clap.specs.declared.parser.matches.ArgMatches.TheViews.{out-ArgMatches, out-SubCommand}
-use Rattle.std.specs.Prelude.{Box}
+use Rattle.clap.specs.Words.{subcommand_of, takes}
 use Rattle.std.specs.Str.{bytes_eq}
 use Rattle.std.proofs.lemmas.Slice.Eq.{bytes_eq-Decides}
-use Rattle.std.specs.Box.{box_value}
 use Rattle.clap.proofs.OnLiterals.{clap_on_literals}
 use Rattle.command_line.specs.Syntax.{rollout, file_in}
-use Rattle.command_line.specs.Words.{Word, dashes, is_operand, lone_operand, two_words, two_operands, limits_file, plan_files}
+use Rattle.command_line.specs.Operands.{Word, dashes, is_operand, lone_operand, two_words, two_operands}
+use Rattle.command_line.specs.Words.{limits_file, plan_files}
 
 -- clap takes the words, and reads the file
 pub record Reads (words : List Word) (file : Word) : Type 0 where
@@ -93,7 +88,7 @@ module _ (P : List Word → Word → Type 0) (alone : (word : Word) → is_opera
       subst (λ w. P (first ∷ w ∷ []) file) (sym is) (operand_before first file (is_operand first) refl wanted)
   of_two first second file false false is_first is_second wanted = cc
 
-  of_operands : (operands : List Word) (file : Word) → lone_operand operands ≡ Some file → P operands file
+  pub of_operands : (operands : List Word) (file : Word) → lone_operand operands ≡ Some file → P operands file
   of_operands [] file wanted = cc
   of_operands (word ∷ []) file wanted = one_operand word file (is_operand word) refl wanted
   of_operands (first ∷ second ∷ []) file wanted = of_two first second file (bytes_eq first dashes) (bytes_eq second dashes) refl refl wanted
@@ -112,19 +107,19 @@ accepted [] file wanted = cc
 accepted (command ∷ operands) file wanted = of_command command operands file (bytes_eq command (codes "limits")) refl wanted
 
 -- clap takes the word for a value: it neither ends the options nor is one
-record IsValue (word : Word) : Type 0 where
-  no_end : bytes_eq word dashes ≡ false
-  no_long : long_of word ≡ None
-  no_short : short_of word ≡ None
+pub record IsValue (word : Word) : Type 0 where
+  pub no_end : bytes_eq word dashes ≡ false
+  pub no_long : long_of word ≡ None
+  pub no_short : short_of word ≡ None
 
-value_letter : (a : ℕ) (dash : Bool) → eqb a 45 ≡ dash → IsValue (a ∷ [])
+pub value_letter : (a : ℕ) (dash : Bool) → eqb a 45 ≡ dash → IsValue (a ∷ [])
 value_letter a true h = record { no_end = simp h; no_long = simp h; no_short = simp h }
 value_letter a false h = record { no_end = simp h; no_long = simp h; no_short = simp h }
 
-value_long : (a b : ℕ) (rest : Word) → eqb a 45 ≡ false → IsValue (a ∷ b ∷ rest)
+pub value_long : (a b : ℕ) (rest : Word) → eqb a 45 ≡ false → IsValue (a ∷ b ∷ rest)
 value_long a b rest h = record { no_end = simp h; no_long = simp h; no_short = simp h }
 
-value_of_operand : (word : Word) → is_operand word ≡ true → IsValue word
+pub value_of_operand : (word : Word) → is_operand word ≡ true → IsValue word
 value_of_operand [] h = record { no_end = refl; no_long = refl; no_short = refl }
 value_of_operand (a ∷ []) h = value_letter a (eqb a 45) refl
 value_of_operand (a ∷ b ∷ rest) h = value_long a b rest (no_dash (eqb a 45) h)
@@ -157,38 +152,45 @@ both_behind : (first second : Word) → ReadsBoth (codes "plan" ∷ codes "--" �
 unfolding clap_on_literals
 both_behind first second = record { taken = refl; inventory = refl; playbook = refl }
 
-both_of_rest : (first second : Word) (rest : List Word) → is_operand first ≡ true → lone_operand rest ≡ Some second → ReadsBoth (codes "plan" ∷ first ∷ rest) (first, second)
-both_of_rest first second rest plain wanted =
-    let value : IsValue first = value_of_operand first plain in
-    of_operands (λ given file. ReadsBoth (codes "plan" ∷ first ∷ given) (first, file))
-    (λ word h. both_alone first word value (value_of_operand word h)) (λ word. both_between first word value)
-    (λ word h. both_before first word value (value_of_operand word h)) rest second wanted
+-- what holds of two operands, wherever the word that ends options stands
+module _ (P : List Word → Word × Word → Type 0) (alone : (first second : Word) → IsValue first → IsValue second → P (first ∷ second ∷ []) (first, second))
+    (behind : (first second : Word) → P (dashes ∷ first ∷ second ∷ []) (first, second)) (between : (first second : Word) → IsValue first → P (first ∷ dashes ∷ second ∷ []) (first, second))
+    (before : (first second : Word) → IsValue first → IsValue second → P (first ∷ second ∷ dashes ∷ []) (first, second)) where
+  with_rest : (first second : Word) (rest : List Word) → is_operand first ≡ true → lone_operand rest ≡ Some second → P (first ∷ rest) (first, second)
+  with_rest first second rest plain wanted =
+      let value : IsValue first = value_of_operand first plain in
+      of_operands (λ given file. P (first ∷ given) (first, file))
+      (λ word h. alone first word value (value_of_operand word h)) (λ word. between first word value)
+      (λ word h. before first word value (value_of_operand word h)) rest second wanted
 
-both_with : (first : Word) (rest : List Word) (files : Word × Word) (second : Option Word) → is_operand first ≡ true → lone_operand rest ≡ second
-    → option_map (λ file. (first, file)) second ≡ Some files → ReadsBoth (codes "plan" ∷ first ∷ rest) files
-both_with first rest files None plain read wanted = cc
-both_with first rest files (Some second) plain read wanted =
-    let same : (first, second) ≡ files = cc in subst (ReadsBoth (codes "plan" ∷ first ∷ rest)) same (both_of_rest first second rest plain read)
+  with_first : (first : Word) (rest : List Word) (files : Word × Word) (second : Option Word) → is_operand first ≡ true → lone_operand rest ≡ second
+      → option_map (λ file. (first, file)) second ≡ Some files → P (first ∷ rest) files
+  with_first first rest files None plain read wanted = cc
+  with_first first rest files (Some second) plain read wanted =
+      let same : (first, second) ≡ files = cc in subst (P (first ∷ rest)) same (with_rest first second rest plain read)
 
-both_behind_dashes : (rest : List Word) (files : Word × Word) → two_words rest ≡ Some files → ReadsBoth (codes "plan" ∷ dashes ∷ rest) files
-both_behind_dashes [] files wanted = cc
-both_behind_dashes (first ∷ []) files wanted = cc
-both_behind_dashes (first ∷ second ∷ []) files wanted =
-    let same : (first, second) ≡ files = cc in subst (ReadsBoth (codes "plan" ∷ dashes ∷ first ∷ second ∷ [])) same (both_behind first second)
-both_behind_dashes (first ∷ second ∷ third ∷ more) files wanted = cc
+  behind_dashes : (rest : List Word) (files : Word × Word) → two_words rest ≡ Some files → P (dashes ∷ rest) files
+  behind_dashes [] files wanted = cc
+  behind_dashes (first ∷ []) files wanted = cc
+  behind_dashes (first ∷ second ∷ []) files wanted =
+      let same : (first, second) ≡ files = cc in subst (P (dashes ∷ first ∷ second ∷ [])) same (behind first second)
+  behind_dashes (first ∷ second ∷ third ∷ more) files wanted = cc
 
-both_first : (first : Word) (rest : List Word) (files : Word × Word) (behind plain : Bool) → bytes_eq first dashes ≡ behind → is_operand first ≡ plain
-    → cond behind (two_words rest) (cond plain (option_map (λ second. (first, second)) (lone_operand rest)) None) ≡ Some files
-    → ReadsBoth (codes "plan" ∷ first ∷ rest) files
-both_first first rest files true plain is_behind is_plain wanted =
-    let is : first ≡ dashes = (bytes_eq-Decides first dashes).0 is_behind in
-    subst (λ w. ReadsBoth (codes "plan" ∷ w ∷ rest) files) (sym is) (both_behind_dashes rest files wanted)
-both_first first rest files false true is_behind is_plain wanted = both_with first rest files (lone_operand rest) is_plain refl wanted
-both_first first rest files false false is_behind is_plain wanted = cc
+  by_first : (first : Word) (rest : List Word) (files : Word × Word) (ends plain : Bool) → bytes_eq first dashes ≡ ends → is_operand first ≡ plain
+      → cond ends (two_words rest) (cond plain (option_map (λ second. (first, second)) (lone_operand rest)) None) ≡ Some files
+      → P (first ∷ rest) files
+  by_first first rest files true plain is_end is_plain wanted =
+      let is : first ≡ dashes = (bytes_eq-Decides first dashes).0 is_end in
+      subst (λ w. P (w ∷ rest) files) (sym is) (behind_dashes rest files wanted)
+  by_first first rest files false true is_end is_plain wanted = with_first first rest files (lone_operand rest) is_plain refl wanted
+  by_first first rest files false false is_end is_plain wanted = cc
+
+  pub of_two_operands : (operands : List Word) (files : Word × Word) → two_operands operands ≡ Some files → P operands files
+  of_two_operands [] files wanted = cc
+  of_two_operands (first ∷ rest) files wanted = by_first first rest files (bytes_eq first dashes) (is_operand first) refl refl wanted
 
 both_of_operands : (operands : List Word) (files : Word × Word) → two_operands operands ≡ Some files → ReadsBoth (codes "plan" ∷ operands) files
-both_of_operands [] files wanted = cc
-both_of_operands (first ∷ rest) files wanted = both_first first rest files (bytes_eq first dashes) (is_operand first) refl refl wanted
+both_of_operands = of_two_operands (λ given. ReadsBoth (codes "plan" ∷ given)) both_alone both_behind both_between both_before
 
 both_of_command : (command : Word) (operands : List Word) (files : Word × Word) (plan : Bool) → bytes_eq command (codes "plan") ≡ plan
     → cond plan (two_operands operands) None ≡ Some files → ReadsBoth (command ∷ operands) files
@@ -201,22 +203,3 @@ both_of_command command operands files false same wanted = cc
 pub accepted_both : (words : List Word) (files : Word × Word) → plan_files words ≡ Some files → ReadsBoth words files
 accepted_both [] files wanted = cc
 accepted_both (command ∷ operands) files wanted = both_of_command command operands files (bytes_eq command (codes "plan")) refl wanted
-
-file_found : (command argument : Text) (found : Option (Text × List Row)) (rows : List Row) → option_map (λ p. p.0) found ≡ Some command → option_map (λ p. p.1) found ≡ Some rows
-    → file_in command argument found ≡ first_of argument rows
-file_found command argument None rows name found = cc
-file_found command argument (Some p) rows name found =
-    let named : p.0 ≡ command = cc in
-    let at : p.1 ≡ rows = cc in
-    let same : bytes_eq p.0 command ≡ true = (bytes_eq-Decides p.0 command).1 named in
-    rw (same, at) refl
-
-same_name : {Z : Type 0} (found : Option (Box SubCommand Z)) → option_map (λ p. p.0) (subcommand_rows found) ≡ option_map (λ b. (out-SubCommand (box_value b)).name.now) found
-same_name None = refl
-same_name (Some b) = refl
-
--- what is found under the subcommand's name
-pub file_of : (command argument : Text) (m : ArgMatches) (rows : List Row) → subcommand_name_of m ≡ Some command
-    → option_map (λ p. p.1) (subcommand_rows (out-ArgMatches m).subcommand) ≡ Some rows → file_in command argument (subcommand_rows_of m) ≡ first_of argument rows
-file_of command argument m rows name found =
-    file_found command argument (subcommand_rows_of m) rows (same_name (out-ArgMatches m).subcommand ∙ name) found

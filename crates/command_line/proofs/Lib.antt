@@ -1,2 +1,9 @@
 pub mod AcceptedLemmas
+pub mod ForksLemmas
+pub mod FoundLemmas
+pub mod OptionLemmas
 pub mod RefusedLemmas
+pub mod RunLemmas
+pub mod RunLevel
+pub mod RunShapes
+pub mod RunWordsLemmas

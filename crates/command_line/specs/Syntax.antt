@@ -1,8 +1,10 @@
 -- The program's commands, as clap's definitions read them.
-use Rattle.std.specs.Prelude.{true, codes, List, Option, None, option_and_then, if◌then◌else◌}
+use Rattle.std.specs.Prelude.{ℕ, true, codes, List, [], ◌∷◌, Option, Some, None, option_and_then, if◌then◌else◌}
 use Rattle.std.specs.Str.{bytes_eq}
-use Rattle.clap.specs.Words.{App, Row, Rule, Shape, Text, first_of, new_app, new_rule, with_rule, with_subcommand}
+use Rattle.clap.specs.Words.{App, Row, Rule, Shape, Text, first_of, one_of, new_app, new_rule, with_rule, with_subcommand}
 use Rattle.clap.specs.Simple.{on_top}
+use Rattle.clap.specs.declared.builder.value_parser.ValueParser.TheVariants.{Unsigned}
+use Rattle.command_line.specs.Forks.{default_text, forks_in}
 
 -- the argument for the inventory's file
 abbrev pub inventory_argument : Rule
@@ -12,18 +14,39 @@ inventory_argument = record (new_rule (codes "INV")) { required = true }
 abbrev pub playbook_argument : Rule
 playbook_argument = record (new_rule (codes "PLAY")) { required = true }
 
+-- the option for the number of forks: a whole number from 1 to 64
+abbrev pub forks_argument : Rule
+forks_argument = record (new_rule (codes "forks")) {
+  long = Some (codes "forks");
+  value_names = 1;
+  parser = Some (Unsigned 1 64);
+  defaults = default_text ∷ [];
+}
+
 abbrev pub limits_command : App
 limits_command = with_rule (new_app (codes "limits")) inventory_argument
 
 abbrev pub plan_command : App
 plan_command = with_rule (with_rule (new_app (codes "plan")) inventory_argument) playbook_argument
 
+abbrev pub run_command : App
+run_command = with_rule (with_rule (with_rule (new_app (codes "run")) inventory_argument) playbook_argument) forks_argument
+
 abbrev settings : Shape → Shape
 settings shape = record shape { has_version = true; no_binary_name = true; subcommand_required = true }
 
 abbrev pub rollout : App
-rollout = with_subcommand (with_subcommand (on_top settings (new_app (codes "rollout"))) limits_command.top) plan_command.top
+rollout = with_subcommand
+    (with_subcommand (with_subcommand (on_top settings (new_app (codes "rollout"))) limits_command.top) plan_command.top) run_command.top
 
 -- the file that a parse found for an argument of a command
 abbrev pub file_in : Text → Text → Option (Text × List Row) → Option Text
 file_in command argument = option_and_then (λ found. if bytes_eq found.0 command then first_of argument found.1 else None)
+
+-- the text that is read of an option of a command
+abbrev pub text_in : Text → Text → Option (Text × List Row) → Option Text
+text_in command argument = option_and_then (λ found. if bytes_eq found.0 command then one_of argument found.1 else None)
+
+-- the number of forks that a parse found
+abbrev pub forks_found : Option (Text × List Row) → Option ℕ
+forks_found found = option_and_then forks_in (text_in (codes "run") (codes "forks") found)

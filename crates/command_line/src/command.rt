@@ -1,14 +1,26 @@
 //! What a line of words asks for.
 
+use crate::forks::Forks;
 use crate::message::Message;
 
 /// What the program is asked to do, with the files that it reads.
 #[derive(Debug, Drop)]
 pub enum Line {
     /// Prints the groups that limit how many of their hosts may be down.
-    Limits { inventory: Source },
+    Limits {
+        inventory: Source,
+    },
     /// Prints the plan of the playbook's first play.
-    Plan { inventory: Source, playbook: Source },
+    Plan {
+        inventory: Source,
+        playbook: Source,
+    },
+    /// Updates the hosts of the playbook's plays, so many at once, and prints what came of them.
+    Run {
+        inventory: Source,
+        playbook: Source,
+        forks: Forks,
+    },
     /// Prints this text: the help or the version.
     Print(Message),
 }

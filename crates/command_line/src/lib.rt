@@ -3,12 +3,15 @@
 
 pub mod command;
 mod fault;
+mod forks;
 mod message;
 mod reading;
+mod run_words;
 mod syntax;
 mod words;
 
 pub use command::Source;
 pub use fault::LineFault;
+pub use forks::Forks;
 pub use message::Message;
 pub use reading::line;

@@ -2,12 +2,14 @@
 ghost use Rattle.std.specs.Prelude.{◌≡◌, ◌↔◌, Some, IsTrue, IfOk, IfErr, map, string_bytes};
 ghost use Rattle.std.specs.Option.{option_map};
 ghost use Rattle.clap.specs.Words.{kind_of, subcommand_rows_of};
-ghost use Rattle.command_line.specs.Answers.{AnswersFor, Disagrees, IsFile, IsFound, IsLimits, IsPlan, IsUnmade};
+ghost use Rattle.command_line.specs.Answers.{AnswersFor, AreFiles, Disagrees, IsFile, IsFound, IsLimits, IsPlan, IsRun, IsUnmade};
 ghost use Rattle.command_line.specs.Words.{Refuses, Says};
 
 use crate::command::{Line, Source};
 use crate::fault::LineFault;
+use crate::forks::Forks;
 use crate::message::Message;
+use crate::run_words::run_request;
 use crate::syntax;
 use crate::words::{limits_file, plan_files};
 use clap::error::ErrorKind;
@@ -53,14 +55,27 @@ fn taken(alloc: Global, words: &[String], matches: &ArgMatches<'_>) -> Result<Li
     if let Some(inventory) = limits_file(words) {
         return limits_line(alloc, inventory, syntax::limits_inventory(matches));
     }
-    match plan_files(words) {
-        Some((inventory, playbook)) => plan_line(
-            alloc,
-            inventory,
-            playbook,
+    if let Some(files) = plan_files(words) {
+        let found = (
             syntax::plan_inventory(matches),
             syntax::plan_playbook(matches),
-        ),
+        );
+        return plan_line(alloc, files, found);
+    }
+    match run_request(words) {
+        Some((inventory, playbook, forks)) => {
+            let found = (
+                syntax::run_inventory(matches),
+                syntax::run_playbook(matches),
+            );
+            run_line(
+                alloc,
+                (inventory, playbook),
+                found,
+                forks,
+                syntax::run_forks(matches),
+            )
+        }
         None => Err(LineFault::Unexplained),
     }
 }
@@ -82,33 +97,83 @@ fn limits_line(alloc: Global, inventory: &str, found: Option<&str>) -> Result<Li
 /// The line of the command `plan`, where clap found the same two files.
 fn plan_line(
     alloc: Global,
-    inventory: &str,
-    playbook: &str,
-    found_inventory: Option<&str>,
-    found_playbook: Option<&str>,
+    files: (&str, &str),
+    found: (Option<&str>, Option<&str>),
 ) -> Result<Line, LineFault>
-    ensures ok { IfOk result (IsPlan inventory.now playbook.now) }
+    ensures ok { IfOk result (IsPlan (files.entry.0.now, files.entry.1.now)) }
     ensures err { IfErr result (IsUnmade
-        (IsFound (inventory.now, playbook.now) (option_map (λ s. s.now) found_inventory.entry) (option_map (λ s. s.now) found_playbook.entry))) }
+        (IsFound (files.entry.0.now, files.entry.1.now) (option_map (λ s. s.now) found.entry.0) (option_map (λ s. s.now) found.entry.1))) }
 {
-    if !is_found(inventory, found_inventory) {
-        return Err(LineFault::Unexplained);
-    }
-    if !is_found(playbook, found_playbook) {
-        return Err(LineFault::Unexplained);
-    }
-    let Ok(inventory) = file(alloc, inventory) else {
-        return Err(LineFault::Memory);
-    };
-    match file(alloc, playbook) {
-        Ok(playbook) => Ok(Line::Plan {
+    match both_files(alloc, files, found) {
+        Ok((inventory, playbook)) => Ok(Line::Plan {
             inventory,
             playbook,
         }),
+        Err(fault) => Err(fault),
+    }
+}
+
+/// The line of the command `run`, where clap found the same two files and the same forks.
+fn run_line(
+    alloc: Global,
+    files: (&str, &str),
+    found: (Option<&str>, Option<&str>),
+    forks: Forks,
+    found_forks: Option<Forks>,
+) -> Result<Line, LineFault>
+    ensures ok { IfOk result (IsRun (files.entry.0.now, files.entry.1.now, forks)) }
+    ensures err { IfErr result (IsUnmade
+        (IsFound (files.entry.0.now, files.entry.1.now) (option_map (λ s. s.now) found.entry.0) (option_map (λ s. s.now) found.entry.1)
+        × (found_forks ≡ Some forks))) }
+{
+    if !are_found(&forks, &found_forks) {
+        return Err(LineFault::Unexplained);
+    }
+    match both_files(alloc, files, found) {
+        Ok((inventory, playbook)) => Ok(Line::Run {
+            inventory,
+            playbook,
+            forks,
+        }),
+        Err(fault) => Err(fault),
+    }
+}
+
+/// The two files, where clap found the same.
+fn both_files(
+    alloc: Global,
+    files: (&str, &str),
+    found: (Option<&str>, Option<&str>),
+) -> Result<(Source, Source), LineFault>
+    ensures ok { IfOk result (AreFiles (files.entry.0.now, files.entry.1.now)) }
+    ensures err { IfErr result (IsUnmade
+        (IsFound (files.entry.0.now, files.entry.1.now) (option_map (λ s. s.now) found.entry.0) (option_map (λ s. s.now) found.entry.1))) }
+{
+    if !is_found(files.0, found.0) {
+        return Err(LineFault::Unexplained);
+    }
+    if !is_found(files.1, found.1) {
+        return Err(LineFault::Unexplained);
+    }
+    let Ok(inventory) = file(alloc, files.0) else {
+        return Err(LineFault::Memory);
+    };
+    match file(alloc, files.1) {
+        Ok(playbook) => Ok((inventory, playbook)),
         Err(_) => {
             drop(inventory);
             Err(LineFault::Memory)
         }
+    }
+}
+
+/// Whether clap found these forks.
+fn are_found(wanted: &Forks, found: &Option<Forks>) -> bool
+    ensures { IsTrue result ↔ (found.now ≡ Some wanted.now) }
+{
+    match found {
+        Some(found) => found.number() == wanted.number(),
+        None => false,
     }
 }
 

@@ -5,19 +5,24 @@ ghost use Rattle.clap.specs.Words.{FailsBy, app_of, fault_of, kind_of, rule_of, 
 ghost use Rattle.clap.specs.declared.builder.command.Command.TheViews.{out-Command as fields_of};
 ghost use Rattle.command_line.specs.Syntax as spec;
 
+use crate::forks::{DEFAULT, Forks};
 use clap::error::ErrorKind;
-use clap::{Arg, ArgMatches, Command, Error};
+use clap::{Arg, ArgMatches, Command, Error, value_parser};
 use std::alloc::{AllocError, Global};
 
 const INVENTORY: &str = "INV";
 
 const PLAYBOOK: &str = "PLAY";
 
+const FORKS: &str = "forks";
+
 const INVENTORY_HELP: &str =
     "The inventory: a file of JSON that lists groups with their hosts, children and variables";
 
 const PLAYBOOK_HELP: &str =
     "The playbook: a file of JSON that lists plays with their hosts and tasks";
+
+const FORKS_HELP: &str = "How many hosts are worked on at once, 1 to 64";
 
 const NOTES: &str = "\
 INV is the inventory: a file of JSON that lists groups with their hosts, children and variables.
@@ -27,7 +32,9 @@ Without any word, rollout reads an inventory from standard input and prints its 
 Exit status:
   0  what was asked for was done
   1  the line, an input or a write was refused
+  2  a run finished, and a host has failed
   3  hosts wait in a group that has no room
+  4  a batch ended the run: too many of its hosts have failed, or all
   5  want of memory";
 
 fn rollout<'a>(alloc: Global) -> Result<Command<'a>, AllocError>
@@ -43,7 +50,8 @@ fn rollout<'a>(alloc: Global) -> Result<Command<'a>, AllocError>
         .no_binary_name(true)
         .subcommand_required(true)
         .subcommand(limits(alloc)?)?
-        .subcommand(plan(alloc)?)
+        .subcommand(plan(alloc)?)?
+        .subcommand(run(alloc)?)
 }
 
 fn limits<'a>(alloc: Global) -> Result<Command<'a>, AllocError>
@@ -67,6 +75,17 @@ fn plan<'a>(alloc: Global) -> Result<Command<'a>, AllocError>
         .arg(playbook(alloc))
 }
 
+fn run<'a>(alloc: Global) -> Result<Command<'a>, AllocError>
+    ensures app { IfOk result (λ c. app_of c ≡ spec.run_command) }
+    ensures local { IfOk result (λ c. (fields_of c).has_globals ≡ false) }
+{
+    Command::new(alloc, "run")
+        .about("Updates the hosts of each play batch by batch, and prints what came of them")
+        .arg(inventory(alloc))?
+        .arg(playbook(alloc))?
+        .arg(forks(alloc))
+}
+
 fn inventory<'a>(alloc: Global) -> Arg<'a>
     ensures rule { rule_of result ≡ spec.inventory_argument }
     ensures local { result.global ≡ false }
@@ -81,6 +100,18 @@ fn playbook<'a>(alloc: Global) -> Arg<'a>
     ensures local { result.global ≡ false }
 {
     Arg::new(alloc, PLAYBOOK).required(true).help(PLAYBOOK_HELP)
+}
+
+fn forks<'a>(alloc: Global) -> Arg<'a>
+    ensures rule { rule_of result ≡ spec.forks_argument }
+    ensures local { result.global ≡ false }
+{
+    Arg::new(alloc, FORKS)
+        .long(FORKS)
+        .value_name("N")
+        .value_parser(value_parser!(usize).range(1..=64))
+        .default_value(DEFAULT)
+        .help(FORKS_HELP)
 }
 
 /// What clap reads of the words.
@@ -113,4 +144,25 @@ pub(crate) fn plan_playbook<'a>(matches: &ArgMatches<'a>) -> Option<&'a str>
     ensures { option_map (λ s. s.now) result ≡ spec.file_in (codes "plan") (codes "PLAY") (subcommand_rows_of matches.now) }
 {
     matches.subcommand_matches("plan")?.get_str(PLAYBOOK)
+}
+
+/// The inventory's file, where the command is `run`.
+pub(crate) fn run_inventory<'a>(matches: &ArgMatches<'a>) -> Option<&'a str>
+    ensures { option_map (λ s. s.now) result ≡ spec.file_in (codes "run") (codes "INV") (subcommand_rows_of matches.now) }
+{
+    matches.subcommand_matches("run")?.get_str(INVENTORY)
+}
+
+/// The playbook's file, where the command is `run`.
+pub(crate) fn run_playbook<'a>(matches: &ArgMatches<'a>) -> Option<&'a str>
+    ensures { option_map (λ s. s.now) result ≡ spec.file_in (codes "run") (codes "PLAY") (subcommand_rows_of matches.now) }
+{
+    matches.subcommand_matches("run")?.get_str(PLAYBOOK)
+}
+
+/// The forks, where the command is `run`.
+pub(crate) fn run_forks(matches: &ArgMatches<'_>) -> Option<Forks>
+    ensures { result ≡ spec.forks_found (subcommand_rows_of matches.now) }
+{
+    Forks::new(matches.subcommand_matches("run")?.get_one::<usize>(FORKS)?)
 }

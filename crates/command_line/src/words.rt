@@ -2,6 +2,7 @@
 ghost use Rattle.std.specs.Prelude.{◌≡◌, map, string_bytes, codes};
 ghost use Rattle.std.specs.Option.{option_map};
 ghost use Rattle.std.specs.Str.{bytes_eq};
+ghost use Rattle.command_line.specs.Operands as operands;
 ghost use Rattle.command_line.specs.Words as spec;
 
 /// The file of which the words ask the limits.
@@ -25,8 +26,8 @@ pub(crate) fn plan_files(words: &[String]) -> Option<(&str, &str)>
 }
 
 /// The two operands of the words, where there are just two.
-fn two_operands(words: &[String]) -> Option<(&str, &str)>
-    ensures { option_map (λ pair. (pair.0.now, pair.1.now)) result ≡ spec.two_operands (map string_bytes words.now) }
+pub(crate) fn two_operands(words: &[String]) -> Option<(&str, &str)>
+    ensures { option_map (λ pair. (pair.0.now, pair.1.now)) result ≡ operands.two_operands (map string_bytes words.now) }
 {
     match words {
         [first, rest @ ..] if is_word(first, "--") => two_words(rest),
@@ -36,8 +37,8 @@ fn two_operands(words: &[String]) -> Option<(&str, &str)>
 }
 
 /// The two words that these are.
-fn two_words(words: &[String]) -> Option<(&str, &str)>
-    ensures { option_map (λ pair. (pair.0.now, pair.1.now)) result ≡ spec.two_words (map string_bytes words.now) }
+pub(crate) fn two_words(words: &[String]) -> Option<(&str, &str)>
+    ensures { option_map (λ pair. (pair.0.now, pair.1.now)) result ≡ operands.two_words (map string_bytes words.now) }
 {
     match words {
         [first, second] => Some((first.as_str(), second.as_str())),
@@ -47,15 +48,25 @@ fn two_words(words: &[String]) -> Option<(&str, &str)>
 
 /// A first operand with the only operand of the other words.
 fn operand_and<'a>(first: &'a String, rest: &'a [String]) -> Option<(&'a str, &'a str)>
-    ensures { option_map (λ pair. (pair.0.now, pair.1.now)) result ≡ spec.operand_and (string_bytes first.now) (map string_bytes rest.now) }
+    ensures { option_map (λ pair. (pair.0.now, pair.1.now)) result ≡ operands.operand_and (string_bytes first.now) (map string_bytes rest.now) }
 {
     let second = lone_operand(rest)?;
     Some((first.as_str(), second))
 }
 
+/// The only word that there is.
+pub(crate) fn only_word(words: &[String]) -> Option<&str>
+    ensures { option_map (λ s. s.now) result ≡ operands.only_word (map string_bytes words.now) }
+{
+    match words {
+        [word] => Some(word.as_str()),
+        _ => None,
+    }
+}
+
 /// The only operand of the words.
-fn lone_operand(words: &[String]) -> Option<&str>
-    ensures { option_map (λ s. s.now) result ≡ spec.lone_operand (map string_bytes words.now) }
+pub(crate) fn lone_operand(words: &[String]) -> Option<&str>
+    ensures { option_map (λ s. s.now) result ≡ operands.lone_operand (map string_bytes words.now) }
 {
     match words {
         [word] if is_operand(word) => Some(word.as_str()),
@@ -65,14 +76,14 @@ fn lone_operand(words: &[String]) -> Option<&str>
     }
 }
 
-fn is_word(word: &String, text: &str) -> bool
+pub(crate) fn is_word(word: &String, text: &str) -> bool
     ensures { result ≡ bytes_eq (string_bytes word.now) text.now }
 {
     word.as_str() == text
 }
 
-fn is_operand(word: &String) -> bool
-    ensures { result ≡ spec.is_operand (string_bytes word.now) }
+pub(crate) fn is_operand(word: &String) -> bool
+    ensures { result ≡ operands.is_operand (string_bytes word.now) }
 {
     match word.as_bytes() {
         [b'-', _, ..] => false,

@@ -25,7 +25,7 @@ use Rattle.play_faults.specs.declared.fault.PlayFault.TheVariants as play_fault
 use Rattle.play_faults.specs.declared.key.ConditionKey.{ConditionKey}
 use Rattle.rollout.specs.FaultLines.{Row, ShownDetail, printable}
 use Rattle.rollout.specs.declared.fault.Fault.{Fault}
-use Rattle.rollout.specs.declared.fault.Fault.TheVariants.{Line, Input, Read, Fleet, Playbook, Pattern, Write, Memory}
+use Rattle.rollout.specs.declared.fault.Fault.TheVariants.{Line, Input, Read, Fleet, Playbook, Pattern, Mixed, Write, Memory}
 
 abbrev row : List ℕ → List ShownDetail → Row
 row name details = record { name = name; details = details }
@@ -134,6 +134,7 @@ number_of (Read fault) = read.number_of fault
 number_of (Fleet fault) = fleet_number fault
 number_of (Playbook fault) = playbook.number_of fault
 number_of (Pattern fault) = pattern_number fault
+number_of Mixed = Some 822
 number_of (Write fault) = Some 904
 number_of Memory = None
 
@@ -144,6 +145,7 @@ row_of (Read fault) = read_row fault
 row_of (Fleet fault) = fleet_row fault
 row_of (Playbook fault) = playbook_row fault
 row_of (Pattern fault) = pattern_row fault
+row_of Mixed = row (codes "Mixed") []
 row_of (Write fault) = row (codes "Write") (number (codes "written") fault.written ∷ [])
 row_of Memory = no_row
 
@@ -157,5 +159,6 @@ explanation_of (Read fault) = []
 explanation_of (Fleet fault) = []
 explanation_of (Playbook fault) = []
 explanation_of (Pattern fault) = []
+explanation_of Mixed = []
 explanation_of (Write fault) = []
 explanation_of Memory = []

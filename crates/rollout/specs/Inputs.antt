@@ -8,9 +8,9 @@ use Rattle.bounded_io.specs.declared.input_fault.InputFault.{InputFault}
 use Rattle.bounded_io.specs.declared.input_fault.InputFault.TheVariants as input_fault
 use Rattle.command_line.specs.declared.command.Source.{Source}
 use Rattle.command_line.specs.declared.command.Source.TheVariants.{StandardInput, File}
-use Rattle.rollout.specs.Systems.{Fails, Sources, Known, Opens}
+use Rattle.rollout.specs.Systems.{Fails, Sources, Known, Opens, sources_of}
 use Rattle.rollout.specs.declared.fault.Fault.{Fault}
-use Rattle.rollout.specs.declared.fault.Fault.TheVariants.{Line, Input, Read, Fleet, Playbook, Pattern, Write, Memory}
+use Rattle.rollout.specs.declared.fault.Fault.TheVariants.{Line, Input, Read, Fleet, Playbook, Pattern, Mixed, Write, Memory}
 
 -- a file that was opened was read whole
 pub record IsTextOfFile (known : Known (List ℕ)) (text : List ℕ) : Type 0 where
@@ -61,5 +61,26 @@ IsUnreadable sources source old new (Read fault) = ⊥
 IsUnreadable sources source old new (Fleet fault) = ⊥
 IsUnreadable sources source old new (Playbook fault) = ⊥
 IsUnreadable sources source old new (Pattern fault) = ⊥
+IsUnreadable sources source old new Mixed = ⊥
 IsUnreadable sources source old new (Write fault) = ⊥
 IsUnreadable sources source old new Memory = ⊥
+
+-- both inputs were read whole, the inventory first; what is known of standard input may change by its being read
+pub record ReadsBoth (sources : Sources) (inventory playbook : Source) (old new : Option (List ℕ)) (first second : List ℕ) : Type 0 where
+  pub between : Option (List ℕ)
+  pub is_reliable : Bool
+  pub is_inventory : IsTextOf sources inventory old between first
+  pub is_playbook : IsTextOf (sources_of sources.files is_reliable) playbook between new second
+
+-- the inventory was read whole, and the playbook could not be
+pub record LacksPlaybook (sources : Sources) (inventory playbook : Source) (old new : Option (List ℕ)) (fault : Fault) : Type 0 where
+  pub first : List ℕ
+  pub between : Option (List ℕ)
+  pub is_reliable : Bool
+  pub is_inventory : IsTextOf sources inventory old between first
+  pub unreadable : IsUnreadable (sources_of sources.files is_reliable) playbook between new fault
+
+-- the fault names the first input that could not be read whole
+abbrev pub LacksInput : Sources → Source → Source → Option (List ℕ) → Option (List ℕ) → Fault → Type 0
+LacksInput sources inventory playbook old new fault =
+    IsUnreadable sources inventory old new fault ⊎ LacksPlaybook sources inventory playbook old new fault

@@ -9,4 +9,6 @@ pub mod LimitsText
 pub mod Commands
 pub mod PlanFaults
 pub mod Plans
+pub mod RollFaults
+pub mod Rolls
 pub mod Runs

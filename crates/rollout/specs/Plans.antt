@@ -1,36 +1,16 @@
 -- What the command `plan` does with the inputs that a line names.
-use Rattle.std.specs.Prelude.{◌≡◌, ◌⊎◌, ℕ, Bool, List, Option, Result, Ok, Err}
+use Rattle.std.specs.Prelude.{◌≡◌, ◌⊎◌, ℕ, List, Option, Result, Ok, Err}
 use Rattle.std.specs.Io.KnownBytes.{Keeps}
 use Rattle.command_line.specs.declared.command.Source.{Source}
 use Rattle.planning.specs.PlanTexts.{WritesPlan, IsTrueFault}
 use Rattle.planning.specs.declared.end.End.{End}
 use Rattle.planning.specs.declared.fault.PlanFault.{PlanFault}
-use Rattle.rollout.specs.Inputs.{IsTextOf, IsUnreadable}
+use Rattle.rollout.specs.Inputs.{LacksInput, ReadsBoth}
 use Rattle.rollout.specs.PlanFaults.{fault_of}
 use Rattle.rollout.specs.Status.{status_of_end}
-use Rattle.rollout.specs.Systems.{Sources, sources_of}
+use Rattle.rollout.specs.Systems.{Sources}
 use Rattle.rollout.specs.declared.fault.Fault.{Fault}
 use Rattle.rollout.specs.declared.status.Status.{Status}
-
--- both inputs were read whole, the inventory first; what is known of standard input may change by its being read
-pub record ReadsBoth (sources : Sources) (inventory playbook : Source) (old new : Option (List ℕ)) (first second : List ℕ) : Type 0 where
-  pub between : Option (List ℕ)
-  pub is_reliable : Bool
-  pub is_inventory : IsTextOf sources inventory old between first
-  pub is_playbook : IsTextOf (sources_of sources.files is_reliable) playbook between new second
-
--- the inventory was read whole, and the playbook could not be
-pub record LacksPlaybook (sources : Sources) (inventory playbook : Source) (old new : Option (List ℕ)) (fault : Fault) : Type 0 where
-  pub first : List ℕ
-  pub between : Option (List ℕ)
-  pub is_reliable : Bool
-  pub is_inventory : IsTextOf sources inventory old between first
-  pub unreadable : IsUnreadable (sources_of sources.files is_reliable) playbook between new fault
-
--- the fault names the first input that could not be read whole
-abbrev pub LacksInput : Sources → Source → Source → Option (List ℕ) → Option (List ℕ) → Fault → Type 0
-LacksInput sources inventory playbook old new fault =
-    IsUnreadable sources inventory old new fault ⊎ LacksPlaybook sources inventory playbook old new fault
 
 -- the plan of both texts went out, and the status tells of its end
 pub record PrintsPlan (inventory playbook : List ℕ) (old new : Option (List ℕ)) (status : Status) : Type 0 where

@@ -4,14 +4,18 @@ use Rattle.std.specs.declared.io.ErrorKind.{ErrorKind}
 use Rattle.std.specs.declared.io.ErrorKind.TheVariants.{OutOfMemory}
 use Rattle.std.specs.Io.KnownBytes.{Keeps}
 use Rattle.command_line.specs.Messages as messages
+use Rattle.command_line.specs.Operands.{Word}
 use Rattle.command_line.specs.Words as words
 use Rattle.command_line.specs.declared.command.Line as declared_line
-use Rattle.command_line.specs.declared.command.Line.TheVariants.{Limits, Plan, Print}
+use Rattle.command_line.specs.declared.command.Line.TheVariants.{Limits, Plan, Run, Print}
 use Rattle.command_line.specs.declared.fault.LineFault.{LineFault}
 use Rattle.command_line.specs.declared.fault.LineFault.TheVariants as line_fault
+use Rattle.outcome_results.specs.Endings.{Ending}
+use Rattle.roll_logs.specs.Told.{Work}
 use Rattle.rollout.specs.Commands.{TabulatesLimits, Prints}
 use Rattle.rollout.specs.Endings.{Reports, status_of}
 use Rattle.rollout.specs.Plans.{Plans}
+use Rattle.rollout.specs.Rolls.{Rolls}
 use Rattle.rollout.specs.Status.{code_of}
 use Rattle.rollout.specs.Systems.{Fails, Sources, Gives, Known}
 use Rattle.rollout.specs.declared.fault.Fault.{Fault}
@@ -19,39 +23,41 @@ use Rattle.rollout.specs.declared.fault.Fault.TheVariants.{Line, Memory}
 use Rattle.rollout.specs.declared.status.Status.{Status}
 
 -- what a line asks for was done, or its fault is true
-abbrev pub Does : Sources → declared_line.Line → Option (List ℕ) → Option (List ℕ) → Option (List ℕ) → Option (List ℕ) → Result Status Fault → Type 0
-Does sources (Limits inventory) input_old input_new out_old out_new result =
+abbrev pub Does : (Work → Ending → Type 0) → Sources → declared_line.Line → Option (List ℕ) → Option (List ℕ) → Option (List ℕ) → Option (List ℕ) → Result Status Fault → Type 0
+Does may sources (Limits inventory) input_old input_new out_old out_new result =
     TabulatesLimits sources inventory input_old input_new out_old out_new result
-Does sources (Plan inventory playbook) input_old input_new out_old out_new result =
+Does may sources (Plan inventory playbook) input_old input_new out_old out_new result =
     Plans sources inventory playbook input_old input_new out_old out_new result
-Does sources (Print message) input_old input_new out_old out_new result =
+Does may sources (Run inventory playbook forks) input_old input_new out_old out_new result =
+    Rolls may sources inventory playbook forks input_old input_new out_old out_new result
+Does may sources (Print message) input_old input_new out_old out_new result =
     Keeps input_old input_new × Prints (messages.text_of message) out_old out_new result
 
 -- the words are a line, and what it asks for was done
-pub record FollowsLine (sources : Sources) (words_given : List words.Word) (input_old input_new out_old out_new : Option (List ℕ)) (result : Result Status Fault) : Type 0 where
+pub record FollowsLine (may : Work → Ending → Type 0) (sources : Sources) (words_given : List Word) (input_old input_new out_old out_new : Option (List ℕ)) (result : Result Status Fault) : Type 0 where
   pub line : declared_line.Line
   pub says : words.Says words_given line
-  pub does : Does sources line input_old input_new out_old out_new result
+  pub does : Does may sources line input_old input_new out_old out_new result
 
 -- the words are no line, and nothing was read or written
-pub record RefusesWords (words_given : List words.Word) (input_old input_new out_old out_new : Option (List ℕ)) (result : Result Status Fault) : Type 0 where
+pub record RefusesWords (words_given : List Word) (input_old input_new out_old out_new : Option (List ℕ)) (result : Result Status Fault) : Type 0 where
   pub fault : LineFault
   pub refuses : words.Refuses words_given fault
   pub is : result ≡ Err (Line fault)
   pub unread : Keeps input_old input_new
   pub unwritten : Keeps out_old out_new
 
-abbrev pub Attempts : Sources → List words.Word → Option (List ℕ) → Option (List ℕ) → Option (List ℕ) → Option (List ℕ) → Result Status Fault → Type 0
-Attempts sources words_given input_old input_new out_old out_new result =
-    FollowsLine sources words_given input_old input_new out_old out_new result ⊎ RefusesWords words_given input_old input_new out_old out_new result
+abbrev pub Attempts : (Work → Ending → Type 0) → Sources → List Word → Option (List ℕ) → Option (List ℕ) → Option (List ℕ) → Option (List ℕ) → Result Status Fault → Type 0
+Attempts may sources words_given input_old input_new out_old out_new result =
+    FollowsLine may sources words_given input_old input_new out_old out_new result ⊎ RefusesWords words_given input_old input_new out_old out_new result
 
 -- the system gave the words; the first is the program's name
-pub record TakesWords (given : Known (List words.Word)) (sources : Sources) (input_old input_new out_old out_new : Option (List ℕ)) (result : Result Status Fault) : Type 0 where
-  pub args : List words.Word
+pub record TakesWords (may : Work → Ending → Type 0) (given : Known (List Word)) (sources : Sources) (input_old input_new out_old out_new : Option (List ℕ)) (result : Result Status Fault) : Type 0 where
+  pub args : List Word
   pub gives : Gives given args
-  pub words_given : List words.Word
+  pub words_given : List Word
   pub behind_name : words_given ≡ drop 1 args
-  pub attempts : Attempts sources words_given input_old input_new out_old out_new result
+  pub attempts : Attempts may sources words_given input_old input_new out_old out_new result
 
 -- what an error of this kind makes of words that the system doesn't give: words that are no text make the line a bad one
 abbrev pub IsFaultOfWords : ErrorKind → Fault → Type 0
@@ -61,7 +67,7 @@ IsFaultOfWords kind (Line line_fault.Memory) = ⊥
 IsFaultOfWords kind fault = ⊥
 
 -- the system gave no words, and nothing was read or written
-pub record LacksWords (given : Known (List words.Word)) (input_old input_new out_old out_new : Option (List ℕ)) (result : Result Status Fault) : Type 0 where
+pub record LacksWords (given : Known (List Word)) (input_old input_new out_old out_new : Option (List ℕ)) (result : Result Status Fault) : Type 0 where
   pub kind : ErrorKind
   pub fails : Fails given kind
   pub fault : Fault
@@ -70,13 +76,13 @@ pub record LacksWords (given : Known (List words.Word)) (input_old input_new out
   pub unread : Keeps input_old input_new
   pub unwritten : Keeps out_old out_new
 
-abbrev pub Performs : Known (List words.Word) → Sources → Option (List ℕ) → Option (List ℕ) → Option (List ℕ) → Option (List ℕ) → Result Status Fault → Type 0
-Performs given sources input_old input_new out_old out_new result =
-    TakesWords given sources input_old input_new out_old out_new result ⊎ LacksWords given input_old input_new out_old out_new result
+abbrev pub Performs : (Work → Ending → Type 0) → Known (List Word) → Sources → Option (List ℕ) → Option (List ℕ) → Option (List ℕ) → Option (List ℕ) → Result Status Fault → Type 0
+Performs may given sources input_old input_new out_old out_new result =
+    TakesWords may given sources input_old input_new out_old out_new result ⊎ LacksWords given input_old input_new out_old out_new result
 
 -- a whole run: what was done, what was reported, and the exit status
-pub record Runs (given : Known (List words.Word)) (sources : Sources) (input_old input_new out_old out_new errors_old errors_new : Option (List ℕ)) (status : ℕ) : Type 0 where
+pub record Runs (may : Work → Ending → Type 0) (given : Known (List Word)) (sources : Sources) (input_old input_new out_old out_new errors_old errors_new : Option (List ℕ)) (status : ℕ) : Type 0 where
   pub outcome : Result Status Fault
-  pub performs : Performs given sources input_old input_new out_old out_new outcome
+  pub performs : Performs may given sources input_old input_new out_old out_new outcome
   pub reports : Reports outcome errors_old errors_new
   pub ends : status ≡ code_of (status_of outcome)

@@ -2,16 +2,27 @@
 use Rattle.std.specs.Prelude.{ℕ}
 use Rattle.planning.specs.declared.end.End.{End}
 use Rattle.planning.specs.declared.end.End.TheVariants as ends
+use Rattle.running.specs.declared.end.RunEnd.{RunEnd}
+use Rattle.running.specs.declared.end.RunEnd.TheVariants as run_ends
 use Rattle.rollout.specs.declared.status.Status.{Status}
-use Rattle.rollout.specs.declared.status.Status.TheVariants.{Done, Refused, Blocked, Memory}
+use Rattle.rollout.specs.declared.status.Status.TheVariants.{Done, Refused, Failed, Blocked, Stopped, Memory}
 
 abbrev pub code_of : Status → ℕ
 code_of Done = 0
 code_of Refused = 1
+code_of Failed = 2
 code_of Blocked = 3
+code_of Stopped = 4
 code_of Memory = 5
 
 -- a plan that leaves hosts out is told by a status of its own
 abbrev pub status_of_end : End → Status
 status_of_end ends.Planned = Done
 status_of_end ends.Blocked = Blocked
+
+-- a run tells of its end by four
+abbrev pub status_of_run : RunEnd → Status
+status_of_run run_ends.Done = Done
+status_of_run run_ends.Failed = Failed
+status_of_run run_ends.Blocked = Blocked
+status_of_run run_ends.Stopped = Stopped

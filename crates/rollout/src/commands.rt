@@ -3,7 +3,9 @@
 mod limits;
 mod plan;
 mod print;
+mod roll;
 
 pub use limits::{limits, limits_text};
 pub use plan::plan;
 pub use print::print;
+pub use roll::roll;

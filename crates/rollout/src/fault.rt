@@ -5,9 +5,11 @@ ghost use Rattle.rollout.specs.FaultRows as rows;
 use bounded_io::{InputFault, WriteFault};
 use command_line::{LineFault, Source};
 use domains::{FleetFault, PatternFault};
+use fork_pool::StepFault;
 use inventory_read::ReadFault;
 use planning::PlanFault;
 use play_faults::PlayFault;
+use running::RunTextFault;
 use std::alloc::AllocError;
 
 /// Why the program did not do what it was asked for.
@@ -25,6 +27,8 @@ pub enum Fault {
     Playbook(PlayFault),
     /// A part of a pattern names neither a group nor a host.
     Pattern(PatternFault),
+    /// A run was broken off: a host on which its step is due was not reported.
+    Mixed,
     /// An output broke off.
     Write(WriteFault),
     Memory,
@@ -42,6 +46,7 @@ impl Fault {
             Fault::Fleet(fault) => fleet_number(fault),
             Fault::Playbook(fault) => fault.number(),
             Fault::Pattern(fault) => pattern_number(fault),
+            Fault::Mixed => Some(822),
             Fault::Write(fault) => Some(fault.number()),
             Fault::Memory => None,
         }
@@ -114,6 +119,37 @@ impl From<PlanFault> for Fault {
             PlanFault::Playbook(fault) => Fault::Playbook(fault),
             PlanFault::Pattern(fault) => Fault::Pattern(fault),
             PlanFault::Write(fault) => Fault::Write(fault),
+        }
+    }
+}
+
+impl From<StepFault> for Fault {
+    ghost use Rattle.std.specs.Prelude.{◌≡◌};
+    ghost use Rattle.rollout.specs.RollFaults.{fault_of_step};
+
+    ghost from_gives = { λ step fault. fault ≡ fault_of_step step };
+
+    fn from(fault: StepFault) -> Fault {
+        match fault {
+            StepFault::Mem => Fault::Memory,
+            StepFault::WorkerMem { at: _ } => Fault::Memory,
+            StepFault::Mixed => Fault::Mixed,
+        }
+    }
+}
+
+impl From<RunTextFault> for Fault {
+    ghost use Rattle.std.specs.Prelude.{◌≡◌};
+    ghost use Rattle.rollout.specs.RollFaults.{fault_of};
+
+    ghost from_gives = { λ cause fault. fault ≡ fault_of cause };
+
+    fn from(fault: RunTextFault) -> Fault {
+        match fault {
+            RunTextFault::Refused(fault) => Fault::from(fault),
+            RunTextFault::Memory => Fault::Memory,
+            RunTextFault::Broken(why) => Fault::from(why),
+            RunTextFault::Write(fault) => Fault::Write(fault),
         }
     }
 }

@@ -62,6 +62,7 @@ fn write_row<W: Write>(text: &mut TextWriter<'_, W>, fault: &Fault)
         Fault::Fleet(fault) => write_fleet_row(text, fault),
         Fault::Playbook(fault) => write_playbook_row(text, fault),
         Fault::Pattern(fault) => write_pattern_row(text, fault),
+        Fault::Mixed => row(text, "Mixed", &[]),
         Fault::Write(fault) => row(text, "Write", &[Number("written", fault.written)]),
         Fault::Memory => {}
     }

@@ -6,6 +6,7 @@ mod detail;
 mod ending;
 mod fault;
 mod fault_line;
+mod inputs;
 mod run;
 mod source;
 mod status;
@@ -15,6 +16,7 @@ mod words;
 use crate::run::run;
 use crate::system::Host;
 use bounded_io::Fallible;
+use local_programs::LocalPrograms;
 use std::io;
 use std::process::ExitCode;
 
@@ -22,7 +24,9 @@ fn main(rt: HostRuntime) -> ExitCode {
     let errors = rt.stderr();
     run(
         &Host::new(&rt),
+        &rt,
         rt.alloc(),
+        &LocalPrograms,
         &mut Fallible(rt.reader()),
         &mut io::writer(&rt),
         &mut io::writer(&errors),

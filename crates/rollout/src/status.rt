@@ -3,6 +3,7 @@ ghost use Rattle.std.specs.Prelude.{◌≡◌};
 ghost use Rattle.rollout.specs.Status.{code_of};
 
 use planning::End;
+use running::RunEnd;
 
 /// The end of the program, as its exit status tells it.
 #[derive(Clone, Copy, Debug, PartialEq, Eq)]
@@ -11,8 +12,12 @@ pub enum Status {
     Done,
     /// The line, an input or a write was refused.
     Refused,
-    /// Hosts wait in a group that has no room.
+    /// A run came to its end, and a host has failed.
+    Failed,
+    /// Hosts wait in a group that has no room, or a run set hosts aside.
     Blocked,
+    /// Too many hosts of a batch failed, or all of them.
+    Stopped,
     /// Memory was wanting.
     Memory,
 }
@@ -24,7 +29,9 @@ impl Status {
         match self {
             Status::Done => 0,
             Status::Refused => 1,
+            Status::Failed => 2,
             Status::Blocked => 3,
+            Status::Stopped => 4,
             Status::Memory => 5,
         }
     }
@@ -40,6 +47,22 @@ impl From<End> for Status {
         match end {
             End::Planned => Status::Done,
             End::Blocked => Status::Blocked,
+        }
+    }
+}
+
+impl From<RunEnd> for Status {
+    ghost use Rattle.std.specs.Prelude.{◌≡◌};
+    ghost use Rattle.rollout.specs.Status.{status_of_run};
+
+    ghost from_gives = { λ end status. status ≡ status_of_run end };
+
+    fn from(end: RunEnd) -> Status {
+        match end {
+            RunEnd::Done => Status::Done,
+            RunEnd::Failed => Status::Failed,
+            RunEnd::Blocked => Status::Blocked,
+            RunEnd::Stopped => Status::Stopped,
         }
     }
 }

@@ -1,7 +1,7 @@
 use Rattle.std.proofs.Common.{codes, refl, sym, ◌∙◌}
 use Rattle.clap.specs.Words.{found_of}
 use Rattle.clap.proofs.WalkLemmas.{first_value-rows}
-use Rattle.command_line.proofs.AcceptedLemmas.{file_of}
+use Rattle.command_line.proofs.FoundLemmas.{file_of}
 use Rattle.command_line.proofs.syntax.limits_inventory.Goals as goal
 
 pub returns : goal.returns

@@ -25,4 +25,6 @@ returns c =
     let below = ap (λ (app : App). app.top) c.in_ok-limits.ensures.app in
     let first = c.in_ok-subcommand.ensures.shape c.in_ok-limits.ensures.local ∙ ap₂ with_subcommand required below in
     let beside = ap (λ (app : App). app.top) c.in_ok-plan.ensures.app in
-    IfOk-weaker c.subcommand-2.result _ _ (λ r h. h.shape c.in_ok-plan.ensures.local ∙ ap₂ with_subcommand first beside) c.subcommand-2.ensures
+    let second = c.in_ok-subcommand-2.ensures.shape c.in_ok-plan.ensures.local ∙ ap₂ with_subcommand first beside in
+    let last = ap (λ (app : App). app.top) c.in_ok-run.ensures.app in
+    IfOk-weaker c.subcommand-3.result _ _ (λ r h. h.shape c.in_ok-run.ensures.local ∙ ap₂ with_subcommand second last) c.subcommand-3.ensures
