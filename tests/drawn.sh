@@ -38,6 +38,7 @@ counted() {
 # The slow program by itself, and then beside the built one.
 counted rows
 counted leasts
+counted great "$rollout"
 counted drawn "$rollout" "${SEED:-}" "${CASES:-}"
 echo "$passed passed, $failed failed"
 [ "$failed" -eq 0 ]

@@ -9,19 +9,26 @@ from commands import Said
 LONGEST_RUN = 60
 
 
-def call(program, case, folder):
-    """What the program says of a case, in a folder that is empty or has only such files. Bytes that are no UTF-8 are kept apart by escapes."""
-    folder = Path(folder)
-    (folder / INVENTORY).write_bytes(case.inventory)
-    (folder / PLAYBOOK).write_bytes(case.playbook)
+def call(program, case, folder, before=None):
+    """What the program says of a case, in a folder that is empty or has only such files; `before` is called where it will run."""
+    put_files(case, folder)
     try:
-        done = subprocess.run([program, *case.words], input=case.typed, capture_output=True, cwd=folder, timeout=LONGEST_RUN, check=False)
+        done = subprocess.run(
+            [program, *case.words], input=case.typed, capture_output=True, cwd=folder, timeout=LONGEST_RUN, preexec_fn=before, check=False
+        )
     except subprocess.TimeoutExpired:
         return Said("", f"it didn't end within {LONGEST_RUN} seconds\n", -1)
     return Said(_text(done.stdout), _text(done.stderr), done.returncode)
 
 
+def put_files(case, folder):
+    """Writes the inventory and the playbook of a case."""
+    (Path(folder) / INVENTORY).write_bytes(case.inventory)
+    (Path(folder) / PLAYBOOK).write_bytes(case.playbook)
+
+
 def _text(raw):
+    """An output as text; bytes that are no UTF-8, which no right output has, are told from all others."""
     return raw.decode(errors="backslashreplace")
 
 

@@ -4,6 +4,7 @@ from dataclasses import dataclass, replace
 from random import Random
 
 import commands
+from draw_focused import FocusedStyle
 from draw_inventory import draw_inventory
 from draw_inventory import draw_right as draw_right_inventory
 from draw_lines import draw_lines
@@ -53,7 +54,9 @@ class Case:
         """The calls that have to say the same: a run with several numbers of programs at once."""
         if self.kind != "run":
             return [self]
-        return [self, *(replace(self, words=(*self.words, "--forks", str(forks))) for forks in FORKS)]
+        chosen = [replace(self, words=(*self.words, "--forks", str(forks))) for forks in FORKS]
+        # 5 is what holds where none are chosen.
+        return [self, *chosen[:2], chosen[3]] if len(self.inventory) % 2 else chosen
 
 
 def draw_case(seed, number):
@@ -90,9 +93,10 @@ def _plan(random):
 def _run(random):
     """A run of programs whose outcomes are known."""
     while True:
-        inventory = write(draw_right_inventory(random, crossing=0.02, down=0.05, limited=0.35, dense=True), random)
-        names = names_in(inventory)
-        value = draw_right_playbook(random, names, RunStyle(hosts_in(inventory)), random.choice([1, 1, 1, 2, 3]))
+        focused = random.random() < 0.5
+        inventory = write(draw_right_inventory(random, crossing=0.02, down=0.05, limited=0.1 if focused else 0.35, dense=True), random)
+        style = (FocusedStyle if focused else RunStyle)(hosts_in(inventory))
+        value = draw_right_playbook(random, names_in(inventory), style, random.choice([1, 1, 1, 2, 3]))
         playbook = write(mutate(value, random) if random.random() < 0.03 else value, random)
         case = Case(("run", INVENTORY, PLAYBOOK), inventory, playbook)
         try:

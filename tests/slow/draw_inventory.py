@@ -8,7 +8,7 @@ from mutate import mutate, spoil
 GROUPS = ["r1", "r2", "eu", "us", "web", "db", "g", "a", "Z", "r10", "_x", "g-1"]
 HOSTS = ["a", "b", "c", "d", "e", "f", "h0", "h1", "h10", "h2", "A", "a.b", "a-b", "web", "db", "r1", "g"]
 NAMES = ["v", "w", "tier", "flag", "x", "_n", "r", "max_down", "inventory_hostname", "a b", "down"]
-DENSE = ["v", "v", "v", "w", "w", "flag", "tier", "inventory_hostname"]
+DENSE = ["v", "v", "v", "v", "v", "w", "w", "w", "flag", "tier", "inventory_hostname"]
 VALUES_OF_DENSE = [1, 1, "1", "a", True, 0, 2, -1, "", "out", "{{ q }}", "True", 1.5, None]
 WRONG_LIMITS = [None, -1, 65_536, Raw(b"-0"), Raw(b"1.0"), "1", "", "101%", "0007%", "0100%", "200%", "-1%", " 5%", "%", True, [], Raw(b"9223372036854775808")]
 VALUES = ["", "a", "1", "True", "true", "b c", "{{ v }}", "caf\u00e9", 0, 1, -1, 7, 2**63 - 1, True, False, None, 1.5, [], [1], Members([("k", 1)]), Raw(b"-0"), Raw(b"1.0")]
@@ -93,7 +93,7 @@ def _body(random, hosts, children, limit, chances, top):
         parts.append(("hosts", named or random.choice([None, Members()])))
     if children or random.random() < 0.1:
         parts.append(("children", children or random.choice([None, Members()])))
-    given = Members(pair for pair in _variables(random, chances.dense) if pair[0] != "max_down")
+    given = Members(pair for pair in _variables(random, chances.dense, [0, 1, 1, 2, 2]) if pair[0] != "max_down")
     if chances.dense and top and random.random() < 0.9:
         given = Members((name, random.choice([1, "1", "a", "True", 0, -1, True])) for name in ("v", "w", "flag", "tier"))
     if random.random() < chances.wrong:
@@ -111,7 +111,7 @@ def _body(random, hosts, children, limit, chances, top):
 def _host(random, chances):
     if random.random() < chances.wrong / 3:
         return random.choice([[], "x", 1, False, ""])
-    given = Members(pair for pair in _variables(random, chances.dense) if pair[0] != "down")
+    given = Members(pair for pair in _variables(random, chances.dense, [0, 0, 0, 1, 1, 2]) if pair[0] != "down")
     if random.random() < chances.wrong:
         given.append(("down", random.choice([None, 0, 1, "true", [], 1.5])))
     elif random.random() < chances.down:
@@ -119,9 +119,9 @@ def _host(random, chances):
     return given if given or random.random() < 0.5 else None
 
 
-def _variables(random, dense):
+def _variables(random, dense, counts):
     if dense:
-        names = _distinct(random, DENSE, random.choice([0, 1, 1, 1, 2]))
+        names = _distinct(random, DENSE, random.choice(counts))
         return Members((name, random.choice(VALUES_OF_DENSE)) for name in names)
     names = random.sample(NAMES, random.choice([0, 0, 1, 1, 2, 3]))
     return Members((name, random.choice(VALUES)) for name in names)

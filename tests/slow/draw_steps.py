@@ -48,13 +48,21 @@ class AnyStyle:
         """A step of its own making, or None."""
         return None
 
+    def tasks(self, random):
+        """All tasks of a play, where the style makes them itself; else None."""
+        return None
+
 
 def draw_steps(random, style):
     """The lists of tasks and of handlers; tasks notify handlers of their play, and now and then one that isn't there."""
     names = random.sample(HANDLERS, random.choice([0, 0, 1, 2, 2, 3]))
     if random.random() < style.wrong:
         names.append(random.choice(names or ["H1"]))
-    tasks = [_task(random, style, names) for _ in range(random.choice([1, 1, 2, 2, 3, 4]))]
+    tasks = style.tasks(random)
+    if tasks is None:
+        tasks = [_task(random, style, names) for _ in range(random.choice([1, 1, 2, 2, 3, 4]))]
+    else:
+        tasks = [_notifying(random, step, names) for step in tasks]
     if 0 < style.wrong < 0.1 and random.random() < 0.03:
         tasks = [tasks[0]] * (random.choice([256, 257]) - len(names))
     handlers = [_handler(random, style, name) for name in names]
@@ -71,6 +79,13 @@ def _task(random, style, names):
     elif random.random() < style.wrong:
         step.append(("notify", random.choice(["H9", ["H9", "H8"], []])))
     return step
+
+
+def _notifying(random, step, names):
+    """A step that may notify besides."""
+    if not names or random.random() < 0.6:
+        return step
+    return Members([*step, ("notify", [random.choice(names) for _ in range(random.choice([1, 2]))])])
 
 
 def _handler(random, style, name):
@@ -103,9 +118,10 @@ def _step(random, style):
 
 
 def _made_wrong(random, style, step):
-    """The same step, in which keys have a wrong value, stand beside an unknown one, or command has both its forms."""
+    """The same step, in which two keys that are read one after the other have a wrong value, one is unknown, or command has both its forms."""
     keys = [key for key in WRONG if key != "command"]
-    for key in random.sample(keys, 2) if random.random() < style.wrong else []:
+    first = random.randrange(len(keys) - 1)
+    for key in keys[first : first + 2] if random.random() < style.wrong * 1.5 else []:
         step = Members(pair for pair in step if pair[0] != key)
         step.append((key, random.choice(WRONG[key])))
     if random.random() < style.wrong / 2:

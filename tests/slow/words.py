@@ -36,8 +36,10 @@ def split(text):
     if any(sign in text for sign in "'\"\\"):
         raise BadText
     words, word, at = [], "", 0
+    last = text.rfind("}}")
     while at < len(text):
-        end = text.find("}}", at + 2) if text.startswith("{{", at) and not turned("split-not-in-braces") else -1
+        opens = text.startswith("{{", at) and at + 2 <= last
+        end = text.find("}}", at + 2) if opens and not turned("split-not-in-braces") else -1
         if end >= 0:
             word += text[at : end + 2]
             at = end + 2
