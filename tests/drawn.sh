@@ -35,8 +35,7 @@ counted() {
     failed=$((failed + more))
 }
 
-# The slow program by itself, and then beside the built one.
-counted rows
+counted rows "$rollout"
 counted leasts
 counted great "$rollout"
 counted drawn "$rollout" "${SEED:-}" "${CASES:-}"

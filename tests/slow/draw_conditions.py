@@ -5,7 +5,11 @@ from words import FIELDS
 REFS = ["v", "w", "tier", "flag", "x", "_n", "r", "q", "inventory_hostname", "failed"]
 TEXTS = ["", "a", "b", "1", "True", "true", "eu", "r1", "web", "all", "g", "caf\u00e9", "b c", "it's"]
 NUMBERS = ["0", "1", "-1", "7", "007", "-0", "3", "9223372036854775807", "-9223372036854775808"]
-ODD = ["9223372036854775808", "-9223372036854775809", "$", "=", "!", "-", "'a", '"', "'a\\n'", "'\\'", '"b\\"', "is", "not", "in", "and", "or", "(", ")", ".", "==", "rc", "group_names", "true", "5", "'t'", "\u00e9", "{{", "5ab", "1-2", "\v", "defined", "inventory_hostname"]
+ODD = [
+    "9223372036854775808", "-9223372036854775809", "$", "=", "!", "-", "'a", '"', "'a\\n'", "'\\'", '"b\\"', "is", "not", "in",
+    "and", "or", "(", ")", ".", "==", "rc", "group_names", "true", "5", "'t'", "\u00e9", "{{", "5ab", "1-2", "\v", "defined",
+    "inventory_hostname",
+]
 
 
 def draw_condition(random, names=REFS, safe=False):

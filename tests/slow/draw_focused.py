@@ -33,7 +33,10 @@ class FocusedStyle(RunStyle):
         written = random.choice(list(PRINTED))
         self.printed = [PRINTED[written], PRINTED[written], ""]
         script = f"printf {written}" + random.choice(["", "", "", " >&2", "; printf out >&2"])
-        ends = ["", "", "", "; exit 1", "; exit 3", "; kill -9 $$", f"; {self._choice(random)}", f"; {self._choice(random)} || kill -9 $$", f"; {self._choice(random)} || exit 3"]
+        ends = [
+            "", "", "", "; exit 1", "; exit 3", "; kill -9 $$", f"; {self._choice(random)}",
+            f"; {self._choice(random)} || kill -9 $$", f"; {self._choice(random)} || exit 3",
+        ]
         return script + random.choice(ends)
 
     def _looking(self, random):

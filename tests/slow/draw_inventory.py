@@ -10,8 +10,14 @@ HOSTS = ["a", "b", "c", "d", "e", "f", "h0", "h1", "h10", "h2", "A", "a.b", "a-b
 NAMES = ["v", "w", "tier", "flag", "x", "_n", "r", "max_down", "inventory_hostname", "a b", "down"]
 DENSE = ["v", "v", "v", "v", "v", "w", "w", "w", "flag", "tier", "inventory_hostname"]
 VALUES_OF_DENSE = [1, 1, "1", "a", True, 0, 2, -1, "", "out", "{{ q }}", "True", 1.5, None]
-WRONG_LIMITS = [None, -1, 65_536, Raw(b"-0"), Raw(b"1.0"), "1", "", "101%", "0007%", "0100%", "200%", "-1%", " 5%", "%", True, [], Raw(b"9223372036854775808")]
-VALUES = ["", "a", "1", "True", "true", "b c", "{{ v }}", "caf\u00e9", 0, 1, -1, 7, 2**63 - 1, True, False, None, 1.5, [], [1], Members([("k", 1)]), Raw(b"-0"), Raw(b"1.0")]
+WRONG_LIMITS = [
+    None, -1, 65_536, Raw(b"-0"), Raw(b"1.0"), "1", "", "101%", "0007%", "0100%", "200%", "-1%", " 5%", "%", True, [],
+    Raw(b"9223372036854775808"),
+]
+VALUES = [
+    "", "a", "1", "True", "true", "b c", "{{ v }}", "caf\u00e9", 0, 1, -1, 7, 2**63 - 1, True, False, None, 1.5, [], [1],
+    Members([("k", 1)]), Raw(b"-0"), Raw(b"1.0"),
+]
 SHARES = ["0%", "33%", "34%", "50%", "66%", "67%", "99%", "100%", "007%", "07%"]
 
 

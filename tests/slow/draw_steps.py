@@ -7,7 +7,10 @@ from json_draw import Members
 REGISTERS = ["r", "r", "r", "q", "x", "v"]
 WRONG = {
     "name": [None, 1, []],
-    "command": [None, [], "", "it's", Members(), Members([("argv", [])]), Members([("argv", ["a", None])]), Members([("argv", ["a"]), ("chdir", "/")]), Members([("cmd", 1)]), "{{ v | x }}", "echo {{ v creates=x", "creates=x"],
+    "command": [
+        None, [], "", "it's", Members(), Members([("argv", [])]), Members([("argv", ["a", None])]),
+        Members([("argv", ["a"]), ("chdir", "/")]), Members([("cmd", 1)]), "{{ v | x }}", "echo {{ v creates=x", "creates=x",
+    ],
     "register": [None, "", "is", "true", "inventory_hostname", "1x", "a-b", "caf\u00e9", "group_names", 1],
     "when": [1, Members(), "a b", [1], ["a b", 1]],
     "changed_when": [0, Members(), "$", ["is"]],

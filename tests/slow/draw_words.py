@@ -1,7 +1,13 @@
 """Drawn words: free-form texts and arguments with right and wrong braces."""
 
-HOLES = ["{{ v }}", "{{v}}", "{{ inventory_hostname }}", "{{ r.rc }}", "{{\tr . stdout\n}}", "{{ flag }}", "{{ w }}", "{{ q }}", "{{ r.changed }}", "{{ r }}", "{{ tier }}"]
-WRONG = ["{{ v | x }}", "{{ true }}", "{{ inventory_hostname.rc }}", "{{ v.foo }}", "{{", "{{ v", "{{ v }", "{%", "{#", "{{{ v }}}", "{{}}", "{{ 1v }}", "{{\vv }}", "{{ v.rc.rc }}", "{{ r .}}", "{{ group_names }}"]
+HOLES = [
+    "{{ v }}", "{{v}}", "{{ inventory_hostname }}", "{{ r.rc }}", "{{\tr . stdout\n}}", "{{ flag }}", "{{ w }}", "{{ q }}",
+    "{{ r.changed }}", "{{ r }}", "{{ tier }}",
+]
+WRONG = [
+    "{{ v | x }}", "{{ true }}", "{{ inventory_hostname.rc }}", "{{ v.foo }}", "{{", "{{ v", "{{ v }", "{%", "{#", "{{{ v }}}",
+    "{{}}", "{{ 1v }}", "{{\vv }}", "{{ v.rc.rc }}", "{{ r .}}", "{{ group_names }}",
+]
 PLAIN = ["echo", "a", "-n", "}}", "}", "{", "{ {", "x=1", "creates", "a\tb", "caf\u00e9", "$", "%}", "0", "it s"]
 ENDS = ["creates=x", "removes=/tmp", "chdir=/", "stdin=a", "it's", '"a b"', "a\\b", "xcreates=", "echo creates=x"]
 

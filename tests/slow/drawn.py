@@ -27,7 +27,7 @@ def main(program, seed, count):
         print(f"passed over, since the program has no such command: {', '.join(kind for kind in KINDS if kind not in known)}")
     passed = failed = 0
     work = [(program, seed, number, known) for number in range(count)]
-    with Pool(os.cpu_count()) as pool:
+    with Pool(len(os.sched_getaffinity(0))) as pool:
         for number, difference in pool.imap(_try, work, chunksize=8):
             if difference is None:
                 continue

@@ -86,7 +86,10 @@ ODD = [
     Members([("cmd", "true")]),
 ]
 TELLING = {"down", "max_down", "serial", "max_fail_percentage", "when", "name", "register", "notify", "handlers", "tasks", "vars", "hosts"}
-KEYS = ["x", "", "hosts", "children", "vars", "max_down", "down", "all", "name", "when", "notify", "tasks", "serial", "Hosts", "a", "zz", "\u00e9", "A B"]
+KEYS = [
+    "x", "", "hosts", "children", "vars", "max_down", "down", "all", "name", "when", "notify", "tasks", "serial", "Hosts", "a",
+    "zz", "\u00e9", "A B",
+]
 
 
 def mutate(value, random):

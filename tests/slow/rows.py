@@ -1,9 +1,14 @@
-"""Holds the slow program against worked rows, whole texts; the last line counts them."""
+"""Holds the slow program against worked rows, whole texts; the last line counts them. `python3 rows.py PROGRAM` holds a built one against them too."""
 
+import os
 import re
 import sys
+import tempfile
+from itertools import chain
 
-import commands
+from built import call, knows
+from cases import INVENTORY, KINDS, PLAYBOOK, Case
+from commands import Said
 from conditions import CondFault, parse
 from course import COUNTED
 from hosts import Host
@@ -75,20 +80,26 @@ def lines(text):
 
 def said(text, status):
     """What is said where a row has one text: a fault's line goes to the second output."""
-    return commands.Said("", lines(text), status) if text.startswith("rollout: ") else commands.Said(lines(text), "", status)
+    return Said("", lines(text), status) if text.startswith("rollout: ") else Said(lines(text), "", status)
+
+
+def commands_of_rows():
+    """Each row of a command: its name, the case and what has to be said."""
+    for name, inventory, text, status in LIMITS:
+        yield f"limits: {name}", Case(("limits", INVENTORY), inventory.encode()), said(text, status)
+    for name, inventory, playbook, text, status in PLANS:
+        yield f"plan: {name}", Case(("plan", INVENTORY, PLAYBOOK), inventory.encode(), playbook.encode()), said(text, status)
+    for name, inventory, playbook, text, status in RUNS:
+        yield f"run: {name}", Case(("run", INVENTORY, PLAYBOOK), inventory.encode(), playbook.encode()), said(text, status)
+    for name, inventory, playbook, typed, out, fault, status in REHEARSALS:
+        case = Case(("rehearse", INVENTORY, PLAYBOOK), inventory.encode(), playbook.encode(), typed.replace(" / ", "\n").encode())
+        yield f"rehearse: {name}", case, Said(lines(out), lines(fault), status)
 
 
 def checks():
-    """Each row's name, and what it is and has to be."""
-    for name, inventory, text, status in LIMITS:
-        yield f"limits: {name}", commands.limits(inventory.encode()), said(text, status)
-    for name, inventory, playbook, text, status in PLANS:
-        yield f"plan: {name}", commands.plan(inventory.encode(), playbook.encode()), said(text, status)
-    for name, inventory, playbook, text, status in RUNS:
-        yield f"run: {name}", commands.run(inventory.encode(), playbook.encode()), said(text, status)
-    for name, inventory, playbook, typed, out, fault, status in REHEARSALS:
-        answers = commands.rehearse(inventory.encode(), playbook.encode(), typed.replace(" / ", "\n").encode())
-        yield f"rehearse: {name}", answers, commands.Said(lines(out), lines(fault), status)
+    """What the slow program says of each row, and what has to be said."""
+    for name, case, wanted in commands_of_rows():
+        yield name, case.said(), wanted
     for text, number, at in BAD_CONDITIONS:
         yield f"condition {text[:40]!r}", _refusal(text), (number, at)
     for text, value in CONDITIONS:
@@ -96,6 +107,16 @@ def checks():
     yield "a word", render("{{ inventory_hostname }}-{{v}}", Example()), "a-7"
     yield "a word with a filter", _braces("{{ v | x }}"), "bad"
     yield "a word with blanks round a dot", _braces("{{ r\t. rc }}"), "good"
+
+
+def built_checks(program):
+    """What the built program says of each row of a command that it has, and what has to be said."""
+    program = os.path.abspath(program)
+    with tempfile.TemporaryDirectory() as folder:
+        known = [kind for kind in KINDS if knows(program, kind, folder)]
+        for name, case, wanted in commands_of_rows():
+            for variant in case.variants() if case.kind in known else []:
+                yield f"built: {name}", call(program, variant, folder), wanted
 
 
 def _refusal(text):
@@ -121,9 +142,9 @@ def _braces(word):
     return "good"
 
 
-def main():
+def main(programs):
     passed = failed = 0
-    for name, found, wanted in checks():
+    for name, found, wanted in chain(checks(), *map(built_checks, programs)):
         passed += found == wanted
         failed += found != wanted
         if found != wanted:
@@ -133,4 +154,4 @@ def main():
 
 
 if __name__ == "__main__":
-    sys.exit(main())
+    sys.exit(main(sys.argv[1:]))

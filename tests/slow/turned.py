@@ -24,7 +24,7 @@ def main(seed, count, names):
         _cases.append(draw_case(seed, number))
         _right.append(_cases[-1].said())
     told = 0
-    with Pool(os.cpu_count()) as pool:
+    with Pool(len(os.sched_getaffinity(0))) as pool:
         for name, number in pool.imap(_first, names):
             told += number is not None
             by = f"{_cases[number].kind} {number}" if number is not None else "FAILED: no case tells it"
