@@ -15,7 +15,7 @@ class FocusedStyle(RunStyle):
         return tasks + [self._looking(random) for _ in range(random.choice([2, 3, 4, 6]))]
 
     def _registering(self, random):
-        register = random.choice(["r", "r", "x"])
+        register = random.choice(["r", "r", "x", "v"])
         step = self.step(random) if random.random() < 0.25 else None
         if step is None:
             if random.random() < 0.7:

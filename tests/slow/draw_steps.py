@@ -12,9 +12,9 @@ WRONG = {
         Members([("argv", ["a"]), ("chdir", "/")]), Members([("cmd", 1)]), "{{ v | x }}", "echo {{ v creates=x", "creates=x",
     ],
     "register": [None, "", "is", "true", "inventory_hostname", "1x", "a-b", "caf\u00e9", "group_names", 1],
-    "when": [1, Members(), "a b", [1], ["a b", 1]],
-    "changed_when": [0, Members(), "$", ["is"]],
-    "failed_when": [1.5, Members(), "(true", ["or"]],
+    "when": [1, Members(), "a b", [1], ["a b", 1], ["$", []]],
+    "changed_when": [0, Members(), "$", ["is"], ["is", 1]],
+    "failed_when": [1.5, Members(), "(true", ["or"], ["or", None]],
     "ignore_errors": [None, "yes", 1],
     "notify": [None, 1, ["H1", None], Members()],
 }

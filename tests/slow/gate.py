@@ -1,4 +1,4 @@
 """The seed and the number of the cases that the gate draws."""
 
 SEED = "1"
-CASES = 4_000
+CASES = 5_000
