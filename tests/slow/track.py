@@ -24,10 +24,10 @@ def track(play, host):
     if turned("notifications-end-with-the-play"):
         notified = host.__dict__.setdefault("notified", [])
     for step in play.tasks:
-        if not _taken(step, host, rows, notified) and not turned("failed-hosts-run-no-handlers"):
+        if not _taken(step, host, rows, notified):
+            if turned("failed-hosts-run-no-handlers"):
+                break
             return rows
-        if rows[-1].judged == "failed":
-            break
     for step in _due(play.handlers, notified):
         if not _taken(step, host, rows, notified):
             return rows
