@@ -77,7 +77,7 @@ if [ -n "$build" ] || [ ! -x "$program" ]; then
     part 'program'
 fi
 
-scripts='cli inventories playbooks broken memory readme'
+scripts='cli inventories playbooks broken memory programs drawn readme'
 case " $names " in *' roll_core '* | *' ticket_line '*) scripts="$scripts once" ;; esac
 BUILT_ALONE=yes sh tests/gate.sh $scripts >"$work/scripts" 2>&1
 counts=$(tail -n 1 "$work/scripts" | sed -n 's/^\([0-9]*\) passed, \([0-9]*\) failed$/\1 \2/p')
