@@ -13,6 +13,3 @@ pub use end::RunEnd;
 pub use fault::RunTextFault;
 pub use laws::one_recap;
 pub use printing::run_text;
-
-#[cfg(test)]
-mod tests;
