@@ -37,8 +37,8 @@ ${CC:-cc} -shared -fPIC -O1 -o "$work/refuse.so" "$work/refuse.c" -ldl || {
     exit 1
 }
 
-# times COUNT TEST: the test passes so often, each time within ten seconds.
-times() {
+# often COUNT TEST: the test passes so often, each time within ten seconds.
+often() {
     turn=0
     while [ "$turn" -lt "$1" ]; do
         timeout 10 "$tests" "$2" >"$work/out" 2>&1 || {
@@ -51,11 +51,11 @@ times() {
     echo "$2: $1 times"
 }
 
-times 200 tests::gate::gate_two_at_once
+often 200 tests::gate::gate_two_at_once
 # at forks 1, 2, 5 and 64, each step on a pool of its own and all on one
-times 1000 tests::rows::forks_make_no_difference
-times 100 tests::paced::the_pace_makes_no_difference
-times 1000 tests::by_hand::want_of_memory_stops_a_step
+often 1000 tests::rows::forks_make_no_difference
+often 100 tests::paced::the_pace_makes_no_difference
+often 1000 tests::by_hand::want_of_memory_stops_a_step
 
 # each thread refused in turn
 for name in tests::gate::a_step_ends_or_a_worker_is_wanting tests::memory::a_roll_ends_or_memory_is_wanting; do
