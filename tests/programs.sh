@@ -387,8 +387,8 @@ failing() {
     status=$?
 }
 
-# The program makes a file when it ends: it is waited for, whatever fails.
-printf '[{"hosts":"all","tasks":[{"command":{"argv":["sh","-c","echo some; sleep 0.2; : >%s; echo more"]},"register":"r","ignore_errors":true},{"command":"true","when":["r is failed","not r is changed","r.rc is not defined","r.stdout == %s"]}]}]' "$work/kept/done" "''" >"$work/play.json"
+# The program makes a file when it ends, also where nobody reads what it writes: it is waited for, whatever fails.
+printf '[{"hosts":"all","tasks":[{"command":{"argv":["sh","-c","trap : PIPE; echo some; sleep 0.2; echo more; : >%s"]},"register":"r","ignore_errors":true},{"command":"true","when":["r is failed","not r is changed","r.rc is not defined","r.stdout == %s"]}]}]' "$work/kept/done" "''" >"$work/play.json"
 
 # gone WHAT CALL AT HOW: nothing is had of a program that ran to its end.
 gone() {
