@@ -107,12 +107,12 @@ module _ (setting : Setting) (others : Fails) (boundary : Boundary) (agree : Agr
   abbrev batch : List ℕ
   batch = next_batch boundary.answer
 
-  behind_alike : statuses_behind setting boundary ≡ statuses_behind (with_fails others setting) boundary
+  pub behind_alike : statuses_behind setting boundary ≡ statuses_behind (with_fails others setting) boundary
   behind_alike =
       (alike setting others batch agree).statuses (halt_of setting batch) boundary.statuses.items
       ∙ ap (λ h. statuses_after h others batch boundary.statuses.items) (halt_alike setting others batch agree)
 
-  end_behind_alike : end_behind setting boundary ≡ end_behind (with_fails others setting) boundary
+  pub end_behind_alike : end_behind setting boundary ≡ end_behind (with_fails others setting) boundary
   end_behind_alike =
       ap (λ h. end_by_failures setting batch h) (halt_alike setting others batch agree)
       ∙ end_alike setting others batch agree (halt_of (with_fails others setting) batch)

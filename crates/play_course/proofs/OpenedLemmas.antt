@@ -35,7 +35,7 @@ aside_waits_not hosts statuses host not = by_case (cases_lt host (length statuse
     by_case (inr past) = ap is_waiting (status_at-changed_past (λ _. Held) hosts statuses host past)
 
 -- the hosts of the batch that is opened wait
-opened_waits : (setting : Setting) (opened : ℕ) (statuses : List Status) (boundary : Boundary) (host : ℕ) → IsBoundary setting opened statuses boundary
+pub opened_waits : (setting : Setting) (opened : ℕ) (statuses : List Status) (boundary : Boundary) (host : ℕ) → IsBoundary setting opened statuses boundary
     → has_number host (next_batch boundary.answer) ≡ true → is_waiting (status_at boundary.statuses.items host) ≡ true
 opened_waits setting opened statuses boundary host is here = by_answer boundary.answer is.best here
   where

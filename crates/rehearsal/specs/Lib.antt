@@ -1,0 +1,5 @@
+pub mod Stacks
+pub mod Kept
+pub mod Refusals
+pub mod Advances
+pub mod Laws
