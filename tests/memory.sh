@@ -11,18 +11,21 @@ cat >"$work/refuse.c" <<'C'
 #include <errno.h>
 #include <fcntl.h>
 #include <stdarg.h>
+#include <stdatomic.h>
 #include <stdlib.h>
 #include <string.h>
 #include <unistd.h>
 
+/* What this program starts has all memory. */
+__attribute__((constructor)) static void alone(void) {
+    unsetenv("LD_PRELOAD");
+}
+
 /* Whether this allocation is the one that REFUSE numbers, from 1. Where it is, the file REFUSED is made. */
 static int refused(void) {
-    static long left = -1;
-    if (left < 0) {
-        const char *number = getenv("REFUSE");
-        left = number ? atol(number) : 0;
-    }
-    if (left == 0 || --left > 0) return 0;
+    static atomic_long calls;
+    const char *number = getenv("REFUSE");
+    if (!number || atomic_fetch_add(&calls, 1) + 1 != atol(number)) return 0;
     const char *made = getenv("REFUSED");
     if (made) close(open(made, O_CREAT | O_WRONLY, 0600));
     return 1;
@@ -80,7 +83,7 @@ refusing() {
     number=$1
     shift
     rm -f "$work/refused"
-    REFUSE=$number REFUSED=$work/refused LD_PRELOAD="$work/refuse.so" "$@" >"$work/out" 2>"$work/errors" <"$input"
+    timeout -k 5 60 env REFUSE="$number" REFUSED="$work/refused" LD_PRELOAD="$work/refuse.so" "$@" >"$work/out" 2>"$work/errors" <"$input"
     status=$?
     [ -e "$work/refused" ]
 }
@@ -106,6 +109,31 @@ each_refused() {
     echo "$*: $((number - 1)) allocations refused in turn"
 }
 
+# run_refused WORDS: the same of a run, which want of memory may also break off. Then its recap goes out as far as the run came.
+run_refused() {
+    run run "$@"
+    answered=$status
+    mv "$work/out" "$work/out.answered"
+    mv "$work/errors" "$work/errors.answered"
+    number=1
+    while refusing "$number" "$rollout" run "$@"; do
+        if [ "$status" -eq 5 ] && [ "$(cat "$work/errors")" = 'rollout: memory' ]; then
+            [ ! -s "$work/out" ] || { begins_so && [ "$(tail -n 1 "$work/out")" = 'end fault' ]; }
+        else
+            [ "$status" -eq "$answered" ] && cmp -s "$work/out" "$work/out.answered" && cmp -s "$work/errors" "$work/errors.answered"
+        fi && pass || fail "allocation $number of 'run $*' refused: status $status, $(cat "$work/errors")"
+        number=$((number + 1))
+    done
+    [ "$number" -gt 100 ] || fail "'run $*' asks for little memory"
+    echo "run $*: $((number - 1)) allocations refused in turn"
+}
+
+# Whether the boundaries that a broken off run tells of are the first of those that it tells of with all memory.
+begins_so() {
+    grep -E '^(play|boundary|held:|open:)' "$work/out" >"$work/boundaries"
+    grep -E '^(play|boundary|held:|open:)' "$work/out.answered" | head -n "$(wc -l <"$work/boundaries")" | cmp -s "$work/boundaries" -
+}
+
 each_refused limits "$top/examples/two-regions.json"
 each_refused limits "$top/examples/crossing-racks.json"
 each_refused plan "$top/examples/two-racks.json" "$top/examples/restart-web.json"
@@ -126,8 +154,19 @@ done <<'PLAYBOOKS'
 [{"hosts":"a","tasks":[{"command":"a","notify":["h"]}]}]
 [{"hosts":"a","tasks":[{"command":{"argv":[null]}}]}]
 [{"hosts":"a","tasks":[{"command":"a","when":"a b"}]}]
+[{"hosts":"a,x*","tasks":[{"command":"a"}]}]
+[{"hosts":"a","tasks":[{"command":"a","when":["(v == 7 or not r.rc == 3) and 'rack' in group_names and r is failed","not (not (v or (zero and empty)) or both is skipped)","r.stdout != r.stderr or true"]}]}]
 [{"hosts":"a","tasks":[{"command":"a"}],"x":1}]
 PLAYBOOKS
+# runs: words and conditions that name variables and results, a list of sizes, handlers, a failure that is ignored, a host that is down, two
+# plays; a play that sets hosts aside; a step that is not started
+printf '[{"hosts":"all","serial":[1,2],"tasks":[{"command":"echo {{ inventory_hostname }} {{ v }}","register":"r","notify":"h"},{"command":"false","register":"s","when":"r.rc == 0 and v is defined","ignore_errors":true},{"command":{"argv":["test","{{ r.stdout }}","!=","x"]},"changed_when":"s is failed","failed_when":["s is skipped",true]}],"handlers":[{"name":"h","command":"true"}]},{"hosts":"b:d","tasks":[{"command":"test {{ v }} = 1","when":"r is changed"}]}]' >"$work/twice.json"
+printf '{"all":{"vars":{"v":1},"hosts":{"a":{"down":true},"b":null},"children":{"g":{"vars":{"max_down":1,"v":"two"},"hosts":{"c":null,"d":{"v":1}}}}}}' >"$work/few.json"
+run_refused "$work/few.json" "$work/twice.json" --forks 1
+printf '[{"hosts":"all","on_blocked":"hold","tasks":[{"command":{"argv":["test","{{ inventory_hostname }}","=","d"]}}]}]' >"$work/holding.json"
+run_refused "$work/racks.json" "$work/holding.json" --forks 2
+printf '[{"hosts":"a","tasks":[{"command":"/no/such/program"}]}]' >"$work/absent.json"
+run_refused "$work/few.json" "$work/absent.json"
 input=$top/examples/two-regions.json
 each_refused
 input=/dev/null

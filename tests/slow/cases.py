@@ -51,8 +51,8 @@ class Case:
         return commands.command(self.words, [files[name] for name in named] or [self.typed], self.typed)
 
     def variants(self):
-        """The calls that have to say the same: a run with several numbers of programs at once."""
-        if self.kind != "run":
+        """The calls that have to say the same: a run with several numbers of programs at once, where none is said."""
+        if self.kind != "run" or "--forks" in self.words:
             return [self]
         chosen = [replace(self, words=(*self.words, "--forks", str(forks))) for forks in FORKS]
         # 5 is what holds where none are chosen.

@@ -4,66 +4,18 @@ import os
 import re
 import sys
 import tempfile
-from itertools import chain
+from itertools import chain, groupby
+from pathlib import Path
 
 from built import call, knows
-from cases import INVENTORY, KINDS, PLAYBOOK, Case
+from cases import FORKS, INVENTORY, KINDS, PLAYBOOK, Case
 from commands import Said
-from conditions import CondFault, parse
 from course import COUNTED
-from hosts import Host
-from meaning import evaluate
-from results import SKIPPED, row
+from rows_of_conditions import BAD_CONDITIONS, CONDITIONS, ENDS, INVENTORY_OF_ROWS, asking, refusal
 from rows_of_plans import LIMITS, PLANS
-from rows_of_runs import REHEARSALS, RUNS
-from words import BadBraces, Undefined, parts, render
+from rows_of_runs import REHEARSALS, RUNS, WRITTEN
 
-# A text and the fault that it has.
-BAD_CONDITIONS = [
-    ("r.rc == '3", 501, 8),
-    ("x is", 502, 4),
-    ("", 502, 0),
-    ("a b", 502, 2),
-    ("a b $", 502, 2),
-    ("9223372036854775808", 501, 0),
-    (" " * 4_093 + "true", 504, 4_096),
-    ("(" * 33 + "true" + ")" * 33, 503, 32),
-    ("1-2", 502, 1),
-    ("5ab", 502, 1),
-    ("1.5", 502, 1),
-    ("x.rc is failed", 502, 8),
-    ("inventory_hostname is failed", 502, 22),
-    ("true is defined", 502, 5),
-    ("'g' is defined", 502, 4),
-    ("'a\\'b'", 501, 0),
-]
-# A text and its value on a host `a` of a rack r1, with a variable v of 7 and a skipped result x.
-CONDITIONS = [
-    ("1 == true", False),
-    ("not 1 == 2", True),
-    ("'r1' in group_names", True),
-    ("'all' in group_names", False),
-    ("x is succeeded", True),
-    ("x == x", False),
-    ("x != x", True),
-    ("007 == 7", True),
-    ("q is failed", None),
-    ("x.rc == 0", None),
-    ("x.rc is defined", False),
-    ("false or (q is defined and q.rc == 0)", False),
-    ("(" * 32 + "true" + ")" * 32, True),
-    ("true or " * 500 + "true", True),
-]
-
-
-class Example(Host):
-    """A host as conditions and words see it."""
-
-    def __init__(self):
-        self.name = "a"
-        self.groups = {"r1", "eu"}
-        self.results = {"x": row(SKIPPED)}
-        self.variables = {"v": 7}
+ONE_AT_A_TIME = ("--forks", "1")
 
 
 def lines(text):
@@ -96,17 +48,20 @@ def commands_of_rows():
         yield f"rehearse: {name}", case, Said(lines(out), lines(fault), status)
 
 
+def commands_of_conditions():
+    """The same of each row of a condition."""
+    for text, number, at in BAD_CONDITIONS:
+        case = Case(("plan", INVENTORY, PLAYBOOK), INVENTORY_OF_ROWS.encode(), asking(text).encode())
+        yield f"condition {text!r:.60}", case, said(refusal(number, at), 1)
+    for text, holds in CONDITIONS:
+        case = Case(("run", INVENTORY, PLAYBOOK, *ONE_AT_A_TIME), INVENTORY_OF_ROWS.encode(), asking(text).encode())
+        yield f"condition {text!r:.60}", case, said(*ENDS[holds])
+
+
 def checks():
     """What the slow program says of each row, and what has to be said."""
-    for name, case, wanted in commands_of_rows():
+    for name, case, wanted in chain(commands_of_rows(), commands_of_conditions()):
         yield name, case.said(), wanted
-    for text, number, at in BAD_CONDITIONS:
-        yield f"condition {text[:40]!r}", _refusal(text), (number, at)
-    for text, value in CONDITIONS:
-        yield f"condition {text[:40]!r}", _value(text), value
-    yield "a word", render("{{ inventory_hostname }}-{{v}}", Example()), "a-7"
-    yield "a word with a filter", _braces("{{ v | x }}"), "bad"
-    yield "a word with blanks round a dot", _braces("{{ r\t. rc }}"), "good"
 
 
 def built_checks(program):
@@ -114,32 +69,29 @@ def built_checks(program):
     program = os.path.abspath(program)
     with tempfile.TemporaryDirectory() as folder:
         known = [kind for kind in KINDS if knows(program, kind, folder)]
-        for name, case, wanted in commands_of_rows():
+        for name, case, wanted in chain(commands_of_rows(), commands_of_conditions()):
             for variant in case.variants() if case.kind in known else []:
                 yield f"built: {name}", call(program, variant, folder), wanted
+    if "run" in known:
+        yield from written_checks(program)
 
 
-def _refusal(text):
-    try:
-        parse(text)
-    except CondFault as fault:
-        return fault.number, fault.at
-    return None
+def written_checks(program):
+    """What the programs of a run write down one behind the other: one at a time in the worked order, several at once step by step."""
+    for name, inventory, playbook, text in WRITTEN:
+        for forks in FORKS:
+            case = Case(("run", INVENTORY, PLAYBOOK, "--forks", str(forks)), inventory.encode(), playbook.encode())
+            with tempfile.TemporaryDirectory() as folder:
+                call(program, case, folder)
+                written = Path(folder) / "written"
+                found = written.read_text() if written.exists() else ""
+            yield f"written at {forks} forks: {name}", found if forks == 1 else _by_step(found), lines(text)
 
 
-def _value(text):
-    try:
-        return evaluate(parse(text), Example())
-    except Undefined:
-        return None
-
-
-def _braces(word):
-    try:
-        parts(word)
-    except BadBraces:
-        return "bad"
-    return "good"
+def _by_step(written):
+    """The lines of a step, a host and the step each, in the order of the hosts, as long as no line of another step comes between."""
+    steps = groupby(written.splitlines(keepends=True), key=lambda line: line.split()[1])
+    return "".join(line for _, of_step in steps for line in sorted(of_step))
 
 
 def main(programs):

@@ -15,12 +15,16 @@ CROSSING = (
     '"rack9":{"vars":{"max_down":1},"hosts":{"x":null}}}}}'
 )
 BESIDE = CROSSING.replace('"row1":{"vars":{"max_down":2},', '"web":{')
+ROW = (
+    '{"all":{"children":{"eu":{"vars":{"max_down":3},"hosts":{"d":null},"children":{"r1":{"vars":{"max_down":2},"hosts":{"a":null,"b":{"down":true}}},'
+    '"row":{"children":{"r2":{"vars":{"max_down":1},"hosts":{"c":null}}}}}},"r3":{"vars":{"max_down":0}}}}}'
+)
 TWO_PLACES = '{"all":{"children":{"g":{"vars":{"max_down":1},"children":{"p":{"hosts":{"a":null}},"q":{"hosts":{"a":null}}}}}}}'
 
 
-def play(keys="", hosts="all"):
+def play(keys="", hosts="all", command='"true"'):
     """A playbook of one play with one task that does nothing."""
-    return '[{"hosts":"%s",%s"tasks":[{"command":"true"}]}]' % (hosts, keys)
+    return '[{"hosts":"%s",%s"tasks":[{"command":%s}]}]' % (hosts, keys, command)
 
 
 def down(inventory, *hosts):
@@ -98,6 +102,13 @@ PLANS = [
     ("an unlimited group beside a rack", BESIDE, play(), "plan batches=1 bound=group rack9 waiting=1 room=1 / batch 1: x", 0),
     ("a host at two places", TWO_PLACES, play(), "plan batches=1 bound=group g waiting=1 room=1 / batch 1: a", 0),
     ("none may be down", NONE_DOWN, play(), "blocked group=g waiting=1", 3),
+    (
+        "a rack in a row without a limit counts with its region, and one of nobody bounds nothing",
+        ROW,
+        play(),
+        "plan batches=2 bound=group eu waiting=3 room=2 / batch 1: d c / batch 2: a",
+        0,
+    ),
     ("a share of half", HALF_RACKS, play(), THREE, 0),
     ("a share of nobody", THIRD_RACKS, play(), "blocked group=r1 waiting=3", 3),
     ("a host set aside", NONE_DOWN, play('"on_blocked":"hold",'), "plan batches=0 bound=nothing / held: a", 3),
@@ -110,6 +121,8 @@ PLANS = [
         "rollout: 702 BadShape at=0/tasks/0/command",
         1,
     ),
+    ("a filter in a word", RACKS, play(command='{"argv":["{{ v | x }}"]}'), "rollout: 602 BadBraces step=1", 1),
+    ("blanks round the dot of a word", RACKS, play(command='{"argv":["{{ r\\t. rc }}"]}'), THREE, 0),
     ("a size below nought in a list", RACKS, play('"serial":[1,-1],'), "rollout: 706 BadSerial at=0/serial/1", 1),
     ("a name that nothing has", RACKS, play("", "r1:x*"), "rollout: 304 NoSuchName name=x*", 1),
     ("a pattern of a group and a host", RACKS, play("", "r1:d"), THREE.replace("b e", "b"), 0),

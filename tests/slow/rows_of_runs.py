@@ -9,12 +9,30 @@ FOUR = '{"all":{"hosts":{"a":null,"b":null,"c":null,"d":null}}}'
 SIX = '{"all":{"children":{"g":{"vars":{"max_down":2},"hosts":{"a":null,"b":null,"c":null,"d":null,"e":null,"f":null}}}}}'
 THREE_OF_TWO = '{"all":{"children":{"g":{"vars":{"max_down":2},"hosts":{"a":null,"b":null,"c":null}}}}}'
 HERE = '{"all":{"hosts":{"a":null}}}'
+LAYERS = (
+    '{"all":{"vars":{"v":1},"children":{"m":{"vars":{"v":2},"hosts":{"h":null},"children":{"k":{"vars":{"v":3},"hosts":{"h":null}}}},'
+    '"z":{"vars":{"v":4},"hosts":{"h":null}}}}}'
+)
+OWN_VALUE = LAYERS.replace('"v":3},"hosts":{"h":null}', '"v":3},"hosts":{"h":{"v":5}}')
+SEVEN = '{"all":{"children":{"eu":{"children":{"r1":{"hosts":{"a":{"v":7,"t":"{ {v}}"}}}}}}}}'
+ONE_OFF = '{"all":{"hosts":{"a":null,"b":null,"c":null,"d":{"down":true}}}}'
 
 
 def failing(*hosts, rc=1):
     """A command that answers a code on these hosts, and 0 on the others."""
     tests = "; ".join(f"test {HOST} != {host} || exit {rc}" for host in hosts)
     return {"argv": ["sh", "-c", tests]}
+
+
+def noting(number, *hosts):
+    """A step that writes its host and this number down, and fails on these hosts."""
+    tests = "".join(f"; test {HOST} != {host} || exit 1" for host in hosts)
+    return {"command": {"argv": ["sh", "-c", f"echo {HOST} {number} >>written{tests}"]}}
+
+
+def comparing(word, wanted):
+    """A playbook with one task that compares a word with another."""
+    return playbook({"command": {"argv": ["test", word, "=", wanted]}})
 
 
 def playbook(*steps, handlers=(), **keys):
@@ -40,6 +58,14 @@ ALONE = "boundary 1: plan batches=1 bound=one-host / open: a / boundary 2: plan 
 TWO = "boundary 1: plan batches=1 bound=one-host / open: a b / boundary 2: plan batches=0 bound=nothing / "
 ALL_FOUR = "boundary 1: plan batches=1 bound=one-host / open: a b c d / boundary 2: plan batches=0 bound=nothing / "
 NOTIFYING = [{"command": "true", "notify": "H2"}, {"command": "true", "notify": ["H1", "H2"]}, {"command": failing("b")}]
+LONG = "x" * 65_535
+EARLIER_RESULT = json.dumps(
+    [
+        {"hosts": "all", "tasks": [{"command": "true", "when": False, "register": "x"}]},
+        {"hosts": "all", "tasks": [{"command": "true", "when": "x is skipped and x.rc is not defined"}]},
+    ]
+)
+OTHER_HOSTS = json.dumps([{"hosts": hosts, "tasks": [{"command": failing("a")}]} for hosts in ("a:b:d", "a:c:d")])
 TWO_PLAYS = json.dumps([{"hosts": hosts, "tasks": [{"command": "true"}]} for hosts in ("a", "all")])
 FIRST_FAILS = json.dumps([{"hosts": hosts, "tasks": [{"command": failing("a")}]} for hosts in ("a", "all")])
 BOTH_ON_ALL = json.dumps([{"hosts": "all", "tasks": [{"command": command}]} for command in (failing("a"), "true")])
@@ -201,6 +227,57 @@ RUNS = [
         "open: c / boundary 3: plan batches=0 bound=nothing / a 0 0 0 0 0 failed / b 1 1 0 0 0 updated / c 1 1 0 0 0 updated / end finished",
         2,
     ),
+    ("the value of the deepest group", LAYERS, comparing("{{ v }}", "3"), ALONE.replace(" a ", " h ") + "h 1 1 0 0 0 updated / end finished", 0),
+    ("a host's own value", OWN_VALUE, comparing("{{ v }}", "5"), ALONE.replace(" a ", " h ") + "h 1 1 0 0 0 updated / end finished", 0),
+    ("a word with two names", SEVEN, comparing("{{ inventory_hostname }}-{{v}}", "a-7"), ALONE + "a 1 1 0 0 0 updated / end finished", 0),
+    ("braces apart are plain text", SEVEN, comparing("{ {v}}", "{{ t }}"), ALONE + "a 1 1 0 0 0 updated / end finished", 0),
+    ("a word as long as may be", SEVEN, comparing(LONG + "{{v}}", LONG + "7"), ALONE + "a 1 1 0 0 0 updated / end finished", 0),
+    ("a word of one byte more", SEVEN, comparing(LONG + "x{{v}}", LONG), ALONE + "a 0 0 1 0 0 failed / end all-failed", 4),
+    (
+        "a result of an earlier play",
+        HERE,
+        EARLIER_RESULT,
+        f"play 1 / {ALONE}a 0 0 0 1 0 updated / end finished / play 2 / {ALONE}a 1 1 0 0 0 updated / end finished",
+        0,
+    ),
+    (
+        "a later play on other hosts",
+        ONE_OFF,
+        OTHER_HOSTS,
+        "play 1 / boundary 1: plan batches=1 bound=one-host / open: a b / boundary 2: plan batches=0 bound=nothing / a 0 0 1 0 0 failed / "
+        "b 1 1 0 0 0 updated / d 0 0 0 0 0 off / end finished / play 2 / boundary 1: plan batches=1 bound=one-host / open: c / "
+        "boundary 2: plan batches=0 bound=nothing / a 0 0 0 0 0 failed / c 1 1 0 0 0 updated / d 0 0 0 0 0 off / end finished",
+        2,
+    ),
+]
+
+# What it shows, the inventory, the playbook, and what its programs write down where one runs at a time.
+WRITTEN = [
+    (
+        "the second step where half of the batch may fail",
+        FOUR,
+        playbook(noting(1, "a", "b"), noting(2), max_fail_percentage=50),
+        "a 1 / b 1 / c 1 / d 1 / c 2 / d 2",
+    ),
+    ("no second step where less may", FOUR, playbook(noting(1, "a", "b"), noting(2), max_fail_percentage=49), "a 1 / b 1 / c 1 / d 1"),
+    (
+        "handlers behind all tasks, not on a host that failed",
+        '{"all":{"hosts":{"a":null,"b":null}}}',
+        playbook(
+            {**noting(1), "notify": "H2"},
+            {**noting(2), "notify": ["H1", "H2"]},
+            noting(3, "b"),
+            handlers=[{"name": "H1", **noting(4)}, {"name": "H2", **noting(5)}],
+        ),
+        "a 1 / b 1 / a 2 / b 2 / a 3 / b 3 / a 4 / a 5",
+    ),
+    (
+        "nothing where a step is skipped or a name has no value",
+        '{"all":{"hosts":{"a":{"v":1},"b":{"v":2},"c":null}}}',
+        playbook({**noting(1), "when": "v == 1"}, noting(2)),
+        "a 1 / a 2 / b 2",
+    ),
+    ("the first batch alone where its rack is blocked then", RACKS, playbook(noting(1, "a")), "a 1 / d 1"),
 ]
 
 HALTING = "advanced: a b c d / a failed / b failed / c halted / d halted / end too-many-failed step=1 failed=2 size=4"
