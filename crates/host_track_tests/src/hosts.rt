@@ -1,34 +1,80 @@
-//! Hosts of one group, with their variables.
-use domains::Fleet;
-use group_tree::Tree;
-use host_track::registers_of;
-use host_vars::{Vars, layered_all};
-use made_plays::{group, long_text};
-use play_model::Play;
-use std::alloc::{AllocError, Global};
+//! A fleet of one host with a variable. A call that was refused memory is made again.
+ghost use Rattle.std.specs.Prelude.{◌<◌, IfOk, length};
+ghost use Rattle.domains.specs.Fleets.{IsFleetOf};
+
+use domains::{Fleet, FleetFault};
+use group_tree::{Group, GroupFault, HostId, Scalar, Tree};
+use host_vars::{Vars, layered, layered_all};
+use std::alloc::{AllocError, Allocator, Global};
 use std::test::Fail;
 
-fn tree(alloc: Global, values: &[(&str, i64)]) -> Result<Tree<Global>, Fail> {
-    let long = long_text(alloc)?;
-    match Tree::new(group(alloc, values, long.as_str())?) {
+/// The group of the host `a`, on which `v` is 1.
+fn group<A: Allocator + Clone>(alloc: A) -> Result<Group<A>, GroupFault> {
+    let mut all = Group::new(alloc, "all", None, &[])?;
+    all.add_host("a", &[("v", Scalar::Int(1))])?;
+    Ok(all)
+}
+
+fn group_again(alloc: Global) -> Result<Group<Global>, GroupFault> {
+    match group(alloc) {
+        Err(GroupFault::Memory) => group(alloc),
+        answer => answer,
+    }
+}
+
+fn tree_again(alloc: Global) -> Result<Tree<Global>, Fail> {
+    match Tree::new(group_again(alloc)?) {
         Ok(tree) => Ok(tree),
         Err((_, _)) => Err(Fail::new("no tree")),
     }
 }
 
-fn hosts_in(alloc: Global, tree: &Tree<Global>) -> Result<Vec<Vars>, Fail> {
-    let fleet = Fleet::build(alloc, tree)?;
-    Ok(layered_all(alloc, tree, &fleet)?)
+fn fleet_again(alloc: Global, tree: &Tree<Global>) -> Result<Fleet, FleetFault>
+    ensures { IfOk result (IsFleetOf tree.now) }
+{
+    match Fleet::build(alloc, tree) {
+        Err(FleetFault::Memory) => Fleet::build(alloc, tree),
+        answer => answer,
+    }
 }
 
-/// The hosts of these names, in the order of their names.
-pub(crate) fn hosts(alloc: Global, values: &[(&str, i64)]) -> Result<Vec<Vars>, Fail> {
-    let tree = tree(alloc, values)?;
-    hosts_in(alloc, &tree)
+fn all_again(alloc: Global, tree: &Tree<Global>, fleet: &Fleet) -> Result<Vec<Vars>, AllocError>
+    requires { IsFleetOf tree.now fleet.now }
+{
+    match layered_all(alloc, tree, fleet) {
+        Err(AllocError) => layered_all(alloc, tree, fleet),
+        answer => answer,
+    }
 }
 
-/// The host as it begins the play.
-pub(crate) fn begun(alloc: Global, play: &Play, vars: &Vars) -> Result<Vars, AllocError> {
-    let registers = registers_of(alloc, play)?;
-    vars.begin_play(alloc, &registers)
+fn alone_again(
+    alloc: Global,
+    tree: &Tree<Global>,
+    fleet: &Fleet,
+    host: HostId,
+) -> Result<Vars, AllocError>
+    requires fleet { IsFleetOf tree.now fleet.now }
+    requires host { host.index < length fleet.now.hosts }
+{
+    match layered(alloc, tree, fleet, host) {
+        Err(AllocError) => layered(alloc, tree, fleet, host),
+        answer => answer,
+    }
+}
+
+fn both_ways(alloc: Global, tree: &Tree<Global>, fleet: &Fleet) -> Result<(Vec<Vars>, Vars), Fail>
+    requires { IsFleetOf tree.now fleet.now }
+{
+    let Some(host) = fleet.host("a") else {
+        return Err(Fail::new("no host"));
+    };
+    let all = all_again(alloc, tree, fleet)?;
+    Ok((all, alone_again(alloc, tree, fleet, host)?))
+}
+
+/// The variables of all hosts, and those of the host `a` alone.
+pub(crate) fn hosts(alloc: Global) -> Result<(Vec<Vars>, Vars), Fail> {
+    let tree = tree_again(alloc)?;
+    let fleet = fleet_again(alloc, &tree)?;
+    both_ways(alloc, &tree, &fleet)
 }

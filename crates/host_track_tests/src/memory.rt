@@ -1,17 +1,14 @@
 //! Want of memory passes, and what was lent is as it was: this test holds whatever one request is refused.
 ghost use Rattle.std.specs.Prelude.{IfOk, OnOk};
-ghost use Rattle.domains.specs.Fleets.{IsFleetOf};
 ghost use Rattle.host_track.specs.Summaries.{HasPlaceFor, IsCopyFor};
 ghost use Rattle.outcome_results.specs.Endings.{ending_of};
 ghost use Rattle.outcome_results.specs.Judging.{register_of};
 ghost use Rattle.play_model.specs.Plays.{HasPlainWords};
 
-use domains::{Fleet, FleetFault};
-use group_tree::{Group, GroupFault, Tree};
+use crate::hosts::hosts;
 use host_jobs::Asked;
 use host_track::{Summary, copy_for, registers_of, step_at};
-use host_vars::{Registered, Registers, Vars, layered_all};
-use made_plays::{End, group};
+use host_vars::{Registered, Registers, Vars};
 use outcome_results::Outcome;
 use play_faults::PlayFault;
 use play_model::{Play, Step};
@@ -25,31 +22,6 @@ const PLAYBOOK: &str = r#"[{"hosts":"all","tasks":[
     {"command":"two","when":"r.rc == 3","register":"s"},
     {"command":"three {{ r.stdout }}","register":"r","ignore_errors":true}],
     "handlers":[{"name":"h","command":"four","when":"u","register":"q"}]}]"#;
-
-fn group_again(alloc: Global) -> Result<Group<Global>, GroupFault> {
-    match group(alloc, &[("a", 1)], "") {
-        Err(GroupFault::Memory) => group(alloc, &[("a", 1)], ""),
-        answer => answer,
-    }
-}
-
-fn fleet_again(alloc: Global, tree: &Tree<Global>) -> Result<Fleet, FleetFault>
-    ensures { IfOk result (IsFleetOf tree.now) }
-{
-    match Fleet::build(alloc, tree) {
-        Err(FleetFault::Memory) => Fleet::build(alloc, tree),
-        answer => answer,
-    }
-}
-
-fn hosts_again(alloc: Global, tree: &Tree<Global>, fleet: &Fleet) -> Result<Vec<Vars>, AllocError>
-    requires { IsFleetOf tree.now fleet.now }
-{
-    match layered_all(alloc, tree, fleet) {
-        Err(AllocError) => layered_all(alloc, tree, fleet),
-        answer => answer,
-    }
-}
 
 fn play_again(alloc: Global) -> Result<Play, PlayFault> {
     match read_play(alloc, PLAYBOOK.as_bytes()) {
@@ -90,9 +62,17 @@ fn ask_again(alloc: Global, summary: &mut Summary, step: &Step) -> Result<Asked,
     }
 }
 
-fn outcome_again(alloc: Global, end: End) -> Result<Outcome, AllocError> {
-    match end.outcome(alloc) {
-        Err(AllocError) => end.outcome(alloc),
+fn ran(alloc: Global, rc: i32) -> Result<Outcome, AllocError> {
+    Ok(Outcome::Ran {
+        rc,
+        stdout: String::from_str(alloc, "out")?,
+        stderr: String::new(alloc),
+    })
+}
+
+fn ran_again(alloc: Global, rc: i32) -> Result<Outcome, AllocError> {
+    match ran(alloc, rc) {
+        Err(AllocError) => ran(alloc, rc),
         answer => answer,
     }
 }
@@ -110,11 +90,11 @@ fn copy_for_again(
     }
 }
 
-fn take(alloc: Global, summary: &mut Summary, step: &Step, end: End) -> Result<(), AllocError>
+fn take(alloc: Global, summary: &mut Summary, step: &Step, rc: i32) -> Result<(), AllocError>
     requires { HasPlainWords step.now }
 {
     let outcome = match ask_again(alloc, summary, step)? {
-        Asked::Job { words: _ } => outcome_again(alloc, end)?,
+        Asked::Job { words: _ } => ran_again(alloc, rc)?,
         Asked::Settled(outcome) => outcome,
     };
     let copy = copy_for_again(alloc, step, &outcome)?;
@@ -125,8 +105,8 @@ fn take(alloc: Global, summary: &mut Summary, step: &Step, end: End) -> Result<(
 fn walk_again(alloc: Global, play: &Play, summary: &mut Summary) -> Result<(), AllocError> {
     for place in 0..play.steps().len() {
         if summary.is_due(play, place) {
-            let end = if place == 2 { End::Ran(1) } else { End::Ran(0) };
-            take(alloc, summary, step_at(play, place), end)?;
+            let rc = if place == 2 { 1 } else { 0 };
+            take(alloc, summary, step_at(play, place), rc)?;
         }
     }
     Ok(())
@@ -145,28 +125,13 @@ fn counts_again(alloc: Global, play: &Play, vars: &Vars) -> Result<bool, AllocEr
     Ok(is_counted(&summary))
 }
 
-fn tree_again(alloc: Global) -> Result<Tree<Global>, Fail> {
-    match Tree::new(group_again(alloc)?) {
-        Ok(tree) => Ok(tree),
-        Err((_, _)) => Err(Fail::new("no tree")),
-    }
-}
-
-fn hosts_of(alloc: Global, tree: &Tree<Global>) -> Result<Vec<Vars>, Fail> {
-    let fleet = fleet_again(alloc, tree)?;
-    Ok(hosts_again(alloc, tree, &fleet)?)
-}
-
-fn all_hosts(alloc: Global) -> Result<Vec<Vars>, Fail> {
-    let tree = tree_again(alloc)?;
-    hosts_of(alloc, &tree)
-}
-
 #[test]
 fn a_step_that_was_refused_memory_is_taken_again(rt: HostRuntime) -> Result<(), Fail> {
     let play = play_again(rt.alloc())?;
-    for vars in &all_hosts(rt.alloc())? {
+    let (all, alone) = hosts(rt.alloc())?;
+    for vars in &all {
         assert!(rt; counts_again(rt.alloc(), &play, vars)?);
     }
+    assert!(rt; counts_again(rt.alloc(), &play, &alone)?);
     Ok(())
 }
