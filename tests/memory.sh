@@ -201,8 +201,6 @@ while read -r crate name; do
 done <<'TESTS'
 domains_tests memory::a_call_that_was_refused_memory_answers_again
 roll_core_tests memory::a_batch_comes_to_its_end_whatever_is_refused
-cond_tests memory::a_condition_is_read_or_memory_is_wanting
-cond_tests memory::a_part_that_memory_was_refused_leaves_the_others
 batch_plan_tests memory::a_call_that_was_refused_memory_answers_again
 host_vars_tests memory::a_call_that_was_refused_memory_answers_again
 host_track_tests joined::a_part_that_is_refused_leaves_the_others
