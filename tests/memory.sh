@@ -201,7 +201,6 @@ while read -r crate name; do
 done <<'TESTS'
 domains_tests memory::a_call_that_was_refused_memory_answers_again
 roll_core_tests memory::a_batch_comes_to_its_end_whatever_is_refused
-batch_plan_tests memory::a_call_that_was_refused_memory_answers_again
 host_track_tests joined::a_part_that_is_refused_leaves_the_others
 host_track_tests memory::a_step_that_was_refused_memory_is_taken_again
 ticket_line tests::each_ticket_is_taken_once

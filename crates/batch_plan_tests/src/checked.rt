@@ -1,11 +1,19 @@
 //! Plans from elsewhere that are checked.
-use crate::text::{fleet_of, region};
 use batch_plan::answers::Plan;
 use batch_plan::{Bound, Status, check_plan};
 use domains::Fleet;
-use group_tree::{GroupId, HostId};
-use std::alloc::{AllocError, Global};
+use group_tree::{Group, GroupFault, GroupId, HostId};
+use sample_fleets::{fleet_of, group, with};
+use std::alloc::{AllocError, Allocator, Global};
 use std::test::Fail;
+
+/// Two racks of a region: of its five hosts three may be down, of the first rack's three one, of the other's two both.
+fn region<A: Allocator + Clone>(alloc: A) -> Result<Group<A>, GroupFault> {
+    let r1 = group(alloc.clone()?, "r1", Some(1), &["a", "b", "c"])?;
+    let r2 = group(alloc.clone()?, "r2", Some(2), &["d", "e"])?;
+    let eu = with(with(group(alloc.clone()?, "eu", Some(3), &[])?, r1)?, r2)?;
+    with(group(alloc, "all", None, &[])?, eu)
+}
 
 /// The bound that forces three batches: of the first rack so many wait.
 fn rack_bound(waiting: usize) -> Bound {
@@ -50,7 +58,7 @@ const PAST: usize = usize::MAX;
 
 #[test]
 fn a_plan_is_forced_whatever_the_order_of_its_hosts(rt: HostRuntime) -> Result<(), Fail> {
-    let fleet = fleet_of(rt.alloc(), region(rt.alloc(), 1, 2)?)?;
+    let fleet = fleet_of(rt.alloc(), region(rt.alloc())?)?;
     for (batches, bound, forced) in [
         (WHOLE, rack_bound(3), true),
         (&[&[3, 0][..], &[4, 1], &[2]][..], rack_bound(3), true),
@@ -64,7 +72,7 @@ fn a_plan_is_forced_whatever_the_order_of_its_hosts(rt: HostRuntime) -> Result<(
 
 #[test]
 fn what_no_host_has_is_no_plan(rt: HostRuntime) -> Result<(), Fail> {
-    let fleet = fleet_of(rt.alloc(), region(rt.alloc(), 1, 2)?)?;
+    let fleet = fleet_of(rt.alloc(), region(rt.alloc())?)?;
     let nowhere = Bound::Group {
         group: GroupId { index: PAST },
         waiting: 3,

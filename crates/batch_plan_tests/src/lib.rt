@@ -1,18 +1,12 @@
-//! What no clause of `batch_plan` says: plans from elsewhere, the statuses of a later play, all plans of small fleets beside the answer,
-//! and want of memory.
+//! What no command reaches of plans: plans from elsewhere, the statuses of a later play whatever those before it, each law, and the texts of a
+//! fleet's faults.
 #![tactic(auto)]
 
 #[cfg(test)]
 mod checked;
 #[cfg(test)]
+mod faults;
+#[cfg(test)]
 mod laws;
 #[cfg(test)]
-mod memory;
-#[cfg(test)]
-mod slow;
-#[cfg(test)]
 mod statuses;
-#[cfg(test)]
-mod text;
-#[cfg(test)]
-mod tried;

@@ -1,7 +1,7 @@
 //! The statuses with which a later play begins.
-use crate::text::{fleet_of, group};
 use batch_plan::{Status, restart};
 use group_tree::HostId;
+use sample_fleets::{fleet_of, group};
 use std::test::Fail;
 
 const A: HostId = HostId { index: 0 };

@@ -1,0 +1,35 @@
+//! The texts of the faults that an inventory is no fleet for; the program writes lines of its own.
+use domains::FleetFault;
+use std::alloc::{AllocError, Global};
+use std::test::Fail;
+
+fn not_nested(alloc: Global) -> Result<String, AllocError> {
+    let fault = FleetFault::NotNested {
+        host: String::from_str(alloc, "x")?,
+        first: String::from_str(alloc, "rack9")?,
+        second: String::from_str(alloc, "row1")?,
+    };
+    fault.to_string(alloc)
+}
+
+fn start_over(alloc: Global) -> Result<String, AllocError> {
+    let fault = FleetFault::StartOver {
+        group: String::from_str(alloc, "g")?,
+        down: 2,
+        limit: 1,
+    };
+    fault.to_string(alloc)
+}
+
+#[test]
+fn a_fault_says_what_it_is_about(rt: HostRuntime) -> Result<(), Fail> {
+    assert_eq!(rt;
+        not_nested(rt.alloc())?.as_str(),
+        "host x is in rack9 and in row1, and neither contains the other"
+    );
+    assert_eq!(rt;
+        start_over(rt.alloc())?.as_str(),
+        "2 hosts of g are down, and its limit is 1"
+    );
+    Ok(())
+}
