@@ -199,7 +199,6 @@ while read -r crate name; do
     [ "$number" -gt 1 ] || fail "$crate $name asks for no memory"
     echo "$crate $name: $((number - 1)) allocations refused in turn"
 done <<'TESTS'
-domains_tests memory::a_call_that_was_refused_memory_answers_again
 roll_core_tests memory::a_batch_comes_to_its_end_whatever_is_refused
 host_track_tests joined::a_part_that_is_refused_leaves_the_others
 host_track_tests memory::a_step_that_was_refused_memory_is_taken_again
