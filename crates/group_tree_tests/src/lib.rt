@@ -1,4 +1,5 @@
-//! What no clause of `group_tree` says: that its calls succeed with memory, in any allocator, and say so without it.
+//! What no command reaches of `group_tree`: copies from one allocator to another, heaps that run out, which group holds a host, and variables of
+//! one name.
 #![tactic(auto)]
 
 #[cfg(test)]

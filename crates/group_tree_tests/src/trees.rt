@@ -1,7 +1,7 @@
-//! Each call with ample memory.
-use crate::fleet::{group, region, tree};
+//! Copies, and what is read of a tree, with ample memory.
+use crate::fleet::tree;
 use bumpalo::Bump;
-use group_tree::{Group, GroupFault, Host, Limit, Percentage, Scalar, Tree, TreeFault, is_name};
+use group_tree::{Group, GroupFault, Host, Limit, Percentage, Scalar, Tree};
 use std::alloc::{Allocator, Global};
 use std::process::Abort;
 use std::test::Fail;
@@ -42,13 +42,6 @@ fn is_region<A: Allocator>(tree: &Tree<A>) -> bool {
         && has_row(tree, 3, ("r2", 3, half), &["d", "e"])
         && has_row(tree, 4, ("spare", 2, None), &[])
         && tree.row(5).is_none()
-}
-
-#[test]
-fn groups_are_numbered_in_preorder(rt: HostRuntime) -> Result<(), Fail> {
-    let tree = tree(rt.alloc())?;
-    assert!(rt; is_region(&tree));
-    Ok(())
 }
 
 #[test]
@@ -109,43 +102,6 @@ fn the_later_of_two_variables_counts(rt: HostRuntime) -> Result<(), Fail> {
     Ok(())
 }
 
-#[test]
-fn a_name_is_1_to_255_bytes_of_the_alphabet(rt: HostRuntime) -> Result<(), Fail> {
-    for good in ["a", "Z", "0", "web-1.example_2", "-", "..", "all"] {
-        assert!(rt; is_name(good), "{good}");
-    }
-    for bad in ["", "a b", "www[01:50]", "caf\u{e9}", "a/b", "a\n", "a:b"] {
-        assert!(rt; !is_name(bad), "{bad}");
-        let refused = Group::new(rt.alloc(), bad, None, &[]);
-        assert!(rt; matches!(refused, Err(GroupFault::BadName)), "{bad}");
-    }
-    let mut long = String::new(rt.alloc());
-    for _ in 0..255usize {
-        long.push_str("n")?;
-    }
-    assert!(rt; is_name(long.as_str()));
-    long.push_str("n")?;
-    assert!(rt; !is_name(long.as_str()));
-    Ok(())
-}
-
-#[test]
-fn a_percentage_is_at_most_100_and_rounded_down(rt: HostRuntime) -> Result<(), Fail> {
-    assert_eq!(rt; Percentage::new(101), None);
-    for (share, members, allowed) in [
-        (0, 7, 0),
-        (33, 3, 0),
-        (50, 3, 1),
-        (58, 50, 29),
-        (100, 65535, 65535),
-    ] {
-        let share = Percentage::new(share).ok_or("a share")?;
-        assert_eq!(rt; Limit::Percent(share).allowed(members), allowed);
-    }
-    assert_eq!(rt; Limit::Count(3).allowed(2), 3);
-    Ok(())
-}
-
 /// A group without hosts and children, whose name ends in a number.
 fn bare<A: Allocator + Clone>(alloc: A, number: usize) -> Result<Group<A>, Fail> {
     let name = format!(in alloc.clone()?; "g{number}")?;
@@ -184,28 +140,6 @@ fn wide<A: Allocator + Clone>(alloc: A, children: usize, hosts: usize) -> Result
     Ok(all)
 }
 
-/// What refuses the group, if anything does.
-fn fault<A: Allocator + Drop>(group: Group<A>) -> Option<TreeFault> {
-    match Tree::new(group) {
-        Ok(_) => None,
-        Err((fault, _)) => Some(fault),
-    }
-}
-
-#[test]
-fn a_tree_keeps_its_bounds(rt: HostRuntime) -> Result<(), Fail> {
-    assert_eq!(rt; fault(chain(rt.alloc(), 32)?), None);
-    assert_eq!(rt; fault(chain(rt.alloc(), 33)?), Some(TreeFault::TooDeep));
-    assert_eq!(rt; fault(wide(rt.alloc(), 1023, 0)?), None);
-    assert_eq!(rt; fault(wide(rt.alloc(), 1024, 0)?), Some(TreeFault::TooMany));
-    assert_eq!(rt; fault(wide(rt.alloc(), 0, 16384)?), None);
-    assert_eq!(rt;
-        fault(wide(rt.alloc(), 0, 16385)?),
-        Some(TreeFault::TooMany)
-    );
-    Ok(())
-}
-
 /// Whether a copy of the tree has this many groups, and the last of them this name and depth and no host.
 fn copy_ends_so(
     alloc: Global,
@@ -232,14 +166,5 @@ fn the_deepest_tree_is_copied_and_walked(rt: HostRuntime) -> Result<(), Fail> {
     let group = chain(rt.alloc(), 32)?;
     let tree = Tree::new(group).ok().ok_or("a deep tree")?;
     assert!(rt; copy_ends_so(rt.alloc(), &tree, 32, ("g0", 32))?);
-    Ok(())
-}
-
-#[test]
-fn a_group_at_two_places_is_named_by_its_number(rt: HostRuntime) -> Result<(), Fail> {
-    let mut all = region(rt.alloc())?;
-    all.add_child(group(rt.alloc(), "r1", None, &[])?)?;
-    all.add_child(group(rt.alloc(), "spare", None, &[])?)?;
-    assert_eq!(rt; fault(all), Some(TreeFault::TwicePlaced { group: 6 }));
     Ok(())
 }
