@@ -1,9 +1,7 @@
-//! What no clause of `roll_core` says: that the calls succeed where there is memory, worked plays in full, a board that is driven in made
-//! order against a plain slow program, thousands of hosts, want of memory, and what a board tells of its batch.
+//! What no command reaches of a board: batches that may not be opened and hosts that may not be set aside, want of memory and claims that are
+//! stranded, what a board tells of its batch, and each law of legal logs.
 #![tactic(auto)]
 
-#[cfg(test)]
-mod driven;
 #[cfg(test)]
 mod memory;
 #[cfg(test)]
@@ -14,7 +12,3 @@ mod read;
 mod rolled;
 #[cfg(test)]
 mod setting;
-#[cfg(test)]
-mod thousands;
-#[cfg(test)]
-mod worked;

@@ -1,11 +1,10 @@
 //! Which batches are opened, and which hosts are set aside.
 ghost use Rattle.std.specs.Prelude.{◌≡◌};
 
-use crate::rolled::{roll, script_of, show_hosts};
+use crate::rolled::{one_fails, roll};
 use crate::setting::{board_of, set_up};
 use group_tree::{Group, GroupFault, GroupId, HostId};
-use made_plays::End;
-use roll_core::{Board, HoldFault, OpenFault};
+use roll_core::{Board, HoldFault, OpenFault, Status};
 use sample_fleets::{group, with};
 use script_runner::Script;
 use std::alloc::{Allocator, Global};
@@ -53,17 +52,17 @@ fn one_batch<'s, L: Ledger, H: Threads + Wait + Processes<Started = SystemProces
 }
 
 /// The hosts behind that batch.
-fn are_shown<'s, L: Ledger, H: Abort>(
-    rt: &H,
-    alloc: Global,
-    board: &Board<'s, Script, L>,
-) -> Result<(), Fail> {
-    let shown = show_hosts(alloc, board)?;
-    assert_eq!(rt;
-        shown.as_str(),
-        "a 0 0 1 0 0 failed / b 0 0 0 0 0 waiting / c 0 0 0 0 0 waiting / d 1 1 0 0 0 updated / e 0 0 0 0 0 waiting"
-    );
-    Ok(())
+fn are_left_so<L: Ledger, H: Abort>(rt: &H, board: &Board<'_, Script, L>) {
+    let left = [
+        Status::Failed,
+        Status::Waiting,
+        Status::Waiting,
+        Status::Updated,
+        Status::Waiting,
+    ];
+    for (index, status) in left.iter().enumerate() {
+        assert!(rt; board.status(host(index)) == *status, "{index}");
+    }
 }
 
 /// The failed host stays down, so no other of its rack is opened; those that find no room are set aside.
@@ -107,10 +106,10 @@ fn rolled<L: Ledger, H: Threads + Wait + Processes<Started = SystemProcess> + Ab
     requires many { blank.parts ≡ 129 }
 {
     let setting = set_up(alloc, region(alloc)?, ONE_STEP)?;
-    let script = script_of(alloc, &[(0, &[End::Ran(1)])])?;
+    let script = one_fails(alloc, 0, 0)?;
     let mut board = board_of::<L>(alloc, &setting, &script, 5, blank)?;
     one_batch(rt, alloc, &mut board)?;
-    are_shown(rt, alloc, &board)?;
+    are_left_so(rt, &board);
     behind_it(rt, alloc, &mut board)
 }
 

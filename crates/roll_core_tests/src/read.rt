@@ -1,10 +1,9 @@
 //! What a board tells of its batch, at a play of six hosts of which two may be down; and each law of legal logs, called once.
 ghost use Rattle.std.specs.Prelude.{◌≡◌};
 
-use crate::rolled::{roll, script_of};
+use crate::rolled::{one_fails, roll};
 use crate::setting::{board_of, set_up};
 use group_tree::{Group, GroupFault, GroupId, HostId};
-use made_plays::End;
 use roll_core::{Board, Status, what_was_handed_out_is_out, work_on_others_leaves_a_claim_out};
 use roll_logs as laws;
 use sample_fleets::{group, with};
@@ -57,7 +56,7 @@ fn rolled<L: Ledger, H: Threads + Wait + Processes<Started = SystemProcess> + Ab
     requires many { blank.parts ≡ 129 }
 {
     let setting = set_up(alloc, six(alloc)?, THREE_STEPS)?;
-    let script = script_of(alloc, &[(2, &[End::Ran(0), End::Ran(1)])])?;
+    let script = one_fails(alloc, 2, 1)?;
     let mut board = board_of::<L>(alloc, &setting, &script, 64, blank)?;
     assert_eq!(rt; board.forks(), 64);
     is_told(rt, &board, &[], 0, 0);
