@@ -60,7 +60,7 @@ BOUNDS = [
         lambda: inputs.short_words(200, "{{ v }} }} "),
         1.1,
     ),
-    Bound("a word of 4,000 bytes with wrong braces", inputs.wrong_braces, 4_000, 24),
+    Bound("a word of 4,000 bytes with wrong braces", inputs.wrong_braces, 4_000, 24, lambda: inputs.wrong_braces(40), 2),
     Bound("a text of 1,000,000 bytes whose braces never close", inputs.open_braces, 1_000_000, 13, half(inputs.open_braces, 1_000_000), 3.5),
 ]
 SAME = [
