@@ -34,6 +34,7 @@ done <<'FAULTS'
 203 UnknownKey at=all/ | {"all":{"":null}}
 203 UnknownKey at=all/children/web/a/b | {"all":{"children":{"web":{"a/b":1}}}}
 203 UnknownKey at=all/x | {"all":{"hosts":[],"x":1}}
+203 UnknownKey at=all/x | {"all":{"vars":{"max_down":-1},"x":1}}
 202 BadShape at=all/vars | {"all":{"vars":[]}}
 202 BadShape at=all/hosts | {"all":{"hosts":["a"]}}
 202 BadShape at=all/children | {"all":{"children":"web"}}
