@@ -1,6 +1,7 @@
 #!/bin/sh
-# Refuses each allocation in turn, of the built program: what it answers is what it answers with all memory, or want of memory and nothing else.
-# The opening of a file is refused for want of memory too, as a system does that has none left.
+# Refuses each allocation in turn, of the built program: what it answers is what it answers with all memory, or want of memory and nothing else; of a run
+# the recap of what it came to goes out beside that. The opening of a file is refused for want of memory too, as a system does that has none left, and the start of a
+# thread.
 # Those of the tests too that hold whatever one allocation is refused. It needs a C compiler, crates/rollout/out/rollout, and
 # what rt ci (or rt test) leaves in the out/ of each crate named below. Where BUILT_ALONE is set, those that left nothing are passed over.
 . "$(dirname "$0")/common.sh"
@@ -10,25 +11,31 @@ cat >"$work/refuse.c" <<'C'
 #include <dlfcn.h>
 #include <errno.h>
 #include <fcntl.h>
+#include <pthread.h>
 #include <stdarg.h>
 #include <stdatomic.h>
 #include <stdlib.h>
 #include <string.h>
 #include <unistd.h>
 
-/* What this program starts has all memory. */
+/* What is started has none of this. */
 __attribute__((constructor)) static void alone(void) {
     unsetenv("LD_PRELOAD");
 }
 
-/* Whether this allocation is the one that REFUSE numbers, from 1. Where it is, the file REFUSED is made. */
-static int refused(void) {
-    static atomic_long calls;
-    const char *number = getenv("REFUSE");
-    if (!number || atomic_fetch_add(&calls, 1) + 1 != atol(number)) return 0;
+/* Whether this call is the one that the variable numbers, from 1. Where it is, the file REFUSED is made. */
+static int is_chosen(const char *variable, atomic_long *calls) {
+    const char *number = getenv(variable);
+    if (!number || atomic_fetch_add(calls, 1) + 1 != atol(number)) return 0;
     const char *made = getenv("REFUSED");
     if (made) close(open(made, O_CREAT | O_WRONLY, 0600));
     return 1;
+}
+
+/* Whether this allocation is refused. */
+static int refused(void) {
+    static atomic_long calls;
+    return is_chosen("REFUSE", &calls);
 }
 
 void *malloc(size_t size) {
@@ -55,6 +62,14 @@ int posix_memalign(void **out, size_t alignment, size_t size) {
     return refused() ? ENOMEM : real(out, alignment, size);
 }
 
+/* The thread that REFUSE_THREAD numbers can't be started. */
+int pthread_create(pthread_t *thread, const pthread_attr_t *attributes, void *(*begin)(void *), void *argument) {
+    static int (*real)(pthread_t *, const pthread_attr_t *, void *(*)(void *), void *);
+    static atomic_long calls;
+    if (!real) real = (int (*)(pthread_t *, const pthread_attr_t *, void *(*)(void *), void *))dlsym(RTLD_NEXT, "pthread_create");
+    return is_chosen("REFUSE_THREAD", &calls) ? EAGAIN : real(thread, attributes, begin, argument);
+}
+
 /* The file that REFUSE_OPEN names can't be opened for want of memory. */
 int open(const char *path, int flags, ...) {
     static int (*real)(const char *, int, ...);
@@ -77,13 +92,12 @@ ${CC:-cc} -shared -fPIC -O1 -o "$work/refuse.so" "$work/refuse.c" -ldl || {
     exit 1
 }
 
-
-# Runs the words with one allocation refused; false where there were fewer allocations.
+# Runs the words with one allocation refused, for at most ten seconds; false where there were fewer allocations.
 refusing() {
     number=$1
     shift
     rm -f "$work/refused"
-    timeout -k 5 60 env REFUSE="$number" REFUSED="$work/refused" LD_PRELOAD="$work/refuse.so" "$@" >"$work/out" 2>"$work/errors" <"$input"
+    timeout -k 5 10 env REFUSE="$number" REFUSED="$work/refused" LD_PRELOAD="$work/refuse.so" "$@" >"$work/out" 2>"$work/errors" <"$input"
     status=$?
     [ -e "$work/refused" ]
 }
@@ -184,6 +198,126 @@ opening_refused() {
 }
 opening_refused "$top/examples/two-regions.json" limits "$top/examples/two-regions.json"
 opening_refused "$top/examples/everywhere.json" plan "$top/examples/two-regions.json" "$top/examples/everywhere.json"
+# ---- runs
+
+# Runs a program, over the library that PRELOAD names, for ten seconds at most, and ends as it does: but with 98 where it took longer, and with 99 where
+# it ended before a program that it had started, or hadn't waited for one.
+cat >"$work/under.c" <<'C'
+#define _GNU_SOURCE
+#include <signal.h>
+#include <stdlib.h>
+#include <sys/prctl.h>
+#include <sys/wait.h>
+#include <unistd.h>
+
+static pid_t program;
+static volatile sig_atomic_t late;
+
+static void end(int signal) {
+    (void)signal;
+    late = 1;
+    kill(program, SIGKILL);
+}
+
+int main(int count, char **words) {
+    int how = 0;
+    if (count < 2 || prctl(PR_SET_CHILD_SUBREAPER, 1) < 0 || (program = fork()) < 0) return 97;
+    if (program == 0) {
+        setenv("LD_PRELOAD", getenv("PRELOAD"), 1);
+        execv(words[1], words + 1);
+        _exit(97);
+    }
+    signal(SIGALRM, end);
+    alarm(10);
+    waitpid(program, &how, 0);
+    if (late) return 98;
+    /* Who has lost the one that started him is a child of this one. */
+    if (waitpid(-1, NULL, WNOHANG) >= 0) return 99;
+    return WIFEXITED(how) ? WEXITSTATUS(how) : 128 + WTERMSIG(how);
+}
+C
+${CC:-cc} -O1 -o "$work/under" "$work/under.c" || {
+    fail "no C compiler made under"
+    finish
+    exit 1
+}
+
+# Whether a recap that was broken off begins as the whole one of out.answered does: so do the lines of its boundaries, and all lines of the plays before its
+# last one. Then it has a line for each of six hosts, of which at most two are down, and its end.
+cat >"$work/begins.awk" <<'AWK'
+FNR == NR { whole[FNR] = $0; next }
+over { over = 2; exit }
+$0 == "end fault" { over = 1; next }
+$0 != whole[FNR] { other = 1 }
+/ state=/ { hosts++; down += / state=(running|failed|halted|off)$/; next }
+other { exit }
+{ hosts = down = 0 }
+END { exit !(over == 1 && hosts == 6 && down <= 2) }
+AWK
+
+# wants WHAT: the run is as with all memory, or memory was wanting: before anything ran, or with the recap of what it came to.
+wants() {
+    if [ "$status" -eq "$answered" ] && cmp -s "$work/out" "$work/out.answered" && cmp -s "$work/errors" "$work/errors.answered"; then
+        pass
+    elif [ "$status" -eq 5 ] && [ "$(cat "$work/errors")" = 'rollout: memory' ] && [ ! -s "$work/out" ]; then
+        pass
+    elif [ "$status" -eq 5 ] && [ "$(cat "$work/errors")" = 'rollout: memory' ] && awk -f "$work/begins.awk" "$work/out.answered" "$work/out"; then
+        broken=$((broken + 1))
+        pass
+    else
+        fail "$1: status $status, $(cat "$work/errors")"
+        cat "$work/out"
+    fi
+}
+
+# refusing_run VARIABLE NUMBER WORDS: runs the words with one call refused; false where there were fewer of its kind.
+refusing_run() {
+    rm -f "$work/refused"
+    variable=$1
+    number=$2
+    shift 2
+    env "$variable=$number" REFUSED="$work/refused" PRELOAD="$work/refuse.so" "$work/under" "$@" >"$work/out" 2>"$work/errors" <"$input"
+    status=$?
+    [ -e "$work/refused" ]
+}
+
+# run_refused FORKS STATUS: each allocation and each thread of a run of the six hosts refused in turn. With several workers the number of an
+# allocation isn't always the same one's.
+run_refused() {
+    run run "$work/six.json" "$work/play.json" --forks "$1"
+    answered=$status
+    [ "$status" -eq "$2" ] && [ "$(tail -n 1 "$work/out")" = 'end finished' ] && pass || fail "a run of six hosts: status $status"
+    mv "$work/out" "$work/out.answered"
+    mv "$work/errors" "$work/errors.answered"
+    broken=0
+    number=1
+    while refusing_run REFUSE "$number" "$rollout" run "$work/six.json" "$work/play.json" --forks "$1"; do
+        wants "allocation $number at $1 forks refused"
+        number=$((number + 1))
+    done
+    wants "no allocation at $1 forks refused"
+    [ "$broken" -gt 100 ] && pass || fail "at $1 forks $broken of $((number - 1)) refused allocations broke the run off"
+    echo "run of six hosts, $1 forks: $((number - 1)) allocations refused in turn, $broken broke it off"
+    number=1
+    while refusing_run REFUSE_THREAD "$number" "$rollout" run "$work/six.json" "$work/play.json" --forks "$1"; do
+        # nothing is opened
+        check "thread $number of $1 refused" 5 "$waiting" "rollout: memory$newline"
+        number=$((number + 1))
+    done
+    [ "$number" -gt "$1" ] && pass || fail "$((number - 1)) threads at $1 forks"
+}
+printf '{"all":{"children":{"g":{"vars":{"max_down":2},"hosts":{"a":null,"b":null,"c":null,"d":null,"e":null,"f":null}}}}}' >"$work/six.json"
+spares='{"command":{"argv":["test","{{ inventory_hostname }}","!=","c"]},"register":"r"}'
+waiting=$(for host in a b c d e f; do echo "$host ok=0 changed=0 failed=0 skipped=0 ignored=0 state=waiting"; done; echo 'end fault')$newline
+printf '[{"hosts":"all","tasks":[{"command":"true"},%s,{"command":"true"}]}]' "$spares" >"$work/play.json"
+run_refused 1 2
+run_refused 2 2
+printf '[{"hosts":"all","tasks":[%s]},{"hosts":"all","tasks":[{"command":"true","when":"r.rc == 0"}]}]' "$spares" >"$work/play.json"
+waiting="play 1$newline$waiting"
+run_refused 2 2
+
+# ---- tests
+
 # crate and test, which holds whatever one allocation is refused
 while read -r crate name; do
     tests=$top/crates/$crate/out/${crate}_tests

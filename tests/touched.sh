@@ -7,7 +7,7 @@
 # edits of must-fail/; builds the program where it is among them, or missing; and runs the scripts on it.
 #
 # Tests are run as `rt try --test` runs them, without a proof: what a test shows it shows by running, and proving the tests of all crates takes nearly as long
-# as proving the crates. So rows of memory.sh that want a proved program of tests are passed over where that isn't built; the gate has all.
+# as proving the crates. So rows of memory.sh and workers.sh that want a proved program of tests are passed over where that isn't built; the gate has all.
 . "$(dirname "$0")/crates.sh"
 
 # part NAME: how long it took since the last one.
@@ -79,6 +79,7 @@ fi
 
 scripts='cli inventories playbooks broken memory programs drawn readme'
 case " $names " in *' roll_core '* | *' ticket_line '*) scripts="$scripts once" ;; esac
+case " $names " in *' fork_pool '*) scripts="$scripts workers" ;; esac
 BUILT_ALONE=yes sh tests/gate.sh $scripts >"$work/scripts" 2>&1
 counts=$(tail -n 1 "$work/scripts" | sed -n 's/^\([0-9]*\) passed, \([0-9]*\) failed$/\1 \2/p')
 set -- ${counts:-0 1}

@@ -50,11 +50,15 @@ class Case:
                 return commands.refused(Fault(902, "File", name=name))
         return commands.command(self.words, [files[name] for name in named] or [self.typed], self.typed)
 
+    def at_forks(self, numbers):
+        """The run with each of these numbers of programs at once."""
+        return [replace(self, words=(*self.words, "--forks", str(forks))) for forks in numbers]
+
     def variants(self):
         """The calls that have to say the same: a run with several numbers of programs at once, where none is said."""
         if self.kind != "run" or "--forks" in self.words:
             return [self]
-        chosen = [replace(self, words=(*self.words, "--forks", str(forks))) for forks in FORKS]
+        chosen = self.at_forks(FORKS)
         # 5 is what holds where none are chosen.
         return [self, *chosen[:2], chosen[3]] if len(self.inventory) % 2 else chosen
 

@@ -16,6 +16,8 @@ from rows_of_plans import LIMITS, PLANS
 from rows_of_runs import REHEARSALS, RUNS, WRITTEN
 
 ONE_AT_A_TIME = ("--forks", "1")
+# How many programs run at once in the runs of the rows, beside the number where none is named.
+FORKS_OF_ROWS = (1, 2, 7, 64)
 
 
 def lines(text):
@@ -64,13 +66,18 @@ def checks():
         yield name, case.said(), wanted
 
 
+def calls(case):
+    """The calls of a row, which have to say the same: a run with several numbers of programs at once."""
+    return [case, *case.at_forks(FORKS_OF_ROWS)] if case.kind == "run" and "--forks" not in case.words else [case]
+
+
 def built_checks(program):
     """What the built program says of each row of a command that it has, and what has to be said."""
     program = os.path.abspath(program)
     with tempfile.TemporaryDirectory() as folder:
         known = [kind for kind in KINDS if knows(program, kind, folder)]
         for name, case, wanted in chain(commands_of_rows(), commands_of_conditions()):
-            for variant in case.variants() if case.kind in known else []:
+            for variant in calls(case) if case.kind in known else []:
                 yield f"built: {name}", call(program, variant, folder), wanted
     if "run" in known:
         yield from written_checks(program)
