@@ -117,9 +117,28 @@ input_broken() {
     done
 }
 
+# session_broken INV PLAY: the lines of a rehearsal can't be read to their end; those that came whole are answered. (With no byte of them the end of
+# the playbook can't be seen.)
+session_broken() {
+    lines=$input
+    files=$(($(wc -c <"$1") + $(wc -c <"$2")))
+    for room in $(seq 1 "$(wc -c <"$lines")"); do
+        head -c "$room" "$lines" >"$work/part"
+        head -n "$(wc -l <"$work/part")" "$work/part" >"$work/whole"
+        input=$work/whole
+        answered rehearse "$1" "$2"
+        mv "$work/out.whole" "$work/out.expected"
+        echo "rollout: 902 File name=-" >"$work/errors.expected"
+        input=$lines
+        breaking IN_ROOM="$((files + room))" rehearse "$1" "$2"
+        same "$room bytes read of a rehearsal's lines" 1
+    done
+}
+
 printf '{"all":{"children":{"r1":{"vars":{"max_down":1},"hosts":{"a":null,"b":null}},"r2":{"hosts":{"d":null}}}}}' >"$work/racks.json"
 printf '[{"hosts":"all","tasks":[{"command":"true"}]}]' >"$work/all.json"
 printf '[' >"$work/cut.json"
+printf 'advance a\nshow\nundo\n\nadvance d x\nplan\nadvance b\njump' >"$work/lines"
 size=$(wc -c <"$work/racks.json")
 
 # Each break, as the environment has it.
@@ -132,6 +151,9 @@ each_broken() {
     input_broken "$work/racks.json" "$size" limits "$work/racks.json"
     input=$work/racks.json
     input_broken - "$size"
+    input=$work/lines
+    output_broken rehearse "$work/racks.json" "$work/all.json"
+    session_broken "$work/racks.json" "$work/all.json"
     input=/dev/null
 }
 

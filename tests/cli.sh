@@ -305,6 +305,22 @@ for words in 'run racks.json all.json' 'run --forks 64 racks.json all.json' 'run
     status=$?
     check "a run by $words" 0 "$updated$newline" ''
 done
+# The flag may stand anywhere before the word that ends options. What is told by it stands in the order in which programs end, with the time that each took.
+told="$(for host in a b c d e; do echo "$host step=1 rc=0 ms=N name="; done)
+waiting=0 open: c
+waiting=1 open: b e
+waiting=3 open: a d"
+for words in 'run -v racks.json all.json' 'run racks.json --verbose all.json' 'run racks.json all.json -v' 'run --forks 64 -v racks.json all.json' 'run -v racks.json --forks=1 -v all.json --verbose --' 'run --verbose -- racks.json all.json'; do
+    (
+        cd "$work" || exit 1
+        "$rollout" $words </dev/null >out 2>errors.raw
+    )
+    status=$?
+    sed 's/ ms=[0-9]* name=/ ms=N name=/' "$work/errors.raw" | LC_ALL=C sort >"$work/errors"
+    check "a run by $words" 0 "$updated$newline" "$told$newline"
+done
+run run -- -v "$work/all.json"
+check 'a file with the name of the flag' 1 '' "rollout: 902 File name=-v$newline"
 rolled 'a run of nobody' 0 '{"all":{}}' "$all" "boundary 1: plan batches=0 bound=nothing${newline}end finished"
 rolled 'a run of which a whole batch failed' 4 "$pair" "$(spared b '')" "boundary 1: plan batches=2 bound=group g waiting=2 room=1
 open: a
@@ -436,10 +452,11 @@ help='Updates a fleet batch by batch, with no group losing more hosts at once th
 Usage: rollout <COMMAND>
 
 Commands:
-  limits  Prints each limited group: its members, how many are down, its limit and its room
-  plan    Prints the fewest batches that update the hosts of a play, and what forces their number
-  run     Updates the hosts of each play batch by batch, and prints what came of them
-  help    Print this message or the help of the given subcommand(s)
+  limits    Prints each limited group: its members, how many are down, its limit and its room
+  plan      Prints the fewest batches that update the hosts of a play, and what forces their number
+  run       Updates the hosts of each play batch by batch, and prints what came of them
+  rehearse  Answers what a run of a play would come to if these hosts failed, command by command
+  help      Print this message or the help of the given subcommand(s)
 
 Options:
   -h, --help     Print help
@@ -502,11 +519,28 @@ Arguments:
 
 Options:
       --forks <N>  How many hosts are worked on at once, 1 to 64 [default: 5]
+  -v, --verbose    Tells on standard error of each batch that opens and each program that ends
   -h, --help       Print help
 '
 for words in 'run --help' 'run -h' 'help run'; do
     run $words
     check "the help by $words" 0 "$run_help" ''
+done
+
+rehearse_help='Answers what a run of a play would come to if these hosts failed, command by command
+
+Usage: rollout rehearse <INV> <PLAY>
+
+Arguments:
+  <INV>   The inventory: a file of JSON that lists groups with their hosts, children and variables
+  <PLAY>  The playbook: a file of JSON that lists plays with their hosts and tasks
+
+Options:
+  -h, --help  Print help
+'
+for words in 'rehearse --help' 'rehearse -h' 'help rehearse'; do
+    run $words
+    check "the help by $words" 0 "$rehearse_help" ''
 done
 
 # bad WORDS USAGE EXPLANATION: the words are no line
@@ -530,7 +564,12 @@ bad 'plan a b c' 'rollout plan <INV> <PLAY>' "unexpected argument 'c' found"
 bad run 'rollout run <INV> <PLAY>' "the following required arguments were not provided:$newline  <INV>$newline  <PLAY>"
 bad 'run a' 'rollout run <INV> <PLAY>' "the following required arguments were not provided:$newline  <PLAY>"
 bad 'run a b c' 'rollout run [OPTIONS] <INV> <PLAY>' "unexpected argument 'c' found"
-bad 'rehearse a b' 'rollout <COMMAND>' "unrecognized subcommand 'rehearse'"
+bad 'run -vv a b' 'rollout run [OPTIONS] <INV> <PLAY>' "the argument '--verbose' cannot be used multiple times"
+bad '-v run a b' 'rollout <COMMAND>' "unexpected argument '-v' found"
+bad rehearse 'rollout rehearse <INV> <PLAY>' "the following required arguments were not provided:$newline  <INV>$newline  <PLAY>"
+bad 'rehearse a b c' 'rollout rehearse <INV> <PLAY>' "unexpected argument 'c' found"
+bad 'rehearse --forks 3 a b' 'rollout rehearse <INV> <PLAY>' "unexpected argument '--forks' found$newline$newline  tip: to pass '--forks' as a value, use '-- --forks'"
+bad 'rehears a b' 'rollout <COMMAND>' "unrecognized subcommand 'rehears'$newline$newline  tip: a similar subcommand exists: 'rehearse'"
 bad '--forks 3' 'rollout <COMMAND>' "unexpected argument '--forks' found"
 run "$(printf '\377')"
 check 'a word that is no text' 1 '' "rollout: 901 BadLine$newline"

@@ -39,5 +39,6 @@ counted rows "$rollout"
 counted leasts
 counted great "$rollout"
 counted drawn "$rollout" "${SEED:-}" "${CASES:-}"
+counted forecast "$rollout" "${SEED:-}" "${CASES:+$((CASES / 30 + 1))}"
 echo "$passed passed, $failed failed"
 [ "$failed" -eq 0 ]

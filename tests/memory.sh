@@ -181,6 +181,48 @@ printf '[{"hosts":"all","on_blocked":"hold","tasks":[{"command":{"argv":["test",
 run_refused "$work/racks.json" "$work/holding.json" --forks 2
 printf '[{"hosts":"a","tasks":[{"command":"/no/such/program"}]}]' >"$work/absent.json"
 run_refused "$work/few.json" "$work/absent.json"
+
+# rehearsal_refused WORDS: the same of a rehearsal of the lines of $work/commands, which want of memory may end behind any of its answers.
+rehearsal_refused() {
+    count=$(wc -l <"$work/commands")
+    for lines in $(seq 0 "$count"); do
+        head -n "$lines" "$work/commands" >"$work/first"
+        input=$work/first
+        run rehearse "$@"
+        mv "$work/out" "$work/out.$lines"
+    done
+    answered=$status
+    mv "$work/errors" "$work/errors.answered"
+    [ "$answered" -eq 0 ] && [ -s "$work/out.$count" ] && pass || fail "a rehearsal of $count lines: status $answered"
+    number=1
+    broken=0
+    while refusing "$number" "$rollout" rehearse "$@"; do
+        if [ "$status" -eq 5 ] && [ "$(cat "$work/errors")" = 'rollout: memory' ] && answers_so; then
+            [ ! -s "$work/out" ] || broken=$((broken + 1))
+            pass
+        elif [ "$status" -eq "$answered" ] && cmp -s "$work/out" "$work/out.$count" && cmp -s "$work/errors" "$work/errors.answered"; then
+            pass
+        else
+            fail "allocation $number of 'rehearse $*' refused: status $status, $(cat "$work/errors")"
+        fi
+        number=$((number + 1))
+    done
+    [ "$broken" -gt "$count" ] && pass || fail "$broken refused allocations ended a rehearsal of $count lines behind an answer"
+    echo "rehearse $*: $((number - 1)) allocations refused in turn, $broken behind an answer"
+    input=/dev/null
+}
+
+# Whether these are the answers to the first of the lines, each whole.
+answers_so() {
+    for lines in $(seq 0 "$count"); do
+        cmp -s "$work/out" "$work/out.$lines" && return
+    done
+    return 1
+}
+
+printf 'plan\nadvance a d\nshow\nadvance b b\nundo\n\nadvance\nplan\nundo\nundo\nundo\nadvance x\nadvance e\nshow\nadvance\nadvance\njump\n' >"$work/commands"
+rehearsal_refused "$work/few.json" "$work/twice.json"
+rehearsal_refused "$work/racks.json" "$work/held.json"
 input=$top/examples/two-regions.json
 each_refused
 input=/dev/null
@@ -281,9 +323,9 @@ refusing_run() {
     [ -e "$work/refused" ]
 }
 
-# run_refused FORKS STATUS: each allocation and each thread of a run of the six hosts refused in turn. With several workers the number of an
+# six_refused FORKS STATUS: each allocation and each thread of a run of the six hosts refused in turn. With several workers the number of an
 # allocation isn't always the same one's.
-run_refused() {
+six_refused() {
     run run "$work/six.json" "$work/play.json" --forks "$1"
     answered=$status
     [ "$status" -eq "$2" ] && [ "$(tail -n 1 "$work/out")" = 'end finished' ] && pass || fail "a run of six hosts: status $status"
@@ -310,11 +352,11 @@ printf '{"all":{"children":{"g":{"vars":{"max_down":2},"hosts":{"a":null,"b":nul
 spares='{"command":{"argv":["test","{{ inventory_hostname }}","!=","c"]},"register":"r"}'
 waiting=$(for host in a b c d e f; do echo "$host ok=0 changed=0 failed=0 skipped=0 ignored=0 state=waiting"; done; echo 'end fault')$newline
 printf '[{"hosts":"all","tasks":[{"command":"true"},%s,{"command":"true"}]}]' "$spares" >"$work/play.json"
-run_refused 1 2
-run_refused 2 2
+six_refused 1 2
+six_refused 2 2
 printf '[{"hosts":"all","tasks":[%s]},{"hosts":"all","tasks":[{"command":"true","when":"r.rc == 0"}]}]' "$spares" >"$work/play.json"
 waiting="play 1$newline$waiting"
-run_refused 2 2
+six_refused 2 2
 
 # ---- tests
 

@@ -1,6 +1,6 @@
 #!/bin/sh
-# What a worker may do once alone, or not at all: a second use of a leave, a claim, a `Done` or a ticket, a tally that is forgotten, and a job with
-# other words are refused before any proof.
+# What a worker may do once alone, or not at all: a second use of a leave, a claim, a `Done` or a ticket, a leave that is kept after its ticket went, a
+# tally that is forgotten, and a job with other words are refused before any proof.
 # It needs `rt`; nothing has to be built.
 set -u
 top=$(cd "$(dirname "$0")/.." && pwd)
@@ -100,6 +100,12 @@ tried 'error\[borrow-e0382\]: use of moved value: `ticket`' <<'E2'
 pub fn put_twice<T: Drop, H: Wait>(end: &mut PutEnd<T>, rt: &H, ticket: T) {
     let _ = end.put(rt, ticket);
     let _ = end.put(rt, ticket);
+}
+E2
+tried 'error\[borrow-e0382\]: use of moved value: `go`' <<'E2'
+pub fn keep_the_leave<H: Wait>(end: &mut PutEnd<(Claim, Go)>, rt: &H, claim: Claim, go: Go) -> Go {
+    let _ = end.put(rt, (claim, go));
+    go
 }
 E2
 tried 'error\[linear-value-let-go\]: `_tally` is let go where its block ends, and `Tally<L>` is not `Drop`' <<'E2'

@@ -242,6 +242,10 @@ unstarted 'the same, and PATH does not name it' '["ours"]'
 says 'nothing to read' '0' "$(shell 'wc -c | tr -d " "')"
 ran 'a read of nothing' 1 "$(shell 'read -r line')"
 says 'the null device as its input' /dev/null '["readlink","/proc/self/fd/0"]'
+echo typed >"$work/typed"
+input=$work/typed
+says 'nothing to read, where the one that started it has something' '0' "$(shell 'wc -c | tr -d " "')"
+input=/dev/null
 says 'words as they are, without a shell' "\$HOME|*|a b|it's|\"|\\|;|>x||caf$(printf '\303\251')" '["sh","-c","IFS=\"|\"; printf %s \"$*\"","x","$HOME","*","a b","it'"'"'s","\"","\\","\u003b",">x","","caf\u00e9"]'
 says 'a word of two lines' 'a
 b' '["printf","a\nb"]'
@@ -324,6 +328,101 @@ for forks in 1 3 16; do
     fi
 done
 
+# ---- told while it runs
+
+# What is told of a play that fails on one host, but for the times.
+printf '{"all":{"hosts":{"a":null,"b":null,"c":null}}}' >"$work/three.json"
+printf '[{"hosts":"all","serial":2,"tasks":[{"name":"greet","command":{"argv":%s},"register":"r"},{"command":"/no/such/program","ignore_errors":true},{"name":"a\\tb\\nc","command":"true","when":"inventory_hostname == %s"}]}]' \
+    "$(shell 'echo hello; echo oops >&2; test {{ inventory_hostname }} != b || { printf "one\n\ttwo\033[31m\n\n"; exit 3; }')" "'c'" >"$work/play.json"
+recap='boundary 1: plan batches=2 bound=serial waiting=3 size=2
+open: a c
+boundary 2: plan batches=1 bound=serial waiting=1 size=2
+open: b
+boundary 3: plan batches=0 bound=nothing
+a ok=2 changed=1 failed=0 skipped=1 ignored=1 state=updated
+b ok=0 changed=0 failed=1 skipped=0 ignored=0 state=failed
+c ok=3 changed=2 failed=0 skipped=0 ignored=1 state=updated
+end all-failed
+'
+told="waiting=1 open: a c
+a step=1 rc=0 ms=N name=greet
+c step=1 rc=0 ms=N name=greet
+a step=2 not-started ms=N name=
+c step=2 not-started ms=N name=
+c step=3 rc=0 ms=N name=a$(printf '\t')b?c
+waiting=0 open: b
+b step=1 rc=3 ms=N name=greet
+  b stdout: hello
+  b stdout: one
+  b stdout: $(printf '\t')two?[31m
+  b stderr: oops
+"
+run run "$work/three.json" "$work/play.json" --forks 1
+check 'nothing is told where nobody asks' 4 "$recap" ''
+run run -v "$work/three.json" "$work/play.json" --forks 1
+sed -i 's/ ms=[0-9]* name=/ ms=N name=/' "$work/errors"
+check 'what is told' 4 "$recap" "$told"
+# A step takes at least as long as its program.
+played '{"command":"sleep 0.3"}'
+run run -v "$work/one.json" "$work/play.json"
+taken=$(sed -n 's/^a step=1 rc=0 ms=\([0-9]*\) name=$/\1/p' "$work/errors")
+[ "${taken:-0}" -ge 300 ] && [ "$taken" -lt 5000 ] && pass || fail "a program of 0.3 s took $taken ms"
+# Nobody reads what is told, or it can't be written: the run goes on.
+run run "$work/three.json" "$work/play.json"
+cp "$work/out" "$work/unwatched"
+for to in full closed; do
+    case $to in
+        full) timeout 60 "$rollout" run -v "$work/three.json" "$work/play.json" >"$work/out" 2>/dev/full </dev/null ;;
+        closed) timeout 60 "$rollout" run -v "$work/three.json" "$work/play.json" >"$work/out" 2>&- </dev/null ;;
+    esac
+    cmp -s "$work/out" "$work/unwatched" && pass || fail "told to nobody ($to): another recap"
+done
+{ timeout 60 "$rollout" run -v "$work/three.json" "$work/play.json" 2>&1 >"$work/out" </dev/null; } | true
+cmp -s "$work/out" "$work/unwatched" && pass || fail 'told to a closed pipe: another recap'
+# Outputs of many that fail at once: each line is whole, and each block in one piece.
+many 64 64 "{\"command\":{\"argv\":[\"sh\",\"-c\",\"yes \$0.out | head -n 3000; yes \$0.err | head -n 3000 >&2; exit 1\",\"{{ inventory_hostname }}\"]},\"ignore_errors\":true}"
+run run --verbose "$work/hosts.json" "$work/play.json" --forks 64
+awk '
+    /^waiting=/ { next }
+    /^h[0-9]* step=1 rc=1 ms=[0-9]* name=$/ { if (block && lines != 6000) bad = 1; block = $1; lines = 0; seen++; next }
+    { lines++; end = lines <= 3000 ? "out" : "err"; if ($0 != "  " block " std" end ": " block "." end) bad = 1 }
+    END { exit bad || lines != 6000 || seen != 64 }
+' "$work/errors" && pass || fail 'what is told of 64 at once is mixed'
+
+# ---- the examples
+
+# Each playbook on each inventory, with stand-ins for the programs that would go to hosts: a run refuses what `plan` refuses, and where none of
+# its programs fails, it opens as many batches as the plan has.
+for stand_in in ssh curl; do
+    printf '#!/bin/sh\n:\n' >"$work/bin/$stand_in"
+    chmod 755 "$work/bin/$stand_in"
+done
+cp "$work/bin/ssh" "$work/kept/reboot-and-wait"
+cd "$work/kept" || exit 1
+PATH=$work/bin:$PATH
+for inventory in two-racks two-regions crossing-racks ansible/racks ansible/zones; do
+    for playbook in roll-anywhere restart-web everywhere ansible/restart; do
+        what="$playbook on $inventory"
+        run plan "$top/examples/$inventory.json" "$top/examples/$playbook.json"
+        planned=$status
+        mv "$work/out" "$work/plan"
+        mv "$work/errors" "$work/refusal"
+        for forks in 1 64; do
+            run run "$top/examples/$inventory.json" "$top/examples/$playbook.json" --forks $forks
+            case $planned$playbook in
+                1*) [ "$status" -eq 1 ] && [ ! -s "$work/out" ] && cmp -s "$work/errors" "$work/refusal" ;;
+                *roll-anywhere | *ansible/restart) [ "$status" -le 4 ] && [ ! -s "$work/errors" ] && grep -q "^boundary 1: $(head -n 1 "$work/plan")$" "$work/out" ;;
+                *) [ "$status" -eq "$planned" ] && [ ! -s "$work/errors" ] && grep -q "^boundary 1: $(head -n 1 "$work/plan")$" "$work/out" &&
+                    [ "$(grep -c '^batch ' "$work/plan")" -eq "$(grep -c '^open: ' "$work/out")" ] && ! grep -q 'state=failed' "$work/out" ;;
+            esac && pass || fail "$what at $forks forks: status $status, $(head -n 1 "$work/errors")"
+            [ "$forks" -eq 64 ] || mv "$work/out" "$work/alone"
+        done
+        cmp -s "$work/alone" "$work/out" && pass || fail "$what: other bytes at 64 forks"
+    done
+done
+PATH=$kept_path
+cd "$top" || exit 1
+
 # ---- nothing is left behind
 
 # What the program that started this has open, its threads, its memory, and how many of its children have ended: looked at while nothing
@@ -383,10 +482,11 @@ done
 
 # ---- calls that fail
 
-# failing CALL AT HOW: the program with one call failing.
+# failing CALL AT HOW: the program with one call failing; `more` are further words of its line.
+more=
 failing() {
     rm -f "$work/failed"
-    timeout -k 5 120 env FAIL="$1" FAIL_AT="$2" FAIL_HOW="$3" FAILED="$work/failed" LD_PRELOAD="$work/fail.so" "$rollout" run "$work/one.json" "$work/play.json" --forks 1 >"$work/out" 2>"$work/errors" </dev/null
+    timeout -k 5 120 env FAIL="$1" FAIL_AT="$2" FAIL_HOW="$3" FAILED="$work/failed" LD_PRELOAD="$work/fail.so" "$rollout" run "$work/one.json" "$work/play.json" --forks 1 $more >"$work/out" 2>"$work/errors" </dev/null
     status=$?
 }
 
@@ -436,8 +536,8 @@ told 'the end of a program is another'"'"'s' 0 'ok=2 changed=1 failed=0 skipped=
 none 'the null device can'"'"'t be opened' open 1 $errno_files
 none 'no process can be had' posix_spawn 1 $errno_again
 
-# Want of memory: the run of this play with all of it, or one that a fault broke off.
-printf '[{"hosts":"all","tasks":[{"command":{"argv":["sh","-c","head -c 70000 /dev/zero | tr %s x; echo some >&2"]},"register":"r"},{"command":"true","when":"r.rc == 0"}]}]' "'\\\\0'" >"$work/play.json"
+# Want of memory: the run of this play with all of it, or one that a fault broke off. A program that was started is waited for all the same.
+printf '[{"hosts":"all","tasks":[{"command":{"argv":["sh","-c","trap : PIPE; : >%s; head -c 70000 /dev/zero | tr %s x; echo some >&2; exec >&- 2>&-; sleep 0.1; : >%s"]},"register":"r"},{"command":"true","when":"r.rc == 0"}]}]' "$work/kept/begun" "'\\\\0'" "$work/kept/done" >"$work/play.json"
 whole='boundary 1: plan batches=1 bound=one-host
 open: a
 boundary 2: plan batches=0 bound=nothing
@@ -447,8 +547,10 @@ wants=0
 number=0
 while [ "$number" -lt 5000 ]; do
     number=$((number + 1))
+    rm -f "$work/kept/begun" "$work/kept/done"
     failing malloc "$number" $errno_memory
     [ -e "$work/failed" ] || break
+    [ -e "$work/kept/done" ] || [ ! -e "$work/kept/begun" ] || fail "allocation $number refused: the program is not waited for"
     case $status in
         0) [ "$(cat "$work/out")" = "$whole" ] && [ ! -s "$work/errors" ] ;;
         5) [ "$(cat "$work/errors")" = 'rollout: memory' ] && { [ ! -s "$work/out" ] || [ "$(tail -n 1 "$work/out")" = 'end fault' ]; } ;;
@@ -459,6 +561,23 @@ while [ "$number" -lt 5000 ]; do
     }
 done
 [ "$wants" -eq 0 ] && [ "$number" -gt 100 ] && [ "$number" -lt 5000 ] && pass || fail "$number allocations refused in turn"
+# Where memory is wanting for what is told, the run is as it would be untold.
+more=-v
+printf '[{"hosts":"all","tasks":[{"name":"a step","command":"true"},{"command":"true"}]}]' >"$work/play.json"
+untold=0
+number=0
+while [ "$number" -lt 5000 ]; do
+    number=$((number + 1))
+    failing malloc "$number" $errno_memory
+    [ -e "$work/failed" ] || break
+    case $status in
+        0) [ "$(cat "$work/out")" = "$whole" ] && { grep -q '^a step=1 rc=0 ms=[0-9]* name=a step$' "$work/errors" || untold=$((untold + 1)); } ;;
+        5) [ "$(tail -n 1 "$work/errors")" = 'rollout: memory' ] && { [ ! -s "$work/out" ] || [ "$(tail -n 1 "$work/out")" = 'end fault' ]; } ;;
+        *) false ;;
+    esac || fail "told, allocation $number refused: status $status"
+done
+[ "$untold" -gt 0 ] && pass || fail 'no allocation is one for what is told'
+more=
 failing posix_spawn 1 $errno_memory
 check 'no memory for a process' 5 'boundary 1: plan batches=1 bound=one-host
 open: a

@@ -67,6 +67,7 @@ SAME = [
     ("a file's name with a slash behind it", inputs.slash_behind()),
     ("a session as long as may be", inputs.long_session(0)),
     ("a session of one byte too many", inputs.long_session(1)),
+    ("a session and a line of one byte too many", inputs.long_session_in_a_long_line()),
     ("512 batches advanced and undone", inputs.many_advances(512)),
 ]
 

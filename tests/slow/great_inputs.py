@@ -95,6 +95,14 @@ def long_session(more):
     return Case(("rehearse", INVENTORY, PLAYBOOK), b'{"all":{"hosts":{"a":null}}}', json.dumps(play()).encode(), typed)
 
 
+def long_session_in_a_long_line():
+    """Commands whose last line is too long by the very byte that is one too many of a session."""
+    case = long_session(0)
+    line = b"show" + b" " * 65_000 + b"\n"
+    typed = line * ((SESSION - 65_536) // len(line))
+    return Case(case.words, case.inventory, case.playbook, typed + b"\n" * (SESSION - 65_536 - len(typed)) + b"x" * 65_537)
+
+
 def many_advances(count):
     """So many batches advanced, and undone again."""
     case = one_by_one(count)

@@ -36,7 +36,7 @@ def comparing(word, wanted):
 
 
 def playbook(*steps, handlers=(), **keys):
-    """A playbook of one play on all hosts."""
+    """A playbook of one play, on all hosts unless it names others."""
     play = {"hosts": "all", **keys, "tasks": list(steps)}
     if handlers:
         play["handlers"] = list(handlers)
@@ -278,6 +278,7 @@ WRITTEN = [
         "a 1 / a 2 / b 2",
     ),
     ("the first batch alone where its rack is blocked then", RACKS, playbook(noting(1, "a")), "a 1 / d 1"),
+    ("nothing where a later play is for a name that nothing has", FOUR, json.dumps([*json.loads(playbook(noting(1))), *json.loads(playbook(noting(2), hosts="a:x"))]), ""),
 ]
 
 HALTING = "advanced: a b c d / a failed / b failed / c halted / d halted / end too-many-failed step=1 failed=2 size=4"

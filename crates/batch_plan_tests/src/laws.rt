@@ -19,6 +19,7 @@ fn laws_of_plans_are_called(_rt: HostRuntime) -> Result<(), Fail> {
     play_course::a_play_has_one_course();
     play_course::plays_have_one_course();
     play_course::a_play_goes_one_way();
+    play_course::nothing_follows_the_end();
     play_course::a_play_comes_to_its_next_boundary();
     play_course::a_play_went_on_before_its_last_boundary();
     play_course::no_host_is_opened_twice();

@@ -1,5 +1,5 @@
 //! A writer of texts that are made of many pieces.
-ghost use Rattle.std.specs.Prelude.{◌≡◌, ◌<◌, ◌≤◌, ◌+◌, [], length, decimal};
+ghost use Rattle.std.specs.Prelude.{◌≡◌, ◌<◌, ◌≤◌, ◌+◌, [], IfSome, length, decimal};
 ghost use Rattle.bounded_io.specs.Writing.{Begins, Writes, Passes, HoldsNone, Finishes, fault_of};
 
 use crate::held_bytes::{CAPACITY, HeldBytes};
@@ -73,10 +73,11 @@ impl<'a, W: Write> TextWriter<'a, W> {
         self.sent.err()
     }
 
-    /// Ends the text: it went out whole, or the fault says how much of it did.
+    /// Ends the text: it went out whole, or the fault says how much of it did. That is the fault that ended it before, where one did.
     #[tactic(auto, using(crate::proofs::WritingLemmas::finished))]
     pub fn finish(self) -> Result<(), WriteFault>
-        ensures { Finishes W.contents self.entry (W.contents self.exit.0.now) result }
+        ensures finishes { Finishes W.contents self.entry (W.contents self.exit.0.now) result }
+        ensures fault { IfSome (fault_of self.entry) (λ fault. result ≡ Err fault) }
     {
         let TextWriter { out, sent, held } = self;
         go_on(out, held.as_slice(), sent).and(Ok(()))

@@ -1,4 +1,4 @@
--- clap takes the words that ask for limits or a plan, and reads the same files.
+-- clap takes the words that ask for limits, a plan or a rehearsal, and reads the same files.
 use Rattle.std.proofs.Common.{◌≡◌, ℕ, Bool, true, false, eqb, List, [], ◌∷◌, Option, Some, None, codes, cond, refl, sym, subst, option_map}
 use Rattle.clap.specs.Lexer.{long_of, short_of}
 use Rattle.clap.specs.Words.{subcommand_of, takes}
@@ -7,18 +7,18 @@ use Rattle.std.proofs.lemmas.Slice.Eq.{bytes_eq-Decides}
 use Rattle.clap.proofs.OnLiterals.{clap_on_literals}
 use Rattle.command_line.specs.Syntax.{rollout, file_in}
 use Rattle.command_line.specs.Operands.{Word, dashes, is_operand, lone_operand, two_words, two_operands}
-use Rattle.command_line.specs.Words.{limits_file, plan_files}
+use Rattle.command_line.specs.Words.{limits_file, plan_files, rehearse_files}
 
 -- clap takes the words, and reads the file
 pub record Reads (words : List Word) (file : Word) : Type 0 where
   pub taken : takes rollout words ≡ true
   pub read : file_in (codes "limits") (codes "INV") (subcommand_of rollout words) ≡ Some file
 
--- clap takes the words, and reads both files
-pub record ReadsBoth (words : List Word) (files : Word × Word) : Type 0 where
+-- clap takes the words, and reads both files of the command of this name
+pub record ReadsBoth (name : Word) (words : List Word) (files : Word × Word) : Type 0 where
   pub taken : takes rollout words ≡ true
-  pub inventory : file_in (codes "plan") (codes "INV") (subcommand_of rollout words) ≡ Some files.0
-  pub playbook : file_in (codes "plan") (codes "PLAY") (subcommand_of rollout words) ≡ Some files.1
+  pub inventory : file_in name (codes "INV") (subcommand_of rollout words) ≡ Some files.0
+  pub playbook : file_in name (codes "PLAY") (subcommand_of rollout words) ≡ Some files.1
 
 reads_empty : Reads (codes "limits" ∷ [] ∷ []) []
 unfolding clap_on_literals
@@ -124,33 +124,61 @@ value_of_operand [] h = record { no_end = refl; no_long = refl; no_short = refl 
 value_of_operand (a ∷ []) h = value_letter a (eqb a 45) refl
 value_of_operand (a ∷ b ∷ rest) h = value_long a b rest (no_dash (eqb a 45) h)
 
-both_alone : (first second : Word) → IsValue first → IsValue second → ReadsBoth (codes "plan" ∷ first ∷ second ∷ []) (first, second)
+plan_alone : (first second : Word) → IsValue first → IsValue second → ReadsBoth (codes "plan") (codes "plan" ∷ first ∷ second ∷ []) (first, second)
 unfolding clap_on_literals
-both_alone first second p q = record {
+plan_alone first second p q = record {
   taken = simp (p.no_end, p.no_long, p.no_short, q.no_end, q.no_long, q.no_short);
   inventory = simp (p.no_end, p.no_long, p.no_short, q.no_end, q.no_long, q.no_short);
   playbook = simp (p.no_end, p.no_long, p.no_short, q.no_end, q.no_long, q.no_short);
 }
 
-both_before : (first second : Word) → IsValue first → IsValue second → ReadsBoth (codes "plan" ∷ first ∷ second ∷ codes "--" ∷ []) (first, second)
+plan_before : (first second : Word) → IsValue first → IsValue second → ReadsBoth (codes "plan") (codes "plan" ∷ first ∷ second ∷ codes "--" ∷ []) (first, second)
 unfolding clap_on_literals
-both_before first second p q = record {
+plan_before first second p q = record {
   taken = simp (p.no_end, p.no_long, p.no_short, q.no_end, q.no_long, q.no_short);
   inventory = simp (p.no_end, p.no_long, p.no_short, q.no_end, q.no_long, q.no_short);
   playbook = simp (p.no_end, p.no_long, p.no_short, q.no_end, q.no_long, q.no_short);
 }
 
-both_between : (first second : Word) → IsValue first → ReadsBoth (codes "plan" ∷ first ∷ codes "--" ∷ second ∷ []) (first, second)
+plan_between : (first second : Word) → IsValue first → ReadsBoth (codes "plan") (codes "plan" ∷ first ∷ codes "--" ∷ second ∷ []) (first, second)
 unfolding clap_on_literals
-both_between first second p = record {
+plan_between first second p = record {
   taken = simp (p.no_end, p.no_long, p.no_short);
   inventory = simp (p.no_end, p.no_long, p.no_short);
   playbook = simp (p.no_end, p.no_long, p.no_short);
 }
 
-both_behind : (first second : Word) → ReadsBoth (codes "plan" ∷ codes "--" ∷ first ∷ second ∷ []) (first, second)
+plan_behind : (first second : Word) → ReadsBoth (codes "plan") (codes "plan" ∷ codes "--" ∷ first ∷ second ∷ []) (first, second)
 unfolding clap_on_literals
-both_behind first second = record { taken = refl; inventory = refl; playbook = refl }
+plan_behind first second = record { taken = refl; inventory = refl; playbook = refl }
+
+rehearse_alone : (first second : Word) → IsValue first → IsValue second → ReadsBoth (codes "rehearse") (codes "rehearse" ∷ first ∷ second ∷ []) (first, second)
+unfolding clap_on_literals
+rehearse_alone first second p q = record {
+  taken = simp (p.no_end, p.no_long, p.no_short, q.no_end, q.no_long, q.no_short);
+  inventory = simp (p.no_end, p.no_long, p.no_short, q.no_end, q.no_long, q.no_short);
+  playbook = simp (p.no_end, p.no_long, p.no_short, q.no_end, q.no_long, q.no_short);
+}
+
+rehearse_before : (first second : Word) → IsValue first → IsValue second → ReadsBoth (codes "rehearse") (codes "rehearse" ∷ first ∷ second ∷ codes "--" ∷ []) (first, second)
+unfolding clap_on_literals
+rehearse_before first second p q = record {
+  taken = simp (p.no_end, p.no_long, p.no_short, q.no_end, q.no_long, q.no_short);
+  inventory = simp (p.no_end, p.no_long, p.no_short, q.no_end, q.no_long, q.no_short);
+  playbook = simp (p.no_end, p.no_long, p.no_short, q.no_end, q.no_long, q.no_short);
+}
+
+rehearse_between : (first second : Word) → IsValue first → ReadsBoth (codes "rehearse") (codes "rehearse" ∷ first ∷ codes "--" ∷ second ∷ []) (first, second)
+unfolding clap_on_literals
+rehearse_between first second p = record {
+  taken = simp (p.no_end, p.no_long, p.no_short);
+  inventory = simp (p.no_end, p.no_long, p.no_short);
+  playbook = simp (p.no_end, p.no_long, p.no_short);
+}
+
+rehearse_behind : (first second : Word) → ReadsBoth (codes "rehearse") (codes "rehearse" ∷ codes "--" ∷ first ∷ second ∷ []) (first, second)
+unfolding clap_on_literals
+rehearse_behind first second = record { taken = refl; inventory = refl; playbook = refl }
 
 -- what holds of two operands, wherever the word that ends options stands
 module _ (P : List Word → Word × Word → Type 0) (alone : (first second : Word) → IsValue first → IsValue second → P (first ∷ second ∷ []) (first, second))
@@ -189,17 +217,29 @@ module _ (P : List Word → Word × Word → Type 0) (alone : (first second : Wo
   of_two_operands [] files wanted = cc
   of_two_operands (first ∷ rest) files wanted = by_first first rest files (bytes_eq first dashes) (is_operand first) refl refl wanted
 
-both_of_operands : (operands : List Word) (files : Word × Word) → two_operands operands ≡ Some files → ReadsBoth (codes "plan" ∷ operands) files
-both_of_operands = of_two_operands (λ given. ReadsBoth (codes "plan" ∷ given)) both_alone both_behind both_between both_before
+plan_of_operands : (operands : List Word) (files : Word × Word) → two_operands operands ≡ Some files → ReadsBoth (codes "plan") (codes "plan" ∷ operands) files
+plan_of_operands = of_two_operands (λ given. ReadsBoth (codes "plan") (codes "plan" ∷ given)) plan_alone plan_behind plan_between plan_before
 
-both_of_command : (command : Word) (operands : List Word) (files : Word × Word) (plan : Bool) → bytes_eq command (codes "plan") ≡ plan
-    → cond plan (two_operands operands) None ≡ Some files → ReadsBoth (command ∷ operands) files
-both_of_command command operands files true same wanted =
-    let is : command ≡ codes "plan" = (bytes_eq-Decides command (codes "plan")).0 same in
-    subst (λ w. ReadsBoth (w ∷ operands) files) (sym is) (both_of_operands operands files wanted)
-both_of_command command operands files false same wanted = cc
+rehearse_of_operands : (operands : List Word) (files : Word × Word) → two_operands operands ≡ Some files → ReadsBoth (codes "rehearse") (codes "rehearse" ∷ operands) files
+rehearse_of_operands = of_two_operands (λ given. ReadsBoth (codes "rehearse") (codes "rehearse" ∷ given)) rehearse_alone rehearse_behind rehearse_between rehearse_before
+
+-- of a command with two files
+module _ (name : Word) (of_its_operands : (operands : List Word) (files : Word × Word) → two_operands operands ≡ Some files → ReadsBoth name (name ∷ operands) files) where
+  both_of_command : (command : Word) (operands : List Word) (files : Word × Word) (named : Bool) → bytes_eq command name ≡ named
+      → cond named (two_operands operands) None ≡ Some files → ReadsBoth name (command ∷ operands) files
+  both_of_command command operands files true same wanted =
+      let is : command ≡ name = (bytes_eq-Decides command name).0 same in
+      subst (λ w. ReadsBoth name (w ∷ operands) files) (sym is) (of_its_operands operands files wanted)
+  both_of_command command operands files false same wanted = cc
 
 -- clap takes the words that ask for a plan, and reads both files
-pub accepted_both : (words : List Word) (files : Word × Word) → plan_files words ≡ Some files → ReadsBoth words files
-accepted_both [] files wanted = cc
-accepted_both (command ∷ operands) files wanted = both_of_command command operands files (bytes_eq command (codes "plan")) refl wanted
+pub accepted_plan : (words : List Word) (files : Word × Word) → plan_files words ≡ Some files → ReadsBoth (codes "plan") words files
+accepted_plan [] files wanted = cc
+accepted_plan (command ∷ operands) files wanted =
+    both_of_command (codes "plan") plan_of_operands command operands files (bytes_eq command (codes "plan")) refl wanted
+
+-- and so of a rehearsal
+pub accepted_rehearsal : (words : List Word) (files : Word × Word) → rehearse_files words ≡ Some files → ReadsBoth (codes "rehearse") words files
+accepted_rehearsal [] files wanted = cc
+accepted_rehearsal (command ∷ operands) files wanted =
+    both_of_command (codes "rehearse") rehearse_of_operands command operands files (bytes_eq command (codes "rehearse")) refl wanted

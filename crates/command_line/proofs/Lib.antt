@@ -7,3 +7,4 @@ pub mod RunLemmas
 pub mod RunLevel
 pub mod RunShapes
 pub mod RunWordsLemmas
+pub mod VerboseLemmas

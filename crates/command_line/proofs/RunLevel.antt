@@ -9,10 +9,12 @@ use Rattle.clap.specs.Walk.{Names, Rule, Text, Walk, finished, nothing_held, row
 use Rattle.clap.specs.Words.{first_of, new_app, one_of, subcommand_of, takes, with_rule}
 use Rattle.clap.specs.declared.builder.action.ArgAction.TheVariants.{Set}
 use Rattle.clap.specs.declared.builder.value_parser.ValueParser.{ValueParser}
+use Rattle.clap.specs.declared.builder.range.ValueRange.{ValueRange}
 use Rattle.clap.specs.declared.builder.value_parser.ValueParser.TheVariants.{String}
+use Rattle.clap.specs.declared.builder.value_parser.ValueParser.TheVariants as parsers
 use Rattle.clap.proofs.OnLiterals.{clap_on_literals}
 use Rattle.clap.proofs.WalkLemmas.{walk_stopped}
-use Rattle.command_line.specs.Syntax.{file_in, forks_argument, inventory_argument, limits_command, plan_command, playbook_argument, rollout, text_in}
+use Rattle.command_line.specs.Syntax.{file_in, forks_argument, inventory_argument, limits_command, plan_command, playbook_argument, rehearse_command, rollout, text_in, verbose_argument}
 use Rattle.command_line.specs.Operands.{Word}
 
 -- clap takes the words, and reads both files and the text of the forks
@@ -26,11 +28,14 @@ pub record ReadsText (app : App) (words : List Word) (first second text : Word) 
 abbrev pub program : ValueParser → App
 program parser = record rollout {
   subs = limits_command.top ∷ plan_command.top
-      ∷ (with_rule (with_rule (with_rule (new_app (codes "run")) inventory_argument) playbook_argument) (record forks_argument { parser = Some parser })).top ∷ [];
+      ∷ (with_rule (with_rule (with_rule (with_rule (new_app (codes "run")) inventory_argument) playbook_argument) (record forks_argument { parser = Some parser })) verbose_argument).top ∷ rehearse_command.top ∷ [];
 }
 
 abbrev with_one_value : Rule → Rule
 with_one_value rule = record rule { action = Some Set; range = Some (record { start_inclusive = 1; end_inclusive = 1 }) }
+
+abbrev pub none_taken : ValueRange
+none_taken = record { start_inclusive = 0; end_inclusive = 0 }
 
 -- the command `run` as clap builds it
 abbrev pub level : ValueParser → Shape
@@ -41,7 +46,8 @@ level parser = record (new_shape (codes "run")) {
   rules = (record (with_one_value inventory_argument) { index = Some 1; parser = Some String })
       ∷ (record (with_one_value playbook_argument) { index = Some 2; parser = Some String })
       ∷ (record (with_one_value forks_argument) { parser = Some parser })
-      ∷ (record help_rule { parser = Some String; range = Some (record { start_inclusive = 0; end_inclusive = 0 }) }) ∷ [];
+      ∷ (record verbose_argument { defaults = codes "false" ∷ []; missing = codes "true" ∷ []; parser = Some parsers.Bool; range = Some none_taken })
+      ∷ (record help_rule { parser = Some String; range = Some none_taken }) ∷ [];
 }
 
 both_true : (a b : Bool) → a ≡ true → b ≡ true → (a && b) ≡ true

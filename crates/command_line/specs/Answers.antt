@@ -4,7 +4,7 @@ use Rattle.clap.specs.Words.{Row, Text}
 use Rattle.clap.specs.declared.error.kind.ErrorKind.{ErrorKind}
 use Rattle.clap.specs.declared.error.kind.ErrorKind.TheVariants.{DisplayHelp, DisplayVersion, OutOfMemory}
 use Rattle.command_line.specs.declared.command.Line.{Line}
-use Rattle.command_line.specs.declared.command.Line.TheVariants.{Limits, Plan, Run, Print}
+use Rattle.command_line.specs.declared.command.Line.TheVariants.{Limits, Plan, Run, Rehearse, Print}
 use Rattle.command_line.specs.declared.command.Source.{Source}
 use Rattle.command_line.specs.declared.command.Source.TheVariants.{StandardInput, File}
 use Rattle.command_line.specs.declared.fault.LineFault.{LineFault}
@@ -14,7 +14,7 @@ use Rattle.command_line.specs.Messages.{IsAskedFor}
 use Rattle.command_line.specs.Syntax.{file_in, forks_found}
 use Rattle.command_line.specs.Operands.{Word}
 use Rattle.command_line.specs.Runs.{run_request}
-use Rattle.command_line.specs.Words.{limits_file, plan_files}
+use Rattle.command_line.specs.Words.{limits_file, plan_files, rehearse_files}
 
 -- the two files were found
 abbrev pub IsFound : Word × Word → Option Word → Option Word → Type 0
@@ -27,6 +27,7 @@ AnswersFor kind (Ok (Print message)) = (messages.kind_of message ≡ kind) × Is
 AnswersFor kind (Ok (Limits inventory)) = ⊥
 AnswersFor kind (Ok (Plan inventory playbook)) = ⊥
 AnswersFor kind (Ok (Run inventory playbook forks)) = ⊥
+AnswersFor kind (Ok (Rehearse inventory playbook)) = ⊥
 AnswersFor kind (Err Memory) = ⊤
 AnswersFor kind (Err Unexplained) = ⊥
 AnswersFor kind (Err (BadLine message)) =
@@ -43,17 +44,19 @@ FindsNoRun (Some run) found = FindsRun run found → ⊥
 FindsNoRun None found = ⊤
 
 -- clap found other files than those that the words say, or the words say none
-abbrev pub FindsOthers : Option Word → Option (Word × Word) → Option (Word × Word × ℕ) → Option (Text × List Row) → Type 0
-FindsOthers (Some file) files run found = file_in (codes "limits") (codes "INV") found ≢ Some file
-FindsOthers None (Some files) run found =
+abbrev pub FindsOthers : Option Word → Option (Word × Word) → Option (Word × Word) → Option (Word × Word × ℕ) → Option (Text × List Row) → Type 0
+FindsOthers (Some file) files rehearsed run found = file_in (codes "limits") (codes "INV") found ≢ Some file
+FindsOthers None (Some files) rehearsed run found =
     IsFound files (file_in (codes "plan") (codes "INV") found) (file_in (codes "plan") (codes "PLAY") found) → ⊥
-FindsOthers None None run found = FindsNoRun run found
+FindsOthers None None (Some files) run found =
+    IsFound files (file_in (codes "rehearse") (codes "INV") found) (file_in (codes "rehearse") (codes "PLAY") found) → ⊥
+FindsOthers None None None run found = FindsNoRun run found
 
 -- words that clap took, and what it found for them
 abbrev pub Disagrees : List Word → Option (Text × List Row) → LineFault → Type 0
 Disagrees words found Memory = ⊤
 Disagrees words found (BadLine message) = ⊥
-Disagrees words found Unexplained = FindsOthers (limits_file words) (plan_files words) (run_request words) found
+Disagrees words found Unexplained = FindsOthers (limits_file words) (plan_files words) (rehearse_files words) (run_request words) found
 
 -- the line of `limits` with this file
 abbrev pub IsLimits : Word → Line → Type 0
@@ -61,6 +64,7 @@ IsLimits file (Limits (File name)) = string_bytes name ≡ file
 IsLimits file (Limits StandardInput) = ⊥
 IsLimits file (Plan inventory playbook) = ⊥
 IsLimits file (Run inventory playbook forks) = ⊥
+IsLimits file (Rehearse inventory playbook) = ⊥
 IsLimits file (Print message) = ⊥
 
 -- the source is the file of this name
@@ -77,6 +81,7 @@ abbrev pub IsPlan : Word × Word → Line → Type 0
 IsPlan files (Plan inventory playbook) = AreFiles files (inventory, playbook)
 IsPlan files (Limits file) = ⊥
 IsPlan files (Run inventory playbook forks) = ⊥
+IsPlan files (Rehearse inventory playbook) = ⊥
 IsPlan files (Print message) = ⊥
 
 -- the line of `run` with these files and forks
@@ -84,7 +89,16 @@ abbrev pub IsRun : Word × Word × ℕ → Line → Type 0
 IsRun run (Run inventory playbook forks) = AreFiles (run.0, run.1) (inventory, playbook) × (forks ≡ run.2)
 IsRun run (Limits file) = ⊥
 IsRun run (Plan inventory playbook) = ⊥
+IsRun run (Rehearse inventory playbook) = ⊥
 IsRun run (Print message) = ⊥
+
+-- the line of `rehearse` with these files
+abbrev pub IsRehearse : Word × Word → Line → Type 0
+IsRehearse files (Rehearse inventory playbook) = AreFiles files (inventory, playbook)
+IsRehearse files (Limits file) = ⊥
+IsRehearse files (Plan inventory playbook) = ⊥
+IsRehearse files (Run inventory playbook forks) = ⊥
+IsRehearse files (Print message) = ⊥
 
 -- a line is not made for want of memory, or since clap found other files
 abbrev pub IsUnmade : Type 0 → LineFault → Type 0

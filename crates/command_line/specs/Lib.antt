@@ -5,4 +5,5 @@ pub mod Messages
 pub mod Operands
 pub mod Runs
 pub mod Syntax
+pub mod Verbose
 pub mod Words

@@ -3,6 +3,7 @@ use Rattle.std.specs.Prelude.{ℕ, true, codes, List, [], ◌∷◌, Option, Som
 use Rattle.std.specs.Str.{bytes_eq}
 use Rattle.clap.specs.Words.{App, Row, Rule, Shape, Text, first_of, one_of, new_app, new_rule, with_rule, with_subcommand}
 use Rattle.clap.specs.Simple.{on_top}
+use Rattle.clap.specs.declared.builder.action.ArgAction.TheVariants.{SetTrue}
 use Rattle.clap.specs.declared.builder.value_parser.ValueParser.TheVariants.{Unsigned}
 use Rattle.command_line.specs.Forks.{default_text, forks_in}
 
@@ -23,6 +24,10 @@ forks_argument = record (new_rule (codes "forks")) {
   defaults = default_text ∷ [];
 }
 
+-- the flag that asks a run to tell of itself
+abbrev pub verbose_argument : Rule
+verbose_argument = record (new_rule (codes "verbose")) { short = Some 118; long = Some (codes "verbose"); action = Some SetTrue }
+
 abbrev pub limits_command : App
 limits_command = with_rule (new_app (codes "limits")) inventory_argument
 
@@ -30,14 +35,18 @@ abbrev pub plan_command : App
 plan_command = with_rule (with_rule (new_app (codes "plan")) inventory_argument) playbook_argument
 
 abbrev pub run_command : App
-run_command = with_rule (with_rule (with_rule (new_app (codes "run")) inventory_argument) playbook_argument) forks_argument
+run_command = with_rule (with_rule (with_rule (with_rule (new_app (codes "run")) inventory_argument) playbook_argument) forks_argument) verbose_argument
+
+abbrev pub rehearse_command : App
+rehearse_command = with_rule (with_rule (new_app (codes "rehearse")) inventory_argument) playbook_argument
 
 abbrev settings : Shape → Shape
 settings shape = record shape { has_version = true; no_binary_name = true; subcommand_required = true }
 
 abbrev pub rollout : App
 rollout = with_subcommand
-    (with_subcommand (with_subcommand (on_top settings (new_app (codes "rollout"))) limits_command.top) plan_command.top) run_command.top
+    (with_subcommand (with_subcommand (with_subcommand (on_top settings (new_app (codes "rollout"))) limits_command.top) plan_command.top) run_command.top)
+    rehearse_command.top
 
 -- the file that a parse found for an argument of a command
 abbrev pub file_in : Text → Text → Option (Text × List Row) → Option Text

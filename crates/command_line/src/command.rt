@@ -21,6 +21,11 @@ pub enum Line {
         playbook: Source,
         forks: Forks,
     },
+    /// Rehearses the playbook's first play: answers commands on standard input.
+    Rehearse {
+        inventory: Source,
+        playbook: Source,
+    },
     /// Prints this text: the help or the version.
     Print(Message),
 }

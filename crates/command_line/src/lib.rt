@@ -8,6 +8,7 @@ mod message;
 mod reading;
 mod run_words;
 mod syntax;
+mod verbose;
 mod words;
 
 pub use command::Source;
@@ -15,3 +16,4 @@ pub use fault::LineFault;
 pub use forks::Forks;
 pub use message::Message;
 pub use reading::line;
+pub use verbose::{Request, request_of};

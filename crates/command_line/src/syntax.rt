@@ -7,7 +7,7 @@ ghost use Rattle.command_line.specs.Syntax as spec;
 
 use crate::forks::{DEFAULT, Forks};
 use clap::error::ErrorKind;
-use clap::{Arg, ArgMatches, Command, Error, value_parser};
+use clap::{Arg, ArgAction, ArgMatches, Command, Error, value_parser};
 use std::alloc::{AllocError, Global};
 
 const INVENTORY: &str = "INV";
@@ -16,6 +16,8 @@ const PLAYBOOK: &str = "PLAY";
 
 const FORKS: &str = "forks";
 
+const VERBOSE: &str = "verbose";
+
 const INVENTORY_HELP: &str =
     "The inventory: a file of JSON that lists groups with their hosts, children and variables";
 
@@ -23,6 +25,9 @@ const PLAYBOOK_HELP: &str =
     "The playbook: a file of JSON that lists plays with their hosts and tasks";
 
 const FORKS_HELP: &str = "How many hosts are worked on at once, 1 to 64";
+
+const VERBOSE_HELP: &str =
+    "Tells on standard error of each batch that opens and each program that ends";
 
 const NOTES: &str = "\
 INV is the inventory: a file of JSON that lists groups with their hosts, children and variables.
@@ -51,7 +56,8 @@ fn rollout<'a>(alloc: Global) -> Result<Command<'a>, AllocError>
         .subcommand_required(true)
         .subcommand(limits(alloc)?)?
         .subcommand(plan(alloc)?)?
-        .subcommand(run(alloc)?)
+        .subcommand(run(alloc)?)?
+        .subcommand(rehearse(alloc)?)
 }
 
 fn limits<'a>(alloc: Global) -> Result<Command<'a>, AllocError>
@@ -83,7 +89,20 @@ fn run<'a>(alloc: Global) -> Result<Command<'a>, AllocError>
         .about("Updates the hosts of each play batch by batch, and prints what came of them")
         .arg(inventory(alloc))?
         .arg(playbook(alloc))?
-        .arg(forks(alloc))
+        .arg(forks(alloc))?
+        .arg(verbose(alloc))
+}
+
+fn rehearse<'a>(alloc: Global) -> Result<Command<'a>, AllocError>
+    ensures app { IfOk result (λ c. app_of c ≡ spec.rehearse_command) }
+    ensures local { IfOk result (λ c. (fields_of c).has_globals ≡ false) }
+{
+    Command::new(alloc, "rehearse")
+        .about(
+            "Answers what a run of a play would come to if these hosts failed, command by command",
+        )
+        .arg(inventory(alloc))?
+        .arg(playbook(alloc))
 }
 
 fn inventory<'a>(alloc: Global) -> Arg<'a>
@@ -112,6 +131,18 @@ fn forks<'a>(alloc: Global) -> Arg<'a>
         .value_parser(value_parser!(usize).range(1..=64))
         .default_value(DEFAULT)
         .help(FORKS_HELP)
+}
+
+/// It stands in the help. The words that clap reads are without it.
+fn verbose<'a>(alloc: Global) -> Arg<'a>
+    ensures rule { rule_of result ≡ spec.verbose_argument }
+    ensures local { result.global ≡ false }
+{
+    Arg::new(alloc, VERBOSE)
+        .short('v')
+        .long(VERBOSE)
+        .action(ArgAction::SetTrue)
+        .help(VERBOSE_HELP)
 }
 
 /// What clap reads of the words.
@@ -144,6 +175,20 @@ pub(crate) fn plan_playbook<'a>(matches: &ArgMatches<'a>) -> Option<&'a str>
     ensures { option_map (λ s. s.now) result ≡ spec.file_in (codes "plan") (codes "PLAY") (subcommand_rows_of matches.now) }
 {
     matches.subcommand_matches("plan")?.get_str(PLAYBOOK)
+}
+
+/// The inventory's file, where the command is `rehearse`.
+pub(crate) fn rehearse_inventory<'a>(matches: &ArgMatches<'a>) -> Option<&'a str>
+    ensures { option_map (λ s. s.now) result ≡ spec.file_in (codes "rehearse") (codes "INV") (subcommand_rows_of matches.now) }
+{
+    matches.subcommand_matches("rehearse")?.get_str(INVENTORY)
+}
+
+/// The playbook's file, where the command is `rehearse`.
+pub(crate) fn rehearse_playbook<'a>(matches: &ArgMatches<'a>) -> Option<&'a str>
+    ensures { option_map (λ s. s.now) result ≡ spec.file_in (codes "rehearse") (codes "PLAY") (subcommand_rows_of matches.now) }
+{
+    matches.subcommand_matches("rehearse")?.get_str(PLAYBOOK)
 }
 
 /// The inventory's file, where the command is `run`.

@@ -25,6 +25,16 @@ pub(crate) fn plan_files(words: &[String]) -> Option<(&str, &str)>
     }
 }
 
+/// The inventory's and the playbook's file of which the words ask a rehearsal.
+pub(crate) fn rehearse_files(words: &[String]) -> Option<(&str, &str)>
+    ensures { option_map (λ files. (files.0.now, files.1.now)) result ≡ spec.rehearse_files (map string_bytes words.now) }
+{
+    match words {
+        [command, operands @ ..] if is_word(command, "rehearse") => two_operands(operands),
+        _ => None,
+    }
+}
+
 /// The two operands of the words, where there are just two.
 pub(crate) fn two_operands(words: &[String]) -> Option<(&str, &str)>
     ensures { option_map (λ pair. (pair.0.now, pair.1.now)) result ≡ operands.two_operands (map string_bytes words.now) }

@@ -4,6 +4,7 @@ ghost use Rattle.std.specs.List.{range_with_len};
 ghost use Rattle.ticket_line.specs.Ends.{new_put, new_take};
 
 use crate::front::Front;
+use crate::owed::Taker;
 use crate::reply::Reply;
 use crate::worker_end::WorkerEnd;
 use crossbeam_channel::bounded;
@@ -20,16 +21,16 @@ pub fn pool<'f, R: Runner>(
     requires { 0 < forks }
     ensures front { IfOk result (λ (front, _). (front.forks ≡ forks) × (front.tickets ≡ new_put front.tickets.line forks)) }
     ensures count { IfOk result (λ (_, ends). vec_len ends ≡ forks) }
-    ensures places { IfOk result (λ (_, ends). map (λ end. end.place) ends.items ≡ range_with_len 0 forks) }
-    ensures line { IfOk result (λ (front, ends). All (λ end. end.tickets ≡ new_take front.tickets.line) ends.items) }
+    ensures places { IfOk result (λ (_, ends). map (λ end. end.taker.place) ends.items ≡ range_with_len 0 forks) }
+    ensures line { IfOk result (λ (front, ends). All (λ end. end.taker.tickets ≡ new_take front.tickets.line) ends.items) }
 {
     let (tickets, take_ends) = line(alloc, forks, forks)?;
     let (reply, replies) = bounded(alloc, forks)?;
     let mut ends = Vec::with_capacity(alloc, forks)?;
     for take_end in take_ends {
+        let taker = Taker::new(ends.len(), take_end);
         ends.push(WorkerEnd {
-            place: ends.len(),
-            tickets: take_end,
+            taker,
             replies: reply.clone()?,
         })?;
     }

@@ -41,6 +41,11 @@ IsUnread text (Playbook fault) = ⊥
 IsUnread text (Pattern fault) = ⊥
 IsUnread text (Write fault) = ⊥
 
+-- the plays are those that the text says, and each part of each play's pattern names a host or a group
+pub record ArePlaysIn (fleet : FleetView) (text : List ℕ) (plays : List Play) : Type 0 where
+  pub reads : playbooks.IsReadAs 16 text plays
+  pub known : find (names_nothing fleet) (named_parts plays) ≡ None
+
 -- each part of each play's pattern names a host or a group, and this is the plan of the first
 pub record IsFirstPlan (fleet : FleetView) (plays : List Play) (answer : Answer) (held : List ℕ) : Type 0 where
   pub first : Play

@@ -5,10 +5,12 @@ mod end;
 mod fault;
 mod fleet;
 mod laws;
+mod plays;
 mod printing;
 
 pub use end::End;
 pub use fault::PlanFault;
 pub use fleet::read_fleet;
 pub use laws::{one_inventory, one_plan_text};
+pub use plays::read_known_plays;
 pub use printing::plan_text;

@@ -1,30 +1,29 @@
 //! From the bytes of an inventory and a playbook to the text of the plan.
-ghost use Rattle.std.specs.Prelude.{◌≡◌, ◌<◌, IfOk, IfErr, length};
+ghost use Rattle.std.specs.Prelude.{◌≡◌, ◌<◌, IfOk, IfErr, None, length};
+ghost use Rattle.std.specs.List.{find};
 ghost use Rattle.domains.specs.Ids.{host_numbers};
-ghost use Rattle.domains.specs.Patterns.{IsPatternFault};
+ghost use Rattle.domains.specs.Patterns.{IsPatternFault, names_nothing};
 ghost use Rattle.play_plan.specs.PlayPlans.{named_parts};
 ghost use Rattle.planning.specs.PlanTexts.{IsFirstPlan, IsPlaybookFault, IsPlaybookPlan, IsTrueFault, WritesPlan};
 
 use crate::end::{End, end_of};
 use crate::fault::PlanFault;
 use crate::fleet::read_fleet;
+use crate::plays::read_known_plays;
 use domains::{Fleet, PatternFault};
 use play_model::Play;
-use play_plan::{PlayPlan, look_up_all, plan_play};
-use play_read::read_plays;
+use play_plan::{PlayPlan, plan_play};
 use recap::write_plan;
 use std::alloc::Global;
 use std::io::Write;
 
-/// The plan of the first of these plays, once the patterns of all of them were looked up.
+/// The plan of the first of these plays, whose patterns were looked up.
 fn plan_first(alloc: Global, fleet: &Fleet, plays: &[Play]) -> Result<PlayPlan, PatternFault>
-    requires { 0 < length plays.now }
+    requires some { 0 < length plays.now }
+    requires known { find (names_nothing fleet.now) (named_parts plays.now) ≡ None }
     ensures ok { IfOk result (λ planned. IsFirstPlan fleet.now plays.now planned.answer (host_numbers planned.held.items)) }
     ensures err { IfErr result (IsPatternFault fleet.now (named_parts plays.now)) }
 {
-    if let Err(fault) = look_up_all(alloc, fleet, plays) {
-        return Err(fault);
-    }
     match plan_play(alloc, fleet, &plays[0]) {
         Ok(planned) => Ok(planned),
         Err(fault) => Err(fault),
@@ -36,9 +35,9 @@ fn plan_playbook(alloc: Global, fleet: &Fleet, playbook: &[u8]) -> Result<PlayPl
     ensures ok { IfOk result (λ planned. IsPlaybookPlan fleet.now playbook.now planned.answer (host_numbers planned.held.items)) }
     ensures err { IfErr result (IsPlaybookFault fleet.now playbook.now) }
 {
-    let plays = match read_plays(alloc, playbook) {
+    let plays = match read_known_plays(alloc, fleet, playbook) {
         Ok(plays) => plays,
-        Err(fault) => return Err(PlanFault::Playbook(fault)),
+        Err(fault) => return Err(fault),
     };
     match plan_first(alloc, fleet, plays.as_slice()) {
         Ok(planned) => Ok(planned),

@@ -1,5 +1,5 @@
 -- A play has one course.
-use Rattle.std.proofs.Common.{◌≡◌, ℕ, ◌+◌, ◌==◌, Option, Some, None, List, [], ◌∷◌, ◌++◌, length, refl, sym, ap, ◌∙◌, subst, arith}
+use Rattle.std.proofs.Common.{◌≡◌, ℕ, ◌+◌, ◌≤◌, ◌==◌, Option, Some, None, List, [], ◌∷◌, ◌++◌, length, refl, sym, ap, ◌∙◌, subst, arith}
 use Rattle.std.proofs.lemmas.Option.{same_Some}
 use Rattle.std.specs.Prelude.{if◌then◌else◌}
 use Rattle.std.specs.Option.{option_or}
@@ -14,7 +14,7 @@ use Rattle.play_course.specs.declared.boundary.Boundary.{Boundary}
 use Rattle.play_course.specs.declared.end.End.{End}
 use Rattle.play_course.specs.declared.end.End.TheVariants as ending
 use Rattle.play_course.specs.Courses.{Continues, Goes, IsBoundary, IsCourse, Setting, batches_of, end_at_rest, end_behind, end_by_failures, end_here, end_without_batch, ended_by, halt_of, led_to, next_batch, statuses_behind}
-use Rattle.play_course.specs.Laws.{AreSameBoundaries, AreSameSoFar, IsSameBoundary, OneBoundaryMore, OneCourse, OneWay, WentOn}
+use Rattle.play_course.specs.Laws.{AreSameBoundaries, AreSameSoFar, EndIsLast, IsSameBoundary, OneBoundaryMore, OneCourse, OneWay, WentOn}
 use Rattle.fleet_numbers.specs.NumberLists.{list_at}
 
 same_batches : (answer other : Answer) → IsSameAnswer answer other → batches_of answer ≡ batches_of other
@@ -127,6 +127,20 @@ same_so_far setting opened statuses before (b ∷ bs) (c ∷ cs) end other is to
 
 pub one_way : OneWay
 one_way setting statuses boundaries others end other is too = same_so_far setting 0 statuses None boundaries others end other is too
+
+no_longer : (setting : Setting) (opened : ℕ) (statuses : List Status) (before : Option End) (boundaries others : List Boundary) (end : Option End) (other : End)
+    → Continues setting opened statuses before boundaries end → Continues setting opened statuses before others (Some other) → length boundaries ≤ length others
+no_longer setting opened statuses before [] others end other is too = omega arith
+no_longer setting opened statuses before (b ∷ bs) [] end other is too = absurd (cc)
+no_longer setting opened statuses before (b ∷ bs) (c ∷ cs) end other is too =
+    let same = one_boundary setting opened statuses b c is.0 too.0 in
+    let rest = alike setting opened b c bs cs end (Some other) same (length bs ≤ length cs) (λ here one two ends too. omega (arith, ap length one))
+    (λ goes later. no_longer setting (opened + 1) (statuses_behind setting b) (end_behind setting b) bs cs end other goes later)
+    (end_here before b) (end_here before c) (same_end_here setting b c same before) is.1 too.1 in
+    omega (arith, rest)
+
+pub end_is_last : EndIsLast
+end_is_last setting statuses boundaries others end other is too = no_longer setting 0 statuses None boundaries others end other is too
 
 -- a boundary more
 one_more : (setting : Setting) (opened : ℕ) (statuses : List Status) (before : Option End) (boundaries : List Boundary) (boundary : Boundary) → Continues setting opened statuses before boundaries None

@@ -1,5 +1,5 @@
 -- What holds of every course.
-use Rattle.std.specs.Prelude.{◌≡◌, ℕ, true, Option, None, Some, List, [], ◌∷◌, ◌++◌, map, length}
+use Rattle.std.specs.Prelude.{◌≡◌, ◌≤◌, ℕ, true, Option, None, Some, List, [], ◌∷◌, ◌++◌, map, length}
 use Rattle.fleet_numbers.specs.NumberLists.{has_number, list_at}
 use Rattle.domains.specs.Ids.{host_numbers}
 use Rattle.fleet_states.specs.declared.status.Status.{Status}
@@ -43,6 +43,12 @@ abbrev pub OneWay : Type 0
 OneWay =
     (setting : Setting) (statuses : List Status) (boundaries others : List Boundary) (end other : Option End)
     → IsCourse setting statuses boundaries end → IsCourse setting statuses others other → AreSameSoFar boundaries others
+
+-- where a play has come to its end it has all its boundaries
+abbrev pub EndIsLast : Type 0
+EndIsLast =
+    (setting : Setting) (statuses : List Status) (boundaries others : List Boundary) (end : Option End) (other : End)
+    → IsCourse setting statuses boundaries end → IsCourse setting statuses others (Some other) → length boundaries ≤ length others
 
 -- a play comes to its next boundary, and ends there or goes on
 abbrev pub OneBoundaryMore : Type 0

@@ -1,5 +1,5 @@
 //! What holds of every course.
-ghost use Rattle.play_course.specs.Laws.{AsManyAsPlanned, OneBoundaryMore, OneCourse, OneFileCourse, OneWay, OpenedOnce, OthersDecideNothing, WentOn};
+ghost use Rattle.play_course.specs.Laws.{AsManyAsPlanned, EndIsLast, OneBoundaryMore, OneCourse, OneFileCourse, OneWay, OpenedOnce, OthersDecideNothing, WentOn};
 
 /// What a play does to a fleet is one function of the statuses with which it begins and of the step at which each host fails: how
 /// many programs run at once, and in which order they end, doesn't show in it.
@@ -10,6 +10,11 @@ pub fn a_play_has_one_course()
 /// As far as a play has come, whether or not it goes on: it went the one way.
 pub fn a_play_goes_one_way()
     ensures { OneWay }
+{}
+
+/// Where a play has come to its end it has all its boundaries: no list of its first ones is longer.
+pub fn nothing_follows_the_end()
+    ensures { EndIsLast }
 {}
 
 /// Where a play goes on, its next boundary is planned anew from the statuses to which the batches before it led; it ends there, or

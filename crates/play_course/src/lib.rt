@@ -11,5 +11,6 @@ pub use laws::{
     a_play_comes_to_its_next_boundary, a_play_goes_one_way, a_play_has_one_course,
     a_play_went_on_before_its_last_boundary,
     a_play_without_failure_takes_as_many_batches_as_its_first_plan,
-    failures_of_other_hosts_decide_nothing, no_host_is_opened_twice, plays_have_one_course,
+    failures_of_other_hosts_decide_nothing, no_host_is_opened_twice, nothing_follows_the_end,
+    plays_have_one_course,
 };

@@ -1,2 +1,3 @@
 pub mod LimitsLemmas
 pub mod PlanLemmas
+pub mod Printing

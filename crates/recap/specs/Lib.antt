@@ -1,3 +1,4 @@
 pub mod LimitsText
 pub mod LimitsTable
 pub mod PlanText
+pub mod Printable

@@ -126,8 +126,10 @@ pub fn write_held<W: Write>(text: &mut TextWriter<'_, W>, fleet: &Fleet, held: &
     }
 }
 
+/// Goes on with the plan, or the group that blocks it, and then the hosts that were set aside before it was made, where there
+/// are any. A number that no host or group of the fleet has is given an empty name. It takes no memory.
 #[tactic(auto, using(bounded_io::proofs::Pieces::pieces_of_text))]
-fn write_all<W: Write>(
+pub fn write_plan_lines<W: Write>(
     text: &mut TextWriter<'_, W>,
     fleet: &Fleet,
     answer: &Answer,
@@ -140,9 +142,8 @@ fn write_all<W: Write>(
     write_held(text, fleet, held);
 }
 
-/// Writes the plan, or the group that blocks it, and then the hosts that were set aside before it was made, where there
-/// are any. A number that no host or group of the fleet has is given an empty name. It takes no memory; where a write
-/// fails, exactly the first bytes of the text went out, as many as the fault says.
+/// Writes the lines of a plan as a text of their own. It takes no memory; where a write fails, exactly the first bytes of the text
+/// went out, as many as the fault says.
 pub fn write_plan<W: Write>(
     fleet: &Fleet,
     answer: &Answer,
@@ -152,6 +153,6 @@ pub fn write_plan<W: Write>(
     ensures { SendsText (W.contents out.old) (W.contents out.new) (plan_text fleet.now answer.now (host_numbers held.now)) result }
 {
     let mut text = TextWriter::new(out);
-    write_all(&mut text, fleet, answer, held);
+    write_plan_lines(&mut text, fleet, answer, held);
     text.finish()
 }

@@ -1,5 +1,5 @@
 -- What holds of every rehearsal.
-use Rattle.std.specs.Prelude.{◌≡◌, ℕ, ◌<◌, List, [], ◌∷◌}
+use Rattle.std.specs.Prelude.{◌≡◌, ◌⊎◌, ℕ, ◌<◌, List, [], ◌∷◌}
 use Rattle.group_tree.specs.declared.ids.HostId.{HostId}
 use Rattle.batch_outcome.specs.Batches.{Fails}
 use Rattle.batch_outcome.specs.Laws.{AgreeOn}
@@ -30,3 +30,22 @@ Forecast =
 -- whoever undoes an advance has the rehearsal that was
 abbrev pub UndoneIsAsBefore : Type 0
 UndoneIsAsBefore = (named : List HostId) (old new back : RehearsalView) → IsAdvanced named old new → IsUndone new back → back ≡ old
+
+-- an advance, or an undo of one
+abbrev pub IsStep : RehearsalView → RehearsalView → Type 0
+IsStep old new = ((named : List HostId) × IsAdvanced named old new) ⊎ IsUndone old new
+
+-- the rehearsals to which steps lead, one after the other
+abbrev pub AreSteps : RehearsalView → List RehearsalView → Type 0
+AreSteps old [] = Unit {0}
+AreSteps old (new ∷ rest) = IsStep old new × AreSteps new rest
+
+-- the one to which the last of them leads
+abbrev pub last_of : RehearsalView → List RehearsalView → RehearsalView
+last_of old [] = old
+last_of old (new ∷ rest) = last_of new rest
+
+-- whoever undoes all advances is where the rehearsal began, whatever was advanced and undone in between
+abbrev pub UndoneAllIsOpening : Type 0
+UndoneAllIsOpening =
+    (opening : RehearsalView) (views : List RehearsalView) → opening.above ≡ [] → AreSteps opening views → (last_of opening views).above ≡ [] → last_of opening views ≡ opening

@@ -3,3 +3,4 @@ pub mod Kept
 pub mod Refusals
 pub mod Advances
 pub mod Laws
+pub mod Plays

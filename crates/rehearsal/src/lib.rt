@@ -8,6 +8,9 @@ mod rehearsal;
 mod stage;
 
 pub use fault::AdvanceFault;
-pub use laws::{a_rehearsal_forecasts_the_play, an_undone_advance_leaves_nothing};
+pub use laws::{
+    a_rehearsal_forecasts_the_play, an_undone_advance_leaves_nothing,
+    undoing_all_leads_to_the_opening,
+};
 pub use rehearsal::Rehearsal;
 pub use stage::Stage;

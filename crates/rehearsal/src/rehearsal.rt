@@ -3,7 +3,7 @@ ghost use Rattle.std.specs.Prelude.{◌≡◌, ◌<◌, [], All, IfErr, IfOk, If
 ghost use Rattle.domains.specs.Ids.{host_numbers};
 ghost use Rattle.play_course.specs.Courses.{next_batch};
 ghost use Rattle.rehearsal.specs.Refusals.{IsRefused};
-ghost use Rattle.rehearsal.specs.Stacks.{IsAdvanced, IsBehind, IsUndone, cap_at, first_outside, last_batch_of, top};
+ghost use Rattle.rehearsal.specs.Stacks.{IsAdvanced, IsBehind, IsRehearsal, IsUndone, cap_at, first_outside, last_batch_of, top};
 
 use crate::advance::{close_batch, first_outside, first_steps};
 use crate::fault::AdvanceFault;
@@ -80,6 +80,7 @@ impl<'a> Rehearsal<'a> {
         ensures rules { IfOk result (λ rehearsal. rehearsal.rules ≡ record { fleet = fleet.now; mode = mode; caps = caps.now; percentage = max_fail }) }
         ensures opening { IfOk result (λ rehearsal. rehearsal.opening ≡ opening.now) }
         ensures alone { IfOk result (λ rehearsal. rehearsal.above ≡ []) }
+        ensures rehearsed { IfOk result IsRehearsal }
     {
         let statuses = Vec::from_slice(alloc, opening)?;
         let boundary = Boundary::from_statuses(alloc, fleet, mode, statuses, cap(caps, 0))?;
@@ -162,6 +163,13 @@ impl<'a> Rehearsal<'a> {
         ensures { result ≡ length self.now.above }
     {
         self.above.len()
+    }
+
+    /// The fleet of the play.
+    pub fn fleet(&self) -> &'a Fleet
+        ensures { result.now ≡ self.now.rules.fleet }
+    {
+        self.fleet
     }
 
     /// Where it stands.

@@ -6,6 +6,7 @@ ghost use Rattle.roll_kernel.specs.Views.{state_of};
 ghost use Rattle.roll_run.specs.Inside.{HasBroken, HasPassedStep, HasRun, HasWorked, IsWorkedOff};
 ghost use Rattle.roll_run.specs.Runs.{NamesAWorker};
 
+use crate::watch::Watch;
 use fork_pool::{Front, StepFault};
 use group_tree::HostId;
 use roll_core::{Board, Next, Runner};
@@ -68,9 +69,10 @@ where
 }
 
 /// Opens a batch, and works on it until it is over. Where it isn't opened, nothing has changed.
-pub(crate) fn run_batch<'f, 'b, R: Runner, L: Ledger, H: Wait>(
+pub(crate) fn run_batch<'f, 'b, R: Runner, L: Ledger, H: Wait, V: Watch>(
     rt: &H,
     alloc: Global,
+    watch: &V,
     front: &mut Front<'f, R>,
     mut board: Board<'b, R, L>,
     batch: &[HostId],
@@ -86,7 +88,10 @@ where
     ensures forks { front.new.forks ≡ front.old.forks }
 {
     match board.open(alloc, batch) {
-        Ok(()) => pass_steps(rt, alloc, front, board),
+        Ok(()) => {
+            watch.batch_opens(rt, board.fleet(), batch, board.statuses());
+            pass_steps(rt, alloc, front, board)
+        }
         Err(_refused) => Err((StepFault::Mem, board)),
     }
 }

@@ -12,6 +12,7 @@ mod plays;
 mod pool;
 mod run;
 mod turns;
+mod watch;
 
 pub use fault::{RunFault, RunsFault};
 pub use fork_pool::StepFault;
@@ -19,3 +20,4 @@ pub use play::run_play;
 pub use play_course::{Boundary, End};
 pub use pool::run_plays;
 pub use run::Run;
+pub use watch::{Unwatched, Watch};

@@ -11,6 +11,7 @@ ghost use Rattle.roll_run.specs.Runs.{IsBrokenOff, IsRun, roll_by};
 use crate::fault::RunFault;
 use crate::run::Run;
 use crate::turns::go_on;
+use crate::watch::Watch;
 use batch_plan::counted;
 use bumpalo::Bump;
 use domains::Fleet;
@@ -82,9 +83,10 @@ fn count_targets(alloc: Global, fleet: &Fleet, play: &Play) -> Result<u32, Alloc
 /// A run of the play with the workers of a pool. The counts of the fleet stay in an arena of the coordinator's own. Where memory is wanting before there
 /// is a board, only that is told.
 #[allow(clippy::too_many_arguments)]
-pub(crate) fn run_on<'f, 'b, R: Runner, L: Ledger, H: Wait>(
+pub(crate) fn run_on<'f, 'b, R: Runner, L: Ledger, H: Wait, V: Watch>(
     rt: &H,
     alloc: Global,
+    watch: &V,
     front: &mut Front<'f, R>,
     fleet: &'b Fleet,
     play: &'b Play,
@@ -119,6 +121,7 @@ where
     let (gone, board) = go_on(
         rt,
         alloc,
+        watch,
         front,
         board,
         &mut domains,

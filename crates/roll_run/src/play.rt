@@ -9,6 +9,7 @@ ghost use Rattle.roll_run.specs.Runs.{IsBrokenOff, IsRun, roll_by};
 use crate::fault::RunFault;
 use crate::pool::run_plays;
 use crate::run::Run;
+use crate::watch::Watch;
 use domains::Fleet;
 use fleet_states::Status;
 use host_vars::Vars;
@@ -22,11 +23,12 @@ use std::thread::Threads;
 
 /// Runs a play on the hosts of its pattern, with `forks` workers, 1 to 64: at each boundary with the shortest plan that there is, and with
 /// that plan's first batch. At no moment is a group over its limit, whatever the programs answer and however many run at once. Want of
-/// memory breaks it off with what it came to; where a worker can't be started, nothing is opened.
+/// memory breaks it off with what it came to; where a worker can't be started, nothing is opened. `watch` is told of each batch.
 #[allow(clippy::too_many_arguments)]
-pub fn run_play<R: Runner, H: Threads + Wait + Processes<Started = SystemProcess> + Sync>(
+pub fn run_play<R: Runner, H: Threads + Wait + Processes<Started = SystemProcess> + Sync, V: Watch>(
     rt: &H,
     alloc: Global,
+    watch: &V,
     fleet: &Fleet,
     play: &Play,
     statuses: Vec<Status>,
@@ -47,6 +49,7 @@ pub fn run_play<R: Runner, H: Threads + Wait + Processes<Started = SystemProcess
     match run_plays(
         rt,
         alloc,
+        watch,
         fleet,
         slice::from_ref(play),
         statuses,

@@ -12,6 +12,7 @@ use crate::fault::{RunFault, RunsFault};
 use crate::next::{begin_after, copy_into, keep};
 use crate::opening::run_on;
 use crate::run::Run;
+use crate::watch::Watch;
 use domains::Fleet;
 use fleet_states::Status;
 use fork_pool::Front;
@@ -26,9 +27,10 @@ use std::sync::ledger::Blank;
 
 /// A run of a play on the workers of a pool.
 #[allow(clippy::too_many_arguments)]
-fn run_one<'f, R: Runner, H: Wait>(
+fn run_one<'f, R: Runner, H: Wait, V: Watch>(
     rt: &H,
     alloc: Global,
+    watch: &V,
     front: &mut Front<'f, R>,
     fleet: &Fleet,
     play: &Play,
@@ -49,9 +51,11 @@ fn run_one<'f, R: Runner, H: Wait>(
     ensures err { IfErr result (IsBrokenOff (R.may runner.now) fleet.now (roll_by fleet.now play.now forks statuses.items vars.items)) }
     ensures forks { front.new.forks ≡ front.old.forks }
 {
-    let answer = run_on::<R, Brand, H>(
+    watch.play_begins(rt, alloc, fleet, play);
+    let answer = run_on::<R, Brand, H, V>(
         rt,
         alloc,
+        watch,
         front,
         fleet,
         play,
@@ -77,9 +81,10 @@ fn is_finished(end: End) -> bool
 /// Runs the plays after a run, each where the one before it ended, until one ends otherwise than finished, and puts that run and theirs with those that are done.
 /// `room` is for as many statuses as there are hosts, for a play that can't begin.
 #[allow(clippy::too_many_arguments)]
-fn run_later<'f, R: Runner, H: Wait>(
+fn run_later<'f, R: Runner, H: Wait, V: Watch>(
     rt: &H,
     alloc: Global,
+    watch: &V,
     front: &mut Front<'f, R>,
     fleet: &Fleet,
     plays: &[Play],
@@ -115,6 +120,7 @@ fn run_later<'f, R: Runner, H: Wait>(
             match run_one(
                 rt,
                 alloc,
+                watch,
                 front,
                 fleet,
                 play,
@@ -124,7 +130,7 @@ fn run_later<'f, R: Runner, H: Wait>(
                 forks,
             ) {
                 Ok(run) => run_later(
-                    rt, alloc, front, fleet, rest, runner, forks, run, done, room,
+                    rt, alloc, watch, front, fleet, rest, runner, forks, run, done, room,
                 ),
                 Err(fault) => Err(fault),
             }
@@ -149,9 +155,10 @@ fn places(alloc: Global, runs: usize, hosts: usize) -> Result<(Vec<Run>, Vec<Sta
 
 /// Runs the plays, one after the other, on the workers of a pool.
 #[allow(clippy::too_many_arguments)]
-pub(crate) fn run_each<'f, R: Runner, H: Wait>(
+pub(crate) fn run_each<'f, R: Runner, H: Wait, V: Watch>(
     rt: &H,
     alloc: Global,
+    watch: &V,
     front: &mut Front<'f, R>,
     fleet: &Fleet,
     plays: &[Play],
@@ -179,10 +186,10 @@ pub(crate) fn run_each<'f, R: Runner, H: Wait>(
         return Err(RunsFault::before_a_log(alloc, statuses));
     };
     match run_one(
-        rt, alloc, front, fleet, first, statuses, vars, runner, forks,
+        rt, alloc, watch, front, fleet, first, statuses, vars, runner, forks,
     ) {
         Ok(run) => match run_later(
-            rt, alloc, front, fleet, later, runner, forks, run, &mut done, room,
+            rt, alloc, watch, front, fleet, later, runner, forks, run, &mut done, room,
         ) {
             Ok(()) => Ok(done),
             Err(last) => Err(RunsFault { done, last }),

@@ -9,6 +9,7 @@ ghost use Rattle.roll_run.specs.Plays.{AreBroken, AreRuns};
 use crate::fault::{RunFault, RunsFault};
 use crate::plays::run_each;
 use crate::run::Run;
+use crate::watch::Watch;
 use domains::Fleet;
 use fleet_states::Status;
 use fork_pool::{Front, WorkerEnd, pool, serve};
@@ -23,9 +24,10 @@ use std::thread::Threads;
 
 /// Runs the plays, unless a worker is missing.
 #[allow(clippy::too_many_arguments)]
-fn run_with_all<'f, R: Runner, H: Wait>(
+fn run_with_all<'f, R: Runner, H: Wait, V: Watch>(
     rt: &H,
     alloc: Global,
+    watch: &V,
     missing: bool,
     front: &mut Front<'f, R>,
     fleet: &Fleet,
@@ -51,15 +53,21 @@ fn run_with_all<'f, R: Runner, H: Wait>(
         return Err(RunsFault::before_a_log(alloc, statuses));
     }
     run_each(
-        rt, alloc, front, fleet, plays, statuses, vars, runner, forks,
+        rt, alloc, watch, front, fleet, plays, statuses, vars, runner, forks,
     )
 }
 
 /// Starts a worker for each of these ends, and runs the plays. Where one can't be started, nothing is opened.
 #[allow(clippy::too_many_arguments)]
-fn with_workers<'f, R: Runner, H: Threads + Wait + Processes<Started = SystemProcess> + Sync>(
+fn with_workers<
+    'f,
+    R: Runner,
+    H: Threads + Wait + Processes<Started = SystemProcess> + Sync,
+    V: Watch,
+>(
     rt: &H,
     alloc: Global,
+    watch: &'f V,
     front: Front<'f, R>,
     ends: Vec<WorkerEnd<'f, R>>,
     fleet: &'f Fleet,
@@ -104,7 +112,7 @@ fn with_workers<'f, R: Runner, H: Threads + Wait + Processes<Started = SystemPro
                 missing |= started.is_err();
             }
             run_with_all(
-                rt, alloc, missing, &mut front, fleet, plays, statuses, vars, runner, forks,
+                rt, alloc, watch, missing, &mut front, fleet, plays, statuses, vars, runner, forks,
             )
         },
     )
@@ -113,10 +121,16 @@ fn with_workers<'f, R: Runner, H: Threads + Wait + Processes<Started = SystemPro
 /// Runs plays one after the other, with `forks` workers, 1 to 64, who stand throughout: each play as `run_play` does, the first one from these statuses and
 /// variables, each next one where the one before it ended and with the results that were registered before. A play that ends otherwise than finished is the last.
 /// Want of memory breaks the run off: the runs before it come back, with what the last one came to; where a worker can't be started, nothing is opened.
+/// `watch` is told of each play and batch.
 #[allow(clippy::too_many_arguments)]
-pub fn run_plays<R: Runner, H: Threads + Wait + Processes<Started = SystemProcess> + Sync>(
+pub fn run_plays<
+    R: Runner,
+    H: Threads + Wait + Processes<Started = SystemProcess> + Sync,
+    V: Watch,
+>(
     rt: &H,
     alloc: Global,
+    watch: &V,
     fleet: &Fleet,
     plays: &[Play],
     statuses: Vec<Status>,
@@ -137,7 +151,7 @@ pub fn run_plays<R: Runner, H: Threads + Wait + Processes<Started = SystemProces
 {
     match pool(alloc, forks) {
         Ok((front, ends)) => with_workers(
-            rt, alloc, front, ends, fleet, plays, statuses, vars, runner, forks,
+            rt, alloc, watch, front, ends, fleet, plays, statuses, vars, runner, forks,
         ),
         Err(_refused) => Err(RunsFault::before_a_log(alloc, statuses)),
     }

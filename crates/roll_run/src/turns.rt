@@ -9,6 +9,7 @@ ghost use Rattle.roll_run.specs.Inside.{HasGone, HasTurned, IsBetween, IsNoted, 
 use crate::batch::run_batch;
 use crate::boundary::come_to_boundary;
 use crate::close::close_batch;
+use crate::watch::Watch;
 use domain_counts::Domains;
 use fork_pool::{Front, StepFault};
 use play_course::{Boundary, End};
@@ -40,9 +41,10 @@ fn end_at(before: Option<End>, boundary: &Boundary) -> Option<End>
 
 /// Ends the play at the last boundary, or runs its batch.
 #[allow(clippy::too_many_arguments)]
-fn pass<'f, 'b, A: Allocator, R: Runner, L: Ledger, H: Wait>(
+fn pass<'f, 'b, A: Allocator, R: Runner, L: Ledger, H: Wait, V: Watch>(
     rt: &H,
     alloc: Global,
+    watch: &V,
     front: &mut Front<'f, R>,
     board: Board<'b, R, L>,
     domains: &mut Domains<'_, A>,
@@ -63,7 +65,7 @@ where
     let boundary = &boundaries[boundaries.len() - 1];
     match end_at(before, boundary) {
         Some(end) => (Turn::Ended(end), board),
-        None => match run_batch(rt, alloc, front, board, boundary.next_batch()) {
+        None => match run_batch(rt, alloc, watch, front, board, boundary.next_batch()) {
             Ok(mut board) => {
                 let end = close_batch(&mut board, domains, boundary.next_batch());
                 (Turn::Behind(end), board)
@@ -75,9 +77,10 @@ where
 
 /// Comes to the next boundary, and ends the play there or runs its batch.
 #[allow(clippy::too_many_arguments)]
-fn move_on<'f, 'b, A: Allocator, R: Runner, L: Ledger, H: Wait>(
+fn move_on<'f, 'b, A: Allocator, R: Runner, L: Ledger, H: Wait, V: Watch>(
     rt: &H,
     alloc: Global,
+    watch: &V,
     front: &mut Front<'f, R>,
     mut board: Board<'b, R, L>,
     domains: &mut Domains<'_, A>,
@@ -102,6 +105,7 @@ where
         Ok(()) => pass(
             rt,
             alloc,
+            watch,
             front,
             board,
             domains,
@@ -113,9 +117,11 @@ where
 }
 
 /// From the present boundary to the end of the play, or to a fault.
-pub(crate) fn go_on<'f, 'b, A: Allocator, R: Runner, L: Ledger, H: Wait>(
+#[allow(clippy::too_many_arguments)]
+pub(crate) fn go_on<'f, 'b, A: Allocator, R: Runner, L: Ledger, H: Wait, V: Watch>(
     rt: &H,
     alloc: Global,
+    watch: &V,
     front: &mut Front<'f, R>,
     mut board: Board<'b, R, L>,
     domains: &mut Domains<'_, A>,
@@ -137,7 +143,7 @@ where
     let mut before = None;
     for _ in rt.forever() {
         let (turn, back) = move_on(
-            rt, alloc, front, board, domains, boundaries, before, targeted,
+            rt, alloc, watch, front, board, domains, boundaries, before, targeted,
         );
         board = back;
         match turn {

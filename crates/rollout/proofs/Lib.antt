@@ -1,3 +1,3 @@
-pub mod Printing
+pub mod Rehearsing
 pub mod Rolling
 pub mod Tables

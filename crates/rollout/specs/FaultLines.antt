@@ -1,5 +1,5 @@
 -- The line that reports a fault.
-use Rattle.std.specs.Prelude.{ℕ, ◌&&◌, nat_le, if◌then◌else◌, List, ◌++◌, Option, Some, None, codes, decimal, flat_map}
+use Rattle.std.specs.Prelude.{ℕ, List, ◌++◌, Option, Some, None, codes, decimal, flat_map}
 
 -- a detail of a fault, as the line shows it
 pub record ShownDetail : Type 0 where
@@ -10,10 +10,6 @@ pub record ShownDetail : Type 0 where
 pub record Row : Type 0 where
   pub name : List ℕ
   pub details : List ShownDetail
-
--- a byte that is no printable ASCII is a question mark
-abbrev pub printable : ℕ → ℕ
-printable byte = if nat_le 32 byte && nat_le byte 126 then byte else 63
 
 -- ` KEY=`
 abbrev pub key_text : List ℕ → List ℕ

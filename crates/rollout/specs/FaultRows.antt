@@ -1,5 +1,5 @@
 -- the faults that the program reports: their numbers, their names and their details.
-use Rattle.std.specs.Prelude.{ℕ, List, [], ◌∷◌, Option, Some, None, codes, decimal, map, string_bytes}
+use Rattle.std.specs.Prelude.{ℕ, List, [], ◌∷◌, Option, Some, None, codes, decimal, string_bytes}
 use Rattle.bounded_io.specs.Faults as input
 use Rattle.bounded_io.specs.declared.input_fault.InputFault.{InputFault}
 use Rattle.bounded_io.specs.declared.input_fault.InputFault.TheVariants as input_fault
@@ -23,15 +23,16 @@ use Rattle.play_faults.specs.Faults.{key_name}
 use Rattle.play_faults.specs.declared.fault.PlayFault.{PlayFault}
 use Rattle.play_faults.specs.declared.fault.PlayFault.TheVariants as play_fault
 use Rattle.play_faults.specs.declared.key.ConditionKey.{ConditionKey}
-use Rattle.rollout.specs.FaultLines.{Row, ShownDetail, printable}
+use Rattle.recap.specs.Printable.{printed}
+use Rattle.rollout.specs.FaultLines.{Row, ShownDetail}
 use Rattle.rollout.specs.declared.fault.Fault.{Fault}
-use Rattle.rollout.specs.declared.fault.Fault.TheVariants.{Line, Input, Read, Fleet, Playbook, Pattern, Mixed, Write, Memory}
+use Rattle.rollout.specs.declared.fault.Fault.TheVariants.{Line, Input, Read, Fleet, Playbook, Pattern, Mixed, LongLine, Write, Memory}
 
 abbrev row : List ℕ → List ShownDetail → Row
 row name details = record { name = name; details = details }
 
 abbrev text : List ℕ → List ℕ → ShownDetail
-text key value = record { key = key; value = map printable value }
+text key value = record { key = key; value = printed value }
 
 abbrev number : List ℕ → ℕ → ShownDetail
 number key value = record { key = key; value = decimal value }
@@ -135,6 +136,7 @@ number_of (Fleet fault) = fleet_number fault
 number_of (Playbook fault) = playbook.number_of fault
 number_of (Pattern fault) = pattern_number fault
 number_of Mixed = Some 822
+number_of LongLine = Some 906
 number_of (Write fault) = Some 904
 number_of Memory = None
 
@@ -146,6 +148,7 @@ row_of (Fleet fault) = fleet_row fault
 row_of (Playbook fault) = playbook_row fault
 row_of (Pattern fault) = pattern_row fault
 row_of Mixed = row (codes "Mixed") []
+row_of LongLine = row (codes "LongLine") []
 row_of (Write fault) = row (codes "Write") (number (codes "written") fault.written ∷ [])
 row_of Memory = no_row
 
@@ -160,5 +163,6 @@ explanation_of (Fleet fault) = []
 explanation_of (Playbook fault) = []
 explanation_of (Pattern fault) = []
 explanation_of Mixed = []
+explanation_of LongLine = []
 explanation_of (Write fault) = []
 explanation_of Memory = []

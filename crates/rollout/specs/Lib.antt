@@ -11,4 +11,6 @@ pub mod PlanFaults
 pub mod Plans
 pub mod RollFaults
 pub mod Rolls
+pub mod RehearsalFaults
+pub mod Rehearsals
 pub mod Runs

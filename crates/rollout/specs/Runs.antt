@@ -5,9 +5,10 @@ use Rattle.std.specs.declared.io.ErrorKind.TheVariants.{OutOfMemory}
 use Rattle.std.specs.Io.KnownBytes.{Keeps}
 use Rattle.command_line.specs.Messages as messages
 use Rattle.command_line.specs.Operands.{Word}
+use Rattle.command_line.specs.Verbose.{plain}
 use Rattle.command_line.specs.Words as words
 use Rattle.command_line.specs.declared.command.Line as declared_line
-use Rattle.command_line.specs.declared.command.Line.TheVariants.{Limits, Plan, Run, Print}
+use Rattle.command_line.specs.declared.command.Line.TheVariants.{Limits, Plan, Run, Rehearse, Print}
 use Rattle.command_line.specs.declared.fault.LineFault.{LineFault}
 use Rattle.command_line.specs.declared.fault.LineFault.TheVariants as line_fault
 use Rattle.outcome_results.specs.Endings.{Ending}
@@ -15,6 +16,7 @@ use Rattle.roll_logs.specs.Told.{Work}
 use Rattle.rollout.specs.Commands.{TabulatesLimits, Prints}
 use Rattle.rollout.specs.Endings.{Reports, status_of}
 use Rattle.rollout.specs.Plans.{Plans}
+use Rattle.rollout.specs.Rehearsals.{RehearsesInputs}
 use Rattle.rollout.specs.Rolls.{Rolls}
 use Rattle.rollout.specs.Status.{code_of}
 use Rattle.rollout.specs.Systems.{Fails, Sources, Gives, Known}
@@ -30,19 +32,21 @@ Does may sources (Plan inventory playbook) input_old input_new out_old out_new r
     Plans sources inventory playbook input_old input_new out_old out_new result
 Does may sources (Run inventory playbook forks) input_old input_new out_old out_new result =
     Rolls may sources inventory playbook forks input_old input_new out_old out_new result
+Does may sources (Rehearse inventory playbook) input_old input_new out_old out_new result =
+    RehearsesInputs sources inventory playbook input_old input_new out_old out_new result
 Does may sources (Print message) input_old input_new out_old out_new result =
     Keeps input_old input_new × Prints (messages.text_of message) out_old out_new result
 
--- the words are a line, and what it asks for was done
+-- the words, but for the flag of a run, are a line, and what it asks for was done: whether a run tells of itself while it goes on makes no difference
 pub record FollowsLine (may : Work → Ending → Type 0) (sources : Sources) (words_given : List Word) (input_old input_new out_old out_new : Option (List ℕ)) (result : Result Status Fault) : Type 0 where
   pub line : declared_line.Line
-  pub says : words.Says words_given line
+  pub says : words.Says (plain words_given) line
   pub does : Does may sources line input_old input_new out_old out_new result
 
 -- the words are no line, and nothing was read or written
 pub record RefusesWords (words_given : List Word) (input_old input_new out_old out_new : Option (List ℕ)) (result : Result Status Fault) : Type 0 where
   pub fault : LineFault
-  pub refuses : words.Refuses words_given fault
+  pub refuses : words.Refuses (plain words_given) fault
   pub is : result ≡ Err (Line fault)
   pub unread : Keeps input_old input_new
   pub unwritten : Keeps out_old out_new

@@ -3,9 +3,11 @@
 mod limits;
 mod plan;
 mod print;
+mod rehearse;
 mod roll;
 
 pub use limits::{limits, limits_text};
 pub use plan::plan;
 pub use print::print;
+pub use rehearse::rehearse;
 pub use roll::roll;

@@ -1,11 +1,12 @@
 //! The details of a fault's line.
-ghost use Rattle.std.specs.Prelude.{◌≡◌, map, flat_map};
+ghost use Rattle.std.specs.Prelude.{flat_map};
 ghost use Rattle.bounded_io.specs.Writing.{Writes};
 ghost use Rattle.rollout.specs.Details.{shown};
 ghost use Rattle.rollout.specs.FaultLines.{detail_text};
 ghost use Rattle.rollout.specs.FaultLines as spec;
 
 use bounded_io::TextWriter;
+use recap::write_printable;
 use std::io::Write;
 
 /// A detail of a fault, under its key.
@@ -31,7 +32,7 @@ fn write_detail<W: Write>(text: &mut TextWriter<'_, W>, detail: &Detail<'_>)
     match detail {
         Detail::Text(key, value) => {
             write_key(text, *key);
-            write_printable(text, *value);
+            write_printable(text, (*value).as_bytes());
         }
         Detail::Number(key, value) => {
             write_key(text, *key);
@@ -47,24 +48,4 @@ fn write_key<W: Write>(text: &mut TextWriter<'_, W>, key: &str)
     text.write_str(" ");
     text.write_str(key);
     text.write_str("=");
-}
-
-/// Goes on with the text as one line shows it.
-fn write_printable<W: Write>(text: &mut TextWriter<'_, W>, value: &str)
-    ensures { Writes W.contents text.old text.new (map spec.printable value.now) }
-{
-    for byte in value.as_bytes() {
-        text.write_bytes(&[printable(*byte)]);
-    }
-}
-
-/// A byte that is no printable ASCII is a question mark, so that a line stays one line.
-fn printable(byte: u8) -> u8
-    ensures { result ≡ spec.printable byte }
-{
-    if b' ' <= byte && byte <= b'~' {
-        byte
-    } else {
-        b'?'
-    }
 }

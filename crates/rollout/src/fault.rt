@@ -1,6 +1,7 @@
 //! What ends the program early.
 ghost use Rattle.std.specs.Prelude.{◌≡◌};
 ghost use Rattle.rollout.specs.FaultRows as rows;
+ghost use Rattle.rollout.specs.RehearsalFaults.{input_of_commands};
 
 use bounded_io::{InputFault, WriteFault};
 use command_line::{LineFault, Source};
@@ -9,6 +10,7 @@ use fork_pool::StepFault;
 use inventory_read::ReadFault;
 use planning::PlanFault;
 use play_faults::PlayFault;
+use rehearsing::RehearseFault;
 use running::RunTextFault;
 use std::alloc::AllocError;
 
@@ -29,6 +31,8 @@ pub enum Fault {
     Pattern(PatternFault),
     /// A run was broken off: a host on which its step is due was not reported.
     Mixed,
+    /// A command of a rehearsal is longer than a line may be.
+    LongLine,
     /// An output broke off.
     Write(WriteFault),
     Memory,
@@ -47,6 +51,7 @@ impl Fault {
             Fault::Playbook(fault) => fault.number(),
             Fault::Pattern(fault) => pattern_number(fault),
             Fault::Mixed => Some(822),
+            Fault::LongLine => Some(906),
             Fault::Write(fault) => Some(fault.number()),
             Fault::Memory => None,
         }
@@ -151,5 +156,34 @@ impl From<RunTextFault> for Fault {
             RunTextFault::Broken(why) => Fault::from(why),
             RunTextFault::Write(fault) => Fault::Write(fault),
         }
+    }
+}
+
+impl From<RehearseFault> for Fault {
+    ghost use Rattle.std.specs.Prelude.{◌≡◌};
+    ghost use Rattle.rollout.specs.RehearsalFaults.{fault_of};
+
+    ghost from_gives = { λ cause fault. fault ≡ fault_of cause };
+
+    /// The commands come on standard input.
+    fn from(fault: RehearseFault) -> Fault {
+        match fault {
+            RehearseFault::Refused(fault) => Fault::from(fault),
+            RehearseFault::Memory => Fault::Memory,
+            RehearseFault::File => commands_fault(InputFault::File),
+            RehearseFault::TooLarge => commands_fault(InputFault::TooLarge),
+            RehearseFault::LongLine => Fault::LongLine,
+            RehearseFault::Write(fault) => Fault::Write(fault),
+        }
+    }
+}
+
+/// The commands of a rehearsal could not be read.
+fn commands_fault(fault: InputFault) -> Fault
+    ensures { result ≡ input_of_commands fault }
+{
+    Fault::Input {
+        source: Source::StandardInput,
+        fault,
     }
 }

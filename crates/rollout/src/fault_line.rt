@@ -63,6 +63,7 @@ fn write_row<W: Write>(text: &mut TextWriter<'_, W>, fault: &Fault)
         Fault::Playbook(fault) => write_playbook_row(text, fault),
         Fault::Pattern(fault) => write_pattern_row(text, fault),
         Fault::Mixed => row(text, "Mixed", &[]),
+        Fault::LongLine => row(text, "LongLine", &[]),
         Fault::Write(fault) => row(text, "Write", &[Number("written", fault.written)]),
         Fault::Memory => {}
     }

@@ -18,17 +18,30 @@ use crate::system::Host;
 use bounded_io::Fallible;
 use local_programs::LocalPrograms;
 use std::io;
+use std::io::{IsTerminal, Stderr, Stdin, Stdout};
 use std::process::ExitCode;
 
 fn main(rt: HostRuntime) -> ExitCode {
     let errors = rt.stderr();
+    let programs = LocalPrograms::new(errors);
+    let prompts = prompts_of(rt.stdin(), rt.stdout(), errors);
     run(
-        &Host::new(&rt),
+        &Host::new(&rt, prompts),
         &rt,
         rt.alloc(),
-        &LocalPrograms,
+        &programs,
+        &programs,
         &mut Fallible(rt.reader()),
         &mut io::writer(&rt),
         &mut io::writer(&errors),
     )
+}
+
+/// Standard error, where commands are typed at a terminal and their answers are seen on one.
+fn prompts_of(input: Stdin, output: Stdout, errors: Stderr) -> Option<Stderr> {
+    if input.is_terminal() && output.is_terminal() && errors.is_terminal() {
+        Some(errors)
+    } else {
+        None
+    }
 }

@@ -4,7 +4,7 @@ ghost use Rattle.std.specs.Process.{exit_status};
 ghost use Rattle.rollout.specs.Runs.{Attempts, Does, Performs, Runs};
 ghost use Rattle.rollout.specs.Systems.{sources_of};
 
-use crate::commands::{limits, plan, print, roll};
+use crate::commands::{limits, plan, print, rehearse, roll};
 use crate::ending::{conclude, exit_code};
 use crate::fault::Fault;
 use crate::status::Status;
@@ -12,19 +12,23 @@ use crate::system::System;
 use crate::words::{words_fault, words_of};
 use bounded_io::Input;
 use command_line::command::Line;
-use command_line::line;
+use command_line::{Request, request_of};
 use roll_core::Runner;
+use roll_run::Watch;
 use std::alloc::Global;
 use std::io::Write;
 use std::process::{ExitCode, Processes, SystemProcess};
 use std::sync::Wait;
 use std::thread::Threads;
 
-/// Does what the words say; a fault is reported on `errors`, and the exit status tells of it too.
+/// Does what the words say; a fault is reported on `errors`, and the exit status tells of it too. `watch` is told of a run where the words ask
+/// for that.
+#[allow(clippy::too_many_arguments)]
 pub fn run<
     S: System,
     H: Threads + Wait + Processes<Started = SystemProcess> + Sync,
     R: Runner,
+    V: Watch,
     I: Input,
     O: Write,
     E: Write,
@@ -33,6 +37,7 @@ pub fn run<
     rt: &H,
     alloc: Global,
     runner: &R,
+    watch: &V,
     input: &mut I,
     out: &mut O,
     errors: &mut E,
@@ -40,7 +45,7 @@ pub fn run<
     ensures { Runs (R.may runner.now) (S.words system.now) (sources_of (S.files system.now) (I.is_reliable input.old))
         (I.remaining input.old) (I.remaining input.new) (O.contents out.old) (O.contents out.new) (E.contents errors.old) (E.contents errors.new) (exit_status result) }
 {
-    let outcome = perform(system, rt, alloc, runner, input, out);
+    let outcome = perform(system, rt, alloc, runner, watch, input, out);
     exit_code(conclude(outcome, errors))
 }
 
@@ -49,6 +54,7 @@ fn perform<
     S: System,
     H: Threads + Wait + Processes<Started = SystemProcess> + Sync,
     R: Runner,
+    V: Watch,
     I: Input,
     O: Write,
 >(
@@ -56,6 +62,7 @@ fn perform<
     rt: &H,
     alloc: Global,
     runner: &R,
+    watch: &V,
     input: &mut I,
     out: &mut O,
 ) -> Result<Status, Fault>
@@ -68,6 +75,7 @@ fn perform<
             rt,
             alloc,
             runner,
+            watch,
             words_of(args.as_slice()),
             input,
             out,
@@ -77,10 +85,12 @@ fn perform<
 }
 
 /// Reads the words as a line, and does what it asks for.
+#[allow(clippy::too_many_arguments)]
 fn attempt<
     S: System,
     H: Threads + Wait + Processes<Started = SystemProcess> + Sync,
     R: Runner,
+    V: Watch,
     I: Input,
     O: Write,
 >(
@@ -88,6 +98,7 @@ fn attempt<
     rt: &H,
     alloc: Global,
     runner: &R,
+    watch: &V,
     words: &[String],
     input: &mut I,
     out: &mut O,
@@ -95,16 +106,20 @@ fn attempt<
     ensures { Attempts (R.may runner.now) (sources_of (S.files system.now) (I.is_reliable input.old)) (map string_bytes words.now) (I.remaining input.old) (I.remaining input.new)
         (O.contents out.old) (O.contents out.new) result }
 {
-    match line(alloc, words) {
-        Ok(line) => follow(system, rt, alloc, runner, line, input, out),
+    match request_of(alloc, words) {
+        Ok(Request { line, is_verbose }) => follow(
+            system, rt, alloc, runner, watch, line, is_verbose, input, out,
+        ),
         Err(fault) => Err(Fault::Line(fault)),
     }
 }
 
+#[allow(clippy::too_many_arguments)]
 fn follow<
     S: System,
     H: Threads + Wait + Processes<Started = SystemProcess> + Sync,
     R: Runner,
+    V: Watch,
     I: Input,
     O: Write,
 >(
@@ -112,7 +127,9 @@ fn follow<
     rt: &H,
     alloc: Global,
     runner: &R,
+    watch: &V,
     line: Line,
+    is_verbose: bool,
     input: &mut I,
     out: &mut O,
 ) -> Result<Status, Fault>
@@ -129,9 +146,16 @@ fn follow<
             inventory,
             playbook,
             forks,
-        } => roll(
-            system, rt, alloc, runner, inventory, playbook, forks, input, out,
-        ),
+        } => {
+            let watch = if is_verbose { Some(watch) } else { None };
+            roll(
+                system, rt, alloc, runner, watch, inventory, playbook, forks, input, out,
+            )
+        }
+        Line::Rehearse {
+            inventory,
+            playbook,
+        } => rehearse(system, alloc, inventory, playbook, input, out),
         Line::Print(message) => print(message.as_str(), out),
     }
 }

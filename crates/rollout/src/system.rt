@@ -1,15 +1,17 @@
-//! What the system gives the program: the words of its line, and files.
+//! What the system gives the program: the words of its line, and files; and whoever types its commands.
 ghost use Rattle.std.specs.Prelude.{List, ℕ, Option, None, IfOk, IfErr, map, string_bytes};
 ghost use Rattle.std.specs.IoError.{error_kind};
 ghost use Rattle.rollout.specs.Systems.{Fails, Files, Gives, Known, Opens};
 
 use bounded_io::{Fallible, Input};
+use rehearsing::Prompt;
 use std::env::Env;
+use std::io::{Stderr, Write};
 use std::{env, fs, io};
 
 /// A system, by the words and the files that it gives. What holds of each system that says what it gives holds of the real
 /// one, of which nothing is known beforehand.
-pub trait System {
+pub trait System: Prompt {
     type File: Input + Drop;
 
     ghost words: { Self → Known (List (List ℕ)) } = { λ _. None };
@@ -26,15 +28,25 @@ pub trait System {
         ensures err { IfErr result (λ error. Fails (files self.now name.now) (error_kind error)) };
 }
 
-/// The system that runs the program.
+/// The system that runs the program; and standard error, where somebody types commands and is to see on it that the next one is awaited.
 #[derive(Drop)]
 pub struct Host<'a, R> {
     rt: &'a R,
+    prompts: Option<Stderr>,
 }
 
 impl<'a, R> Host<'a, R> {
-    pub fn new(rt: &'a R) -> Host<'a, R> {
-        Host { rt }
+    pub fn new(rt: &'a R, prompts: Option<Stderr>) -> Host<'a, R> {
+        Host { rt, prompts }
+    }
+}
+
+impl<R> Prompt for Host<'_, R> {
+    /// A prompt that can't be written is passed over.
+    fn prompt(&self) {
+        if let Some(errors) = &self.prompts {
+            let _ = io::writer(errors).write(b"> ");
+        }
     }
 }
 

@@ -90,13 +90,17 @@ abbrev pub too_many_end : ℕ → ℕ → ℕ → List ℕ
 too_many_end step failed size =
     codes "end too-many-failed" ++ (field_text (codes " step=") step ++ (field_text (codes " failed=") failed ++ (field_text (codes " size=") size ++ codes "\n")))
 
+-- how a play ended
+abbrev pub ended_line : FleetView → End → List ℕ
+ended_line fleet ending.Finished = codes "end finished\n"
+ended_line fleet ending.Held = codes "end held\n"
+ended_line fleet (ending.Blocked group) = blocked_end fleet group.index
+ended_line fleet (ending.TooManyFailed step failed size) = too_many_end step failed size
+ended_line fleet ending.AllFailed = codes "end all-failed\n"
+
 -- the last line; a run without an end was broken off by a fault
 abbrev pub end_line : FleetView → Option End → List ℕ
-end_line fleet (Some ending.Finished) = codes "end finished\n"
-end_line fleet (Some ending.Held) = codes "end held\n"
-end_line fleet (Some (ending.Blocked group)) = blocked_end fleet group.index
-end_line fleet (Some (ending.TooManyFailed step failed size)) = too_many_end step failed size
-end_line fleet (Some ending.AllFailed) = codes "end all-failed\n"
+end_line fleet (Some end) = ended_line fleet end
 end_line fleet None = codes "end fault\n"
 
 -- the recap of a play

@@ -1,6 +1,6 @@
 //! The last line of a recap.
 ghost use Rattle.bounded_io.specs.Writing.{Writes};
-ghost use Rattle.run_recap.specs.RecapText.{blocked_end, end_line, too_many_end};
+ghost use Rattle.run_recap.specs.RecapText.{blocked_end, end_line, ended_line, too_many_end};
 
 use bounded_io::TextWriter;
 use domains::Fleet;
@@ -29,18 +29,27 @@ fn write_too_many<W: Write>(text: &mut TextWriter<'_, W>, step: u64, failed: u64
     text.write_str("\n");
 }
 
+/// Goes on with how a play ended.
+pub fn write_end<W: Write>(text: &mut TextWriter<'_, W>, fleet: &Fleet, end: End)
+    ensures { Writes W.contents text.old text.new (ended_line fleet.now end) }
+{
+    match end {
+        End::Finished => text.write_str("end finished\n"),
+        End::Held => text.write_str("end held\n"),
+        End::Blocked { group } => write_blocked(text, fleet, group),
+        End::TooManyFailed { step, failed, size } => {
+            write_too_many(text, step as u64, failed as u64, size as u64);
+        }
+        End::AllFailed => text.write_str("end all-failed\n"),
+    }
+}
+
 /// Writes how a run ended; one without an end was broken off by a fault.
-pub(crate) fn write_end<W: Write>(text: &mut TextWriter<'_, W>, fleet: &Fleet, end: Option<End>)
+pub(crate) fn write_run_end<W: Write>(text: &mut TextWriter<'_, W>, fleet: &Fleet, end: Option<End>)
     ensures { Writes W.contents text.old text.new (end_line fleet.now end) }
 {
     match end {
-        Some(End::Finished) => text.write_str("end finished\n"),
-        Some(End::Held) => text.write_str("end held\n"),
-        Some(End::Blocked { group }) => write_blocked(text, fleet, group),
-        Some(End::TooManyFailed { step, failed, size }) => {
-            write_too_many(text, step as u64, failed as u64, size as u64);
-        }
-        Some(End::AllFailed) => text.write_str("end all-failed\n"),
+        Some(end) => write_end(text, fleet, end),
         None => text.write_str("end fault\n"),
     }
 }

@@ -13,7 +13,7 @@ use recap::{host_name, write_field};
 use std::io::Write;
 
 /// The word of a status.
-fn word_of(status: Status) -> &'static str
+pub fn word_of(status: Status) -> &'static str
     ensures { result.now ≡ state_word status }
 {
     match status {

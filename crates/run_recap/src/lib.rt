@@ -7,5 +7,7 @@ mod hosts;
 mod parts;
 mod writing;
 
+pub use ends::write_end;
+pub use hosts::word_of;
 pub use parts::Recap;
 pub use writing::{write_numbered, write_play, write_recap, write_recaps};

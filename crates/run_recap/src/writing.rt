@@ -5,7 +5,7 @@ ghost use Rattle.bounded_io.specs.Writing.{Writes};
 ghost use Rattle.run_recap.specs.RecapText.{numbered_text, recap_text, recaps_text};
 
 use crate::boundaries::write_boundaries;
-use crate::ends::write_end;
+use crate::ends::write_run_end;
 use crate::hosts::write_hosts;
 use crate::parts::Recap;
 use bounded_io::{TextWriter, WriteFault};
@@ -20,7 +20,7 @@ pub fn write_play<W: Write>(text: &mut TextWriter<'_, W>, fleet: &Fleet, recap: 
 {
     write_boundaries(text, fleet, recap.boundaries, recap.opened);
     write_hosts(text, fleet, recap.statuses, recap.counts);
-    write_end(text, fleet, recap.end);
+    write_run_end(text, fleet, recap.end);
 }
 
 /// Goes on with the recap of one of several plays, under its number, which counts from 1. It takes no memory.

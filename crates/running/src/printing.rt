@@ -10,7 +10,7 @@ use crate::recaps::{send_broken, send_runs};
 use domains::Fleet;
 use play_model::Play;
 use roll_core::Runner;
-use roll_run::{Run, RunsFault, run_plays};
+use roll_run::{Run, RunsFault, Watch, run_plays};
 use std::alloc::Global;
 use std::io::Write;
 use std::process::{Processes, SystemProcess};
@@ -60,9 +60,17 @@ fn tell_broken<W: Write>(
 /// nothing goes out, before both were accepted: first the inventory's faults are told, then the playbook's, then the first part of a
 /// pattern, of any play, that names nothing. Where a fault breaks the runs off, the recap of what they came to goes out, and then the answer
 /// is that fault. Where a write fails, exactly the first bytes of the text went out, as many as the fault says. Writing takes no memory.
-pub fn run_text<R: Runner, H: Threads + Wait + Processes<Started = SystemProcess> + Sync, W: Write>(
+/// `watch` is told of each play and batch, and whatever it makes of that, what is promised here stands.
+#[allow(clippy::too_many_arguments)]
+pub fn run_text<
+    R: Runner,
+    H: Threads + Wait + Processes<Started = SystemProcess> + Sync,
+    V: Watch,
+    W: Write,
+>(
     rt: &H,
     alloc: Global,
+    watch: &V,
     inventory: &[u8],
     playbook: &[u8],
     forks: usize,
@@ -85,7 +93,9 @@ pub fn run_text<R: Runner, H: Threads + Wait + Processes<Started = SystemProcess
     };
     let listed = plays.as_slice();
     let several = are_several(listed);
-    match run_plays(rt, alloc, &fleet, listed, statuses, vars, runner, forks) {
+    match run_plays(
+        rt, alloc, watch, &fleet, listed, statuses, vars, runner, forks,
+    ) {
         Ok(runs) => tell_runs(&fleet, several, runs.as_slice(), out),
         Err(fault) => Err(tell_broken(&fleet, several, &fault, out)),
     }

@@ -1,6 +1,6 @@
 //! Tickets go out, and those that are left come back.
 ghost use Rattle.std.specs.Prelude.{◌≡◌, ◌+◌, ◌-◌, ◌<◌, false, length};
-ghost use Rattle.fork_pool.specs.Inside.{HasLost, IsGivenOut, IsPut};
+ghost use Rattle.fork_pool.specs.Inside.{HasLost, IsGivenOut, IsPut, is_stopped};
 ghost use Rattle.fork_pool.specs.Pools.{IsSameLine};
 ghost use Rattle.fork_pool.specs.Steps.{Continues};
 
@@ -80,6 +80,7 @@ impl<'f, R: Runner> Front<'f, R> {
     )
         ensures board { step.new.board ≡ step.old.board }
         ensures notes { HasLost step.old.notes step.new.notes }
+        ensures kept { is_stopped step.old.notes ≡ false → step.new.notes ≡ step.old.notes }
         ensures forks { self.new.forks ≡ self.old.forks }
         ensures line { IsSameLine self.old.tickets self.new.tickets }
     {

@@ -1,5 +1,5 @@
 //! Workers that the test moves by hand, so that it is known who takes which ticket, and which reply comes first.
-ghost use Rattle.std.specs.Prelude.{◌≡◌};
+ghost use Rattle.std.specs.Prelude.{◌≡◌, ◌<◌, ◌≤◌};
 
 use crate::running::step_alone;
 use crate::tests::faults::opened;
@@ -86,19 +86,19 @@ fn two_by_hand<'f, H: Threads + Wait + Processes<Started = SystemProcess> + Sync
     mut second: WorkerEnd<'f, Doing>,
     plan: Plan<'f>,
 ) {
-    let Some(one) = first.take(rt) else {
+    let Some(one) = first.taker.take(rt) else {
         return;
     };
-    let Some(other) = second.take(rt) else {
-        one.answer(rt, alloc, plan.first, 0, &first.replies);
+    let Some(other) = second.taker.take(rt) else {
+        one.answer(rt, alloc, plan.first, &first.replies);
         return;
     };
     if plan.turned {
-        other.answer(rt, alloc, plan.second, 1, &second.replies);
-        one.answer(rt, alloc, plan.first, 0, &first.replies);
+        other.answer(rt, alloc, plan.second, &second.replies);
+        one.answer(rt, alloc, plan.first, &first.replies);
     } else {
-        one.answer(rt, alloc, plan.first, 0, &first.replies);
-        other.answer(rt, alloc, plan.second, 1, &second.replies);
+        one.answer(rt, alloc, plan.first, &first.replies);
+        other.answer(rt, alloc, plan.second, &second.replies);
     }
     first.serve(rt, alloc, plan.first);
 }
@@ -111,10 +111,10 @@ fn one_by_hand<'f, H: Threads + Wait + Processes<Started = SystemProcess> + Sync
     plan: Plan<'f>,
     over: &AtomicU64,
 ) {
-    let Some(owed) = end.take(rt) else {
+    let Some(owed) = end.taker.take(rt) else {
         return;
     };
-    owed.answer(rt, alloc, plan.first, 0, &end.replies);
+    owed.answer(rt, alloc, plan.first, &end.replies);
     for _turn in 0..TURNS {
         if over.load(Ordering::SeqCst) > 0 {
             break;
@@ -190,15 +190,18 @@ fn is_told<L: Ledger>(
     }
 }
 
-/// So many hosts, two of which are worked on at once.
+/// So many hosts, of which as many are worked on at once as there are forks.
 fn stopped<L: Ledger, H: Threads + Wait + Processes<Started = SystemProcess> + Sync>(
     rt: &H,
     alloc: Global,
     hosts: usize,
+    forks: usize,
     plan: Plan<'_>,
     told: (usize, usize, usize),
     blank: Blank,
 ) -> Result<(), Fail>
+    requires some { 0 < forks }
+    requires few { forks ≤ 64 }
     requires name { blank.name ≡ L.name }
     requires parts { blank.parts ≡ L.parts }
     requires many { blank.parts ≡ 129 }
@@ -212,8 +215,8 @@ fn stopped<L: Ledger, H: Threads + Wait + Processes<Started = SystemProcess> + S
     let Some(batch) = FIVE.get(..hosts) else {
         return Err(Fail::new("too many hosts"));
     };
-    let board = opened::<Doing, L>(alloc, &setting, plan.first, batch, blank)?;
-    let (front, ends) = pool(alloc, 2)?;
+    let board = opened::<Doing, L>(alloc, &setting, plan.first, forks, batch, blank)?;
+    let (front, ends) = pool(alloc, forks)?;
     let answer = with_hands(rt, alloc, front, ends, board, plan, &over);
     let (place, out, reports) = told;
     is_told(answer, place, out, reports)
@@ -230,7 +233,7 @@ fn want_of_memory_stops_a_step(rt: HostRuntime) -> Result<(), Fail> {
         alone: false,
     };
     // the second worker alone finds none
-    stopped::<Brand, HostRuntime>(&rt, rt.alloc(), 2, plan, (1, 1, 1), Blank::new(129))?;
+    stopped::<Brand, HostRuntime>(&rt, rt.alloc(), 2, 2, plan, (1, 1, 1), Blank::new(129))?;
     let plan = Plan {
         first: &wanting,
         ..plan
@@ -240,17 +243,18 @@ fn want_of_memory_stops_a_step(rt: HostRuntime) -> Result<(), Fail> {
         turned: true,
         ..plan
     };
-    stopped::<Brand, HostRuntime>(&rt, rt.alloc(), 2, turned, (0, 2, 0), Blank::new(129))?;
+    stopped::<Brand, HostRuntime>(&rt, rt.alloc(), 2, 2, turned, (0, 2, 0), Blank::new(129))?;
     let plan = Plan {
         second: &good,
         ..plan
     };
     // the other reply is entered, and no third ticket is put
-    stopped::<Brand, HostRuntime>(&rt, rt.alloc(), 5, plan, (0, 1, 1), Blank::new(129))?;
-    // a ticket that nobody has taken comes back
+    stopped::<Brand, HostRuntime>(&rt, rt.alloc(), 5, 2, plan, (0, 1, 1), Blank::new(129))?;
+    // the tickets that nobody has taken come back, all of them
     let alone = Plan {
         alone: true,
         ..plan
     };
-    stopped::<Brand, HostRuntime>(&rt, rt.alloc(), 5, alone, (0, 2, 0), Blank::new(129))
+    stopped::<Brand, HostRuntime>(&rt, rt.alloc(), 5, 2, alone, (0, 2, 0), Blank::new(129))?;
+    stopped::<Brand, HostRuntime>(&rt, rt.alloc(), 5, 5, alone, (3, 5, 0), Blank::new(129))
 }

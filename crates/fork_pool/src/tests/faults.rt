@@ -1,5 +1,5 @@
 //! What a step says where it does not come to its end, and that the board comes back.
-ghost use Rattle.std.specs.Prelude.{◌≡◌, IfOk};
+ghost use Rattle.std.specs.Prelude.{◌≡◌, ◌<◌, ◌≤◌, IfOk};
 
 use crate::tests::rows::{BATCHES, one_more_row, script_again, six_hosts};
 use crate::tests::setting::{Setting, board_of};
@@ -54,21 +54,24 @@ impl Runner for Wanting {
     ghost one_relation = { λ one other alike work ending. ((λ may. may), λ may. may) };
 }
 
-/// The batch is open on the board, at two forks.
+/// The batch is open on the board.
 pub fn opened<'s, R: Runner, L: Ledger>(
     alloc: Global,
     setting: &'s Setting,
     runner: &'s R,
+    forks: usize,
     batch: &[HostId],
     blank: Blank,
 ) -> Result<Board<'s, R, L>, Fail>
+    requires some { 0 < forks }
+    requires few { forks ≤ 64 }
     requires name { blank.name ≡ L.name }
     requires parts { blank.parts ≡ L.parts }
     requires many { blank.parts ≡ 129 }
-    ensures forks { IfOk result (λ board. board.kernel.forks ≡ 2) }
+    ensures forks { IfOk result (λ board. board.kernel.forks ≡ forks) }
     ensures tallies { IfOk result (λ board. board.tallies ≡ 0) }
 {
-    let mut board = board_of::<R, L>(alloc, setting, runner, 2, blank)?;
+    let mut board = board_of::<R, L>(alloc, setting, runner, forks, blank)?;
     if batch.is_empty() {
         return Err(Fail::new("an empty batch"));
     }
@@ -112,7 +115,7 @@ fn without_memory<L: Ledger, H: Threads + Wait + Processes<Started = SystemProce
     let runner = Wanting {
         begun: AtomicU64::new(0),
     };
-    let board = opened::<Wanting, L>(alloc, &setting, &runner, BATCHES[0], blank)?;
+    let board = opened::<Wanting, L>(alloc, &setting, &runner, 2, BATCHES[0], blank)?;
     let answer = run_step(rt, alloc, board, &runner, 2);
     came_back(answer, StepFault::WorkerMem { at: 0 }, 2)
 }
@@ -130,7 +133,7 @@ fn of_another_script<L: Ledger, H: Threads + Wait + Processes<Started = SystemPr
     let setting = six_hosts(alloc)?;
     let script = script_again(alloc)?;
     let other = one_more_row(alloc)?;
-    let board = opened::<Script, L>(alloc, &setting, &script, BATCHES[0], blank)?;
+    let board = opened::<Script, L>(alloc, &setting, &script, 2, BATCHES[0], blank)?;
     let answer = run_step(rt, alloc, board, &other, 2);
     came_back(answer, StepFault::Mixed, 2)
 }
@@ -143,7 +146,7 @@ fn without_workers<L: Ledger, H: Wait>(rt: &H, alloc: Global, blank: Blank) -> R
 {
     let setting = six_hosts(alloc)?;
     let script = script_again(alloc)?;
-    let board = opened::<Script, L>(alloc, &setting, &script, BATCHES[0], blank)?;
+    let board = opened::<Script, L>(alloc, &setting, &script, 2, BATCHES[0], blank)?;
     let (mut front, ends) = pool(alloc, 2)?;
     drop(ends);
     let answer = front.step(rt, alloc, board);

@@ -29,14 +29,48 @@ const HOSTS: [HostId; 5] = [
     HostId { index: 4 },
 ];
 
-/// A runner whose calls wait for one another: the first for an answer to another, or each until so many have begun. A call that has waited
-/// too long answers 1.
+/// What calls wait for.
+#[derive(Clone, Copy)]
+enum Until {
+    /// The first, until so many others have answered.
+    Answered(u64),
+    /// Each, until so many have begun.
+    Begun(u64),
+}
+
+/// A step of so many hosts, of which as many are worked on at once as there are forks.
+#[derive(Clone, Copy)]
+struct Case {
+    hosts: usize,
+    forks: usize,
+    until: Until,
+}
+
+const TWO_AT_ONCE: Case = Case {
+    hosts: 2,
+    forks: 2,
+    until: Until::Answered(1),
+};
+
+const FIVE_AT_ONCE: Case = Case {
+    hosts: 5,
+    forks: 5,
+    until: Until::Begun(5),
+};
+
+/// The other worker takes every host but the first.
+const ONE_GOES_ON: Case = Case {
+    hosts: 5,
+    forks: 2,
+    until: Until::Answered(4),
+};
+
+/// A runner whose calls wait for one another. A call that has waited too long answers 1.
 #[derive(Drop)]
 struct Gate {
     begun: AtomicU64,
     answered: AtomicU64,
-    /// How many have to begin; none where the first waits for an answer.
-    all: u64,
+    until: Until,
 }
 
 impl Runner for Gate {
@@ -71,11 +105,11 @@ impl Runner for Gate {
 }
 
 impl Gate {
-    fn new(all: u64) -> Gate {
+    fn new(until: Until) -> Gate {
         Gate {
             begun: AtomicU64::new(0),
             answered: AtomicU64::new(0),
-            all,
+            until,
         }
     }
 
@@ -90,10 +124,11 @@ impl Gate {
     }
 
     fn is_open(&self, number: u64) -> bool {
-        if self.all == 0 {
-            number > 0 || self.answered.load(Ordering::SeqCst) > 0
-        } else {
-            self.begun.load(Ordering::SeqCst) >= self.all
+        match self.until {
+            Until::Answered(others) => {
+                number > 0 || self.answered.load(Ordering::SeqCst) >= others
+            }
+            Until::Begun(all) => self.begun.load(Ordering::SeqCst) >= all,
         }
     }
 }
@@ -123,12 +158,11 @@ fn all_are_updated<L: Ledger>(rolled: Rolled<'_, Gate, L>, hosts: &[HostId]) -> 
     Ok(())
 }
 
-/// One step of so many hosts, with as many workers.
+/// One step, on a pool of its own or on a standing one.
 fn gated<L: Ledger, H: Threads + Wait + Processes<Started = SystemProcess> + Sync>(
     rt: &H,
     alloc: Global,
-    hosts: usize,
-    all: u64,
+    case: Case,
     apart: bool,
     may_want: bool,
     blank: Blank,
@@ -138,13 +172,13 @@ fn gated<L: Ledger, H: Threads + Wait + Processes<Started = SystemProcess> + Syn
     requires many { blank.parts ≡ 129 }
 {
     let names = ["a", "b", "c", "d", "e"];
-    let (Some(names), Some(batch)) = (names.get(..hosts), HOSTS.get(..hosts)) else {
+    let (Some(names), Some(batch)) = (names.get(..case.hosts), HOSTS.get(..case.hosts)) else {
         return Err(Fail::new("too many hosts"));
     };
     let setting = set_up(alloc, limited_again(alloc, 5, names)?, PLAY)?;
-    let gate = Gate::new(all);
+    let gate = Gate::new(case.until);
     let batches = [batch];
-    let board = board_of::<Gate, L>(alloc, &setting, &gate, hosts.clamp(1, 64), blank)?;
+    let board = board_of::<Gate, L>(alloc, &setting, &gate, case.forks.clamp(1, 64), blank)?;
     let rolled = if apart {
         roll_apart(rt, alloc, board, &batches)?
     } else {
@@ -159,8 +193,9 @@ fn gated<L: Ledger, H: Threads + Wait + Processes<Started = SystemProcess> + Syn
 #[test]
 fn gate_two_at_once(rt: HostRuntime) -> Result<(), Fail> {
     for apart in [true, false] {
-        gated::<Brand, HostRuntime>(&rt, rt.alloc(), 2, 0, apart, false, Blank::new(129))?;
-        gated::<Brand, HostRuntime>(&rt, rt.alloc(), 5, 5, apart, false, Blank::new(129))?;
+        for case in [TWO_AT_ONCE, FIVE_AT_ONCE, ONE_GOES_ON] {
+            gated::<Brand, HostRuntime>(&rt, rt.alloc(), case, apart, false, Blank::new(129))?;
+        }
     }
     Ok(())
 }
@@ -169,7 +204,7 @@ fn gate_two_at_once(rt: HostRuntime) -> Result<(), Fail> {
 #[test]
 fn a_step_ends_or_a_worker_is_wanting(rt: HostRuntime) -> Result<(), Fail> {
     for apart in [true, false] {
-        gated::<Brand, HostRuntime>(&rt, rt.alloc(), 2, 0, apart, true, Blank::new(129))?;
+        gated::<Brand, HostRuntime>(&rt, rt.alloc(), TWO_AT_ONCE, apart, true, Blank::new(129))?;
     }
     Ok(())
 }

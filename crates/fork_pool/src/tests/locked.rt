@@ -29,21 +29,23 @@ fn tally_of<R: Runner, L: Ledger, H: Wait>(
     }
 }
 
-/// One worker, whose tally goes back to the board.
+/// One worker, whose tally goes back to the board; how many reports it has counted.
 fn work_and_join<
     's,
     R: Runner,
     L: Ledger,
     H: Threads + Wait + Processes<Started = SystemProcess> + Sync,
->(rt: &H, alloc: Global, board: &Mutex<Board<'s, R, L>>, runner: &'s R) {
+>(rt: &H, alloc: Global, board: &Mutex<Board<'s, R, L>>, runner: &'s R) -> usize {
     let Some(tally) = tally_of(rt, board) else {
-        return;
+        return 0;
     };
     let tally = match work(rt, alloc, board, runner, tally) {
         Ok(tally) => tally,
         Err((_fault, tally)) => tally,
     };
+    let reports = tally.count();
     board.lock(rt).join_tally(tally);
+    reports
 }
 
 /// A first step of two hosts, by two workers in turn: the first leaves nothing to the second.
@@ -63,8 +65,11 @@ fn worked<L: Ledger, H: Threads + Wait + Processes<Started = SystemProcess> + Sy
         return Err(Fail::new("the batch was not opened"));
     }
     let shared = Mutex::new(board);
-    work_and_join(rt, alloc, &shared, &script);
-    work_and_join(rt, alloc, &shared, &script);
+    let first = work_and_join(rt, alloc, &shared, &script);
+    let second = work_and_join(rt, alloc, &shared, &script);
+    if first != 2 || second != 0 {
+        return Err(Fail::new("the first left something to the second"));
+    }
     let board = shared.into_inner();
     if board.due() != 0 || board.out() != 0 || board.tallies() != 0 || board.joined() != 2 {
         return Err(Fail::new("not each host has reported, or a tally is out"));
@@ -86,7 +91,7 @@ fn stopped<R: Runner, L: Ledger, H: Threads + Wait + Processes<Started = SystemP
     requires many { blank.parts ≡ 129 }
 {
     let setting = six_hosts(alloc)?;
-    let mut board = opened::<R, L>(alloc, &setting, of_board, BATCHES[0], blank)?;
+    let mut board = opened::<R, L>(alloc, &setting, of_board, 2, BATCHES[0], blank)?;
     let tally = board.split_tally();
     let shared = Mutex::new(board);
     let (is_told, tally) = match work(rt, alloc, &shared, runner, tally) {

@@ -22,7 +22,7 @@ fn settled<L: Ledger, H: Wait>(rt: &H, alloc: Global, blank: Blank) -> Result<()
 {
     let setting = set_up(alloc, limited_again(alloc, 2, &SIX)?, SKIPPED)?;
     let script = Script::new(alloc);
-    let board = opened::<Script, L>(alloc, &setting, &script, BATCHES[0], blank)?;
+    let board = opened::<Script, L>(alloc, &setting, &script, 2, BATCHES[0], blank)?;
     let (mut front, ends) = pool(alloc, 2)?;
     drop(ends);
     match front.step(rt, alloc, board) {

@@ -10,6 +10,7 @@ use crate::system::System;
 use bounded_io::Input;
 use command_line::{Forks, Source};
 use roll_core::Runner;
+use roll_run::{Unwatched, Watch};
 use running::run_text;
 use std::alloc::Global;
 use std::io::Write;
@@ -17,11 +18,14 @@ use std::process::{Processes, SystemProcess};
 use std::sync::Wait;
 use std::thread::Threads;
 
-/// Reads the inventory and the playbook, runs the playbook's plays with so many workers, and writes the recap of the run.
+/// Reads the inventory and the playbook, runs the playbook's plays with so many workers, and writes the recap of the run. `watch` is told of it
+/// while it goes on.
+#[allow(clippy::too_many_arguments)]
 pub fn roll<
     S: System,
     H: Threads + Wait + Processes<Started = SystemProcess> + Sync,
     R: Runner,
+    V: Watch,
     I: Input,
     W: Write,
 >(
@@ -29,6 +33,7 @@ pub fn roll<
     rt: &H,
     alloc: Global,
     runner: &R,
+    watch: Option<&V>,
     inventory: Source,
     playbook: Source,
     forks: Forks,
@@ -43,17 +48,24 @@ pub fn roll<
             let forks = forks.number();
             let inventory = inventory.as_slice();
             let playbook = playbook.as_slice();
-            print_recap(rt, alloc, runner, inventory, playbook, forks, out)
+            print_recap(rt, alloc, runner, watch, inventory, playbook, forks, out)
         }
         Err(fault) => Err(fault),
     }
 }
 
-/// Runs the plays of the two texts, and writes their recap. The status tells how they ended.
-fn print_recap<H: Threads + Wait + Processes<Started = SystemProcess> + Sync, R: Runner, W: Write>(
+/// Runs the plays of the two texts, and writes their recap, watched or not.
+#[allow(clippy::too_many_arguments)]
+fn print_recap<
+    H: Threads + Wait + Processes<Started = SystemProcess> + Sync,
+    R: Runner,
+    V: Watch,
+    W: Write,
+>(
     rt: &H,
     alloc: Global,
     runner: &R,
+    watch: Option<&V>,
     inventory: &[u8],
     playbook: &[u8],
     forks: usize,
@@ -64,7 +76,37 @@ fn print_recap<H: Threads + Wait + Processes<Started = SystemProcess> + Sync, R:
     ensures ok { IfOk result (PrintsRecap (R.may runner.now) inventory.now playbook.now forks (W.contents out.old) (W.contents out.new)) }
     ensures err { IfErr result (BreaksOff (R.may runner.now) inventory.now playbook.now forks (W.contents out.old) (W.contents out.new)) }
 {
-    match run_text(rt, alloc, inventory, playbook, forks, runner, out) {
+    match watch {
+        Some(watch) => print_watched(rt, alloc, runner, watch, inventory, playbook, forks, out),
+        None => print_watched(
+            rt, alloc, runner, &Unwatched, inventory, playbook, forks, out,
+        ),
+    }
+}
+
+/// Runs the plays of the two texts, and writes their recap. The status tells how they ended.
+#[allow(clippy::too_many_arguments)]
+fn print_watched<
+    H: Threads + Wait + Processes<Started = SystemProcess> + Sync,
+    R: Runner,
+    V: Watch,
+    W: Write,
+>(
+    rt: &H,
+    alloc: Global,
+    runner: &R,
+    watch: &V,
+    inventory: &[u8],
+    playbook: &[u8],
+    forks: usize,
+    out: &mut W,
+) -> Result<Status, Fault>
+    requires some { 0 < forks }
+    requires few { forks ≤ 64 }
+    ensures ok { IfOk result (PrintsRecap (R.may runner.now) inventory.now playbook.now forks (W.contents out.old) (W.contents out.new)) }
+    ensures err { IfErr result (BreaksOff (R.may runner.now) inventory.now playbook.now forks (W.contents out.old) (W.contents out.new)) }
+{
+    match run_text(rt, alloc, watch, inventory, playbook, forks, runner, out) {
         Ok(end) => Ok(Status::from(end)),
         Err(fault) => Err(Fault::from(fault)),
     }

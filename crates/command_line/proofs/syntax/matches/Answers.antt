@@ -1,9 +1,21 @@
-use Rattle.std.proofs.Common.{map, string_bytes, ap, ◌∙◌}
+use Rattle.std.proofs.Common.{◌≡◌, true, map, string_bytes, ap, refl, subst, ◌∙◌}
 use Rattle.std.proofs.lemmas.Result.{IfErr-weaker}
-use Rattle.clap.specs.Words.{App, takes}
+use Rattle.clap.specs.Words.{App, FailsBy, fault_of, is_simple_and_free, takes}
+use Rattle.clap.proofs.OnLiterals.{clap_on_literals}
+use Rattle.command_line.specs.Syntax.{rollout}
 use Rattle.command_line.proofs.syntax.matches.Goals as goal
 
 pub returns-clause-err : goal.returns-clause-err
 returns-clause-err c =
     let words = map string_bytes c.args.words.now in
     IfErr-weaker c.try_get_matches_from.result _ _ (λ e h taken. h (ap (λ (app : App). takes app words) c.in_ok-rollout.ensures ∙ taken)) c.try_get_matches_from.ensures.passes
+
+-- clap's kinds of faults are told of programs like this one
+simple : is_simple_and_free rollout ≡ true
+unfolding clap_on_literals
+simple = refl
+
+pub returns-clause-kinds : goal.returns-clause-kinds
+returns-clause-kinds c =
+    subst (λ (app : App). FailsBy (fault_of app (map string_bytes c.args.words.now)) c.try_get_matches_from.result) c.in_ok-rollout.ensures
+    (c.try_get_matches_from.ensures.kinds (ap is_simple_and_free c.in_ok-rollout.ensures ∙ simple))

@@ -26,5 +26,7 @@ returns c =
     let first = c.in_ok-subcommand.ensures.shape c.in_ok-limits.ensures.local ∙ ap₂ with_subcommand required below in
     let beside = ap (λ (app : App). app.top) c.in_ok-plan.ensures.app in
     let second = c.in_ok-subcommand-2.ensures.shape c.in_ok-plan.ensures.local ∙ ap₂ with_subcommand first beside in
-    let last = ap (λ (app : App). app.top) c.in_ok-run.ensures.app in
-    IfOk-weaker c.subcommand-3.result _ _ (λ r h. h.shape c.in_ok-run.ensures.local ∙ ap₂ with_subcommand second last) c.subcommand-3.ensures
+    let running = ap (λ (app : App). app.top) c.in_ok-run.ensures.app in
+    let third = c.in_ok-subcommand-3.ensures.shape c.in_ok-run.ensures.local ∙ ap₂ with_subcommand second running in
+    let last = ap (λ (app : App). app.top) c.in_ok-rehearse.ensures.app in
+    IfOk-weaker c.subcommand-4.result _ _ (λ r h. h.shape c.in_ok-rehearse.ensures.local ∙ ap₂ with_subcommand third last) c.subcommand-4.ensures

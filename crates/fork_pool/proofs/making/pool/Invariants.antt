@@ -10,7 +10,7 @@ invariant-loop-take_end g l =
     let line = line_of l.tickets-inside.pass in
     record {
       count : vec_len l.ends + into_iter_len l.take_end-iterator ≡ l.forks;
-      places : map (λ end. end.place) l.ends.items ≡ range_with_len 0 (vec_len l.ends);
-      made : All (λ end. end.tickets ≡ new_take line) l.ends.items;
+      places : map (λ end. end.taker.place) l.ends.items ≡ range_with_len 0 (vec_len l.ends);
+      made : All (λ end. end.taker.tickets ≡ new_take line) l.ends.items;
       left : All (λ end. end ≡ new_take line) (into_iter_items l.take_end-iterator);
     }

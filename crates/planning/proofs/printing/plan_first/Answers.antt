@@ -8,9 +8,9 @@ pub returns-in-Ok-clause-ok : goal.returns-in-Ok-clause-ok
 returns-in-Ok-clause-ok c =
     let plays : List Play = c.args.plays.now in
     let first : Play = c.index-plays-0.result in
-    let parts : plays ≡ first ∷ drop 1 plays = drop-cons plays 0 first c.requires ∙ ap (λ (play : Play). play ∷ drop 1 plays) (sym c.index-plays-0.is) in
-    record { first = first; others = drop 1 plays; are = parts; known = c.in_default.ensures.known; plan = c.in-Ok.ensures.ok }
+    let parts : plays ≡ first ∷ drop 1 plays = drop-cons plays 0 first c.requires.some ∙ ap (λ (play : Play). play ∷ drop 1 plays) (sym c.index-plays-0.is) in
+    record { first = first; others = drop 1 plays; are = parts; known = c.requires.known; plan = c.in-Ok.ensures.ok }
 
-pub returns-in-Err-plan_play-clause-err : goal.returns-in-Err-plan_play-clause-err
-returns-in-Err-plan_play-clause-err c =
-    fault_here c.args.fleet.now parts_of_play c.args.plays.now 0 c.index-plays-0.result c.index-plays-0.is c.requires refl c.in-Err-plan_play.fault c.in-Err-plan_play.ensures.err
+pub returns-in-Err-clause-err : goal.returns-in-Err-clause-err
+returns-in-Err-clause-err c =
+    fault_here c.args.fleet.now parts_of_play c.args.plays.now 0 c.index-plays-0.result c.index-plays-0.is c.requires.some refl c.in-Err.fault c.in-Err.ensures.err

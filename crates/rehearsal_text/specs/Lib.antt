@@ -1,0 +1,4 @@
+pub mod Commands
+pub mod Names
+pub mod Answers
+pub mod Inside

@@ -1,0 +1,51 @@
+//! The answer to a line.
+ghost use Rattle.std.specs.Prelude.{◌≡◌, OnErr, OnOk, []};
+ghost use Rattle.bounded_io.specs.Writing.{Writes};
+ghost use Rattle.rehearsal_text.specs.Answers.{Answers, GoesBackTo, answer_to, undo_line};
+ghost use Rattle.rehearsal_text.specs.Commands.{command_in};
+
+use crate::advance::answer_advance;
+use crate::command::{Command, read_command};
+use crate::show::write_show;
+use bounded_io::TextWriter;
+use recap::write_plan_lines;
+use rehearsal::Rehearsal;
+use std::alloc::{AllocError, Global};
+use std::io::Write;
+
+/// Goes back by one batch, and says so.
+fn answer_undo<W: Write>(rehearsal: &mut Rehearsal<'_>, text: &mut TextWriter<'_, W>)
+    ensures text { Writes W.contents text.old text.new (undo_line rehearsal.old.above) }
+    ensures leads { GoesBackTo rehearsal.old rehearsal.old.above rehearsal.new }
+{
+    if rehearsal.undo() {
+        text.write_str("undone\n");
+    } else {
+        text.write_str("nothing to undo\n");
+    }
+}
+
+/// Answers a line, which stands without the end of its line. What is answered, and where that leads, is said of each line; a line without words
+/// is answered by nothing. Only want of memory fails it; then the rehearsal stands where it stood, and nothing is written.
+#[tactic(auto, using(bounded_io::proofs::Pieces::pieces_of_text))]
+pub fn answer<W: Write>(
+    alloc: Global,
+    rehearsal: &mut Rehearsal<'_>,
+    line: &[u8],
+    text: &mut TextWriter<'_, W>,
+) -> Result<(), AllocError>
+    ensures writes { OnOk result (Writes W.contents text.old text.new (answer_to rehearsal.old (command_in line.now))) }
+    ensures answers { OnOk result (Answers rehearsal.old line.now (answer_to rehearsal.old (command_in line.now)) rehearsal.new) }
+    ensures unchanged { OnErr result (rehearsal.new ≡ rehearsal.old) }
+    ensures silent { OnErr result (Writes W.contents text.old text.new []) }
+{
+    match read_command(line) {
+        Command::Nothing => {}
+        Command::Advance(names) => answer_advance(alloc, rehearsal, names, text)?,
+        Command::Undo => answer_undo(rehearsal, text),
+        Command::Plan => write_plan_lines(text, rehearsal.fleet(), rehearsal.plan(), &[]),
+        Command::Show => write_show(text, rehearsal),
+        Command::Unknown => text.write_str("refused 905 BadCommand\n"),
+    }
+    Ok(())
+}

@@ -1,0 +1,7 @@
+pub mod FeedLemmas
+pub mod SessionLemmas
+pub mod HearingLemmas
+pub mod ReadLemmas
+pub mod ListeningLemmas
+pub mod OpeningLemmas
+pub mod KeepLemmas

@@ -1,0 +1,55 @@
+-- Sessions one behind the other.
+use Rattle.std.proofs.Common.{◌≡◌, ℕ, List, [], ◌∷◌, ◌++◌, map, sym, refl, ap, ◌∙◌, subst, append_assoc, append-nil}
+use Rattle.std.specs.Prelude.{All}
+use Rattle.std.specs.List.{flat_map}
+use Rattle.std.proofs.lemmas.List.{map-append}
+use Rattle.std.proofs.lemmas.List.Elements.{All-append, All-cons, All-nil}
+use Rattle.std.proofs.lemmas.Grind.{flat_map-append}
+use Rattle.rehearsal.specs.Stacks.{RehearsalView}
+use Rattle.rehearsal_text.specs.Answers.{Answers, LeadsTo, answer_to}
+use Rattle.rehearsal_text.specs.Commands.{command_in}
+use Rattle.rehearsing.specs.Lines.{IsLine, joined, without_return}
+use Rattle.rehearsing.specs.Sessions.{Heard, Session}
+
+-- two sessions, one behind the other
+pub session_on : (before : RehearsalView) (lines : List (List ℕ)) (text : List ℕ) (between : RehearsalView) (more : List (List ℕ)) (later : List ℕ) (after : RehearsalView)
+    → Session before lines text between → Session between more later after → Session before (lines ++ more) (text ++ later) after
+session_on before [] text between more later after one two =
+    subst (λ (t : List ℕ). Session before more (t ++ later) after) (sym one.0) (subst (λ (r : RehearsalView). Session r more later after) one.1 two)
+session_on before (line ∷ lines) text between more later after one two = (
+  one.0,
+  one.1 ++ later,
+  one.2,
+  session_on one.0 lines one.1 between more later after one.3 two,
+  ap (λ t. t ++ later) one.4 ∙ append_assoc (answer_to before (command_in line)) one.1 later,
+)
+
+-- a session of one line
+pub session_of : (before : RehearsalView) (line text : List ℕ) (after : RehearsalView) → Answers before line text after → Session before (line ∷ []) text after
+session_of before line text after is =
+    (after, [], is.leads, (refl, refl), is.text_is ∙ sym (append-nil (answer_to before (command_in line))))
+
+-- nothing was heard yet of what stands there
+pub heard_none : (before : RehearsalView) (rest : List ℕ) → Heard before rest rest [] before
+heard_none before rest = record { lines = []; parts = refl; are_lines = All-nil IsLine; answers = (refl, refl) }
+
+-- one line was heard
+pub heard_one : (before : RehearsalView) (line bytes text : List ℕ) (after : RehearsalView) → IsLine line → bytes ≡ line ++ 10 ∷ [] → Answers before (without_return line) text after → Heard before bytes [] text after
+heard_one before line bytes text after is parts answers = record {
+  lines = line ∷ [];
+  parts = parts ∙ sym (append-nil (line ++ 10 ∷ [])) ∙ sym (append-nil ((line ++ 10 ∷ []) ++ []));
+  are_lines = All-cons IsLine line [] is (All-nil IsLine);
+  answers = session_of before (without_return line) text after answers;
+}
+
+-- what follows was heard too
+pub heard_on : (before : RehearsalView) (bytes rest text : List ℕ) (between : RehearsalView) (more left later : List ℕ) (after : RehearsalView)
+    → Heard before bytes rest text between → Heard between (rest ++ more) left later after → Heard before (bytes ++ more) left (text ++ later) after
+heard_on before bytes rest text between more left later after one two = record {
+  lines = one.lines ++ two.lines;
+  parts = ap (λ l. l ++ more) one.parts ∙ append_assoc (joined one.lines) rest more ∙ ap (λ l. joined one.lines ++ l) two.parts
+      ∙ sym (append_assoc (joined one.lines) (joined two.lines) left) ∙ ap (λ l. l ++ left) (sym (flat_map-append (λ line. line ++ 10 ∷ []) one.lines two.lines));
+  are_lines = All-append IsLine one.lines two.lines one.are_lines two.are_lines;
+  answers = subst (λ (l : List (List ℕ)). Session before l (text ++ later) after) (sym (map-append without_return one.lines two.lines))
+      (session_on before (map without_return one.lines) text between (map without_return two.lines) later after one.answers two.answers);
+}

@@ -1,0 +1,24 @@
+use Rattle.std.proofs.Common.{ℕ, List, refl, sym, subst}
+use Rattle.bounded_io.proofs.WritingLemmas.{writes_none}
+use Rattle.rehearsing.proofs.HearingLemmas.{Hearing, begins_hearing, hears_line, hears_no_line, hears_no_rest}
+use Rattle.rehearsing.proofs.hearing.hear.Goals as goal
+
+pub loop-front-init : goal.loop-front-init
+loop-front-init g c =
+    begins_hearing g.W.Write.contents c.args.rehearsal.now c.args.line.now.items c.args.bytes.now c.args.text.now c.requires
+
+pub returns-in-Err-clause-err : goal.returns-in-Err-clause-err
+returns-in-Err-clause-err g c =
+    hears_no_line _ _ _ _ _ _ _ _ _ _ _ c.loop-front.invariant c.in-Some.front.now c.in-Some.behind.now c.in-Err.fault c.in-Some.ensures.cut c.in-Err.ensures.err c.in-Err.ensures.unchanged c.in-Err.ensures.silent
+
+pub loop-front-preserved : goal.loop-front-preserved
+loop-front-preserved g c =
+    subst
+    (λ (now : List ℕ). Hearing g.W.Write.contents c.args.rehearsal.now c.args.line.now.items c.args.bytes.now c.in-Some.behind.now now c.end_line.new.rehearsal c.args.text.now c.end_line.new.text)
+    (sym c.in_default-end_line.ensures.next)
+    (hears_line _ _ _ _ _ _ _ _ _ _ _ c.loop-front.invariant c.in-Some.front.now c.in-Some.behind.now _ c.in-Some.ensures.cut c.in_default-end_line.ensures.within
+    c.in_default-end_line.ensures.answers c.in_default-end_line.ensures.writes)
+
+pub returns-in-Err-grow-clause-err : goal.returns-in-Err-grow-clause-err
+returns-in-Err-grow-clause-err g c =
+    hears_no_rest _ _ _ _ _ _ _ _ _ _ _ c.loop-front.invariant c.in-Err-grow.fault c.in_default.ensures.cut c.in-Err-grow.ensures.err refl (writes_none g.W.Write.contents c.loop-front.text)

@@ -1,0 +1,13 @@
+use Rattle.std.proofs.Common.{◌<◌, length, arith}
+use Rattle.std.proofs.lemmas.Bool.Decides.{nat_tests}
+use Rattle.rehearsal_text.specs.Answers.{answer_to}
+use Rattle.rehearsal_text.specs.Commands.{command_in}
+use Rattle.rehearsing.proofs.ListeningLemmas.{last_told}
+use Rattle.rehearsing.proofs.listening.answer_last.Goals as goal
+
+pub returns-clause-last : goal.returns-clause-last
+returns-clause-last g c =
+    let line = c.args.line.now in
+    let some : 0 < length c.args.line.now = grind (arith, nat_tests, c.is_empty.ensures, c.if-is_empty.false) in
+    last_told g.W.Write.contents c.args.rehearsal.now line (answer_to c.args.rehearsal.now (command_in line)) c.answer.new.rehearsal c.args.text.now c.answer.new.text c.answer.result some
+    c.answer.ensures.answers c.answer.ensures.writes

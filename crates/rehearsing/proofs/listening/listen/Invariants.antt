@@ -1,0 +1,13 @@
+use Rattle.std.proofs.Common.{◌≡◌, ◌-◌}
+use Rattle.bounded_io.specs.Reading.{max_input}
+use Rattle.rehearsing.proofs.ListeningLemmas.{Listening}
+use Rattle.rehearsing.proofs.listening.listen.Given as goal
+
+abbrev pub invariant-reads : goal.invariant-reads
+invariant-reads g l = record {
+  so_far : Listening g.W.Write.contents l.initial.rehearsal (g.I.Read.remaining l.initial.input) (g.I.Read.remaining l.input) l.given l.line.items l.rehearsal l.initial.text l.text;
+  reliable : g.I.Input.is_reliable l.input ≡ g.I.Input.is_reliable l.initial.input;
+}
+
+abbrev pub decreases-reads : goal.decreases-reads
+decreases-reads g l = max_input - l.given

@@ -1,0 +1,23 @@
+use Rattle.std.proofs.Common.{◌≡◌, ◌<◌, ◌∷◌, List, length, drop, drop-cons, sym, ap, ◌∙◌, arith}
+use Rattle.planning.proofs.PlayLemmas.{has_play}
+use Rattle.play_model.specs.declared.play.Play.{Play}
+use Rattle.rehearsing.proofs.opening.read_opening.Goals as goal
+
+pub index-requires : goal.index-requires
+index-requires c =
+    let plays : List Play = c.in-Ok-read_known_plays.plays.items in
+    let some : 0 < length plays = has_play 16 c.args.playbook.now plays c.in-Ok-read_known_plays.ensures.ok.reads in
+    omega (arith, some, c.in-Ok-read_known_plays.plays.ok)
+
+pub returns-in-Ok-open_play-clause-ok : goal.returns-in-Ok-open_play-clause-ok
+returns-in-Ok-open_play-clause-ok c =
+    let plays : List Play = c.in-Ok-read_known_plays.plays.items in
+    let some : 0 < length plays = has_play 16 c.args.playbook.now plays c.in-Ok-read_known_plays.ensures.ok.reads in
+    let first : Play = c.index.result.now in
+    let parts : plays ≡ first ∷ drop 1 plays = drop-cons plays 0 first some ∙ ap (λ (play : Play). play ∷ drop 1 plays) (sym c.index.ensures) in
+    record {
+      fleet = c.in-Ok.fleet;
+      play = first;
+      first = record { built = c.in-Ok.ensures.ok; plays = plays; says = c.in-Ok-read_known_plays.ensures.ok; later = drop 1 plays; plays_are = parts };
+      opening_is = c.in-Ok-open_play.ensures;
+    }

@@ -1,0 +1,109 @@
+-- What the steps of a session have to give.
+use Rattle.std.specs.Prelude.{◌≡◌, ℕ, ◌+◌, ◌<◌, ◌≤◌, Bool, Some, Option, List, length}
+use Rattle.std.specs.Io.KnownBytes.{Consumes, IsAtEnd}
+use Rattle.bounded_io.specs.Writing.{Writes, fault_of}
+use Rattle.bounded_io.specs.declared.text_writer.TextWriter.{TextWriter}
+use Rattle.domains.specs.FleetViews.{FleetView}
+use Rattle.fleet_states.specs.Starts.{start_statuses}
+use Rattle.play_model.specs.declared.play.Play.{Play}
+use Rattle.play_plan.specs.PlayPlans.{targets}
+use Rattle.rehearsal.specs.Plays.{rules_of}
+use Rattle.rehearsal.specs.Stacks.{RehearsalView, Rules}
+use Rattle.rehearsing.specs.declared.opening.Opening.{Opening}
+use Rattle.rehearsing.specs.declared.fault.RehearseFault.{RehearseFault}
+use Rattle.rehearsing.specs.declared.fault.RehearseFault.TheVariants.{Refused, Memory, File, TooLarge, LongLine, Write}
+use Rattle.rehearsing.specs.Lines.{IsLong, last_line, max_line}
+use Rattle.rehearsing.specs.Openings.{IsFirstPlay}
+use Rattle.rehearsing.specs.RehearseTexts.{RefusesTexts}
+use Rattle.rehearsing.specs.Sessions.{Heard, IsEndedBy, IsHeard, IsWhole, Session}
+
+-- so many bytes are more than a line, or there was no memory for them
+abbrev pub HasNoRoom : ℕ → RehearseFault → Type 0
+HasNoRoom count LongLine = max_line < count
+HasNoRoom count Memory = Unit {0}
+HasNoRoom count File = ⊥
+HasNoRoom count TooLarge = ⊥
+HasNoRoom count (Refused fault) = ⊥
+HasNoRoom count (Write fault) = ⊥
+
+-- what ends the hearing of bytes, by those of them that stand behind the last line that was answered
+abbrev pub StopsAt : List ℕ → RehearseFault → Type 0
+StopsAt rest LongLine = IsLong rest
+StopsAt rest Memory = Unit {0}
+StopsAt rest File = ⊥
+StopsAt rest TooLarge = ⊥
+StopsAt rest (Refused fault) = ⊥
+StopsAt rest (Write fault) = ⊥
+
+-- the bytes were heard, and a text writer was given the answers
+pub record Hears {W : Type 0} (contents : W → Option (List ℕ)) (before : RehearsalView) (bytes rest : List ℕ) (after : RehearsalView) (old new : TextWriter W) : Type 0 where
+  pub text : List ℕ
+  pub heard : Heard before bytes rest text after
+  pub written : Writes contents old new text
+
+-- the bytes were heard as far as the fault let
+pub record HearsUntil {W : Type 0} (contents : W → Option (List ℕ)) (before : RehearsalView) (bytes : List ℕ) (after : RehearsalView) (old new : TextWriter W) (fault : RehearseFault) : Type 0 where
+  pub rest : List ℕ
+  pub hears : Hears contents before bytes rest after old new
+  pub stops : StopsAt rest fault
+
+-- all commands were heard, and a text writer was given their answers
+pub record ListensToAll {W : Type 0} (contents : W → Option (List ℕ)) (before : RehearsalView) (old new : Option (List ℕ)) (text_old text_new : TextWriter W) : Type 0 where
+  pub text : List ℕ
+  pub whole : IsWhole before old new text
+  pub written : Writes contents text_old text_new text
+
+-- commands were heard until the fault
+pub record ListensUntil {W : Type 0} (contents : W → Option (List ℕ)) (is_reliable : Bool) (before : RehearsalView) (old new : Option (List ℕ)) (text_old text_new : TextWriter W) (fault : RehearseFault) : Type 0 where
+  pub text : List ℕ
+  pub ended : IsEndedBy is_reliable before old new text fault
+  pub written : Writes contents text_old text_new text
+
+-- commands were heard until the text broke off
+pub record ListensInVain {W : Type 0} (contents : W → Option (List ℕ)) (before : RehearsalView) (old new : Option (List ℕ)) (text_old text_new : TextWriter W) : Type 0 where
+  pub text : List ℕ
+  pub heard : IsHeard before old new text
+  pub written : Writes contents text_old text_new text
+
+-- why no more commands are heard
+abbrev pub Unheard : {W : Type 0} → (W → Option (List ℕ)) → Bool → RehearsalView → Option (List ℕ) → Option (List ℕ) → TextWriter W → TextWriter W → RehearseFault → Type 0
+Unheard contents is_reliable before old new text_old text_new Memory = ListensUntil contents is_reliable before old new text_old text_new Memory
+Unheard contents is_reliable before old new text_old text_new File = ListensUntil contents is_reliable before old new text_old text_new File
+Unheard contents is_reliable before old new text_old text_new TooLarge = ListensUntil contents is_reliable before old new text_old text_new TooLarge
+Unheard contents is_reliable before old new text_old text_new LongLine = ListensUntil contents is_reliable before old new text_old text_new LongLine
+Unheard contents is_reliable before old new text_old text_new (Write fault) =
+    ListensInVain contents before old new text_old text_new × (fault_of text_new ≡ Some fault)
+Unheard contents is_reliable before old new text_old text_new (Refused fault) = ⊥
+
+-- what stands behind the last line feed was answered, where anything does
+pub record LastAnswer {W : Type 0} (contents : W → Option (List ℕ)) (before : RehearsalView) (line : List ℕ) (after : RehearsalView) (old new : TextWriter W) : Type 0 where
+  pub text : List ℕ
+  pub answers : Session before (last_line line) text after
+  pub written : Writes contents old new text
+
+-- the rules of an opening
+abbrev pub rules_in : Opening → Rules
+rules_in opening = record { fleet = opening.fleet; mode = opening.mode; caps = opening.caps.items; percentage = opening.max_fail }
+
+-- what a rehearsal of a play on a fleet begins with
+pub record IsOpening (fleet : FleetView) (play : Play) (opening : Opening) : Type 0 where
+  pub fleet_is : opening.fleet ≡ fleet
+  pub statuses_are : opening.statuses.items ≡ start_statuses fleet (targets fleet play)
+  pub all : length opening.statuses.items ≡ length fleet.hosts
+  pub rules_are : rules_in opening ≡ rules_of fleet play
+
+-- the same of the playbook's first play on the inventory's fleet
+pub record IsOpeningOfTexts (inventory playbook : List ℕ) (opening : Opening) : Type 0 where
+  pub fleet : FleetView
+  pub play : Play
+  pub first : IsFirstPlay inventory playbook fleet play
+  pub opening_is : IsOpening fleet play opening
+
+-- what refuses one of the two texts
+abbrev pub RefusesOpening : List ℕ → List ℕ → RehearseFault → Type 0
+RefusesOpening inventory playbook (Refused fault) = RefusesTexts inventory playbook fault
+RefusesOpening inventory playbook Memory = Unit {0}
+RefusesOpening inventory playbook File = ⊥
+RefusesOpening inventory playbook TooLarge = ⊥
+RefusesOpening inventory playbook LongLine = ⊥
+RefusesOpening inventory playbook (Write fault) = ⊥

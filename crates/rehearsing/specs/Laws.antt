@@ -1,0 +1,14 @@
+-- What holds of every session.
+use Rattle.std.specs.Prelude.{ℕ, List}
+use Rattle.fleet_states.specs.Starts.{start_statuses}
+use Rattle.play_plan.specs.PlayPlans.{targets}
+use Rattle.rehearsal.specs.Plays.{IsRehearsalOf}
+use Rattle.rehearsal.specs.Stacks.{RehearsalView}
+use Rattle.rehearsing.specs.Openings.{IsOpeningIn}
+use Rattle.rehearsing.specs.Sessions.{Session}
+
+-- wherever a session comes that begins with the opening of two texts, there stands a rehearsal of their first play
+abbrev pub SessionsRehearse : Type 0
+SessionsRehearse =
+    (inventory playbook : List ℕ) (before : RehearsalView) (lines : List (List ℕ)) (text : List ℕ) (after : RehearsalView) (opening : IsOpeningIn inventory playbook before)
+    → Session before lines text after → IsRehearsalOf opening.fleet opening.play (start_statuses opening.fleet (targets opening.fleet opening.play)) after

@@ -1,0 +1,6 @@
+pub mod Lines
+pub mod Sessions
+pub mod Openings
+pub mod RehearseTexts
+pub mod Inside
+pub mod Laws

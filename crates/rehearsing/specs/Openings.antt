@@ -1,0 +1,29 @@
+-- The rehearsal with which a session begins.
+use Rattle.std.specs.Prelude.{◌≡◌, ℕ, List, [], ◌∷◌}
+use Rattle.domains.specs.FleetViews.{FleetView}
+use Rattle.fleet_states.specs.Starts.{start_statuses}
+use Rattle.play_model.specs.declared.play.Play.{Play}
+use Rattle.play_plan.specs.PlayPlans.{targets}
+use Rattle.planning.specs.PlanTexts.{ArePlaysIn, IsFleetIn}
+use Rattle.rehearsal.specs.Plays.{IsRehearsalOf}
+use Rattle.rehearsal.specs.Stacks.{RehearsalView}
+
+-- the fleet is that of the inventory's text, and the play is the first of the playbook's
+pub record IsFirstPlay (inventory playbook : List ℕ) (fleet : FleetView) (play : Play) : Type 0 where
+  pub built : IsFleetIn inventory fleet
+  pub plays : List Play
+  pub says : ArePlaysIn fleet playbook plays
+  pub later : List Play
+  pub plays_are : plays ≡ play ∷ later
+
+-- nothing was advanced: the play stands where a run of it begins
+pub record IsOpeningOf (fleet : FleetView) (play : Play) (rehearsal : RehearsalView) : Type 0 where
+  pub of : IsRehearsalOf fleet play (start_statuses fleet (targets fleet play)) rehearsal
+  pub nothing_above : rehearsal.above ≡ []
+
+-- the playbook's first play on the inventory's fleet, before anything was advanced
+pub record IsOpeningIn (inventory playbook : List ℕ) (rehearsal : RehearsalView) : Type 0 where
+  pub fleet : FleetView
+  pub play : Play
+  pub first : IsFirstPlay inventory playbook fleet play
+  pub opening : IsOpeningOf fleet play rehearsal

@@ -1,0 +1,70 @@
+-- What `rehearse` writes of the texts of an inventory and a playbook, and of the commands that it reads.
+use Rattle.std.specs.Prelude.{◌≡◌, ◌⊎◌, ℕ, Bool, List, Option}
+use Rattle.std.specs.Io.KnownBytes.{Appends, Keeps}
+use Rattle.bounded_io.specs.Sending.{SendsFirst}
+use Rattle.planning.specs.PlanTexts.{IsRefusedAfter, IsUnread}
+use Rattle.planning.specs.declared.fault.PlanFault.{PlanFault}
+use Rattle.rehearsal.specs.Stacks.{RehearsalView}
+use Rattle.rehearsing.specs.Openings.{IsOpeningIn}
+use Rattle.rehearsing.specs.Sessions.{IsEndedBy, IsHeard, IsWhole}
+use Rattle.rehearsing.specs.declared.fault.RehearseFault.{RehearseFault}
+use Rattle.rehearsing.specs.declared.fault.RehearseFault.TheVariants.{Refused, Memory, File, TooLarge, LongLine, Write}
+
+-- all commands of the reader were answered, and their answers went out, and nothing else
+pub record HoldsSession (before : RehearsalView) (old new out_old out_new : Option (List ℕ)) : Type 0 where
+  pub text : List ℕ
+  pub whole : IsWhole before old new text
+  pub written : Appends out_old out_new text
+
+-- a fault ended the session, and the answers before it went out, and nothing else
+pub record EndsSession (is_reliable : Bool) (before : RehearsalView) (old new out_old out_new : Option (List ℕ)) (fault : RehearseFault) : Type 0 where
+  pub text : List ℕ
+  pub ended : IsEndedBy is_reliable before old new text fault
+  pub written : Appends out_old out_new text
+
+-- the answers broke off after so many bytes
+pub record BreaksSession (before : RehearsalView) (old new out_old out_new : Option (List ℕ)) (count : ℕ) : Type 0 where
+  pub text : List ℕ
+  pub heard : IsHeard before old new text ⊎ IsWhole before old new text
+  pub written : SendsFirst out_old out_new text count
+
+-- what a fault says of a session
+abbrev pub IsTrueOfSession : Bool → RehearsalView → Option (List ℕ) → Option (List ℕ) → Option (List ℕ) → Option (List ℕ) → RehearseFault → Type 0
+IsTrueOfSession is_reliable before old new out_old out_new (Refused fault) = ⊥
+IsTrueOfSession is_reliable before old new out_old out_new Memory = EndsSession is_reliable before old new out_old out_new Memory
+IsTrueOfSession is_reliable before old new out_old out_new File = EndsSession is_reliable before old new out_old out_new File
+IsTrueOfSession is_reliable before old new out_old out_new TooLarge = EndsSession is_reliable before old new out_old out_new TooLarge
+IsTrueOfSession is_reliable before old new out_old out_new LongLine = EndsSession is_reliable before old new out_old out_new LongLine
+IsTrueOfSession is_reliable before old new out_old out_new (Write fault) = BreaksSession before old new out_old out_new fault.written
+
+-- the two texts are accepted, and a session on the playbook's first play answered all commands
+pub record Rehearses (inventory playbook : List ℕ) (old new out_old out_new : Option (List ℕ)) : Type 0 where
+  pub before : RehearsalView
+  pub opening : IsOpeningIn inventory playbook before
+  pub session : HoldsSession before old new out_old out_new
+
+-- the two texts are accepted, and the fault is true of a session on the playbook's first play
+pub record EndsRehearsal (is_reliable : Bool) (inventory playbook : List ℕ) (old new out_old out_new : Option (List ℕ)) (fault : RehearseFault) : Type 0 where
+  pub before : RehearsalView
+  pub opening : IsOpeningIn inventory playbook before
+  pub session : IsTrueOfSession is_reliable before old new out_old out_new fault
+
+-- no command was read, and nothing went out
+pub record IsUnbegun (old new out_old out_new : Option (List ℕ)) : Type 0 where
+  pub unread : Keeps old new
+  pub silent : Keeps out_old out_new
+
+-- the inventory is refused so, or it is accepted and the playbook is
+abbrev pub RefusesTexts : List ℕ → List ℕ → PlanFault → Type 0
+RefusesTexts inventory playbook fault = IsUnread inventory fault ⊎ IsRefusedAfter inventory playbook fault
+
+-- what the fault says is true: a text is refused, or memory was wanting, before a command was read or anything went out; or the session ended so
+abbrev pub IsTrueFault : Bool → List ℕ → List ℕ → Option (List ℕ) → Option (List ℕ) → Option (List ℕ) → Option (List ℕ) → RehearseFault → Type 0
+IsTrueFault is_reliable inventory playbook old new out_old out_new (Refused fault) = RefusesTexts inventory playbook fault × IsUnbegun old new out_old out_new
+IsTrueFault is_reliable inventory playbook old new out_old out_new Memory =
+    IsUnbegun old new out_old out_new ⊎ EndsRehearsal is_reliable inventory playbook old new out_old out_new Memory
+IsTrueFault is_reliable inventory playbook old new out_old out_new File = EndsRehearsal is_reliable inventory playbook old new out_old out_new File
+IsTrueFault is_reliable inventory playbook old new out_old out_new TooLarge = EndsRehearsal is_reliable inventory playbook old new out_old out_new TooLarge
+IsTrueFault is_reliable inventory playbook old new out_old out_new LongLine = EndsRehearsal is_reliable inventory playbook old new out_old out_new LongLine
+IsTrueFault is_reliable inventory playbook old new out_old out_new (Write fault) =
+    EndsRehearsal is_reliable inventory playbook old new out_old out_new (Write fault)

@@ -1,0 +1,74 @@
+-- A session: lines of commands are answered as they come.
+use Rattle.std.specs.Prelude.{◌≡◌, ℕ, ◌+◌, ◌≤◌, All, Bool, false, Option, List, [], ◌∷◌, ◌++◌, length, map}
+use Rattle.std.specs.Io.KnownBytes.{Consumes, IsAtEnd}
+use Rattle.bounded_io.specs.Reading.{max_input}
+use Rattle.rehearsal.specs.Stacks.{RehearsalView}
+use Rattle.rehearsal_text.specs.Answers.{LeadsTo, answer_to}
+use Rattle.rehearsal_text.specs.Commands.{command_in}
+use Rattle.rehearsing.specs.declared.fault.RehearseFault.{RehearseFault}
+use Rattle.rehearsing.specs.declared.fault.RehearseFault.TheVariants.{Refused, Memory, File, TooLarge, LongLine, Write}
+use Rattle.rehearsing.specs.Lines.{IsLine, IsLong, joined, last_line, without_return}
+
+-- the text is the answers to these lines in their order, each from the rehearsal that the one before it left
+abbrev pub Session : RehearsalView → List (List ℕ) → List ℕ → RehearsalView → Type 0
+Session before [] text after = (text ≡ []) × (after ≡ before)
+Session before (line ∷ lines) text after =
+    (between : RehearsalView) × (later : List ℕ) × LeadsTo before (command_in line) between × Session between lines later after
+    × (text ≡ answer_to before (command_in line) ++ later)
+
+-- the bytes are lines, each with its line feed, and a rest; the lines were answered, without the carriage returns before their line feeds
+pub record Heard (before : RehearsalView) (bytes rest text : List ℕ) (after : RehearsalView) : Type 0 where
+  pub lines : List (List ℕ)
+  pub parts : bytes ≡ joined lines ++ rest
+  pub are_lines : All IsLine lines
+  pub answers : Session before (map without_return lines) text after
+
+-- the reader gave bytes, of which so much was heard, and no more than one past the bound of an input
+pub record IsHeard (before : RehearsalView) (old new : Option (List ℕ)) (text : List ℕ) : Type 0 where
+  pub bytes : List ℕ
+  pub rest : List ℕ
+  pub after : RehearsalView
+  pub consumed : Consumes old new bytes
+  pub within : length bytes ≤ max_input + 1
+  pub heard : Heard before bytes rest text after
+
+-- all that the reader had was heard, and its last line too, which needs no line feed
+pub record IsWhole (before : RehearsalView) (old new : Option (List ℕ)) (text : List ℕ) : Type 0 where
+  pub bytes : List ℕ
+  pub rest : List ℕ
+  pub first : List ℕ
+  pub between : RehearsalView
+  pub last : List ℕ
+  pub after : RehearsalView
+  pub consumed : Consumes old new bytes
+  pub end : IsAtEnd new
+  pub within : length bytes ≤ max_input
+  pub heard : Heard before bytes rest first between
+  pub line : IsLine rest
+  pub last_answer : Session between (last_line rest) last after
+  pub text_is : text ≡ first ++ last
+
+-- a line, and the byte with which the commands have more bytes than an input has
+pub record IsPastLine (rest : List ℕ) : Type 0 where
+  pub line : List ℕ
+  pub byte : ℕ
+  pub rest_is : rest ≡ line ++ byte ∷ []
+  pub is_line : IsLine line
+
+-- when a fault ends a session, by the bytes that the reader gave, and by those of them that stand behind the last line that was answered
+abbrev pub Ends : Bool → List ℕ → List ℕ → RehearseFault → Type 0
+Ends is_reliable bytes rest File = (is_reliable ≡ false) × IsLine rest × (length bytes ≤ max_input)
+Ends is_reliable bytes rest TooLarge = IsPastLine rest × (length bytes ≡ max_input + 1)
+Ends is_reliable bytes rest LongLine = IsLong rest × (length bytes ≤ max_input + 1)
+Ends is_reliable bytes rest Memory = length bytes ≤ max_input + 1
+Ends is_reliable bytes rest (Refused fault) = ⊥
+Ends is_reliable bytes rest (Write fault) = ⊥
+
+-- the fault ended the session when so much was heard
+pub record IsEndedBy (is_reliable : Bool) (before : RehearsalView) (old new : Option (List ℕ)) (text : List ℕ) (fault : RehearseFault) : Type 0 where
+  pub bytes : List ℕ
+  pub rest : List ℕ
+  pub after : RehearsalView
+  pub consumed : Consumes old new bytes
+  pub heard : Heard before bytes rest text after
+  pub ends : Ends is_reliable bytes rest fault

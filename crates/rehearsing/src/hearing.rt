@@ -1,0 +1,65 @@
+//! Answering the lines among bytes.
+ghost use Rattle.std.specs.Prelude.{◌≡◌, ◌≤◌, ◌+◌, ◌++◌, [], IfErr, OnErr, OnOk, length};
+ghost use Rattle.bounded_io.specs.Writing.{Writes};
+ghost use Rattle.rehearsal_text.specs.Answers.{Answers, answer_to};
+ghost use Rattle.rehearsal_text.specs.Commands.{command_in};
+ghost use Rattle.rehearsing.specs.Lines as spec;
+ghost use Rattle.rehearsing.specs.Lines.{IsLine};
+ghost use Rattle.rehearsing.specs.Inside.{HasNoRoom, Hears, HearsUntil};
+
+use crate::fault::RehearseFault;
+use crate::lines::{cut_line, grow, without_return};
+use bounded_io::TextWriter;
+use rehearsal::Rehearsal;
+use rehearsal_text::answer;
+use std::alloc::Global;
+use std::io::Write;
+
+/// Ends a line with these bytes and answers it; then the next one begins. Whatever refuses it, nothing is answered.
+fn end_line<W: Write>(
+    alloc: Global,
+    rehearsal: &mut Rehearsal<'_>,
+    line: &mut Vec<u8>,
+    bytes: &[u8],
+    text: &mut TextWriter<'_, W>,
+) -> Result<(), RehearseFault>
+    requires { length line.old.items ≤ spec.max_line }
+    ensures within { OnOk result (length line.old.items + length bytes.now ≤ spec.max_line) }
+    ensures next { OnOk result (line.new.items ≡ []) }
+    ensures writes { OnOk result (Writes W.contents text.old text.new (answer_to rehearsal.old (command_in (spec.without_return (line.old.items ++ bytes.now))))) }
+    ensures answers { OnOk result (Answers rehearsal.old (spec.without_return (line.old.items ++ bytes.now)) (answer_to rehearsal.old (command_in (spec.without_return (line.old.items ++ bytes.now)))) rehearsal.new) }
+    ensures err { IfErr result (HasNoRoom (length line.old.items + length bytes.now)) }
+    ensures unchanged { OnErr result (rehearsal.new ≡ rehearsal.old) }
+    ensures silent { OnErr result (Writes W.contents text.old text.new []) }
+{
+    grow(line, bytes)?;
+    answer(alloc, rehearsal, without_return(line.as_slice()), text)?;
+    line.clear();
+    Ok(())
+}
+
+/// Answers the lines that end among these bytes, of which the first one has begun. Behind it the line stands that has begun then.
+pub(crate) fn hear<W: Write>(
+    alloc: Global,
+    rehearsal: &mut Rehearsal<'_>,
+    line: &mut Vec<u8>,
+    bytes: &[u8],
+    text: &mut TextWriter<'_, W>,
+) -> Result<(), RehearseFault>
+    requires { IsLine line.old.items }
+    ensures hears { OnOk result (Hears W.contents rehearsal.old (line.old.items ++ bytes.now) line.new.items rehearsal.new text.old text.new) }
+    ensures line { OnOk result (IsLine line.new.items) }
+    ensures err { IfErr result (HearsUntil W.contents rehearsal.old (line.old.items ++ bytes.now) rehearsal.new text.old text.new) }
+{
+    let mut left = bytes;
+    while let Some((front, behind)) = cut_line(left) {
+        if let Err(fault) = end_line(alloc, rehearsal, line, front, text) {
+            return Err(fault);
+        }
+        left = behind;
+    }
+    match grow(line, left) {
+        Ok(()) => Ok(()),
+        Err(fault) => Err(fault),
+    }
+}

@@ -1,0 +1,46 @@
+//! From the bytes of an inventory and a playbook, and commands as they come, to their answers.
+ghost use Rattle.std.specs.Prelude.{◌≡◌, IfErr, OnOk};
+ghost use Rattle.rehearsing.specs.RehearseTexts.{IsTrueFault, Rehearses};
+
+use crate::fault::RehearseFault;
+use crate::listening::hold_session;
+use crate::opening::read_opening;
+use crate::prompt::Prompt;
+use bounded_io::Input;
+use rehearsal::Rehearsal;
+use std::alloc::Global;
+use std::io::Write;
+
+/// Rehearses the first play of a playbook on the fleet of an inventory, each given as the bytes of its text: answers the lines of commands that the reader gives, each
+/// as it comes. No command is read, and nothing goes out, before both texts were accepted: first the inventory's faults are told, then the playbook's,
+/// then the first part of a pattern, of any play, that names nothing. Answers are sent, and `prompt` is told, before each read. A line of more than `MAX_LINE` bytes, more commands than an
+/// input has bytes, a failed read and want of memory end the session behind the answers to the lines before. Where a write fails, exactly the
+/// first bytes of all answers went out, as many as the fault says.
+pub fn rehearse_text<P: Prompt, I: Input, W: Write>(
+    alloc: Global,
+    inventory: &[u8],
+    playbook: &[u8],
+    prompt: &P,
+    input: &mut I,
+    out: &mut W,
+) -> Result<(), RehearseFault>
+    ensures ok { OnOk result (Rehearses inventory.now playbook.now (I.remaining input.old) (I.remaining input.new) (W.contents out.old) (W.contents out.new)) }
+    ensures err { IfErr result (IsTrueFault (I.is_reliable input.old) inventory.now playbook.now (I.remaining input.old) (I.remaining input.new) (W.contents out.old) (W.contents out.new)) }
+{
+    let opening = match read_opening(alloc, inventory, playbook) {
+        Ok(opening) => opening,
+        Err(fault) => return Err(fault),
+    };
+    let mut rehearsal = match Rehearsal::new(
+        alloc,
+        &opening.fleet,
+        opening.statuses.as_slice(),
+        opening.caps.as_slice(),
+        opening.max_fail,
+        opening.mode,
+    ) {
+        Ok(rehearsal) => rehearsal,
+        Err(_refused) => return Err(RehearseFault::Memory),
+    };
+    hold_session(alloc, &mut rehearsal, prompt, input, out)
+}

@@ -1,0 +1,8 @@
+use Rattle.rollout.proofs.Rehearsing.{RehearsesInputs-of_texts}
+use Rattle.rollout.proofs.commands.rehearse.rehearse.Goals as goal
+
+pub returns-in-Ok : goal.returns-in-Ok
+returns-in-Ok g c =
+    let answers = rw (c.as_slice-inventory.ensures.value, c.as_slice-playbook.ensures.value) at c.answer_all.ensures.ok in
+    let ends = rw (c.as_slice-inventory.ensures.value, c.as_slice-playbook.ensures.value) at c.answer_all.ensures.err in
+    RehearsesInputs-of_texts _ _ _ _ _ _ _ _ _ c.in-Ok.inventory.items c.in-Ok.playbook.items c.answer_all.result c.in-Ok.ensures.ok answers ends

@@ -1,8 +1,0 @@
-use Rattle.std.proofs.Common.{flat_map, take, ◌∷◌, []}
-use Rattle.bounded_io.specs.Writing.{Writes}
-use Rattle.rollout.specs.FaultLines.{printable}
-use Rattle.rollout.proofs.detail.write_printable.Given as goal
-
-abbrev pub invariant-loop-byte : goal.invariant-loop-byte
-invariant-loop-byte g l =
-    Writes g.W.Write.contents l.initial.text l.text (flat_map (λ byte. printable byte ∷ []) (take l.byte-index l.value))

@@ -1,0 +1,54 @@
+//! The command `rehearse`: from the files of an inventory and a playbook, and commands on standard input, to their answers.
+ghost use Rattle.std.specs.Prelude.{IfOk, IfErr};
+ghost use Rattle.rollout.specs.Rehearsals.{AnswersAll, EndsEarly, RehearsesInputs};
+ghost use Rattle.rollout.specs.Systems.{sources_of};
+
+use crate::fault::Fault;
+use crate::inputs::read_both;
+use crate::status::Status;
+use crate::system::System;
+use bounded_io::Input;
+use command_line::Source;
+use rehearsing::{Prompt, rehearse_text};
+use std::alloc::Global;
+use std::io::Write;
+
+/// Reads the inventory and the playbook, and answers the commands on standard input, each as it comes: they rehearse the playbook's first play.
+pub fn rehearse<S: System, I: Input, W: Write>(
+    system: &S,
+    alloc: Global,
+    inventory: Source,
+    playbook: Source,
+    input: &mut I,
+    out: &mut W,
+) -> Result<Status, Fault>
+    ensures { RehearsesInputs (sources_of (S.files system.now) (I.is_reliable input.old)) inventory playbook (I.remaining input.old) (I.remaining input.new)
+        (W.contents out.old) (W.contents out.new) result }
+{
+    match read_both(system, alloc, inventory, playbook, input) {
+        Ok((inventory, playbook)) => {
+            let inventory = inventory.as_slice();
+            let playbook = playbook.as_slice();
+            answer_all(alloc, inventory, playbook, system, input, out)
+        }
+        Err(fault) => Err(fault),
+    }
+}
+
+/// Rehearses the first play of the two texts. That all commands were answered is all that the status tells.
+fn answer_all<P: Prompt, I: Input, W: Write>(
+    alloc: Global,
+    inventory: &[u8],
+    playbook: &[u8],
+    prompt: &P,
+    input: &mut I,
+    out: &mut W,
+) -> Result<Status, Fault>
+    ensures ok { IfOk result (AnswersAll inventory.now playbook.now (I.remaining input.old) (I.remaining input.new) (W.contents out.old) (W.contents out.new)) }
+    ensures err { IfErr result (EndsEarly (I.is_reliable input.old) inventory.now playbook.now (I.remaining input.old) (I.remaining input.new) (W.contents out.old) (W.contents out.new)) }
+{
+    match rehearse_text(alloc, inventory, playbook, prompt, input, out) {
+        Ok(()) => Ok(Status::Done),
+        Err(fault) => Err(Fault::from(fault)),
+    }
+}

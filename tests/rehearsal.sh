@@ -1,0 +1,189 @@
+#!/bin/sh
+# Rehearsals as somebody at a terminal sees them: each answer comes before the next line is typed, a prompt stands before it, and a session ends as soon as it has
+# to. What is answered is shown by tests/drawn.sh. It needs crates/rollout/out/rollout and Python.
+. "$(dirname "$0")/common.sh"
+
+printf '%s' "$racks" >"$work/inventory.json"
+printf '[{"hosts":"all","tasks":[{"command":"true"}]}]' >"$work/playbook.json"
+cat >"$work/typed.py" <<'PYTHON'
+"""typed.py PROGRAM ENDED WORD..: types the lines of standard input, each as `> LINE`, and looks for the lines `ANSWER` behind it before the next one is typed;
+a line `.` ends the input; from a line `|` on nobody reads the answers; a last line `! STATUS ERROR` tells how the program ends. With `ended` for ENDED the input is ended before that, else it is left open."""
+import os
+import select
+import subprocess
+import sys
+
+program = subprocess.Popen([sys.argv[1], *sys.argv[3:]], stdin=subprocess.PIPE, stdout=subprocess.PIPE, stderr=subprocess.PIPE, bufsize=0)
+
+
+def read(count):
+    """So many bytes of the answers, or fewer where no more come within ten seconds."""
+    got = b""
+    while len(got) < count and select.select([program.stdout], [], [], 10)[0]:
+        more = os.read(program.stdout.fileno(), count - len(got))
+        if not more:
+            break
+        got += more
+    return got
+
+
+for line in sys.stdin.read().splitlines():
+    if line.startswith("> "):
+        program.stdin.write(eval(line[2:]))
+    elif line == ".":
+        program.stdin.close()
+    elif line == "|":
+        program.stdout.close()
+    elif line.startswith("! "):
+        if sys.argv[2] == "ended":
+            program.stdin.close()
+        try:
+            status = program.wait(10)
+        except subprocess.TimeoutExpired:
+            program.kill()
+            sys.exit(f"expected {line[2:]!r}, and it goes on")
+        said = f"{status} {program.stderr.read().decode().rstrip()}".rstrip()
+        rest = b"" if program.stdout.closed else read(1)
+        if said != line[2:] or rest:
+            sys.exit(f"expected {line[2:]!r}, ended with {said!r} and {rest!r}")
+        sys.exit()
+    else:
+        wanted = line.encode() + b"\n"
+        got = read(len(wanted))
+        if got != wanted:
+            program.kill()
+            sys.exit(f"expected {wanted!r}, got {got!r}")
+PYTHON
+
+# typed WHAT ENDED: the session on standard input goes so
+typed() {
+    if python3 "$work/typed.py" "$rollout" "$2" rehearse "$work/inventory.json" "$work/playbook.json" 2>"$work/said"; then
+        pass
+    else
+        fail "$1: $(cat "$work/said")"
+    fi
+}
+
+typed 'an answer before the next line' ended <<'LINES'
+> b"advance a\n"
+advanced: a d
+> b"show\n"
+a failed
+b waiting
+c waiting
+d updated
+e waiting
+end blocked group=r1
+> b"undo\n"
+undone
+> b"undo\n"
+nothing to undo
+> b"plan\n"
+plan batches=3 bound=group r1 waiting=3 room=1
+batch 1: a d
+batch 2: b e
+batch 3: c
+! 0
+LINES
+typed 'a line in pieces, and several at once' ended <<'LINES'
+> b"adv"
+> b"ance"
+> b" b\r\nunder"
+refused 831 NotInBatch host=b
+> b"stood\nadvance\nundo\n"
+refused 905 BadCommand
+advanced: a d
+undone
+! 0
+LINES
+typed 'a last line that no line feed ends' ended <<'LINES'
+> b"advance\nundo"
+advanced: a d
+.
+undone
+! 0
+LINES
+typed 'a line too long, told before it ends' open <<'LINES'
+> b"advance\n" + b"a" * 65536
+advanced: a d
+> b"a"
+! 1 rollout: 906 LongLine
+LINES
+typed 'a line as long as may be' open <<'LINES'
+> b"show" + b" " * 65532 + b"\n"
+a waiting
+b waiting
+c waiting
+d waiting
+e waiting
+end none
+> b" " * 65537
+! 1 rollout: 906 LongLine
+LINES
+typed 'answers that nobody reads any more' open <<'LINES'
+> b"advance\n"
+advanced: a d
+|
+> b"undo\nadvance\n"
+! 1 rollout: 904 Write written=14
+LINES
+typed 'more commands than may be, told before they end' open <<'LINES'
+> b"\n" * 16777211 + b"undo\n"
+nothing to undo
+> b"\n"
+! 1 rollout: 903 InputTooLarge
+LINES
+
+cat >"$work/terminal.py" <<'PYTHON'
+"""terminal.py SEEN PROGRAM WORD..: types `undo` and the end of input at a terminal, which standard input and error are, and standard output too unless its answers
+go to the file OUTPUT; SEEN is all that the terminal then shows, in Python's way of writing."""
+import os
+import pty
+import select
+import sys
+
+child, terminal = pty.fork()
+if child == 0:
+    if os.environ.get("OUTPUT"):
+        os.dup2(os.open(os.environ["OUTPUT"], os.O_WRONLY | os.O_CREAT | os.O_TRUNC), 1)
+    os.execv(sys.argv[2], sys.argv[2:])
+
+
+def read(wanted):
+    """What the terminal shows, as far as it is wanted; whatever comes within ten seconds."""
+    seen = b""
+    while not seen.endswith(wanted) and select.select([terminal], [], [], 10)[0]:
+        try:
+            seen += os.read(terminal, 4096)
+        except OSError:
+            break
+    return seen
+
+
+wanted = eval(sys.argv[1])
+first, _, rest = wanted.partition(b"undo\r\n")
+seen = read(first) if first else b""
+os.write(terminal, b"undo\n")
+seen += read(b"undo\r\n" + rest)
+os.write(terminal, b"\x04")
+seen += read(b"\0")
+status = os.waitstatus_to_exitcode(os.waitpid(child, 0)[1])
+if seen != wanted or status:
+    sys.exit(f"expected {wanted!r}, got {seen!r}, status {status}")
+PYTHON
+
+# terminal WHAT SEEN: a terminal shows this of a session there
+terminal() {
+    if python3 "$work/terminal.py" "$2" "$rollout" rehearse "$work/inventory.json" "$work/playbook.json" 2>"$work/said"; then
+        pass
+    else
+        fail "$1: $(cat "$work/said")"
+    fi
+}
+terminal 'a prompt at a terminal' 'b"> undo\r\nnothing to undo\r\n> "'
+OUTPUT=$work/answers
+export OUTPUT
+terminal 'no prompt where the answers go to a file' 'b"undo\r\n"'
+unset OUTPUT
+printf 'nothing to undo\n' | cmp -s - "$work/answers" && pass || fail "a file of answers: $(cat "$work/answers")"
+finish
