@@ -310,6 +310,29 @@ REHEARSALS = [
         0,
     ),
     (
+        "a batch of each size of a list",
+        TEN,
+        play('"serial":[1,"70%"],'),
+        "advance / plan / advance h5 / plan / undo / advance / advance / show",
+        "advanced: h0 / plan batches=2 bound=serial waiting=9 size=7 / batch 1: h1 h3 h5 h7 h9 / batch 2: h2 h4 h6 h8 / advanced: h1 h3 h5 h7 h9 / "
+        "plan batches=1 bound=serial waiting=4 size=7 / batch 1: h2 h4 h6 h8 / undone / advanced: h1 h3 h5 h7 h9 / advanced: h2 h4 h6 h8 / "
+        + " / ".join(f"h{number} updated" for number in range(10))
+        + " / end finished",
+        "",
+        0,
+    ),
+    (
+        "hosts held back, and freed again",
+        RACKS,
+        play('"on_blocked":"hold",'),
+        "advance a / plan / show / advance / show / undo / undo / show",
+        "advanced: a d / plan batches=1 bound=group eu waiting=1 room=2 / batch 1: e / a failed / b held / c held / d updated / e waiting / end none / "
+        "advanced: e / a failed / b held / c held / d updated / e updated / end held / undone / undone / "
+        "a waiting / b waiting / c waiting / d waiting / e waiting / end none",
+        "",
+        0,
+    ),
+    (
         "a line too long",
         FOUR,
         play(),
