@@ -19,7 +19,7 @@ pub fn pool<'f, R: Runner>(
     forks: usize,
 ) -> Result<(Front<'f, R>, Vec<WorkerEnd<'f, R>>), AllocError>
     requires { 0 < forks }
-    ensures front { IfOk result (λ (front, _). (front.forks ≡ forks) × (front.tickets ≡ new_put front.tickets.line forks)) }
+    ensures front { IfOk result (λ (front, _). (front.forks ≡ forks) × (front.tickets ≡ new_put front.tickets.line forks forks)) }
     ensures count { IfOk result (λ (_, ends). vec_len ends ≡ forks) }
     ensures places { IfOk result (λ (_, ends). map (λ end. end.taker.place) ends.items ≡ range_with_len 0 forks) }
     ensures line { IfOk result (λ (front, ends). All (λ end. end.taker.tickets ≡ new_take front.tickets.line) ends.items) }

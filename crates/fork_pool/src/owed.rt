@@ -10,7 +10,7 @@ use std::alloc::Global;
 use std::process::{Processes, SystemProcess};
 use std::sync::Wait;
 use std::thread::Threads;
-use ticket_line::TakeEnd;
+use ticket_line::{TakeEnd, Taken};
 
 /// The end of the line of tickets for the worker at a place. Nobody else takes from it, so that each ticket that a worker takes is owed a reply.
 #[derive(Drop)]
@@ -48,6 +48,14 @@ impl Taker {
         ensures { result ≡ length self.now.tickets.taken }
     {
         self.tickets.taken()
+    }
+
+    /// How many tickets this end has taken, and which they were. It takes no more.
+    pub(crate) fn finish(self) -> (u64, Taken<Ticket>)
+        ensures number { result.0 ≡ length result.1.taken }
+        ensures tickets { result.1 ≡ self.tickets }
+    {
+        self.tickets.finish()
     }
 }
 

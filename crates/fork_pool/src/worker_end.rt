@@ -3,12 +3,14 @@ ghost use Rattle.std.specs.Prelude.{◌≡◌, ◌≤◌, length};
 
 use crate::owed::Taker;
 use crate::reply::Reply;
+use crate::ticket::Ticket;
 use crossbeam_channel::Sender;
 use roll_core::Runner;
 use std::alloc::Global;
 use std::process::{Processes, SystemProcess};
 use std::sync::Wait;
 use std::thread::Threads;
+use ticket_line::Taken;
 
 /// What one worker of a pool holds: its end of the line of tickets, with its place, and its end of the channel for replies.
 #[derive(Drop)]
@@ -41,14 +43,19 @@ impl<'f, R: Runner> WorkerEnd<'f, R> {
     }
 }
 
-/// The same with an end that nobody needs afterwards: it is dropped, so that the coordinator sees when no worker is left.
+/// The same with an end that nobody needs afterwards: it is given up, so that the coordinator sees when no worker is left. Answers how many
+/// tickets the end took, and which they were.
 pub fn serve<'f, R: Runner, H: Threads + Wait + Processes<Started = SystemProcess> + Sync>(
     rt: &H,
     alloc: Global,
     mut end: WorkerEnd<'f, R>,
     runner: &'f R,
-) -> u64
-    ensures { length end.entry.taker.tickets.taken ≤ result }
+) -> (u64, Taken<Ticket>)
+    ensures number { result.0 ≡ length result.1.taken }
+    ensures more { length end.entry.taker.tickets.taken ≤ result.0 }
+    ensures line { result.1.line ≡ end.entry.taker.tickets.line }
 {
-    end.serve(rt, alloc, runner)
+    end.serve(rt, alloc, runner);
+    let WorkerEnd { taker, replies: _ } = end;
+    taker.finish()
 }

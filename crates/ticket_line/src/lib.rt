@@ -7,11 +7,13 @@ mod making;
 mod put_end;
 mod rule;
 mod take_end;
+mod taken;
 
 pub use laws::{each_ticket_once, none_is_made_up, numbers_agree};
 pub use making::line;
 pub use put_end::PutEnd;
 pub use take_end::TakeEnd;
+pub use taken::Taken;
 
 #[cfg(test)]
 mod tests;

@@ -13,7 +13,7 @@ pub fn line<T: Drop>(
     takers: usize,
 ) -> Result<(PutEnd<T>, Vec<TakeEnd<T>>), AllocError>
     requires { 0 < room }
-    ensures end { IfOk result (λ (put_end, _). put_end ≡ new_put put_end.line takers) }
+    ensures end { IfOk result (λ (put_end, _). put_end ≡ new_put put_end.line room takers) }
     ensures count { IfOk result (λ (_, take_ends). vec_len take_ends ≡ takers) }
     ensures fresh { IfOk result (λ (put_end, take_ends). All (λ end. end ≡ new_take put_end.line) take_ends.items) }
 {

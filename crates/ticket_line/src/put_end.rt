@@ -1,5 +1,5 @@
 //! The end of a line that puts tickets.
-ghost use Rattle.std.specs.Prelude.{◌≡◌, ◌+◌, ◌-◌, ◌++◌, ◌<◌, ◌^◌, [], ◌∷◌, IfOk, IfErr, IfSome, IfNone, OnOk, OnErr};
+ghost use Rattle.std.specs.Prelude.{◌≡◌, ◌+◌, ◌-◌, ◌++◌, ◌<◌, ◌^◌, [], ◌∷◌, true, false, IfOk, IfErr, IfSome, IfNone, OnOk, OnErr};
 ghost use Rattle.ticket_line.specs.Hands.{AreAmong, SameTickets};
 ghost use Rattle.ticket_line.specs.Ends.{PutView, new_put, new_take};
 
@@ -20,19 +20,21 @@ pub struct PutEnd<T: Drop> {
     pass: Pass<T, Hand<T>>,
     /// How many of the ends that take are out.
     takers: usize,
+    /// This end has found no ticket since it put one last.
+    emptied: bool,
 }
 
 impl<T: Drop> Model for PutEnd<T> {
     ghost use Rattle.std.specs.Prelude.{◌≡◌, ◌+◌};
     ghost use Rattle.crossbeam_channel.specs.Claims.{IsSeatAt};
     ghost use Rattle.crossbeam_channel.specs.Claims as passes;
-    ghost use Rattle.crossbeam_channel.specs.Ends.{receives_on, sends_on};
+    ghost use Rattle.crossbeam_channel.specs.Ends.{receives_on, ruled_capacity, sends_on};
     ghost use Rattle.ticket_line.specs.Hands.{half};
     ghost use Rattle.ticket_line.specs.Ends.{PutView, line_of};
 
     ghost Value = { PutView T };
 
-    ghost view = { λ e. record { line = line_of e.pass; takers = e.takers; put = (passes.view e.pass).put; taken = (passes.view e.pass).taken } };
+    ghost view = { λ e. record { line = line_of e.pass; room = ruled_capacity (sends_on e.sender); takers = e.takers; put = (passes.view e.pass).put; taken = (passes.view e.pass).taken; emptied = e.emptied } };
 
     ghost invariant = { λ e. IsSeatAt (sends_on e.sender) e.pass × (receives_on e.receiver ≡ sends_on e.sender) × ((passes.view e.pass).parts + e.takers ≡ half + half) };
 }
@@ -41,7 +43,7 @@ impl<T: Drop> PutEnd<T> {
     /// The end of a line with room for so many tickets, of which no taker has an end yet.
     pub(crate) fn new(alloc: Global, room: usize) -> Result<PutEnd<T>, AllocError>
         requires { 0 < room }
-        ensures { IfOk result (λ end. end ≡ new_put end.line 0) }
+        ensures { IfOk result (λ end. end ≡ new_put end.line room 0) }
     {
         let (sender, receiver, pass) = bounded_with::<T, Hand<T>, TakenOnce, Global>(alloc, room)?;
         Ok(PutEnd {
@@ -49,19 +51,23 @@ impl<T: Drop> PutEnd<T> {
             receiver,
             pass,
             takers: 0,
+            emptied: true,
         })
     }
 
     /// Puts a ticket. One that can't go is handed back, and nothing has changed: it can't where as many are left as there is room for.
     pub fn put<R: Wait>(&mut self, rt: &R, ticket: T) -> Result<(), T>
-        ensures ok { OnOk result (self.new ≡ record self.old { put = self.old.put ++ ticket ∷ [] }) }
+        ensures ok { OnOk result (self.new ≡ record self.old { put = self.old.put ++ ticket ∷ []; emptied = false }) }
         ensures err { IfErr result (λ back. (back ≡ ticket) × (self.new ≡ self.old)) }
     {
         match self
             .sender
             .try_send_as::<Put, R>(rt, &mut self.pass, ticket)
         {
-            Ok(()) => Ok(()),
+            Ok(()) => {
+                self.emptied = false;
+                Ok(())
+            }
             Err(refused) => Err(refused.into_inner()),
         }
     }
@@ -71,12 +77,16 @@ impl<T: Drop> PutEnd<T> {
     pub fn take_back<R: Wait>(&mut self, rt: &R) -> Option<T>
         ensures some { IfSome result (λ ticket. self.new ≡ record self.old { taken = self.old.taken ++ ticket ∷ [] }) }
         ensures among { IfSome result (λ ticket. AreAmong self.new.taken self.new.put) }
-        ensures none { IfNone result (self.new ≡ self.old) }
+        ensures none { IfNone result (self.new ≡ record self.old { emptied = true }) }
         ensures all { IfNone result (self.old.takers ≡ 0 → SameTickets self.old.put self.old.taken) }
     {
-        self.receiver
-            .try_recv_as::<TakeBack, R>(rt, &mut self.pass)
-            .ok()
+        match self.receiver.try_recv_as::<TakeBack, R>(rt, &mut self.pass) {
+            Ok(ticket) => Some(ticket),
+            Err(_none) => {
+                self.emptied = true;
+                None
+            }
+        }
     }
 
     /// An end for one taker more.

@@ -4,6 +4,7 @@ ghost use Rattle.ticket_line.specs.Ends.{TakeView};
 
 use crate::hand::Hand;
 use crate::rule::{Take, TakenOnce};
+use crate::taken::Taken;
 use crossbeam_channel::{Pass, RuledReceiver};
 use std::marker::Model;
 use std::sync::Wait;
@@ -47,5 +48,18 @@ impl<T: Drop> TakeEnd<T> {
         ensures { result ≡ length self.now.taken }
     {
         self.count
+    }
+
+    /// How many tickets this end took, and which they were. It takes no more.
+    pub fn finish(self) -> (u64, Taken<T>)
+        ensures number { result.0 ≡ length result.1.taken }
+        ensures tickets { result.1 ≡ self }
+    {
+        let TakeEnd {
+            receiver: _,
+            pass,
+            count,
+        } = self;
+        (count, Taken { pass })
     }
 }
