@@ -1,9 +1,10 @@
 -- What is behind a boundary: the batches that were opened, and the rows of the hosts.
-use Rattle.std.proofs.Common.{◌≡◌, ℕ, ◌+◌, ◌<◌, Bool, true, false, ◌&&◌, cond, List, [], ◌∷◌, ◌++◌, length, refl, sym, ap, ◌∙◌, arith}
+use Rattle.std.proofs.Common.{◌≡◌, ℕ, ◌+◌, ◌<◌, Bool, true, false, ◌&&◌, cond, List, [], ◌∷◌, ◌++◌, length, refl, sym, ap, ap₂, ◌∙◌, arith}
 use Rattle.std.specs.List.{count_by, list_all}
 use Rattle.std.proofs.lemmas.Bool.{and_parts}
 use Rattle.std.proofs.lemmas.Grind.{flat_map-append}
-use Rattle.std.proofs.lemmas.List.{map-append}
+use Rattle.std.proofs.lemmas.List.{append-nil}
+use Rattle.std.proofs.lemmas.List.Elements.{filter-append}
 use Rattle.std.proofs.lemmas.List.Recursion.{is_count_by}
 use Rattle.fleet_numbers.specs.NumberLists.{has_number}
 use Rattle.group_tree.specs.declared.ids.HostId.{HostId}
@@ -18,20 +19,23 @@ use Rattle.roll_logs.specs.Columns.{Columns}
 use Rattle.roll_kernel.specs.declared.event.Event.{Event as Written}
 use Rattle.roll_kernel.specs.declared.event.Event.TheVariants.{Hold, Open, Claim, Report, Barrier, Close}
 use Rattle.roll_kernel.specs.Views.{event_of, events_of}
-use Rattle.roll_run.specs.Runs.{batch_in, batches_in, rows_behind, rows_of}
+use Rattle.roll_run.specs.Runs.{aside_at, batch_in, batches_in, boundary_events, events_at, events_at_each, is_at_boundary, rows_behind, rows_of, setting_aside}
 use Rattle.roll_run.specs.Inside.{opens}
 
 pub batches-append : (log more : List Event) → batches_in (log ++ more) ≡ batches_in log ++ batches_in more
 batches-append log more = flat_map-append batch_in log more
 
--- within a batch none is opened
-pub inside_opens_none : (more : List Event) → list_all is_inside more ≡ true → batches_in more ≡ []
-inside_opens_none [] all = refl
-inside_opens_none (event ∷ more) all =
+pub events-append : (log more : List Event) → boundary_events (log ++ more) ≡ boundary_events log ++ boundary_events more
+events-append log more = filter-append is_at_boundary log more
+
+-- nothing that stands within a batch stands at a boundary
+pub inside_is_at_none : (more : List Event) → list_all is_inside more ≡ true → boundary_events more ≡ []
+inside_is_at_none [] all = refl
+inside_is_at_none (event ∷ more) all =
     let parts = and_parts (is_inside event) (list_all is_inside more) all in
-    first event parts.0 (inside_opens_none more parts.1)
+    first event parts.0 (inside_is_at_none more parts.1)
   where
-    first : (event : Event) → is_inside event ≡ true → batches_in more ≡ [] → batches_in (event ∷ more) ≡ []
+    first : (event : Event) → is_inside event ≡ true → boundary_events more ≡ [] → boundary_events (event ∷ more) ≡ []
     first (set_aside hosts) is none = absurd (cc)
     first (opened batch) is none = absurd (cc)
     first (claimed host step) is none = none
@@ -39,8 +43,48 @@ inside_opens_none (event ∷ more) all =
     first (passed step) is none = none
     first closed is none = absurd (cc)
 
-pub opened_batches-push : (boundaries : List Boundary) (boundary : Boundary) → opened_batches (boundaries ++ boundary ∷ []) ≡ opened_batches boundaries ++ next_batch boundary.answer ∷ []
-opened_batches-push boundaries boundary = map-append (λ (b : Boundary). next_batch b.answer) boundaries (boundary ∷ [])
+-- hosts are set aside at boundaries alone
+pub aside_is_at : (hosts : List ℕ) → boundary_events (setting_aside hosts) ≡ setting_aside hosts
+aside_is_at [] = refl
+aside_is_at (host ∷ hosts) = refl
+
+pub some_aside : (hosts : List ℕ) → 0 < length hosts → setting_aside hosts ≡ set_aside hosts ∷ []
+some_aside [] some = absurd (omega (arith, some))
+some_aside (host ∷ hosts) some = refl
+
+pub aside_opens_none : (hosts : List ℕ) → batches_in (setting_aside hosts) ≡ []
+aside_opens_none [] = refl
+aside_opens_none (host ∷ hosts) = refl
+
+pub events_at_each-push : (boundaries : List Boundary) (boundary : Boundary) → events_at_each (boundaries ++ boundary ∷ []) ≡ events_at_each boundaries ++ events_at boundary
+events_at_each-push boundaries boundary =
+    flat_map-append events_at boundaries (boundary ∷ []) ∙ ap (λ events. events_at_each boundaries ++ events) (append-nil (events_at boundary))
+
+-- the batches of a log stand in what it tells of its boundaries
+batches_at_boundaries : (log : List Event) → batches_in log ≡ batches_in (boundary_events log)
+batches_at_boundaries [] = refl
+batches_at_boundaries (set_aside hosts ∷ log) = batches_at_boundaries log
+batches_at_boundaries (opened batch ∷ log) = ap (λ rest. batch ∷ rest) (batches_at_boundaries log)
+batches_at_boundaries (claimed host step ∷ log) = batches_at_boundaries log
+batches_at_boundaries (reported host step ending ∷ log) = batches_at_boundaries log
+batches_at_boundaries (passed step ∷ log) = batches_at_boundaries log
+batches_at_boundaries (closed ∷ log) = batches_at_boundaries log
+
+batches_at_each : (boundaries : List Boundary) → batches_in (events_at_each boundaries) ≡ opened_batches boundaries
+batches_at_each [] = refl
+batches_at_each (boundary ∷ rest) =
+    batches-append (events_at boundary) (events_at_each rest) ∙ ap₂ ◌++◌ one (batches_at_each rest)
+  where
+    one : batches_in (events_at boundary) ≡ next_batch boundary.answer ∷ []
+    one =
+        batches-append (aside_at boundary) (opened (next_batch boundary.answer) ∷ [])
+        ∙ ap (λ batches. batches ++ next_batch boundary.answer ∷ []) (aside_opens_none (host_numbers boundary.held.items))
+
+-- the batches of a log that tells this of its boundaries
+pub batches_by_events : (log : List Event) (behind : List Boundary) (begun : List Event) → boundary_events log ≡ events_at_each behind ++ begun → batches_in begun ≡ [] → batches_in log ≡ opened_batches behind
+batches_by_events log behind begun events none =
+    batches_at_boundaries log ∙ ap batches_in events ∙ batches-append (events_at_each behind) begun ∙ ap₂ ◌++◌ (batches_at_each behind) none
+    ∙ append-nil (opened_batches behind)
 
 pub rows_behind-push : (roll : Roll) (columns : Columns) (host : ℕ) (boundaries : List Boundary) (before : List Entry) (boundary : Boundary) → rows_behind roll columns host before (boundaries ++ boundary ∷ []) ≡ cond (has_number host (next_batch boundary.answer)) (rows_of roll columns (next_batch boundary.answer) host) (rows_behind roll columns host before boundaries)
 rows_behind-push roll columns host [] before boundary = refl

@@ -1,5 +1,5 @@
 -- A batch that was opened at a boundary is closed.
-use Rattle.std.proofs.Common.{◌≡◌, ℕ, Bool, true, false, cond, Option, None, List, [], ◌∷◌, ◌++◌, length, refl, sym, ap, ◌∙◌, subst}
+use Rattle.std.proofs.Common.{◌≡◌, ℕ, Bool, true, false, cond, Option, None, List, [], ◌∷◌, ◌++◌, length, refl, sym, ap, ◌∙◌, subst, append_assoc}
 use Rattle.std.specs.List.{list_all}
 use Rattle.std.proofs.lemmas.List.{append-nil}
 use Rattle.fleet_numbers.specs.NumberLists.{has_number}
@@ -22,9 +22,9 @@ use Rattle.roll_logs.proofs.ColumnFronts.{ends_by_columns}
 use Rattle.roll_logs.proofs.GrowthLaws.{batches_stay, beginnings_tell, one_event_more}
 use Rattle.roll_logs.proofs.WorkLemmas.{closed_rows}
 use Rattle.roll_kernel.specs.Views.{KernelView, roll_of, state_of, with_event}
-use Rattle.roll_run.specs.Runs.{batches_in, rows_behind, rows_of}
+use Rattle.roll_run.specs.Runs.{aside_at, boundary_events, events_at_each, rows_behind, rows_of}
 use Rattle.roll_run.specs.Inside.{HasCome, HasComeTo, IsAt, IsBetween, grown, setting_by}
-use Rattle.roll_run.proofs.Behind.{batches-append, inside_opens_none, opened_batches-push, rows_behind-push}
+use Rattle.roll_run.proofs.Behind.{events-append, events_at_each-push, inside_is_at_none, rows_behind-push}
 
 -- the boundary's batch is opened and worked on, and is closed
 abbrev worked : KernelView → Boundary → List Event → KernelView
@@ -49,10 +49,10 @@ module _ (kernel : KernelView) (boundary : Boundary) (more : List Event)
       let last = events_leave (roll_of kernel) (state_of (worked kernel boundary more)) closed host (ap (has_number host) within.batch ∙ out) in
       sym (ap (λ (s : State). status_at s.statuses host) after ∙ last.status ∙ (within.others host out).status ∙ left.status)
 
-  opens_one : batches_in (done kernel boundary more).log ≡ batches_in kernel.log ++ next_batch boundary.answer ∷ []
+  opens_one : boundary_events (done kernel boundary more).log ≡ boundary_events kernel.log ++ opened (next_batch boundary.answer) ∷ []
   opens_one =
-      batches-append (worked kernel boundary more).log (closed ∷ []) ∙ append-nil (batches_in (worked kernel boundary more).log) ∙ batches-append kernel.log (opened (next_batch boundary.answer) ∷ more)
-      ∙ ap (λ rest. batches_in kernel.log ++ next_batch boundary.answer ∷ rest) (inside_opens_none more inside)
+      events-append (worked kernel boundary more).log (closed ∷ []) ∙ append-nil (boundary_events (worked kernel boundary more).log) ∙ events-append kernel.log (opened (next_batch boundary.answer) ∷ more)
+      ∙ ap (λ rest. boundary_events kernel.log ++ opened (next_batch boundary.answer) ∷ rest) (inside_is_at_none more inside)
 
   -- the play has come to the boundary with its batch behind it
   module _ (columns : Columns) (behind : List Boundary) (before : Option End) (halt : Option ℕ)
@@ -107,7 +107,9 @@ module _ (kernel : KernelView) (boundary : Boundary) (more : List Event)
       → IsBetween (done kernel boundary more) (behind ++ boundary ∷ []) (end_with halt (failures (state_of (worked kernel boundary more))) (length (next_batch boundary.answer)))
   closes behind before halt is goes_on at = record {
     phase = ap (λ (s : State). s.phase) after ∙ ap (λ (p : Phase). (closed_state p (state_of (worked kernel boundary more))).phase) at;
-    batches = opens_one ∙ ap (λ b. b ++ next_batch boundary.answer ∷ []) is.batches ∙ sym (opened_batches-push behind boundary);
+    events =
+        opens_one ∙ ap (λ events. events ++ opened (next_batch boundary.answer) ∷ []) is.events
+        ∙ append_assoc (events_at_each behind) (aside_at boundary) (opened (next_batch boundary.answer) ∷ []) ∙ sym (events_at_each-push behind boundary);
     come = come;
   }
     where

@@ -1,7 +1,6 @@
 -- A run comes to its next boundary.
-use Rattle.std.proofs.Common.{◌≡◌, ℕ, ◌≤◌, Option, List, [], ◌∷◌, ◌++◌, length, refl, sym, ap, ◌∙◌, subst, arith}
+use Rattle.std.proofs.Common.{◌≡◌, ℕ, ◌≤◌, Option, List, ◌++◌, length, refl, sym, ap, ap₂, ◌∙◌, subst, arith}
 use Rattle.std.specs.Prelude.{min, ◌-◌, slice_get, option_and_then}
-use Rattle.std.proofs.lemmas.List.{append-nil}
 use Rattle.domains.specs.Ids.{host_numbers}
 use Rattle.fleet_states.specs.declared.status.Status.{Status}
 use Rattle.batch_plan.specs.Answers.{IsBest, IsDealtAnswer}
@@ -13,15 +12,13 @@ use Rattle.play_plan.specs.PlayPlans.{aside_by, targets}
 use Rattle.play_course.specs.declared.boundary.Boundary.{Boundary}
 use Rattle.play_course.specs.declared.end.End.{End}
 use Rattle.play_course.specs.Courses.{led_to}
-use Rattle.play_course.specs.Laws.{opened_batches}
-use Rattle.roll_logs.specs.Events.{Event}
 use Rattle.roll_logs.specs.Columns.{Columns, Tells}
 use Rattle.roll_logs.proofs.GrowthLaws.{beginnings_tell}
 use Rattle.roll_kernel.specs.Views.{KernelView, roll_of, state_of}
 use Rattle.roll_core.specs.Boards.{BoardView}
-use Rattle.roll_run.specs.Runs.{batches_in}
+use Rattle.roll_run.specs.Runs.{boundary_events, setting_aside}
 use Rattle.roll_run.specs.Inside.{HasCome, HasComeTo, HasSetAside, IsAt, IsBetween, grown, setting_by}
-use Rattle.roll_run.proofs.Behind.{batches-append}
+use Rattle.roll_run.proofs.Behind.{aside_is_at, events-append}
 
 -- no list of sizes is so long that the number of batches is not to be told exactly
 pub cap_of_few : (play : Play) (targeted opened : ℕ) → cap play.sizes.items targeted (min opened 4294967295) ≡ cap play.sizes.items targeted opened
@@ -31,9 +28,9 @@ cap_of_few play targeted opened =
     same : (sizes : ℕ) → sizes ≤ 64 → min (sizes - 1) (min opened 4294967295) ≡ min (sizes - 1) opened
     same sizes few = omega (arith, few)
 
-opens_no_more : (kernel : KernelView) (more : List Event) → batches_in more ≡ [] → batches_in (grown kernel more).log ≡ batches_in kernel.log
-opens_no_more kernel more none =
-    batches-append kernel.log more ∙ ap (λ batches. batches_in kernel.log ++ batches) none ∙ append-nil (batches_in kernel.log)
+sets_aside_more : (kernel : KernelView) (hosts : List ℕ) → boundary_events (grown kernel (setting_aside hosts)).log ≡ boundary_events kernel.log ++ setting_aside hosts
+sets_aside_more kernel hosts =
+    events-append kernel.log (setting_aside hosts) ∙ ap (λ events. boundary_events kernel.log ++ events) (aside_is_at hosts)
 
 -- the boundary that is planned once hosts were set aside
 pub notes : {R : Type 0} (old new : BoardView R) (behind : List Boundary) (boundary : Boundary) (before : Option End) (hosts : List ℕ) (most : Option ℕ) → HasSetAside hosts old new → IsBetween old.kernel behind before
@@ -43,11 +40,11 @@ pub notes : {R : Type 0} (old new : BoardView R) (behind : List Boundary) (bound
     → IsBest old.kernel.fleet boundary.statuses.items most boundary.answer → IsDealtAnswer old.kernel.fleet boundary.statuses.items most boundary.answer → IsAt new.kernel behind boundary before
 notes old new behind boundary before hosts most aside at hosts_are held statuses most_is best dealt =
     let kernel = old.kernel in
-    let more = aside.opening.more in
-    let is = aside.opening.kernel in
+    let more = setting_aside hosts in
+    let is = aside.kernel in
     let here : IsAt (grown kernel more) behind boundary before = record {
       phase = ap (λ (k : KernelView). (state_of k).phase) (sym is) ∙ aside.phase ∙ at.phase;
-      batches = opens_no_more kernel more aside.opening.opens_them ∙ at.batches;
+      events = sets_aside_more kernel hosts ∙ ap₂ ◌++◌ at.events (ap setting_aside (sym held));
       statuses = ap (λ (k : KernelView). (state_of k).statuses) (sym is) ∙ sym statuses;
       bound = most;
       best = best;
@@ -55,10 +52,10 @@ notes old new behind boundary before hosts most aside at hosts_are held statuses
     } in
     subst (λ (k : KernelView). IsAt k behind boundary before) (sym is) here
   where
-    open_rows : (host : ℕ) → (state_of (grown old.kernel aside.opening.more)).rows host ≡ (state_of old.kernel).rows host
-    open_rows host = ap (λ (k : KernelView). (state_of k).rows host) (sym aside.opening.kernel) ∙ aside.rows host
+    open_rows : (host : ℕ) → (state_of (grown old.kernel (setting_aside hosts))).rows host ≡ (state_of old.kernel).rows host
+    open_rows host = ap (λ (k : KernelView). (state_of k).rows host) (sym aside.kernel) ∙ aside.rows host
 
-    come : (columns : Columns) → HasCome columns old.kernel behind before → HasComeTo columns (grown old.kernel aside.opening.more) behind boundary before
+    come : (columns : Columns) → HasCome columns old.kernel behind before → HasComeTo columns (grown old.kernel (setting_aside hosts)) behind boundary before
     come columns has =
         let led : List Status = led_to (setting_by columns old.kernel) old.kernel.start behind in
         let aside_are = hosts_are ∙ ap (aside_by old.kernel.play.on_blocked old.kernel.fleet) has.statuses in

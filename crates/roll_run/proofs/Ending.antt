@@ -1,5 +1,5 @@
 -- A run is over: it came to its end, or a fault broke it off.
-use Rattle.std.proofs.Common.{◌≡◌, ℕ, ◌<◌, ◌⊎◌, inl, inr, Option, Some, None, List, [], ◌∷◌, ◌++◌, length, take, get_or, refl, sym, ap, ◌∙◌, subst, arith}
+use Rattle.std.proofs.Common.{◌≡◌, ℕ, ◌<◌, ◌⊎◌, inl, inr, Option, Some, None, List, [], ◌∷◌, ◌++◌, length, take, get_or, refl, sym, ap, ap₂, ◌∙◌, subst, arith, append_assoc}
 use Rattle.std.specs.List.{count_by}
 use Rattle.std.specs.Prelude.{slice_index_or}
 use Rattle.std.proofs.Math.Seq.{take-nil}
@@ -14,11 +14,12 @@ use Rattle.outcome_results.specs.Endings.{Ending}
 use Rattle.outcome_results.specs.declared.counts.Counts.{Counts}
 use Rattle.play_course.specs.declared.boundary.Boundary.{Boundary}
 use Rattle.play_course.specs.declared.end.End.{End}
-use Rattle.play_course.specs.Courses.{IsCourse, end_here, next_batch}
-use Rattle.play_course.specs.Laws.{opened_batches}
+use Rattle.domains.specs.Ids.{host_numbers}
+use Rattle.play_plan.specs.PlayPlans.{aside_by}
+use Rattle.play_course.specs.Courses.{IsCourse, end_here, led_to, next_batch}
 use Rattle.play_course.proofs.SameLemmas.{one_boundary_more}
 use Rattle.roll_logs.specs.Rolls.{Roll}
-use Rattle.roll_logs.specs.Events.{Event}
+use Rattle.roll_logs.specs.Events.{Event, opened}
 use Rattle.roll_logs.specs.States.{start_state}
 use Rattle.roll_logs.specs.Logs.{IsLegal, end_state, state_after}
 use Rattle.roll_logs.specs.Columns.{Columns, Tells}
@@ -29,12 +30,12 @@ use Rattle.roll_kernel.specs.Leavings as leavings
 use Rattle.roll_kernel.specs.Views.{FrontsAreSafe, KernelView, RestsAtBoundaries, event_of, events_of, roll_of, state_of}
 use Rattle.roll_core.specs.Boards.{BoardView}
 use Rattle.fork_pool.specs.declared.fault.StepFault.{StepFault}
-use Rattle.roll_run.specs.Runs.{AreCounted, IsBrokenOff, IsRun, IsSafeLog, NamesAWorker, TookItsCourse, WasOnCourse, batches_in}
+use Rattle.roll_run.specs.Runs.{AreCounted, IsBrokenOff, IsFaultIn, IsRun, IsSafeLog, TookItsCourse, WasOnCourse, aside_at, batches_in, boundary_events, events_at_each, setting_aside}
 use Rattle.roll_run.specs.Plays.{IsNotBegun}
 use Rattle.roll_run.specs.declared.run.Run.{Run}
 use Rattle.roll_run.specs.declared.fault.RunFault.{RunFault}
-use Rattle.roll_run.specs.Inside.{HasBroken, HasComeTo, IsAt, IsBetween, IsEnded, IsOnCourse, grown, opens, setting_by}
-use Rattle.roll_run.proofs.Behind.{batches-append, opened_are, opened_batches-push}
+use Rattle.roll_run.specs.Inside.{HasBroken, HasComeTo, IsAt, IsBetween, IsEnded, IsOnCourse, aside_in, grown, opens, setting_by}
+use Rattle.roll_run.proofs.Behind.{aside_is_at, aside_opens_none, batches_by_events, events-append, events_at_each-push, opened_are}
 
 -- the play ends at its last boundary
 pub ends_here : (kernel : KernelView) (behind boundaries : List Boundary) (boundary : Boundary) (before : Option End) (end : End) → IsAt kernel behind boundary before → boundaries ≡ behind ++ boundary ∷ [] → end_here before boundary ≡ Some end → IsEnded kernel boundaries end
@@ -50,48 +51,87 @@ ends_here kernel behind boundaries boundary before end at are here = record { ph
           behind = behind;
           last = boundary;
           boundaries_are = are;
-          batches = at.batches;
+          batches = batches_by_events kernel.log behind (aside_at boundary) at.events (aside_opens_none (host_numbers boundary.held.items));
+          events = at.events;
           statuses_are = at.statuses;
           rows = come.rows;
         }
 
+-- what was done on the way to the next boundary
+module _ (kernel : KernelView) (more : List Event) where
+  abbrev HasSetOutBy : Type 0
+  HasSetOutBy = (more ≡ []) ⊎ (more ≡ setting_aside (aside_in kernel))
+
+  set_out_at : HasSetOutBy → boundary_events more ≡ more
+  set_out_at (inl none) = ap boundary_events none ∙ sym none
+  set_out_at (inr hosts) = ap boundary_events hosts ∙ aside_is_at (aside_in kernel) ∙ sym hosts
+
+  set_out_opens_none : HasSetOutBy → batches_in more ≡ []
+  set_out_opens_none (inl none) = ap batches_in none
+  set_out_opens_none (inr hosts) = ap batches_in hosts ∙ aside_opens_none (aside_in kernel)
+
+  set_out_from : (statuses : List Status) → (state_of kernel).statuses ≡ statuses → HasSetOutBy → (more ≡ []) ⊎ (more ≡ setting_aside (aside_by kernel.play.on_blocked kernel.fleet statuses))
+  set_out_from statuses are (inl none) = inl none
+  set_out_from statuses are (inr hosts) =
+      inr (hosts ∙ ap (λ (l : List Status). setting_aside (aside_by kernel.play.on_blocked kernel.fleet l)) are)
+
 -- it is broken off before it has come to its next boundary
-pub broken_between : (kernel new : KernelView) (behind : List Boundary) (before : Option End) (more : List Event) → IsBetween kernel behind before → batches_in more ≡ [] → new ≡ grown kernel more → IsOnCourse new behind
-broken_between kernel new behind before more at none is =
+pub broken_between : (kernel new : KernelView) (behind : List Boundary) (before : Option End) (more : List Event) → IsBetween kernel behind before → ((more ≡ []) ⊎ (more ≡ setting_aside (aside_in kernel))) → new ≡ grown kernel more
+    → IsOnCourse new behind
+broken_between kernel new behind before more at begun is =
     subst (λ (k : KernelView). IsOnCourse k behind) (sym is) on
   where
+    events_are : boundary_events (grown kernel more).log ≡ events_at_each behind ++ more
+    events_are = events-append kernel.log more ∙ ap₂ ◌++◌ at.events (set_out_at kernel more begun)
+
     on : IsOnCourse (grown kernel more) behind
-    on columns tells = record {
-      course = (at.come columns (beginnings_tell columns (roll_of kernel) kernel.log more tells)).course;
-      behind = behind;
-      rest = [];
-      boundaries_are = sym (append-nil behind);
-      few = omega arith;
-      batches = batches-append kernel.log more ∙ ap (λ b. batches_in kernel.log ++ b) none ∙ append-nil (batches_in kernel.log) ∙ at.batches;
-    }
+    on columns tells =
+        let come = at.come columns (beginnings_tell columns (roll_of kernel) kernel.log more tells) in
+        record {
+          course = come.course;
+          behind = behind;
+          rest = [];
+          boundaries_are = sym (append-nil behind);
+          few = omega arith;
+          batches = batches_by_events (grown kernel more).log behind more events_are (set_out_opens_none kernel more begun);
+          begun = more;
+          events = events_are;
+          is_begun = set_out_from kernel more (led_to (setting_by columns kernel) kernel.start behind) come.statuses begun;
+        }
 
 -- it is broken off as it opens the batch of a boundary, or within it
 pub broken_at : {R : Type 0} (old new : BoardView R) (behind boundaries : List Boundary) (boundary : Boundary) (before : Option End) → IsAt old.kernel behind boundary before → boundaries ≡ behind ++ boundary ∷ [] → end_here before boundary ≡ None → HasBroken (next_batch boundary.answer) old new → IsOnCourse new.kernel boundaries
 broken_at old new behind boundaries boundary before at are goes_on broken =
-    subst (λ (k : KernelView). IsOnCourse k boundaries) (sym broken.kernel) (subst (IsOnCourse (grown kernel broken.more)) (sym are) (on broken.opens_it))
+    subst (λ (k : KernelView). IsOnCourse k boundaries) (sym broken.kernel) (subst (IsOnCourse (grown old.kernel broken.more)) (sym are) (on broken.opens_it))
   where
-    kernel : KernelView
-    kernel = old.kernel
-
     course : (columns : Columns) → Tells columns (roll_of old.kernel) (grown old.kernel broken.more).log → IsCourse (setting_by columns old.kernel) old.kernel.start (behind ++ boundary ∷ []) None
     course columns tells =
         let setting = setting_by columns old.kernel in
         let come = at.come columns (beginnings_tell columns (roll_of old.kernel) old.kernel.log broken.more tells) in
         subst (IsCourse setting old.kernel.start (behind ++ boundary ∷ [])) (ap (λ b. end_here b boundary) (sym come.before_is) ∙ goes_on) (one_boundary_more setting old.kernel.start behind boundary come.course come.here)
 
-    on : (batches_in broken.more ≡ []) ⊎ (batches_in broken.more ≡ next_batch boundary.answer ∷ []) → IsOnCourse (grown old.kernel broken.more) (behind ++ boundary ∷ [])
+    -- its batch was not opened
+    unopened : boundary_events broken.more ≡ [] → boundary_events (grown old.kernel broken.more).log ≡ events_at_each behind ++ aside_at boundary
+    unopened none =
+        events-append old.kernel.log broken.more ∙ ap (λ events. boundary_events old.kernel.log ++ events) none ∙ append-nil (boundary_events old.kernel.log) ∙ at.events
+
+    -- it was
+    all_opened : boundary_events broken.more ≡ opened (next_batch boundary.answer) ∷ [] → boundary_events (grown old.kernel broken.more).log ≡ events_at_each (behind ++ boundary ∷ []) ++ []
+    all_opened one =
+        events-append old.kernel.log broken.more ∙ ap₂ ◌++◌ at.events one ∙ append_assoc (events_at_each behind) (aside_at boundary) (opened (next_batch boundary.answer) ∷ [])
+        ∙ sym (append-nil (events_at_each (behind ++ boundary ∷ [])) ∙ events_at_each-push behind boundary)
+
+    on : (boundary_events broken.more ≡ []) ⊎ (boundary_events broken.more ≡ opened (next_batch boundary.answer) ∷ []) → IsOnCourse (grown old.kernel broken.more) (behind ++ boundary ∷ [])
     on (inl none) columns tells = record {
       course = course columns tells;
       behind = behind;
       rest = boundary ∷ [];
       boundaries_are = refl;
       few = omega arith;
-      batches = batches-append old.kernel.log broken.more ∙ ap (λ b. batches_in old.kernel.log ++ b) none ∙ append-nil (batches_in old.kernel.log) ∙ at.batches;
+      batches = batches_by_events (grown old.kernel broken.more).log behind (aside_at boundary) (unopened none) (aside_opens_none (host_numbers boundary.held.items));
+      begun = aside_at boundary;
+      events = unopened none;
+      is_begun = refl;
     }
     on (inr one) columns tells = record {
       course = course columns tells;
@@ -99,7 +139,10 @@ broken_at old new behind boundaries boundary before at are goes_on broken =
       rest = [];
       boundaries_are = sym (append-nil (behind ++ boundary ∷ []));
       few = omega arith;
-      batches = batches-append old.kernel.log broken.more ∙ ap (λ b. batches_in old.kernel.log ++ b) one ∙ ap (λ b. b ++ next_batch boundary.answer ∷ []) at.batches ∙ sym (opened_batches-push behind boundary);
+      batches = batches_by_events (grown old.kernel broken.more).log (behind ++ boundary ∷ []) [] (all_opened one) refl;
+      begun = [];
+      events = all_opened one;
+      is_begun = inl refl;
     }
 
 -- what the board hands out, of which the log is written by these entries
@@ -128,13 +171,13 @@ module _ (may : Work → Ending → Type 0) (kernel : KernelView) where
 
   pub is_broken : (fault : RunFault) → events_of fault.log.items ≡ kernel.log → IsLegal (roll_of kernel) (start_state (roll_of kernel)) kernel.log → FrontsAreSafe (roll_of kernel) kernel.log → RestsAtBoundaries (roll_of kernel) kernel.log
       → AreTold may (roll_of kernel) (start_state (roll_of kernel)) kernel.log → fault.statuses.items ≡ (state_of kernel).statuses → leavings.AreCounted (roll_of kernel) (state_of kernel) fault.counts.items
-      → fault.opened ≡ count_by (λ event. opens (event_of event)) fault.log.items → IsOnCourse kernel fault.boundaries.items → NamesAWorker kernel.forks fault.why → IsBrokenOff may kernel.fleet (roll_of kernel) fault
-  is_broken fault is legal safe rests told statuses counts opened on names = record {
+      → fault.opened ≡ count_by (λ event. opens (event_of event)) fault.log.items → IsOnCourse kernel fault.boundaries.items → IsFaultIn kernel.forks (state_of kernel) fault.why → IsBrokenOff may kernel.fleet (roll_of kernel) fault
+  is_broken fault is legal safe rests told statuses counts many on why = record {
     log = safe_log (events_of fault.log.items) is legal safe rests told;
     statuses = statuses ∙ ap (λ l. (end_state (roll_of kernel) l).statuses) (sym is);
     counts = counted_by (events_of fault.log.items) fault.counts.items is counts;
-    worker = names;
-    opened_are = opened ∙ sym (opened_are fault.log.items);
+    why = subst (λ l. IsFaultIn kernel.forks (end_state (roll_of kernel) l) fault.why) (sym is) why;
+    opened_are = many ∙ sym (opened_are fault.log.items);
     by = λ columns tells. subst (WasOnCourse kernel.fleet (roll_of kernel) columns fault.boundaries.items) (sym is) (on columns (subst (Tells columns (roll_of kernel)) is tells));
   }
 
@@ -144,10 +187,10 @@ is_unbegun may fleet roll fault safe rests not = record {
   log = subst (IsSafeLog may roll) (sym empty) (record { legal = tt; safe = λ n. subst (IsSafe roll.groups) (sym (start_at n)) safe; rests = λ n _. subst NobodyRuns (sym (start_at n)) rests; told = tt });
   statuses = not.statuses_are ∙ ap (λ l. (end_state roll l).statuses) (sym empty);
   counts = λ host within. ap (λ l. slice_index_or l host (counts_in [])) not.counts ∙ ap (λ l. counts_in ((end_state roll l).rows host)) (sym empty);
-  worker = subst (NamesAWorker roll.forks) (sym not.why) tt;
+  why = subst (IsFaultIn roll.forks (end_state roll (events_of fault.log.items))) (sym not.why) tt;
   opened_are = not.opened ∙ ap (λ l. length (batches_in l)) (sym empty);
   by = λ columns tells. subst (λ l. WasOnCourse fleet roll columns fault.boundaries.items l) (sym empty)
-      (subst (λ bs. WasOnCourse fleet roll columns bs []) (sym not.boundaries) (record { course = refl; behind = []; rest = []; boundaries_are = refl; few = omega arith; batches = refl }));
+      (subst (λ bs. WasOnCourse fleet roll columns bs []) (sym not.boundaries) (record { course = refl; behind = []; rest = []; boundaries_are = refl; few = omega arith; batches = refl; begun = []; events = refl; is_begun = inl refl }));
 }
   where
     empty : events_of fault.log.items ≡ []

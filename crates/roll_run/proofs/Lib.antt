@@ -3,6 +3,7 @@ pub mod Closing
 pub mod Coming
 pub mod Counting
 pub mod Ending
+pub mod FileCourses
 pub mod Following
 pub mod Lengths
 pub mod Passing

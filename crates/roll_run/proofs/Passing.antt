@@ -1,5 +1,5 @@
 -- What single calls of a board add up to.
-use Rattle.std.proofs.Common.{◌≡◌, ℕ, Bool, true, false, ◌&&◌, ◌<◌, ◌⊎◌, inl, inr, Option, Some, None, List, [], ◌∷◌, ◌++◌, refl, sym, ap, ◌∙◌, subst, append_assoc}
+use Rattle.std.proofs.Common.{◌≡◌, ℕ, Bool, true, false, ◌&&◌, ◌<◌, ◌⊎◌, inl, inr, Option, Some, None, List, [], ◌∷◌, ◌++◌, length, refl, sym, ap, ◌∙◌, subst, append_assoc}
 use Rattle.std.specs.List.{list_all}
 use Rattle.std.proofs.lemmas.Bool.{and_parts}
 use Rattle.std.proofs.lemmas.List.{append-nil}
@@ -19,9 +19,9 @@ use Rattle.roll_kernel.specs.Views.{KernelView, roll_of, state_of}
 use Rattle.roll_core.specs.Boards.{BoardView, with_event}
 use Rattle.std.specs.Prelude.{Result, Ok, Err, IfErr, IfOk}
 use Rattle.fork_pool.specs.Steps.{Continues}
-use Rattle.roll_run.specs.Inside.{GoesTo, HasBroken, HasOpened, HasPassedStep, HasRun, HasSetAside, HasWorked, IsWorkedOff, grown}
-use Rattle.roll_run.specs.Runs.{batches_in}
-use Rattle.roll_run.proofs.Behind.{inside_opens_none}
+use Rattle.roll_run.specs.Inside.{GoesTo, HasBroken, HasPassedStep, HasRun, HasSetAside, HasSetOut, HasWorked, IsWorkedOff, aside_in, grown}
+use Rattle.roll_run.specs.Runs.{setting_aside}
+use Rattle.roll_run.proofs.Behind.{inside_is_at_none, some_aside}
 
 work_is_inside : (more : List Event) → list_all is_work more ≡ true → list_all is_inside more ≡ true
 work_is_inside [] all = refl
@@ -120,7 +120,7 @@ module _ {R : Type 0} where
   pub breaks : (old begun new : BoardView R) (batch : List ℕ) → begun ≡ with_event old (opened batch) → HasWorked begun new → HasBroken batch old new
   breaks old begun new batch opens is = record {
     more = opened batch ∷ is.more;
-    opens_it = inr (ap (λ rest. batch ∷ rest) (inside_opens_none is.more is.inside));
+    opens_it = inr (ap (λ rest. opened batch ∷ rest) (inside_is_at_none is.more is.inside));
     kernel = is.kernel ∙ ap (λ (b : BoardView R). grown b.kernel is.more) opens ∙ ap (λ (log : List Event). record old.kernel { log = log }) (append_assoc old.kernel.log (opened batch ∷ []) is.more);
     runner = is.runner ∙ ap (λ (b : BoardView R). b.runner) opens;
   }
@@ -134,29 +134,40 @@ module _ {R : Type 0} where
     runner = ap (λ (b : BoardView R). b.runner) same;
   }
 
-  -- nothing has been opened
-  pub opens_nothing : (old new : BoardView R) → new ≡ old → HasOpened [] old new
-  opens_nothing old new same = record {
+  -- nothing was done
+  same_kernel : (old new : BoardView R) → new ≡ old → new.kernel ≡ grown old.kernel []
+  same_kernel old new same =
+      ap (λ (b : BoardView R). b.kernel) same ∙ ap (λ (log : List Event). record old.kernel { log = log }) (sym (append-nil old.kernel.log))
+
+  pub stays : (old new : BoardView R) → new ≡ old → HasSetOut old new
+  stays old new same = record {
     more = [];
-    opens_them = refl;
-    kernel = ap (λ (b : BoardView R). b.kernel) same ∙ ap (λ (log : List Event). record old.kernel { log = log }) (sym (append-nil old.kernel.log));
+    begun = inl refl;
+    kernel = same_kernel old new same;
     runner = ap (λ (b : BoardView R). b.runner) same;
     tallies = ap (λ (b : BoardView R). b.tallies) same;
   }
 
+  -- the hosts that are to be were set aside
+  pub sets_out : (old new : BoardView R) (hosts : List ℕ) → HasSetAside hosts old new → hosts ≡ aside_in old.kernel → HasSetOut old new
+  sets_out old new hosts aside are =
+      record { more = setting_aside hosts; begun = inr (ap setting_aside are); kernel = aside.kernel; runner = aside.runner; tallies = aside.tallies }
+
   pub sets_nobody : (board : BoardView R) → HasSetAside [] board board
   sets_nobody board =
-      record { opening = opens_nothing board board refl; phase = refl; statuses = sym (changed_none (λ _. Held) (state_of board.kernel).statuses); rows = λ host. refl }
+      record { kernel = same_kernel board board refl; runner = refl; tallies = refl; phase = refl; statuses = sym (changed_none (λ _. Held) (state_of board.kernel).statuses); rows = λ host. refl }
 
-  pub sets_aside : (old new : BoardView R) (hosts : List ℕ) → new ≡ with_event old (set_aside hosts) → HasSetAside hosts old new
-  sets_aside old new hosts is = subst (HasSetAside hosts old) (sym is) aside
+  pub sets_aside : (old new : BoardView R) (hosts : List ℕ) → 0 < length hosts → new ≡ with_event old (set_aside hosts) → HasSetAside hosts old new
+  sets_aside old new hosts some is = subst (HasSetAside hosts old) (sym is) aside
     where
       after : state_of (with_event old (set_aside hosts)).kernel ≡ next (roll_of old.kernel) (state_of old.kernel) (set_aside hosts)
       after = one_event_more (roll_of old.kernel) old.kernel.log (set_aside hosts)
 
       aside : HasSetAside hosts old (with_event old (set_aside hosts))
       aside = record {
-        opening = record { more = set_aside hosts ∷ []; opens_them = refl; kernel = refl; runner = refl; tallies = refl };
+        kernel = ap (grown old.kernel) (sym (some_aside hosts some));
+        runner = refl;
+        tallies = refl;
         phase = ap (λ (s : State). s.phase) after;
         statuses = ap (λ (s : State). s.statuses) after;
         rows = λ host. ap (λ (s : State). s.rows host) after;

@@ -1,6 +1,11 @@
 -- A run passes a boundary.
 use Rattle.std.proofs.Common.{◌≡◌, ℕ, suc, ◌+◌, ◌-◌, ◌<◌, ◌^◌, Bool, true, false, ◌==◌, Option, Some, None, List, [], ◌∷◌, ◌++◌, length, get_or, refl, sym, ap, ◌∙◌, subst, arith}
+use Rattle.std.specs.List.{count_by, filter, find}
 use Rattle.std.specs.Prelude.{IfSome, if◌then◌else◌}
+use Rattle.std.proofs.lemmas.List.{nil_from_length}
+use Rattle.std.proofs.lemmas.List.Sums.{length-filter}
+use Rattle.std.proofs.lemmas.Option.{none-some}
+use Rattle.batch_work.proofs.ListLemmas.{find_none}
 use Rattle.std.specs.Option.{option_or}
 use Rattle.domains.specs.FleetViews.{FleetView}
 use Rattle.domain_counts.specs.Counts.{Counted}
@@ -19,7 +24,7 @@ use Rattle.play_course.specs.declared.boundary.Boundary.{Boundary}
 use Rattle.play_course.specs.declared.end.End.{End}
 use Rattle.play_course.specs.Courses.{end_at_rest, end_here, end_with, end_without_batch, next_batch}
 use Rattle.roll_logs.specs.Events.{opened, closed}
-use Rattle.roll_logs.specs.States.{Phase, between, working, ended, failures, start_state}
+use Rattle.roll_logs.specs.States.{Phase, State, between, working, ended, failures, start_state}
 use Rattle.roll_logs.specs.Logs.{IsLegal}
 use Rattle.roll_logs.specs.Columns.{columns_of, fails_by}
 use Rattle.roll_logs.proofs.ColumnFronts.{ends_by_columns}
@@ -32,7 +37,7 @@ use Rattle.roll_core.specs.Boards.{BoardView, with_event}
 use Rattle.fork_pool.specs.declared.fault.StepFault.{StepFault}
 use Rattle.fork_pool.specs.declared.fault.StepFault.TheVariants.{Mem, WorkerMem, Mixed}
 use Rattle.fork_pool.specs.Faults.{IsFaultOf}
-use Rattle.roll_run.specs.Runs.{NamesAWorker}
+use Rattle.roll_run.specs.Runs.{IsFaultIn}
 use Rattle.roll_run.specs.Inside.{HasRun, IsAt, IsBehind, IsBetween, IsSameRoll, halt_in}
 use Rattle.roll_run.proofs.Lengths.{as_many}
 use Rattle.roll_run.proofs.Closing.{closes, others_same}
@@ -101,8 +106,8 @@ pub same_further : {R : Type 0} (first old new : BoardView R) → IsSameRoll fir
 same_further first old new one other =
     record { kernel = other.kernel ∙ ap (λ (k : KernelView). record k { log = new.kernel.log }) one.kernel; runner = other.runner ∙ one.runner }
 
-pub names_still : (forks workers : ℕ) (why : StepFault) → workers ≡ forks → NamesAWorker workers why → NamesAWorker forks why
-names_still forks workers why same names = subst (λ n. NamesAWorker n why) same names
+pub still_so : (forks workers : ℕ) (state : State) (why : StepFault) → workers ≡ forks → IsFaultIn workers state why → IsFaultIn forks state why
+still_so forks workers state why same is = subst (λ n. IsFaultIn n state why) same is
 
 -- the boundary's batch has run, and is closed
 module _ {R : Type 0} (old ran new : BoardView R) (behind : List Boundary) (boundary : Boundary) (before : Option End)
@@ -154,8 +159,14 @@ module _ {R : Type 0} (old ran new : BoardView R) (behind : List Boundary) (boun
   same_behind =
       same_by old new (kernels.with_event (record old.kernel { log = old.kernel.log ++ opened (next_batch boundary.answer) ∷ run.more }) closed) refl done_is (ap (λ (b : BoardView R). b.runner) close ∙ run.runner)
 
--- a fault of a step names one of the workers
-pub worker_named : {R : Type 0} (forks : ℕ) (board : BoardView R) (why : StepFault) → IsFaultOf forks board why → NamesAWorker forks why
-worker_named forks board Mem is = tt
-worker_named forks board (WorkerMem at) is = is.0
-worker_named forks board Mixed is = tt
+-- what a step says of its fault is so where the board has come to
+pub step_says : {R : Type 0} (forks : ℕ) (board : BoardView R) (why : StepFault) → IsFaultOf forks board why → IsFaultIn forks (state_of board.kernel) why
+step_says forks board Mem is = tt
+step_says forks board (WorkerMem at) is = is
+step_says forks board Mixed is = is
+
+-- where nobody is due, nobody is busy
+pub nobody_busy : (due : ℕ → Bool) (hosts : List ℕ) (host : ℕ) → count_by due hosts ≡ 0 → find due hosts ≡ Some host → ⊥
+nobody_busy due hosts host none is =
+    let nobody : find due hosts ≡ None = find_none due hosts (nil_from_length (filter due hosts) (length-filter due hosts ∙ none)) in
+    none-some _ (sym nobody ∙ is)

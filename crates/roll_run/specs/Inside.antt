@@ -10,11 +10,11 @@ use Rattle.batch_plan.specs.Holding as holding
 use Rattle.batch_plan.specs.Places.{AreCountsOf}
 use Rattle.outcome_results.specs.Endings.{Ending}
 use Rattle.play_model.specs.declared.play.Play.{Play}
+use Rattle.play_plan.specs.PlayPlans.{aside_by}
 use Rattle.play_course.specs.declared.boundary.Boundary.{Boundary}
 use Rattle.play_course.specs.declared.end.End.{End}
 use Rattle.play_course.specs.declared.end.End.TheVariants.{Finished, Held, Blocked, TooManyFailed, AllFailed}
 use Rattle.play_course.specs.Courses.{IsBoundary, IsCourse, Setting, ended_by, led_to}
-use Rattle.play_course.specs.Laws.{opened_batches}
 use Rattle.roll_logs.specs.Events.{Event, set_aside, opened, claimed, reported, passed, closed, is_inside}
 use Rattle.roll_logs.specs.States.{Phase, between, working, ended}
 use Rattle.roll_logs.specs.Columns.{Columns, Tells}
@@ -25,7 +25,7 @@ use Rattle.roll_kernel.specs.Barriers.{is_over, is_working}
 use Rattle.roll_kernel.specs.Views.{KernelView, roll_of, state_of}
 use Rattle.roll_core.specs.Boards.{BoardView}
 use Rattle.fork_pool.specs.declared.fault.StepFault.{StepFault}
-use Rattle.roll_run.specs.Runs.{NamesAWorker, TookItsCourse, WasOnCourse, batches_in, rows_behind, setting_of}
+use Rattle.roll_run.specs.Runs.{IsFaultIn, TookItsCourse, WasOnCourse, aside_at, boundary_events, events_at_each, rows_behind, setting_aside, setting_of}
 use Rattle.roll_run.specs.Plays.{AreBrokenAfter, AreRunsAfter}
 use Rattle.roll_run.specs.declared.run.Run.{Run}
 use Rattle.roll_run.specs.declared.fault.RunFault.{RunFault}
@@ -59,17 +59,23 @@ pub record IsSameRoll {R : Type 0} (old new : BoardView R) : Type 0 where
   pub kernel : new.kernel ≡ record old.kernel { log = new.kernel.log }
   pub runner : new.runner ≡ old.runner
 
--- the log has grown by events that open these batches
-pub record HasOpened {R : Type 0} (batches : List (List ℕ)) (old new : BoardView R) : Type 0 where
+-- whom the statuses say that is to be set aside
+abbrev pub aside_in : KernelView → List ℕ
+aside_in kernel = aside_by kernel.play.on_blocked kernel.fleet (state_of kernel).statuses
+
+-- the run has set out for its next boundary: so far nothing was done, or the hosts were set aside
+pub record HasSetOut {R : Type 0} (old new : BoardView R) : Type 0 where
   pub more : List Event
-  pub opens_them : batches_in more ≡ batches
+  pub begun : (more ≡ []) ⊎ (more ≡ setting_aside (aside_in old.kernel))
   pub kernel : new.kernel ≡ grown old.kernel more
   pub runner : new.runner ≡ old.runner
   pub tallies : new.tallies ≡ old.tallies
 
 -- these hosts were set aside, if there are any
 pub record HasSetAside {R : Type 0} (hosts : List ℕ) (old new : BoardView R) : Type 0 where
-  pub opening : HasOpened [] old new
+  pub kernel : new.kernel ≡ grown old.kernel (setting_aside hosts)
+  pub runner : new.runner ≡ old.runner
+  pub tallies : new.tallies ≡ old.tallies
   pub phase : (state_of new.kernel).phase ≡ (state_of old.kernel).phase
   pub statuses : (state_of new.kernel).statuses ≡ holding.set_aside hosts (state_of old.kernel).statuses
   pub rows : (host : ℕ) → (state_of new.kernel).rows host ≡ (state_of old.kernel).rows host
@@ -108,10 +114,10 @@ pub record HasRun {R : Type 0} (batch : List ℕ) (old new : BoardView R) : Type
   pub over : is_over (state_of new.kernel).phase ≡ true
   pub tallies : new.tallies ≡ 0
 
--- the batch was opened or it wasn't, and no other one was
+-- the batch was opened or it wasn't, no other one was, and nobody was set aside
 pub record HasBroken {R : Type 0} (batch : List ℕ) (old new : BoardView R) : Type 0 where
   pub more : List Event
-  pub opens_it : (batches_in more ≡ []) ⊎ (batches_in more ≡ batch ∷ [])
+  pub opens_it : (boundary_events more ≡ []) ⊎ (boundary_events more ≡ opened batch ∷ [])
   pub kernel : new.kernel ≡ grown old.kernel more
   pub runner : new.runner ≡ old.runner
 
@@ -125,7 +131,7 @@ pub record HasCome (columns : Columns) (kernel : KernelView) (behind : List Boun
 -- no batch is open, and so far the play has come for all columns that the log tells
 pub record IsBetween (kernel : KernelView) (behind : List Boundary) (before : Option End) : Type 0 where
   pub phase : (state_of kernel).phase ≡ between
-  pub batches : batches_in kernel.log ≡ opened_batches behind
+  pub events : boundary_events kernel.log ≡ events_at_each behind
   pub come : (columns : Columns) → Tells columns (roll_of kernel) kernel.log → HasCome columns kernel behind before
 
 -- and has come to its next boundary
@@ -135,9 +141,10 @@ pub record HasComeTo (columns : Columns) (kernel : KernelView) (behind : List Bo
   pub here : IsBoundary (setting_by columns kernel) (length behind) (led_to (setting_by columns kernel) kernel.start behind) boundary
   pub rows : (host : ℕ) → (state_of kernel).rows host ≡ rows_behind (roll_of kernel) columns host [] behind
 
+-- whose hosts were set aside
 pub record IsAt (kernel : KernelView) (behind : List Boundary) (boundary : Boundary) (before : Option End) : Type 0 where
   pub phase : (state_of kernel).phase ≡ between
-  pub batches : batches_in kernel.log ≡ opened_batches behind
+  pub events : boundary_events kernel.log ≡ events_at_each behind ++ aside_at boundary
   pub statuses : (state_of kernel).statuses ≡ boundary.statuses.items
   pub bound : Option ℕ
   pub best : IsBest kernel.fleet boundary.statuses.items bound boundary.answer
@@ -170,12 +177,12 @@ pub record IsBehind {R : Type 0} (boundaries : List Boundary) (counted : Counted
 abbrev pub HasTurned : {R : Type 0} → List Boundary → Counted → BoardView R → Turn → Type 0
 HasTurned boundaries counted board (Behind before) = IsBehind boundaries counted board before
 HasTurned boundaries counted board (Ended end) = IsEnded board.kernel boundaries end
-HasTurned boundaries counted board (Broken why) = IsOnCourse board.kernel boundaries × NamesAWorker board.kernel.forks why
+HasTurned boundaries counted board (Broken why) = IsOnCourse board.kernel boundaries × IsFaultIn board.kernel.forks (state_of board.kernel) why
 
 -- what all turns came to
 abbrev pub HasGone : List Boundary → KernelView → Result End StepFault → Type 0
 HasGone boundaries kernel (Ok end) = IsEnded kernel boundaries end
-HasGone boundaries kernel (Err why) = IsOnCourse kernel boundaries × NamesAWorker kernel.forks why
+HasGone boundaries kernel (Err why) = IsOnCourse kernel boundaries × IsFaultIn kernel.forks (state_of kernel) why
 
 -- a plan may be made of the statuses that a run left, and it left the variables of each host
 pub record IsReadyRun (fleet : FleetView) (run : Run) : Type 0 where

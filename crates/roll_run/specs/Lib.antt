@@ -1,3 +1,5 @@
 pub mod Runs
 pub mod Plays
+pub mod Files
+pub mod Laws
 pub mod Inside

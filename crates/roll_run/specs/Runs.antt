@@ -1,7 +1,8 @@
 -- What a run of a play leaves: it took the course that its hosts by themselves say.
-use Rattle.std.specs.Prelude.{◌≡◌, ℕ, ◌≤◌, ◌<◌, cond, Option, Some, None, List, [], ◌∷◌, ◌++◌, flat_map, length, slice_index_or}
+use Rattle.std.specs.Prelude.{◌≡◌, ℕ, ◌≤◌, ◌<◌, ◌⊎◌, Bool, true, false, cond, Option, Some, None, List, [], ◌∷◌, ◌++◌, filter, flat_map, length, slice_index_or}
 use Rattle.fleet_numbers.specs.NumberLists.{has_number}
 use Rattle.domains.specs.FleetViews.{FleetView}
+use Rattle.domains.specs.Ids.{host_numbers}
 use Rattle.fleet_states.specs.declared.status.Status.{Status}
 use Rattle.fleet_states.specs.Groups.{groups_of}
 use Rattle.host_vars.specs.declared.vars.Vars.{Vars}
@@ -9,10 +10,10 @@ use Rattle.outcome_results.specs.Endings.{Ending}
 use Rattle.outcome_results.specs.declared.counts.Counts.{Counts}
 use Rattle.play_model.specs.declared.play.Play.{Play}
 use Rattle.play_model.specs.Sizes.{cap}
-use Rattle.play_plan.specs.PlayPlans.{targets}
+use Rattle.play_plan.specs.PlayPlans.{aside_by, targets}
 use Rattle.play_course.specs.declared.boundary.Boundary.{Boundary}
 use Rattle.play_course.specs.declared.end.End.{End}
-use Rattle.play_course.specs.Courses.{IsCourse, Setting, next_batch}
+use Rattle.play_course.specs.Courses.{IsCourse, Setting, led_to, next_batch}
 use Rattle.play_course.specs.Laws.{opened_batches}
 use Rattle.host_track.specs.Tracks.{Entry, counts_in, track}
 use Rattle.batch_work.specs.Works.{known_at}
@@ -58,6 +59,36 @@ batch_in closed = []
 abbrev pub batches_in : List Event → List (List ℕ)
 batches_in log = flat_map batch_in log
 
+-- the event stands at a boundary: hosts are set aside there, or a batch is opened
+abbrev pub is_at_boundary : Event → Bool
+is_at_boundary (set_aside hosts) = true
+is_at_boundary (opened batch) = true
+is_at_boundary (claimed host step) = false
+is_at_boundary (reported host step ending) = false
+is_at_boundary (passed step) = false
+is_at_boundary closed = false
+
+-- what a log tells of its boundaries, in order
+abbrev pub boundary_events : List Event → List Event
+boundary_events log = filter is_at_boundary log
+
+-- these hosts are set aside, if there are any
+abbrev pub setting_aside : List ℕ → List Event
+setting_aside [] = []
+setting_aside (host ∷ hosts) = set_aside (host ∷ hosts) ∷ []
+
+-- the hosts of a boundary are set aside
+abbrev pub aside_at : Boundary → List Event
+aside_at boundary = setting_aside (host_numbers boundary.held.items)
+
+-- and its batch is opened
+abbrev pub events_at : Boundary → List Event
+events_at boundary = aside_at boundary ++ opened (next_batch boundary.answer) ∷ []
+
+-- the same at each of these boundaries
+abbrev pub events_at_each : List Boundary → List Event
+events_at_each boundaries = flat_map events_at boundaries
+
 -- the rows of a host of this batch once that is over: its own track, as far as the batch came
 abbrev pub rows_of : Roll → Columns → List ℕ → ℕ → List Entry
 rows_of roll columns batch host =
@@ -82,13 +113,15 @@ pub record IsSafeLog (may : Work → Ending → Type 0) (roll : Roll) (log : Lis
   pub told : AreTold may roll (start_state roll) log
 
 -- the boundaries and the end are those of the play's course where each program ends as the columns say; a batch was opened at each boundary but the last,
--- the first one of its plan; the statuses are those of the last boundary; and the rows of each host are those of its own track
+-- the first one of its plan; the hosts of each boundary were set aside at it, before its batch, and no others ever; the statuses are those of the last
+-- boundary; and the rows of each host are those of its own track
 pub record TookItsCourse (fleet : FleetView) (roll : Roll) (columns : Columns) (boundaries : List Boundary) (log : List Event) (statuses : List Status) (end : End) : Type 0 where
   pub course : IsCourse (setting_of fleet roll columns) roll.start boundaries (Some end)
   pub behind : List Boundary
   pub last : Boundary
   pub boundaries_are : boundaries ≡ behind ++ last ∷ []
   pub batches : batches_in log ≡ opened_batches behind
+  pub events : boundary_events log ≡ events_at_each behind ++ aside_at last
   pub statuses_are : statuses ≡ last.statuses.items
   pub rows : (host : ℕ) → (end_state roll log).rows host ≡ rows_behind roll columns host [] behind
 
@@ -102,7 +135,14 @@ pub record IsRun (may : Work → Ending → Type 0) (fleet : FleetView) (roll : 
   pub by : (columns : Columns) → Tells columns roll (events_of run.log.items)
       → TookItsCourse fleet roll columns run.boundaries.items (events_of run.log.items) run.statuses.items run.end
 
--- the boundaries begin the play's course, which goes on behind them; a batch was opened at each, the first one of its plan, but for the last where none was
+-- whom a run set aside at the boundary at which it was broken off: the hosts of that boundary; where it isn't planned yet, nobody, or those whom the statuses
+-- say
+abbrev pub IsBegun : Setting → List Status → List Boundary → List Event → Type 0
+IsBegun setting statuses [] begun = (begun ≡ []) ⊎ (begun ≡ setting_aside (aside_by setting.mode setting.fleet statuses))
+IsBegun setting statuses (boundary ∷ more) begun = begun ≡ aside_at boundary
+
+-- the boundaries begin the play's course, which goes on behind them; a batch was opened at each, the first one of its plan, but for the last where none was;
+-- the hosts of each were set aside at it, before its batch, and no others but those of the boundary that was broken off
 pub record WasOnCourse (fleet : FleetView) (roll : Roll) (columns : Columns) (boundaries : List Boundary) (log : List Event) : Type 0 where
   pub course : IsCourse (setting_of fleet roll columns) roll.start boundaries None
   pub behind : List Boundary
@@ -110,19 +150,22 @@ pub record WasOnCourse (fleet : FleetView) (roll : Roll) (columns : Columns) (bo
   pub boundaries_are : boundaries ≡ behind ++ rest
   pub few : length rest ≤ 1
   pub batches : batches_in log ≡ opened_batches behind
+  pub begun : List Event
+  pub events : boundary_events log ≡ events_at_each behind ++ begun
+  pub is_begun : IsBegun (setting_of fleet roll columns) (led_to (setting_of fleet roll columns) roll.start behind) rest begun
 
--- a worker that is named is one of so many
-abbrev pub NamesAWorker : ℕ → StepFault → Type 0
-NamesAWorker forks Mem = Unit {0}
-NamesAWorker forks (WorkerMem at) = at < forks
-NamesAWorker forks Mixed = Unit {0}
+-- what the fault says is so in the state: a worker that is named is one of so many, and a claim is out; so it is where a report is missing
+abbrev pub IsFaultIn : ℕ → State → StepFault → Type 0
+IsFaultIn forks state Mem = Unit {0}
+IsFaultIn forks state (WorkerMem at) = (at < forks) × (0 < length state.out)
+IsFaultIn forks state Mixed = 0 < length state.out
 
 -- what a run that a fault broke off leaves
 pub record IsBrokenOff (may : Work → Ending → Type 0) (fleet : FleetView) (roll : Roll) (fault : RunFault) : Type 0 where
   pub log : IsSafeLog may roll (events_of fault.log.items)
   pub statuses : fault.statuses.items ≡ (end_state roll (events_of fault.log.items)).statuses
   pub counts : AreCounted roll (end_state roll (events_of fault.log.items)) fault.counts.items
-  pub worker : NamesAWorker roll.forks fault.why
+  pub why : IsFaultIn roll.forks (end_state roll (events_of fault.log.items)) fault.why
   pub opened_are : fault.opened ≡ length (batches_in (events_of fault.log.items))
   pub by : (columns : Columns) → Tells columns roll (events_of fault.log.items)
       → WasOnCourse fleet roll columns fault.boundaries.items (events_of fault.log.items)

@@ -4,7 +4,7 @@ ghost use Rattle.domains.specs.Ids.{host_numbers};
 ghost use Rattle.roll_kernel.specs.Barriers.{is_working};
 ghost use Rattle.roll_kernel.specs.Views.{state_of};
 ghost use Rattle.roll_run.specs.Inside.{HasBroken, HasPassedStep, HasRun, HasWorked, IsWorkedOff};
-ghost use Rattle.roll_run.specs.Runs.{NamesAWorker};
+ghost use Rattle.roll_run.specs.Runs.{IsFaultIn};
 
 use crate::watch::Watch;
 use fork_pool::{Front, StepFault};
@@ -28,13 +28,13 @@ where
     requires working { is_working (state_of board.kernel).phase ≡ true }
     ensures ok { IfOk result (HasPassedStep board.entry) }
     ensures err { IfErr result (λ refused. HasWorked board.entry refused.1) }
-    ensures worker { IfErr result (λ refused. NamesAWorker front.old.forks refused.0) }
+    ensures why { IfErr result (λ refused. IsFaultIn front.old.forks (state_of refused.1.kernel) refused.0) }
     ensures forks { front.new.forks ≡ front.old.forks }
 {
     match front.step(rt, alloc, board) {
         Ok(mut board) => match board.barrier() {
             Ok(next) => Ok((next, board)),
-            Err(_busy) => Err((StepFault::Mixed, board)),
+            Err(_busy) => unreachable!(),
         },
         Err(refused) => Err(refused),
     }
@@ -54,7 +54,7 @@ where
     requires working { is_working (state_of board.kernel).phase ≡ true }
     ensures ok { IfOk result (IsWorkedOff board.entry) }
     ensures err { IfErr result (λ refused. HasWorked board.entry refused.1) }
-    ensures worker { IfErr result (λ refused. NamesAWorker front.old.forks refused.0) }
+    ensures why { IfErr result (λ refused. IsFaultIn front.old.forks (state_of refused.1.kernel) refused.0) }
     ensures forks { front.new.forks ≡ front.old.forks }
 {
     for _ in rt.forever() {
@@ -84,7 +84,7 @@ where
     requires some { 0 < length batch.now }
     ensures ok { IfOk result (HasRun (host_numbers batch.now) board.entry) }
     ensures err { IfErr result (λ refused. HasBroken (host_numbers batch.now) board.entry refused.1) }
-    ensures worker { IfErr result (λ refused. NamesAWorker front.old.forks refused.0) }
+    ensures why { IfErr result (λ refused. IsFaultIn front.old.forks (state_of refused.1.kernel) refused.0) }
     ensures forks { front.new.forks ≡ front.old.forks }
 {
     match board.open(alloc, batch) {

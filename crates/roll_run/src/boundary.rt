@@ -8,7 +8,7 @@ ghost use Rattle.batch_plan.specs.Places as places;
 ghost use Rattle.play_course.specs.declared.end.End.{End};
 ghost use Rattle.play_plan.specs.PlayPlans.{aside_by, targets};
 ghost use Rattle.roll_kernel.specs.Views.{state_of};
-ghost use Rattle.roll_run.specs.Inside.{HasOpened, HasSetAside, IsBetween, IsNoted};
+ghost use Rattle.roll_run.specs.Inside.{HasSetAside, HasSetOut, IsBetween, IsNoted};
 
 use batch_plan::place_of;
 use domain_counts::Domains;
@@ -107,7 +107,7 @@ pub(crate) fn come_to_boundary<A: Allocator, R: Runner, L: Ledger>(
     requires counts { AreCountsOf (state_of board.old.kernel).statuses domains.old }
     requires fleet { domains.old.fleet ≡ board.old.kernel.fleet }
     requires targeted { targeted ≡ length (targets board.old.kernel.fleet board.old.kernel.play) }
-    ensures grown { HasOpened [] board.old board.new }
+    ensures grown { HasSetOut board.old board.new }
     ensures ok { OnOk result ((before : Option End) → IsBetween board.old.kernel boundaries.old.items before → IsNoted board.new.kernel boundaries.new.items before) }
     ensures counts { AreCountsOf (state_of board.new.kernel).statuses domains.new }
     ensures fleet { domains.new.fleet ≡ domains.old.fleet }

@@ -5,6 +5,7 @@ mod batch;
 mod boundary;
 mod close;
 mod fault;
+mod laws;
 mod next;
 mod opening;
 mod play;
@@ -16,6 +17,7 @@ mod watch;
 
 pub use fault::{RunFault, RunsFault};
 pub use fork_pool::StepFault;
+pub use laws::{memory_alone_is_wanting_at_boundaries, runs_are_courses};
 pub use play::run_play;
 pub use play_course::{Boundary, End};
 pub use pool::run_plays;

@@ -22,6 +22,7 @@ use Rattle.play_model.specs.declared.size.Size.{Size}
 use Rattle.play_model.specs.Sizes.{cap}
 use Rattle.play_plan.specs.PlayPlans.{targets}
 use Rattle.outcome_results.specs.declared.counts.Counts.{Counts}
+use Rattle.outcome_results.specs.Endings.{Ending}
 use Rattle.outcome_results.specs.Hosts.{Known}
 use Rattle.host_track.specs.Tracks.{Entry, counts_in, failing_step, track, whole_track}
 use Rattle.play_course.specs.declared.boundary.Boundary.{Boundary}
@@ -33,7 +34,8 @@ use Rattle.recap.specs.PlanText.{answer_line, blocked_line, held_line, names_lin
 use Rattle.recap.proofs.PlanLemmas.{lines_more}
 use Rattle.std.specs.Prelude.{codes}
 use Rattle.roll_logs.specs.Rolls.{Roll}
-use Rattle.roll_logs.specs.Columns.{Columns, Tells, fails_by, gives, halt_by, steps_until}
+use Rattle.roll_logs.specs.Columns.{Columns, Tells, fails_by, halt_by, steps_until}
+use Rattle.roll_logs.specs.Told.{Work}
 use Rattle.roll_logs.specs.Logs.{end_state}
 use Rattle.roll_kernel.specs.Views.{events_of}
 use Rattle.roll_run.specs.declared.run.Run.{Run}
@@ -192,12 +194,13 @@ module _ (fleet : FleetView) (roll other : Roll) (columns : Columns) (alike : Be
       ap entries next ∙ ap (λ (rows : List Entry). cond (has_number host (next_batch c.answer)) rows before) (same_rows (next_batch c.answer) host) in
       same_behind host (entries (next_batch b.answer)) bs cs same.1 ∙ ap (λ (rows : List Entry). rows_behind other columns host rows cs) here
 
-  module _ (run also : Run) (all : length roll.start ≡ length fleet.hosts) (one : IsRun (gives columns) fleet roll run) (two : IsRun (gives columns) fleet other also) where
+  module _ (may might : Work → Ending → Type 0) (run also : Run) (all : length roll.start ≡ length fleet.hosts) (one : IsRun may fleet roll run) (tells : Tells columns roll (events_of run.log.items))
+      (two : IsRun might fleet other also) (tell : Tells columns other (events_of also.log.items)) where
     first : TookItsCourse fleet roll columns run.boundaries.items (events_of run.log.items) run.statuses.items run.end
-    first = one.by columns one.log.told
+    first = one.by columns tells
 
     second : TookItsCourse fleet other columns also.boundaries.items (events_of also.log.items) also.statuses.items also.end
-    second = two.by columns two.log.told
+    second = two.by columns tell
 
     courses : AreSameBoundaries run.boundaries.items also.boundaries.items × (run.end ≡ also.end)
     courses =

@@ -1,15 +1,12 @@
 -- The runs of the plays of one text have one text.
-use Rattle.std.proofs.Common.{◌≡◌, ℕ, zero, suc, ◌+◌, ◌<◌, Bool, nat_lt, Option, None, Some, List, [], ◌∷◌, ◌++◌, length, map, refl, sym, ap, ap₂, ◌∙◌, subst, arith}
+use Rattle.std.proofs.Common.{◌≡◌, ℕ, ◌+◌, Bool, nat_lt, Option, None, Some, List, [], ◌∷◌, ◌++◌, length, map, refl, sym, ap, ap₂, ◌∙◌, subst, arith}
 use Rattle.std.specs.List.{AllZip, range_with_len}
 use Rattle.std.specs.Prelude.{slice_get, string_bytes}
-use Rattle.std.proofs.Math.Path.{fun_ext}
 use Rattle.std.proofs.lemmas.List.FromFn.{length-map-range_with_len}
 use Rattle.std.proofs.lemmas.Option.{none-some, same_Some, slice_get-get_or, slice_get_within}
 use Rattle.std.proofs.lemmas.Slice.Zip.{AllZip-long}
 use Rattle.host_patterns.specs.Patterns.{parts_of}
-use Rattle.inventory_model.specs.Names.{Name}
 use Rattle.inventory_model.specs.Places.{Inventory}
-use Rattle.registered_results.specs.Results.{Row}
 use Rattle.domains.specs.FleetViews.{FleetView}
 use Rattle.domains.specs.Fleets.{IsFleetOf}
 use Rattle.domains.specs.Patterns.{named_hosts}
@@ -17,9 +14,8 @@ use Rattle.domains.proofs.UniqueLemmas.{one_fleet}
 use Rattle.fleet_states.specs.declared.status.Status.{Status}
 use Rattle.fleet_states.specs.Starts.{start_statuses}
 use Rattle.batch_plan.specs.Beginnings.{restart_statuses}
-use Rattle.variable_layers.specs.Layers.{HostView}
 use Rattle.host_vars.specs.declared.vars.Vars.{Vars}
-use Rattle.host_vars.specs.HostVars.{IsSameHost}
+use Rattle.outcome_results.specs.Endings.{Ending}
 use Rattle.outcome_results.specs.Hosts.{Known, known_of}
 use Rattle.host_track.specs.Tracks.{Entry, known_after}
 use Rattle.play_model.specs.declared.play.Play.{Play}
@@ -32,14 +28,17 @@ use Rattle.roll_logs.specs.Rolls.{Roll}
 use Rattle.roll_logs.specs.Columns.{Columns, gives}
 use Rattle.roll_logs.specs.Logs.{end_state}
 use Rattle.roll_logs.specs.States.{start_state}
+use Rattle.roll_logs.specs.Told.{Work}
 use Rattle.roll_kernel.specs.Views.{events_of}
 use Rattle.roll_run.specs.declared.run.Run.{Run}
 use Rattle.roll_run.specs.Runs.{IsRun, roll_by}
 use Rattle.roll_run.proofs.Lengths.{as_many}
-use Rattle.roll_run.specs.Plays.{AreRuns, AreRunsAfter, AreSameHosts, IsRollAfter}
+use Rattle.roll_run.specs.Plays.{AreRuns, AreRunsAfter}
+use Rattle.roll_run.specs.Files.{TellLater, TellTheirs, roll_after}
+use Rattle.roll_run.proofs.FileCourses.{begins_after}
 use Rattle.run_recap.specs.RecapText.{text_by_place}
 use Rattle.running.specs.Inputs.{AreInputs}
-use Rattle.running.specs.Laws.{OneRecap}
+use Rattle.running.specs.Laws.{OneRecap, OneRecapByPlays}
 use Rattle.running.specs.Recaps.{are_several, headed, run_text, runs_text}
 use Rattle.running.specs.RunTexts.{AreRunsIn}
 use Rattle.running.proofs.AlikePlays.{AreAlikePlays, all_alike_plays}
@@ -63,27 +62,13 @@ known_both ones others many host each = go (slice_get ones host) refl (slice_get
     go None e (Some other) f = absurd (apart ones others host other many e f)
     go (Some one) e None f = absurd (apart others ones host one (sym many) f e)
 
-same_host : (one other : Vars) → IsSameHost one other → known_of one ≡ known_of other
-same_host one other same =
-    ap₂ (λ (variables : HostView) (results : Name → Option Row). known variables results) same.variables (fun_ext same.results)
-  where
-    known : HostView → (Name → Option Row) → Known
-    known variables results = record { variables = variables; results = results }
-
-same_vars : (ones others : List Vars) → AreSameHosts ones others → (host : ℕ) → known_at ones host ≡ known_at others host
-same_vars [] [] same host = refl
-same_vars [] (other ∷ others) same host = absurd same
-same_vars (one ∷ ones) [] same host = absurd same
-same_vars (one ∷ ones) (other ∷ others) same zero = same_host one other same.0
-same_vars (one ∷ ones) (other ∷ others) same (suc host) = same_vars ones others same.1 host
-
 same_targets : (fleet : FleetView) (play other : Play) → AreAlikePlays play other → targets fleet play ≡ targets fleet other
 same_targets fleet play other alike = ap (λ (pattern : List ℕ). named_hosts fleet (parts_of pattern)) alike.pattern
 
-many_left : (fleet : FleetView) (roll : Roll) (columns : Columns) (run : Run) → IsRun (gives columns) fleet roll run → length run.statuses.items ≡ length roll.start
-many_left fleet roll columns run is = ap length is.statuses ∙ as_many roll (start_state roll) (events_of run.log.items)
+many_left : (may : Work → Ending → Type 0) (fleet : FleetView) (roll : Roll) (run : Run) → IsRun may fleet roll run → length run.statuses.items ≡ length roll.start
+many_left may fleet roll run is = ap length is.statuses ∙ as_many roll (start_state roll) (events_of run.log.items)
 
-module _ (fleet : FleetView) (columns : Columns) (forks more : ℕ) where
+module _ (may might : Work → Ending → Type 0) (columns : ℕ → Columns) (fleet : FleetView) (forks more : ℕ) where
   -- two runs left the same
   record EndAlike (before also : Run) : Type 0 where
     statuses : before.statuses.items ≡ also.statuses.items
@@ -91,13 +76,13 @@ module _ (fleet : FleetView) (columns : Columns) (forks more : ℕ) where
     known : (host : ℕ) → known_at before.vars.items host ≡ known_at also.vars.items host
     many : length before.statuses.items ≡ length fleet.hosts
 
-  ended : (roll other : Roll) (run also : Run) → BeginAlike roll other → length roll.start ≡ length fleet.hosts → IsRun (gives columns) fleet roll run → IsRun (gives columns) fleet other also
-      → LeaveAlike fleet roll other run also → EndAlike run also
+  ended : (roll other : Roll) (run also : Run) → BeginAlike roll other → length roll.start ≡ length fleet.hosts → IsRun may fleet roll run → IsRun might fleet other also → LeaveAlike fleet roll other run also
+      → EndAlike run also
   ended roll other run also alike all one two leaves = record {
     statuses = leaves.statuses;
     end = leaves.end;
     known = λ host. known_both run.vars.items also.vars.items (one.vars.all ∙ ap length alike.start ∙ sym two.vars.all) host (each host);
-    many = many_left fleet roll columns run one ∙ all;
+    many = many_left may fleet roll run one ∙ all;
   }
     where
       each : (host : ℕ) (v w : Vars) → slice_get run.vars.items host ≡ Some v → slice_get also.vars.items host ≡ Some w → known_of v ≡ known_of w
@@ -106,19 +91,10 @@ module _ (fleet : FleetView) (columns : Columns) (forks more : ℕ) where
           one.vars.each host v e ∙ ap (known_after roll.play (roll.known host)) (leaves.rows host) ∙ same_known_after roll.play other.play alike.play rows (roll.known host)
           ∙ ap (λ (k : Known). known_after other.play k rows) (alike.known host) ∙ sym (two.vars.each host w f)
 
-  later_alike : (play other : Play) → AreAlikePlays play other → (before also : Run) → EndAlike before also → (roll second : Roll) → IsRollAfter fleet play forks before roll
-      → IsRollAfter fleet other more also second → BeginAlike roll second × (length roll.start ≡ length fleet.hosts)
-  later_alike play other alike before also ends roll second one two =
-      let start : List Status = restart_statuses before.statuses.items (targets fleet play) in
-      let again : List Status = restart_statuses also.statuses.items (targets fleet other) in
-      let begins : BeginAlike (roll_by fleet play forks start one.vars) (roll_by fleet other more again two.vars) = record {
-        play = alike;
-        start = ap₂ restart_statuses ends.statuses (same_targets fleet play other alike);
-        known = λ host. same_vars one.vars before.vars.items one.same host ∙ ends.known host ∙ sym (same_vars two.vars also.vars.items two.same host);
-      } in
-      let from : BeginAlike roll (roll_by fleet other more again two.vars) = subst (λ (r : Roll). BeginAlike r (roll_by fleet other more again two.vars)) (sym one.roll_is) begins in
-      let all : length roll.start ≡ length before.statuses.items = ap (λ (r : Roll). length r.start) one.roll_is ∙ restarted in
-      (subst (BeginAlike roll) (sym two.roll_is) from, all ∙ ends.many)
+  later_alike : (play other : Play) → AreAlikePlays play other → (before also : Run) → EndAlike before also
+      → BeginAlike (roll_after fleet forks play before) (roll_after fleet more other also) × (length (roll_after fleet forks play before).start ≡ length fleet.hosts)
+  later_alike play other alike before also ends =
+      (record { play = alike; start = ap₂ restart_statuses ends.statuses (same_targets fleet play other alike); known = ends.known }, restarted ∙ ends.many)
     where
       restarted : length (restart_statuses before.statuses.items (targets fleet play)) ≡ length before.statuses.items
       restarted = length-map-range_with_len _ 0 (length before.statuses.items)
@@ -126,41 +102,52 @@ module _ (fleet : FleetView) (columns : Columns) (forks more : ℕ) where
   text_from : Bool → ℕ → List Run → List ℕ
   text_from several place runs = text_by_place (λ at run. headed several (at + 1) (run_text fleet run)) place runs
 
-  after : (plays others : List Play) → AllZip AreAlikePlays plays others → (before also : Run) → EndAlike before also → (runs seconds : List Run) → AreRunsAfter (gives columns) fleet forks plays before runs
-      → AreRunsAfter (gives columns) fleet more others also seconds → (several : Bool) (place : ℕ) → text_from several place runs ≡ text_from several place seconds
+  after : (number : ℕ) (plays others : List Play) → AllZip AreAlikePlays plays others → (before also : Run) → EndAlike before also → (runs seconds : List Run) → AreRunsAfter may fleet forks plays before runs
+      → AreRunsAfter might fleet more others also seconds → TellLater columns fleet forks number plays before runs → TellLater columns fleet more number others also seconds → (several : Bool) (place : ℕ)
+      → text_from several place runs ≡ text_from several place seconds
   unfolding text_from
-  after [] [] alike before also ends runs seconds one two several place =
+  after number [] [] alike before also ends runs seconds one two tell told several place =
       ap (text_by_place (λ at run. headed several (at + 1) (run_text fleet run)) place) one ∙ sym (ap (text_by_place (λ at run. headed several (at + 1) (run_text fleet run)) place) two)
-  after [] (o ∷ os) alike before also ends runs seconds one two several place = absurd alike
-  after (p ∷ ps) [] alike before also ends runs seconds one two several place = absurd alike
-  after (p ∷ ps) (o ∷ os) alike before also ends [] [] one two several place = refl
-  after (p ∷ ps) (o ∷ os) alike before also ends [] (s ∷ ss) one two several place = absurd (one (ends.end ∙ two.0))
-  after (p ∷ ps) (o ∷ os) alike before also ends (r ∷ rs) [] one two several place = absurd (two (sym ends.end ∙ one.0))
-  after (p ∷ ps) (o ∷ os) alike before also ends (r ∷ rs) (s ∷ ss) one two several place =
-      let begins = later_alike p o alike.0 before also ends one.1.roll two.1.roll one.1.begins two.1.begins in
-      let leaves = leave_alike fleet one.1.roll two.1.roll columns begins.0 r s begins.1 one.1.run_is two.1.run_is in
+  after number [] (o ∷ os) alike before also ends runs seconds one two tell told several place = absurd alike
+  after number (p ∷ ps) [] alike before also ends runs seconds one two tell told several place = absurd alike
+  after number (p ∷ ps) (o ∷ os) alike before also ends [] [] one two tell told several place = refl
+  after number (p ∷ ps) (o ∷ os) alike before also ends [] (s ∷ ss) one two tell told several place = absurd (one (ends.end ∙ two.0))
+  after number (p ∷ ps) (o ∷ os) alike before also ends (r ∷ rs) [] one two tell told several place = absurd (two (sym ends.end ∙ one.0))
+  after number (p ∷ ps) (o ∷ os) alike before also ends (r ∷ rs) (s ∷ ss) one two tell told several place =
+      let roll : Roll = roll_after fleet forks p before in
+      let other : Roll = roll_after fleet more o also in
+      let begins = later_alike p o alike.0 before also ends in
+      let is : IsRun may fleet roll r = subst (λ (l : Roll). IsRun may fleet l r) (begins_after fleet p forks before one.1.roll one.1.begins) one.1.run_is in
+      let too : IsRun might fleet other s = subst (λ (l : Roll). IsRun might fleet l s) (begins_after fleet o more also two.1.roll two.1.begins) two.1.run_is in
+      let leaves = leave_alike fleet roll other (columns number) begins.0 may might r s begins.1 is tell.0 too told.0 in
       ap₂ ◌++◌ (ap (headed several (place + 1)) leaves.text)
-      (after ps os alike.1 r s (ended one.1.roll two.1.roll r s begins.0 begins.1 one.1.run_is two.1.run_is leaves) rs ss one.2 two.2 several (place + 1))
+      (after (number + 1) ps os alike.1 r s (ended roll other r s begins.0 begins.1 is too leaves) rs ss one.2 two.2 tell.1 told.1 several (place + 1))
 
   all_runs : (plays others : List Play) → AllZip AreAlikePlays plays others → (statuses again : List Status) → statuses ≡ again → length statuses ≡ length fleet.hosts → (vars twice : List Vars)
-      → ((host : ℕ) → known_at vars host ≡ known_at twice host) → (runs seconds : List Run) → AreRuns (gives columns) fleet forks plays statuses vars runs → AreRuns (gives columns) fleet more others again twice seconds
-      → runs_text fleet (are_several plays) runs ≡ runs_text fleet (are_several others) seconds
+      → ((host : ℕ) → known_at vars host ≡ known_at twice host) → (runs seconds : List Run) → AreRuns may fleet forks plays statuses vars runs → AreRuns might fleet more others again twice seconds
+      → TellTheirs columns fleet forks plays statuses vars runs → TellTheirs columns fleet more others again twice seconds → runs_text fleet (are_several plays) runs ≡ runs_text fleet (are_several others) seconds
   unfolding text_from
-  all_runs plays others alike statuses again same all vars twice known runs seconds one two =
+  all_runs plays others alike statuses again same all vars twice known runs seconds one two tell told =
       let zip : AllZip AreAlikePlays (one.first ∷ one.later) (two.first ∷ two.later) =
       subst (λ (l : List Play). AllZip AreAlikePlays l (two.first ∷ two.later)) one.plays_are (subst (AllZip AreAlikePlays plays) two.plays_are alike) in
-      let begins : BeginAlike (roll_by fleet one.first forks statuses vars) (roll_by fleet two.first more again twice) = record { play = zip.0; start = same; known = known } in
-      let leaves = leave_alike fleet (roll_by fleet one.first forks statuses vars) (roll_by fleet two.first more again twice) columns begins one.run two.run all one.is_first two.is_first in
-      let ends = ended (roll_by fleet one.first forks statuses vars) (roll_by fleet two.first more again twice) one.run two.run begins all one.is_first two.is_first leaves in
+      let its : TellTheirs columns fleet forks (one.first ∷ one.later) statuses vars (one.run ∷ one.rest) =
+      subst (λ (l : List Play). TellTheirs columns fleet forks l statuses vars (one.run ∷ one.rest)) one.plays_are (subst (TellTheirs columns fleet forks plays statuses vars) one.runs_are tell) in
+      let theirs : TellTheirs columns fleet more (two.first ∷ two.later) again twice (two.run ∷ two.rest) =
+      subst (λ (l : List Play). TellTheirs columns fleet more l again twice (two.run ∷ two.rest)) two.plays_are (subst (TellTheirs columns fleet more others again twice) two.runs_are told) in
+      let roll : Roll = roll_by fleet one.first forks statuses vars in
+      let other : Roll = roll_by fleet two.first more again twice in
+      let begins : BeginAlike roll other = record { play = zip.0; start = same; known = known } in
+      let leaves = leave_alike fleet roll other (columns 0) begins may might one.run two.run all one.is_first its.0 two.is_first theirs.0 in
+      let ends = ended roll other one.run two.run begins all one.is_first two.is_first leaves in
       let several : are_several plays ≡ are_several others = ap (nat_lt 1) (sym (AllZip-long AreAlikePlays plays others alike)) in
-      let rest = after one.later two.later zip.1 one.run two.run ends one.rest two.rest one.follow two.follow (are_several plays) 1 in
+      let rest = after 1 one.later two.later zip.1 one.run two.run ends one.rest two.rest one.follow two.follow its.1 theirs.1 (are_several plays) 1 in
       ap (runs_text fleet (are_several plays)) one.runs_are ∙ ap₂ ◌++◌ (ap (headed (are_several plays) 1) leaves.text) rest
       ∙ sym (ap (runs_text fleet (are_several plays)) two.runs_are) ∙ ap (λ (b : Bool). runs_text fleet b seconds) several
 
   -- what two readings of the same texts say
-  same_inputs : (inventory playbook : List ℕ) (plays others : List Play) (runs seconds : List Run) → AreRunsIn (gives columns) inventory playbook forks fleet plays runs → AreRunsIn (gives columns) inventory playbook more fleet others seconds
-      → runs_text fleet (are_several plays) runs ≡ runs_text fleet (are_several others) seconds
-  same_inputs inventory playbook plays others runs seconds one two =
+  same_inputs : (inventory playbook : List ℕ) (plays others : List Play) (runs seconds : List Run) (one : AreRunsIn may inventory playbook forks fleet plays runs) (two : AreRunsIn might inventory playbook more fleet others seconds)
+      → TellTheirs columns fleet forks plays one.statuses one.vars runs → TellTheirs columns fleet more others two.statuses two.vars seconds → runs_text fleet (are_several plays) runs ≡ runs_text fleet (are_several others) seconds
+  same_inputs inventory playbook plays others runs seconds one two tell told =
       let document : one.inputs.says.reads.document ≡ two.inputs.says.reads.document = same_Some _ _ (sym one.inputs.says.reads.reads ∙ two.inputs.says.reads.reads) in
       let alike : AllZip AreAlikePlays plays others =
       all_alike_plays (plays_of two.inputs.says.reads.document) plays others (subst (λ d. AllZip playbooks.IsPlay (plays_of d) plays) document one.inputs.says.reads.says) two.inputs.says.reads.says in
@@ -169,16 +156,38 @@ module _ (fleet : FleetView) (columns : Columns) (forks more : ℕ) where
       let start : one.statuses ≡ two.statuses =
       one.inputs.begins.statuses_are ∙ ap (start_statuses fleet) (same_targets fleet one.inputs.begins.first two.inputs.begins.first first.0) ∙ sym two.inputs.begins.statuses_are in
       let all : length one.statuses ≡ length fleet.hosts = ap length one.inputs.begins.statuses_are ∙ started (targets fleet one.inputs.begins.first) in
-      all_runs plays others alike one.statuses two.statuses start all one.vars two.vars (same_known inventory fleet one.vars two.vars one.inputs.hosts two.inputs.hosts) runs seconds one.runs_are two.runs_are
+      all_runs plays others alike one.statuses two.statuses start all one.vars two.vars (same_known inventory fleet one.vars two.vars one.inputs.hosts two.inputs.hosts) runs seconds one.runs_are two.runs_are tell told
     where
       started : (target : List ℕ) → length (start_statuses fleet target) ≡ length fleet.hosts
       started target = length-map-range_with_len _ 0 (length fleet.hosts)
 
+pub one_recap_by_plays : (may might : Work → Ending → Type 0) → OneRecapByPlays may might
+one_recap_by_plays may might columns inventory playbook text other forks more runs others first second =
+    let one = first.is in
+    let two = second.is in
+    let same_inventory : one.are.inputs.hosts.inventory ≡ two.are.inputs.hosts.inventory = one_inventory inventory _ _ one.are.inputs.hosts.reads two.are.inputs.hosts.reads in
+    let same : one.fleet ≡ two.fleet =
+    one_fleet one.are.inputs.hosts.inventory one.fleet two.fleet one.are.inputs.hosts.built (subst (λ (i : Inventory). IsFleetOf i two.fleet) (sym same_inventory) two.are.inputs.hosts.built) in
+    let again = subst (λ (f : FleetView). (are : AreRunsIn might inventory playbook more f two.plays others) × TellTheirs columns f more two.plays are.statuses are.vars others) (sym same) (two.are, second.tell) in
+    one.text_is ∙ same_inputs may might columns one.fleet forks more inventory playbook one.plays two.plays runs others one.are again.0 first.tell again.1
+    ∙ ap (λ (f : FleetView). runs_text f (are_several two.plays) others) same ∙ sym two.text_is
+
+-- where all plays have the same columns, each log tells its own
+module _ (columns : Columns) (fleet : FleetView) (forks : ℕ) where
+  later_tell : (number : ℕ) (plays : List Play) (before : Run) (runs : List Run) → AreRunsAfter (gives columns) fleet forks plays before runs → TellLater (λ _. columns) fleet forks number plays before runs
+  later_tell number [] before runs are = tt
+  later_tell number (play ∷ plays) before [] are = tt
+  later_tell number (play ∷ plays) before (run ∷ rest) are =
+      let is : IsRun (gives columns) fleet (roll_after fleet forks play before) run = subst (λ (l : Roll). IsRun (gives columns) fleet l run) (begins_after fleet play forks before are.1.roll are.1.begins) are.1.run_is in
+      (is.log.told, later_tell (number + 1) plays run rest are.2)
+
+  all_tell : (plays : List Play) (statuses : List Status) (vars : List Vars) (runs : List Run) → AreRuns (gives columns) fleet forks plays statuses vars runs → TellTheirs (λ _. columns) fleet forks plays statuses vars runs
+  all_tell plays statuses vars runs are =
+      subst (λ (l : List Play). TellTheirs (λ _. columns) fleet forks l statuses vars runs) (sym are.plays_are)
+      (subst (TellTheirs (λ _. columns) fleet forks (are.first ∷ are.later) statuses vars) (sym are.runs_are) (are.is_first.log.told, later_tell 1 are.later are.run are.rest are.follow))
+
 pub one_recap : OneRecap
 one_recap columns inventory playbook text other forks more runs others first second =
-    let same_inventory : first.are.inputs.hosts.inventory ≡ second.are.inputs.hosts.inventory = one_inventory inventory _ _ first.are.inputs.hosts.reads second.are.inputs.hosts.reads in
-    let same : first.fleet ≡ second.fleet =
-    one_fleet first.are.inputs.hosts.inventory first.fleet second.fleet first.are.inputs.hosts.built (subst (λ (i : Inventory). IsFleetOf i second.fleet) (sym same_inventory) second.are.inputs.hosts.built) in
-    let again = subst (λ (f : FleetView). AreRunsIn (gives columns) inventory playbook more f second.plays others) (sym same) second.are in
-    first.text_is ∙ same_inputs first.fleet columns forks more inventory playbook first.plays second.plays runs others first.are again
-    ∙ ap (λ (f : FleetView). runs_text f (are_several second.plays) others) same ∙ sym second.text_is
+    one_recap_by_plays (gives columns) (gives columns) (λ _. columns) inventory playbook text other forks more runs others
+    (record { is = first; tell = all_tell columns first.fleet forks first.plays first.are.statuses first.are.vars runs first.are.runs_are })
+    (record { is = second; tell = all_tell columns second.fleet more second.plays second.are.statuses second.are.vars others second.are.runs_are })

@@ -1,7 +1,10 @@
 -- What holds of every recap.
 use Rattle.std.specs.Prelude.{◌≡◌, ℕ, List}
 use Rattle.roll_logs.specs.Columns.{Columns, gives}
+use Rattle.outcome_results.specs.Endings.{Ending}
+use Rattle.roll_logs.specs.Told.{Work}
 use Rattle.roll_run.specs.declared.run.Run.{Run}
+use Rattle.roll_run.specs.Files.{TellTheirs}
 use Rattle.running.specs.RunTexts.{IsRecap}
 
 -- the recaps of two runs of the same texts, in which programs end as the same columns say, are one text, however many workers there were
@@ -9,3 +12,14 @@ abbrev pub OneRecap : Type 0
 OneRecap =
     (columns : Columns) (inventory playbook text other : List ℕ) (forks more : ℕ) (runs others : List Run) → IsRecap (gives columns) inventory playbook forks runs text
     → IsRecap (gives columns) inventory playbook more others other → text ≡ other
+
+-- the text is the recaps of such runs, and the log of each run tells the columns of its play: those of one play bind no other
+pub record IsRecapBy (columns : ℕ → Columns) (may : Work → Ending → Type 0) (inventory playbook : List ℕ) (forks : ℕ) (runs : List Run) (text : List ℕ) : Type 0 where
+  pub is : IsRecap may inventory playbook forks runs text
+  pub tell : TellTheirs columns is.fleet forks is.plays is.are.statuses is.are.vars runs
+
+-- the recaps of two runs of the same texts, in each of whose plays programs end as the same columns say, are one text
+abbrev pub OneRecapByPlays : (Work → Ending → Type 0) → (Work → Ending → Type 0) → Type 0
+OneRecapByPlays may might =
+    (columns : ℕ → Columns) (inventory playbook text other : List ℕ) (forks more : ℕ) (runs others : List Run) → IsRecapBy columns may inventory playbook forks runs text
+    → IsRecapBy columns might inventory playbook more others other → text ≡ other

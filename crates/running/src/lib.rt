@@ -11,5 +11,5 @@ mod recaps;
 
 pub use end::RunEnd;
 pub use fault::RunTextFault;
-pub use laws::one_recap;
+pub use laws::{one_recap, one_recap_by_plays};
 pub use printing::run_text;

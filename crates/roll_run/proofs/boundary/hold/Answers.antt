@@ -1,6 +1,7 @@
-use Rattle.std.proofs.Common.{ap, ◌∙◌}
+use Rattle.std.proofs.Common.{◌<◌, sym, ap, ◌∙◌, subst}
 use Rattle.domains.specs.Ids.{host_numbers}
 use Rattle.domain_counts.specs.Counts.{Counted}
+use Rattle.fleet_states.proofs.HostLemmas.{length-host_numbers}
 use Rattle.batch_plan.specs.Places.{told_places}
 use Rattle.roll_kernel.specs.Views.{state_of}
 use Rattle.roll_run.proofs.Counting.{follows, told_fleet}
@@ -8,7 +9,9 @@ use Rattle.roll_run.proofs.Passing.{sets_aside}
 use Rattle.roll_run.proofs.boundary.hold.Goals as goal
 
 pub returns-in-Ok-clause-ok : goal.returns-in-Ok-clause-ok
-returns-in-Ok-clause-ok g c = sets_aside c.args.board.now c.hold.new.self (host_numbers c.args.held.now) c.in-Ok.ensures.ok
+returns-in-Ok-clause-ok g c =
+    let some = subst (λ n. 0 < n) (sym (length-host_numbers c.args.held.now)) c.requires.some in
+    sets_aside c.args.board.now c.hold.new.self (host_numbers c.args.held.now) some c.in-Ok.ensures.ok
 
 pub returns-in-Ok-clause-counts : goal.returns-in-Ok-clause-counts
 returns-in-Ok-clause-counts g c =

@@ -10,7 +10,7 @@ use Rattle.roll_kernel.specs.Views.{KernelView, state_of}
 use Rattle.roll_run.specs.Inside.{HasBroken, HasRun, grown, halt_in}
 use Rattle.roll_run.proofs.Counting.{told_fleet}
 use Rattle.roll_run.proofs.Ending.{broken_at, ends_here}
-use Rattle.roll_run.proofs.Turning.{is_behind, last_is, names_still, opens_some, same_behind, same_by}
+use Rattle.roll_run.proofs.Turning.{is_behind, last_is, opens_some, same_behind, same_by, still_so}
 use Rattle.roll_run.proofs.turns.pass.Goals as goal
 
 pub run_batch-requires-clause-some : goal.run_batch-requires-clause-some
@@ -61,7 +61,7 @@ returns-in-Err-clause-turned g c =
     let batch = c.next_batch.ensures ∙ ap (λ (b : Boundary). next_batch b.answer) here in
     let broken = subst (λ hosts. HasBroken hosts c.args.board c.in-Err.board) batch c.in-Err.ensures.err in
     let forks = c.requires.forks ∙ sym (ap (λ (k : KernelView). k.forks) broken.kernel) in
-    (broken_at c.args.board c.in-Err.board noted.behind c.args.boundaries.now noted.boundary c.args.before noted.at noted.boundaries_are goes_on broken, names_still c.in-Err.board.kernel.forks c.args.front.now.forks c.in-Err.why forks c.in-Err.ensures.worker)
+    (broken_at c.args.board c.in-Err.board noted.behind c.args.boundaries.now noted.boundary c.args.before noted.at noted.boundaries_are goes_on broken, still_so c.in-Err.board.kernel.forks c.args.front.now.forks (state_of c.in-Err.board.kernel) c.in-Err.why forks c.in-Err.ensures.why)
 
 pub returns-in-Err-clause-same : goal.returns-in-Err-clause-same
 returns-in-Err-clause-same g c =

@@ -1,0 +1,121 @@
+-- The runs of a file of plays are its courses.
+use Rattle.std.proofs.Common.{◌≡◌, ℕ, ◌+◌, Some, List, [], ◌∷◌, ◌++◌, length, map, zero, suc, refl, sym, ap, ◌∙◌, subst, arith}
+use Rattle.std.proofs.Math.Path.{fun_ext}
+use Rattle.domains.specs.FleetViews.{FleetView}
+use Rattle.fleet_states.specs.declared.status.Status.{Status}
+use Rattle.fleet_states.specs.Groups.{groups_of}
+use Rattle.host_vars.specs.declared.vars.Vars.{Vars}
+use Rattle.host_vars.specs.HostVars.{IsSameHost}
+use Rattle.outcome_results.specs.Endings.{Ending}
+use Rattle.outcome_results.specs.Hosts.{Known, known_of}
+use Rattle.batch_plan.specs.Beginnings.{restart_statuses}
+use Rattle.batch_work.specs.Works.{known_at}
+use Rattle.play_model.specs.declared.play.Play.{Play}
+use Rattle.play_plan.specs.PlayPlans.{targets}
+use Rattle.play_course.specs.declared.boundary.Boundary.{Boundary}
+use Rattle.play_course.specs.declared.end.End.{End}
+use Rattle.play_course.specs.declared.end.End.TheVariants.{Finished, Held, Blocked, TooManyFailed, AllFailed}
+use Rattle.play_course.specs.Courses.{IsCourse}
+use Rattle.play_course.specs.Files.{AreCourses, AreLaterCourses, Course, GoesOn, last_statuses}
+use Rattle.roll_logs.specs.Columns.{Columns, Tells}
+use Rattle.roll_logs.specs.Logs.{end_state}
+use Rattle.roll_logs.specs.Rolls.{Roll}
+use Rattle.roll_logs.specs.States.{between, working}
+use Rattle.roll_logs.specs.Told.{Work}
+use Rattle.roll_logs.proofs.GrowthLaws.{nobody_out}
+use Rattle.roll_kernel.specs.Views.{events_of}
+use Rattle.fork_pool.specs.declared.fault.StepFault.{StepFault}
+use Rattle.fork_pool.specs.declared.fault.StepFault.TheVariants.{Mem, WorkerMem, Mixed}
+use Rattle.roll_run.specs.declared.run.Run.{Run}
+use Rattle.roll_run.specs.Runs.{IsFaultIn, IsRun, roll_by, setting_of}
+use Rattle.roll_run.specs.Plays.{AreRunsAfter, AreSameHosts, IsRollAfter}
+use Rattle.roll_run.specs.Files.{TellLater, course_of, roll_after, settings_after}
+use Rattle.roll_run.specs.Laws.{MemoryAloneAtBoundaries, RunsAreCourses}
+
+same_host : (one other : Vars) → IsSameHost one other → known_of one ≡ known_of other
+same_host one other same =
+    ap (λ variables. record (known_of one) { variables = variables }) same.variables
+    ∙ ap (λ results. record (known_of other) { results = results }) (fun_ext same.results)
+
+same_vars : (ones others : List Vars) → AreSameHosts ones others → (host : ℕ) → known_at ones host ≡ known_at others host
+same_vars [] [] same host = refl
+same_vars [] (other ∷ others) same host = absurd same
+same_vars (one ∷ ones) [] same host = absurd same
+same_vars (one ∷ ones) (other ∷ others) same zero = same_host one other same.0
+same_vars (one ∷ ones) (other ∷ others) same (suc host) = same_vars ones others same.1 host
+
+-- a play begins so after a run
+pub begins_after : (fleet : FleetView) (play : Play) (forks : ℕ) (before : Run) (roll : Roll) → IsRollAfter fleet play forks before roll → roll ≡ roll_after fleet forks play before
+begins_after fleet play forks before roll begins =
+    begins.roll_is ∙ ap made (fun_ext (same_vars begins.vars before.vars.items begins.same))
+  where
+    made : (ℕ → Known) → Roll
+    made known =
+        record { groups = groups_of fleet; play = play; forks = forks; start = restart_statuses before.statuses.items (targets fleet play); known = known }
+
+last_of : (statuses : List Status) (behind : List Boundary) (last : Boundary) → last_statuses statuses (behind ++ last ∷ []) ≡ last.statuses.items
+last_of statuses [] last = refl
+last_of statuses (boundary ∷ behind) last = last_of boundary.statuses.items behind last
+
+-- where no course follows
+none_follow : (end : End) (courses : List Course) {Goes : Type 0} → courses ≡ [] → (end ≡ Finished → Goes) → GoesOn end courses Goes
+none_follow Finished courses none goes = goes refl
+none_follow Held courses none goes = none
+none_follow (Blocked group) courses none goes = none
+none_follow (TooManyFailed step failed size) courses none goes = none
+none_follow AllFailed courses none goes = none
+
+module _ (may : Work → Ending → Type 0) (columns : ℕ → Columns) (fleet : FleetView) (forks : ℕ) where
+  -- a run leaves the statuses with which its course ends
+  left_by : (roll : Roll) (run : Run) (by : Columns) → IsRun may fleet roll run → Tells by roll (events_of run.log.items) → last_statuses [] run.boundaries.items ≡ run.statuses.items
+  left_by roll run by is tells =
+      let took = is.by by tells in
+      ap (last_statuses []) took.boundaries_are ∙ last_of [] took.behind took.last ∙ sym took.statuses_are
+
+  later_courses : (number : ℕ) (plays : List Play) (before : Run) (runs : List Run) (statuses : List Status) → statuses ≡ before.statuses.items → AreRunsAfter may fleet forks plays before runs
+      → TellLater columns fleet forks number plays before runs → GoesOn before.end (map course_of runs) (AreLaterCourses (settings_after columns fleet forks number plays before runs) statuses (map course_of runs))
+  later_courses number [] before runs statuses same none tell =
+      none_follow before.end (map course_of runs) (ap (map course_of) none) (λ _. ap (map course_of) none)
+  later_courses number (play ∷ plays) before [] statuses same stops tell = none_follow before.end [] refl stops
+  later_courses number (play ∷ plays) before (run ∷ rest) statuses same after tell =
+      let roll : Roll = roll_after fleet forks play before in
+      let is : IsRun may fleet roll run = subst (λ (r : Roll). IsRun may fleet r run) (begins_after fleet play forks before after.1.roll after.1.begins) after.1.run_is in
+      let course = subst (λ (l : List Status). IsCourse (setting_of fleet roll (columns number)) (restart_statuses l (targets fleet play)) run.boundaries.items (Some run.end)) (sym same) (is.by (columns number) tell.0).course in
+      let rest_are = later_courses (number + 1) plays run rest (last_statuses [] run.boundaries.items) (left_by roll run (columns number) is tell.0) after.2 tell.1 in
+      subst (λ (end : End). GoesOn end (map course_of (run ∷ rest)) (AreLaterCourses (settings_after columns fleet forks number (play ∷ plays) before (run ∷ rest)) statuses (map course_of (run ∷ rest)))) (sym after.0) (course, rest_are)
+
+pub runs_are_courses : (may : Work → Ending → Type 0) → RunsAreCourses may
+runs_are_courses may columns fleet forks first later statuses vars run rest are tell =
+    by are.first are.later are.run are.rest are.plays_are are.runs_are are.is_first are.follow
+  where
+    by : (one : Play) (others : List Play) (its : Run) (more : List Run) → first ∷ later ≡ one ∷ others → run ∷ rest ≡ its ∷ more → IsRun may fleet (roll_by fleet one forks statuses vars) its
+        → AreRunsAfter may fleet forks others its more → AreCourses (setting_of fleet (roll_by fleet first forks statuses vars) (columns 0)) (settings_after columns fleet forks 1 later run rest) statuses (map course_of (run ∷ rest))
+    by one others its more plays runs is follow =
+        let play_is : one ≡ first = cc in
+        let later_are : others ≡ later = cc in
+        let run_is : its ≡ run = cc in
+        let rest_is : more ≡ rest = cc in
+        let here : IsRun may fleet (roll_by fleet first forks statuses vars) run = subst (λ (p : Play). IsRun may fleet (roll_by fleet p forks statuses vars) run) play_is (subst (λ (r : Run). IsRun may fleet (roll_by fleet one forks statuses vars) r) run_is is) in
+        let after : AreRunsAfter may fleet forks later run rest =
+        subst (λ (ps : List Play). AreRunsAfter may fleet forks ps run rest) later_are (subst (λ (r : Run). AreRunsAfter may fleet forks others r rest) run_is (subst (AreRunsAfter may fleet forks others its) rest_is follow)) in
+        record {
+          course = course_of run;
+          rest = map course_of rest;
+          courses_are = refl;
+          is_first = (here.by (columns 0) tell.0).course;
+          goes_on = later_courses may columns fleet forks 1 later run rest (last_statuses [] run.boundaries.items) (left_by may columns fleet forks (roll_by fleet first forks statuses vars) run (columns 0) here tell.0) after tell.1;
+        }
+
+pub memory_alone : (may : Work → Ending → Type 0) → MemoryAloneAtBoundaries may
+memory_alone may fleet roll fault is at = by fault.why is.why
+  where
+    none : (end_state roll (events_of fault.log.items)).out ≡ []
+    none = nobody_out roll (events_of fault.log.items) is.log.legal (λ step here. apart step (sym at ∙ here))
+      where
+        apart : (step : ℕ) → between ≡ working step → ⊥
+        apart step same = absurd (cc)
+
+    by : (why : StepFault) → IsFaultIn roll.forks (end_state roll (events_of fault.log.items)) why → why ≡ Mem
+    by Mem so = refl
+    by (WorkerMem at) so = absurd (omega (arith, so.1, ap length none))
+    by Mixed so = absurd (omega (arith, so, ap length none))

@@ -1,0 +1,50 @@
+-- The runs of a file of plays by columns, those of each play its own.
+use Rattle.std.specs.Prelude.{ℕ, ◌+◌, List, [], ◌∷◌}
+use Rattle.domains.specs.FleetViews.{FleetView}
+use Rattle.fleet_states.specs.declared.status.Status.{Status}
+use Rattle.host_vars.specs.declared.vars.Vars.{Vars}
+use Rattle.batch_plan.specs.Beginnings.{restart_statuses}
+use Rattle.play_model.specs.declared.play.Play.{Play}
+use Rattle.play_plan.specs.PlayPlans.{targets}
+use Rattle.play_course.specs.Files.{Course, PlaySetting}
+use Rattle.roll_logs.specs.Rolls.{Roll}
+use Rattle.roll_logs.specs.Columns.{Columns, Tells}
+use Rattle.roll_kernel.specs.Views.{events_of}
+use Rattle.roll_run.specs.declared.run.Run.{Run}
+use Rattle.roll_run.specs.Runs.{roll_by, setting_of}
+
+-- the roll with which a play begins after a run of another
+abbrev pub roll_after : FleetView → ℕ → Play → Run → Roll
+roll_after fleet forks play before =
+    roll_by fleet play forks (restart_statuses before.statuses.items (targets fleet play)) before.vars.items
+
+-- of the plays after one with this run, the log of each run tells the columns of its play, which are numbered from here on
+abbrev pub TellLater : (ℕ → Columns) → FleetView → ℕ → ℕ → List Play → Run → List Run → Type 0
+TellLater columns fleet forks number [] before runs = Unit {0}
+TellLater columns fleet forks number (play ∷ plays) before [] = Unit {0}
+TellLater columns fleet forks number (play ∷ plays) before (run ∷ rest) =
+    Tells (columns number) (roll_after fleet forks play before) (events_of run.log.items) × TellLater columns fleet forks (number + 1) plays run rest
+
+-- the log of each run of a file tells the columns of its play, numbered from 0
+abbrev pub TellTheirs : (ℕ → Columns) → FleetView → ℕ → List Play → List Status → List Vars → List Run → Type 0
+TellTheirs columns fleet forks [] statuses vars runs = Unit {0}
+TellTheirs columns fleet forks (first ∷ later) statuses vars [] = Unit {0}
+TellTheirs columns fleet forks (first ∷ later) statuses vars (run ∷ rest) =
+    Tells (columns 0) (roll_by fleet first forks statuses vars) (events_of run.log.items) × TellLater columns fleet forks 1 later run rest
+
+-- the course that a run took
+abbrev pub course_of : Run → Course
+course_of run = record { boundaries = run.boundaries.items; end = run.end }
+
+-- a play after a run of another, where its programs end as the columns say
+abbrev pub setting_after : FleetView → ℕ → Columns → Play → Run → PlaySetting
+setting_after fleet forks columns play before =
+    record { setting = setting_of fleet (roll_after fleet forks play before) columns; targets = targets fleet play }
+
+-- each play after one with this run, as it comes after the run before it; those without a run as if they came after the last one
+abbrev pub settings_after : (ℕ → Columns) → FleetView → ℕ → ℕ → List Play → Run → List Run → List PlaySetting
+settings_after columns fleet forks number [] before runs = []
+settings_after columns fleet forks number (play ∷ plays) before [] =
+    setting_after fleet forks (columns number) play before ∷ settings_after columns fleet forks (number + 1) plays before []
+settings_after columns fleet forks number (play ∷ plays) before (run ∷ rest) =
+    setting_after fleet forks (columns number) play before ∷ settings_after columns fleet forks (number + 1) plays run rest

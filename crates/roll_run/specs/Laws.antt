@@ -1,0 +1,32 @@
+-- What holds of every run.
+use Rattle.std.specs.Prelude.{◌≡◌, ℕ, List, ◌∷◌, map}
+use Rattle.domains.specs.FleetViews.{FleetView}
+use Rattle.fleet_states.specs.declared.status.Status.{Status}
+use Rattle.host_vars.specs.declared.vars.Vars.{Vars}
+use Rattle.outcome_results.specs.Endings.{Ending}
+use Rattle.play_model.specs.declared.play.Play.{Play}
+use Rattle.play_course.specs.Files.{AreCourses}
+use Rattle.roll_logs.specs.Columns.{Columns}
+use Rattle.roll_logs.specs.Logs.{end_state}
+use Rattle.roll_logs.specs.Rolls.{Roll}
+use Rattle.roll_logs.specs.States.{between}
+use Rattle.roll_logs.specs.Told.{Work}
+use Rattle.roll_kernel.specs.Views.{events_of}
+use Rattle.fork_pool.specs.declared.fault.StepFault.TheVariants.{Mem}
+use Rattle.roll_run.specs.declared.fault.RunFault.{RunFault}
+use Rattle.roll_run.specs.declared.run.Run.{Run}
+use Rattle.roll_run.specs.Runs.{IsBrokenOff, roll_by, setting_of}
+use Rattle.roll_run.specs.Plays.{AreRuns}
+use Rattle.roll_run.specs.Files.{TellTheirs, course_of, settings_after}
+
+-- the runs of a file of plays are its courses, where the programs of each play end as its run's log tells
+abbrev pub RunsAreCourses : (Work → Ending → Type 0) → Type 0
+RunsAreCourses may =
+    (columns : ℕ → Columns) (fleet : FleetView) (forks : ℕ) (first : Play) (later : List Play) (statuses : List Status) (vars : List Vars) (run : Run) (rest : List Run)
+    → AreRuns may fleet forks (first ∷ later) statuses vars (run ∷ rest) → TellTheirs columns fleet forks (first ∷ later) statuses vars (run ∷ rest)
+    → AreCourses (setting_of fleet (roll_by fleet first forks statuses vars) (columns 0)) (settings_after columns fleet forks 1 later run rest) statuses (map course_of (run ∷ rest))
+
+-- a run that a fault broke off while no batch was open was broken off for want of the coordinator's memory
+abbrev pub MemoryAloneAtBoundaries : (Work → Ending → Type 0) → Type 0
+MemoryAloneAtBoundaries may =
+    (fleet : FleetView) (roll : Roll) (fault : RunFault) → IsBrokenOff may fleet roll fault → (end_state roll (events_of fault.log.items)).phase ≡ between → fault.why ≡ Mem
