@@ -176,8 +176,8 @@ module _ {W : Type 0} (contents : W → Option (List ℕ)) (before : RehearsalVi
 
       -- a line was too long, or memory was wanting, in the chunk; perhaps bytes came behind it
       until : (is_reliable : Bool) (chunk behind : List ℕ) (fault : RehearseFault) → Consumes mid new (chunk ++ behind) → given + length (chunk ++ behind) ≤ max_input + 1
-          → HearsUntil contents between (line ++ chunk) after t1 t2 fault → (rest : List ℕ) × (text : List ℕ) × Heard before (so_far.bytes ++ (chunk ++ behind)) rest text after
-          × Writes contents t0 t2 text × StopsAt rest fault
+          → (hears : HearsUntil contents between (line ++ chunk) after t1 t2 fault) → (rest : List ℕ) × (text : List ℕ) × Heard before (so_far.bytes ++ (chunk ++ behind)) rest text after
+          × Writes contents t0 t2 text × StopsAt rest fault × (length rest ≡ length hears.rest + length behind)
       until is_reliable chunk behind fault read few hears =
           let all : Hears contents before (so_far.bytes ++ chunk) hears.rest after t0 t2 =
           hears_on contents before so_far.bytes line between chunk hears.rest after t0 t1 t2 so_far.hears hears.hears in (
@@ -191,11 +191,12 @@ module _ {W : Type 0} (contents : W → Option (List ℕ)) (before : RehearsalVi
             },
             all.written,
             stops_before hears.rest behind fault hears.stops,
+            length-append hears.rest behind,
           )
 
       pub until_fault : (is_reliable : Bool) (chunk behind : List ℕ) (fault : RehearseFault) → Consumes mid new (chunk ++ behind) → given + length (chunk ++ behind) ≤ max_input + 1
-          → HearsUntil contents between (line ++ chunk) after t1 t2 fault → Unheard contents is_reliable before old new t0 t2 fault
-      until_fault is_reliable chunk behind LongLine read few hears =
+          → given + length chunk ≤ max_input → HearsUntil contents between (line ++ chunk) after t1 t2 fault → Unheard contents is_reliable before old new t0 t2 fault
+      until_fault is_reliable chunk behind LongLine read few within hears =
           let all = until is_reliable chunk behind LongLine read few hears in record {
             text = all.1;
             ended = record {
@@ -204,11 +205,15 @@ module _ {W : Type 0} (contents : W → Option (List ℕ)) (before : RehearsalVi
               after = after;
               consumed = Consumes-trans old mid new so_far.bytes (chunk ++ behind) so_far.consumed read;
               heard = all.2;
-              ends = (all.4, omega (arith, length-append so_far.bytes (chunk ++ behind), so_far.many, few));
+              ends = (
+                all.4,
+                omega (arith, length-append so_far.bytes (chunk ++ behind), length-append chunk behind, all.5, so_far.many, within, hears.stops.long),
+                omega (arith, length-append so_far.bytes (chunk ++ behind), so_far.many, few),
+              );
             };
             written = all.3;
           }
-      until_fault is_reliable chunk behind Memory read few hears =
+      until_fault is_reliable chunk behind Memory read few within hears =
           let all = until is_reliable chunk behind Memory read few hears in record {
             text = all.1;
             ended = record {
@@ -221,10 +226,10 @@ module _ {W : Type 0} (contents : W → Option (List ℕ)) (before : RehearsalVi
             };
             written = all.3;
           }
-      until_fault is_reliable chunk behind File read few hears = absurd hears.stops
-      until_fault is_reliable chunk behind TooLarge read few hears = absurd hears.stops
-      until_fault is_reliable chunk behind (Refused fault) read few hears = absurd hears.stops
-      until_fault is_reliable chunk behind (Write fault) read few hears = absurd hears.stops
+      until_fault is_reliable chunk behind File read few within hears = absurd hears.stops
+      until_fault is_reliable chunk behind TooLarge read few within hears = absurd hears.stops
+      until_fault is_reliable chunk behind (Refused fault) read few within hears = absurd hears.stops
+      until_fault is_reliable chunk behind (Write fault) read few within hears = absurd hears.stops
 
 -- the last line was answered
 pub last_told : {W T E : Type 0} (contents : W → Option (List ℕ)) (before : RehearsalView) (line answer : List ℕ) (after : RehearsalView) (t0 t1 : TextWriter W) (told : Result T E) → 0 < length line

@@ -65,7 +65,7 @@ broken_session contents is_reliable before old new out_old out_new t0 t1 count t
     by_result (Err Memory) none all = until Memory all all.ended.ends
     by_result (Err File) none all = until File all (omega (arith, all.ended.ends.2))
     by_result (Err TooLarge) none all = until TooLarge all (omega (arith, all.ended.ends.1))
-    by_result (Err LongLine) none all = until LongLine all all.ended.ends.1
+    by_result (Err LongLine) none all = until LongLine all all.ended.ends.2
     by_result (Err (Write fault)) none all = record { text = all.0.text; heard = inl all.0.heard; written = sends all.0.text all.0.written }
     by_result (Err (Refused fault)) none all = absurd all
 

@@ -1,5 +1,5 @@
 -- A session: lines of commands are answered as they come.
-use Rattle.std.specs.Prelude.{◌≡◌, ℕ, ◌+◌, ◌≤◌, All, Bool, false, Option, List, [], ◌∷◌, ◌++◌, length, map}
+use Rattle.std.specs.Prelude.{◌≡◌, ℕ, ◌+◌, ◌<◌, ◌≤◌, All, Bool, false, Option, List, [], ◌∷◌, ◌++◌, length, map}
 use Rattle.std.specs.Io.KnownBytes.{Consumes, IsAtEnd}
 use Rattle.bounded_io.specs.Reading.{max_input}
 use Rattle.rehearsal.specs.Stacks.{RehearsalView}
@@ -7,7 +7,7 @@ use Rattle.rehearsal_text.specs.Answers.{LeadsTo, answer_to}
 use Rattle.rehearsal_text.specs.Commands.{command_in}
 use Rattle.rehearsing.specs.declared.fault.RehearseFault.{RehearseFault}
 use Rattle.rehearsing.specs.declared.fault.RehearseFault.TheVariants.{Refused, Memory, File, TooLarge, LongLine, Write}
-use Rattle.rehearsing.specs.Lines.{IsLine, IsLong, joined, last_line, without_return}
+use Rattle.rehearsing.specs.Lines.{IsLine, IsLong, joined, last_line, max_line, without_return}
 
 -- the text is the answers to these lines in their order, each from the rehearsal that the one before it left
 abbrev pub Session : RehearsalView → List (List ℕ) → List ℕ → RehearsalView → Type 0
@@ -55,11 +55,15 @@ pub record IsPastLine (rest : List ℕ) : Type 0 where
   pub rest_is : rest ≡ line ++ byte ∷ []
   pub is_line : IsLine line
 
+-- the last line is too long by those of its bytes alone that are within the bound of an input
+abbrev pub IsLongWithin : List ℕ → List ℕ → Type 0
+IsLongWithin bytes rest = length bytes + max_line < max_input + length rest
+
 -- when a fault ends a session, by the bytes that the reader gave, and by those of them that stand behind the last line that was answered
 abbrev pub Ends : Bool → List ℕ → List ℕ → RehearseFault → Type 0
 Ends is_reliable bytes rest File = (is_reliable ≡ false) × IsLine rest × (length bytes ≤ max_input)
 Ends is_reliable bytes rest TooLarge = IsPastLine rest × (length bytes ≡ max_input + 1)
-Ends is_reliable bytes rest LongLine = IsLong rest × (length bytes ≤ max_input + 1)
+Ends is_reliable bytes rest LongLine = IsLong rest × IsLongWithin bytes rest × (length bytes ≤ max_input + 1)
 Ends is_reliable bytes rest Memory = length bytes ≤ max_input + 1
 Ends is_reliable bytes rest (Refused fault) = ⊥
 Ends is_reliable bytes rest (Write fault) = ⊥

@@ -45,7 +45,8 @@ returns-in-Err-hear-clause-err g c =
     until_fault _ _ _ _ _ _ _ _ _ (still_listening _ _ _ _ _ _ _ _ _ c.reads.invariant.so_far c.flush.new.self c.flush.ensures.writes) (g.I.Read.remaining c.read_some.new.self)
     c.hear.new.rehearsal c.hear.new.text (g.I.Input.is_reliable c.args.input.now) part (drop c.min.result (take count room)) c.in-Err-hear.fault
     (subst (Consumes (g.I.Read.remaining c.reads.input) (g.I.Read.remaining c.read_some.new.self)) parts c.in-Some-read_some.ensures.read)
-    (omega (arith, ap length parts, length-take {A = ℕ}, c.in-Some-read_some.ensures.bound, c.min-most.ensures, c.reads.invariant.so_far.within)) c.in-Err-hear.ensures.err
+    (omega (arith, ap length parts, length-take {A = ℕ}, c.in-Some-read_some.ensures.bound, c.min-most.ensures, c.reads.invariant.so_far.within))
+    (omega (arith, c.split_at.ensures.front_len, c.min.ensures, c.reads.invariant.so_far.within)) c.in-Err-hear.ensures.err
 
 pub returns-then-count-left-clause-err : goal.returns-then-count-left-clause-err
 returns-then-count-left-clause-err g c =
