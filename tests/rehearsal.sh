@@ -127,6 +127,13 @@ advanced: a d
 > b"undo\nadvance\n"
 ! 1 rollout: 904 Write written=14
 LINES
+typed 'more commands than may be, of which nobody reads the last answers' open <<'LINES'
+> b"\n" * 16777200 + b"undo\n"
+nothing to undo
+|
+> b"undo\n" * 3
+! 1 rollout: 904 Write written=16
+LINES
 typed 'more commands than may be, told before they end' open <<'LINES'
 > b"\n" * 16777211 + b"undo\n"
 nothing to undo
