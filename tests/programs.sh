@@ -614,17 +614,23 @@ alive() {
     ps -eo pgid=,stat= | awk -v group="$1" '$1 == group && $2 !~ /^Z/' | wc -l
 }
 
+# comes_to GROUP COUNT: waits until so many are alive, ten seconds at most; false where it never comes to that.
+comes_to() {
+    for _turn in $(seq 100); do
+        [ "$(alive "$1")" -eq "$2" ] && return
+        sleep 0.1
+    done
+    return 1
+}
+
 # A signal to its process group ends its programs with it. What a script starts beside itself would not heed SIGINT.
 for signal in INT TERM; do
     printf '[{"hosts":"all","tasks":[{"command":{"argv":["sleep","43"]}}]}]' >"$work/play.json"
     setsid env --default-signal=INT "$rollout" run "$work/one.json" "$work/play.json" >"$work/out" 2>"$work/errors" </dev/null &
     runner=$!
-    sleep 0.3
-    running=$(alive $runner)
+    comes_to $runner 2 || fail "SIG$signal: the program doesn't run"
     env kill -$signal -- "-$runner"
     wait $runner 2>/dev/null
-    sleep 0.2
-    left=$(alive $runner)
-    [ "$running" -eq 2 ] && [ "$left" -eq 0 ] && pass || fail "SIG$signal: $running ran, and $left are left"
+    comes_to $runner 0 && pass || fail "SIG$signal: $(alive $runner) are left"
 done
 finish
