@@ -242,7 +242,7 @@ class Cases:
 def main():
     rollout = str(Path(sys.argv[1]).resolve())
     seed = sys.argv[2] if len(sys.argv) > 2 and sys.argv[2] else "1"
-    count = int(sys.argv[3]) if len(sys.argv) > 3 and sys.argv[3] else 300
+    count = int(sys.argv[3]) if len(sys.argv) > 3 and sys.argv[3] else 304
     with tempfile.TemporaryDirectory(prefix="noted-") as folder:
         cases = Cases(rollout, seed, folder)
         for number in range(count):
