@@ -367,6 +367,20 @@ played '{"command":"sleep 0.3"}'
 run run -v "$work/one.json" "$work/play.json"
 taken=$(sed -n 's/^a step=1 rc=0 ms=\([0-9]*\) name=$/\1/p' "$work/errors")
 [ "${taken:-0}" -ge 300 ] && [ "$taken" -lt 5000 ] && pass || fail "a program of 0.3 s took $taken ms"
+# Each of five programs of 0.1 s is told with its part of a second.
+played "$(seq 1 5 | sed 's/.*/{"command":"sleep 0.1"}/' | paste -sd, -)"
+run run -v "$work/one.json" "$work/play.json"
+[ "$(sed -n 's/^a step=[1-5] rc=0 ms=\([0-9]*\) name=$/\1/p' "$work/errors" | awk '$1 >= 100 && $1 < 5000' | wc -l)" -eq 5 ] && pass || fail "five programs of 0.1 s: $(grep -o 'ms=[0-9]*' "$work/errors" | tr '\n' ' ')"
+# Each play is told of under the names of its own steps.
+printf '[{"hosts":"all","tasks":[{"name":"first","command":"true"}]},{"hosts":"all","tasks":[{"name":"second","command":"true"},{"name":"third","command":"true"}]}]' >"$work/plays.json"
+run run -v "$work/one.json" "$work/plays.json"
+sed -i 's/ ms=[0-9]* name=/ ms=N name=/' "$work/errors"
+check 'what is told of a second play' 0 "$(cat "$work/out")$newline" "waiting=0 open: a
+a step=1 rc=0 ms=N name=first
+waiting=0 open: a
+a step=1 rc=0 ms=N name=second
+a step=2 rc=0 ms=N name=third
+"
 # Nobody reads what is told, or it can't be written: the run goes on.
 run run "$work/three.json" "$work/play.json"
 cp "$work/out" "$work/unwatched"

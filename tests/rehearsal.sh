@@ -153,6 +153,10 @@ child, terminal = pty.fork()
 if child == 0:
     if os.environ.get("OUTPUT"):
         os.dup2(os.open(os.environ["OUTPUT"], os.O_WRONLY | os.O_CREAT | os.O_TRUNC), 1)
+    if os.environ.get("ERRORS"):
+        os.dup2(os.open(os.environ["ERRORS"], os.O_WRONLY | os.O_CREAT | os.O_TRUNC), 2)
+    if os.environ.get("INPUT"):
+        os.dup2(os.open(os.environ["INPUT"], os.O_RDONLY), 0)
     os.execv(sys.argv[2], sys.argv[2:])
 
 
@@ -169,10 +173,11 @@ def read(wanted):
 
 wanted = eval(sys.argv[1])
 first, _, rest = wanted.partition(b"undo\r\n")
-seen = read(first) if first else b""
-os.write(terminal, b"undo\n")
-seen += read(b"undo\r\n" + rest)
-os.write(terminal, b"\x04")
+seen = read(first) if first and not os.environ.get("INPUT") else b""
+if not os.environ.get("INPUT"):
+    os.write(terminal, b"undo\n")
+    seen += read(b"undo\r\n" + rest)
+    os.write(terminal, b"\x04")
 seen += read(b"\0")
 status = os.waitstatus_to_exitcode(os.waitpid(child, 0)[1])
 if seen != wanted or status:
@@ -192,5 +197,15 @@ OUTPUT=$work/answers
 export OUTPUT
 terminal 'no prompt where the answers go to a file' 'b"undo\r\n"'
 unset OUTPUT
+ERRORS=$work/told
+export ERRORS
+terminal 'no prompt where errors go to a file' 'b"undo\r\nnothing to undo\r\n"'
+unset ERRORS
+[ ! -s "$work/told" ] && pass || fail "a file of errors: $(cat "$work/told")"
+printf 'undo\n' >"$work/commands"
+INPUT=$work/commands
+export INPUT
+terminal 'no prompt where the commands come from a file' 'b"nothing to undo\r\n"'
+unset INPUT
 printf 'nothing to undo\n' | cmp -s - "$work/answers" && pass || fail "a file of answers: $(cat "$work/answers")"
 finish
