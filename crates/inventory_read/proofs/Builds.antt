@@ -1,5 +1,5 @@
 -- A group that takes its children one by one, against the document's list.
-use Rattle.std.proofs.Common.{◌≡◌, List, [], ◌∷◌, ◌++◌, map, sym, ap, ◌∙◌, append_assoc, refl}
+use Rattle.std.proofs.Common.{◌≡◌, Bool, List, [], ◌∷◌, ◌++◌, map, sym, ap, ◌∙◌, append_assoc, refl}
 use Rattle.std.specs.List.{flat_map}
 use Rattle.std.proofs.lemmas.List.{map-append, append-nil}
 use Rattle.std.proofs.lemmas.Grind.{flat_map-append}
@@ -8,7 +8,7 @@ use Rattle.inventory_model.specs.Names.{Name}
 use Rattle.inventory_model.specs.Places.{Place, Row, Inventory}
 use Rattle.inventory_model.specs.Subtrees.{Host, Subtree, place_under, row_under, own_place, own_row, places_of, inventory_of, side_by_side, beside, with_child}
 use Rattle.inventory_model.specs.Subtrees as subtrees
-use Rattle.inventory_read.specs.Documents.{Listed, under, with_below}
+use Rattle.inventory_read.specs.Documents.{Listed, standing, under, with_below}
 use Rattle.inventory_read.specs.Values.{place_of, row_of, rows_of, hosts_in, limit_in, variables_in, inventory_from}
 
 -- the group, and then these groups as further ones below it
@@ -32,6 +32,18 @@ rows-under name (group ∷ groups) =
 
 same_inventory : (a b : List Place) (x y : List Row) → a ≡ b → x ≡ y → (let first : Inventory = record { places = a; rows = x } in first) ≡ record { places = b; rows = y }
 same_inventory a b x y e f = cc
+
+-- where groups stand changes nothing of what they say
+places-standing : (at_top : Bool) (groups : List Listed) → map place_of (map (standing at_top) groups) ≡ map place_of groups
+places-standing at_top [] = refl
+places-standing at_top (group ∷ groups) = ap (λ rest. place_of group ∷ rest) (places-standing at_top groups)
+
+rows-standing : (at_top : Bool) (groups : List Listed) → flat_map rows_of (map (standing at_top) groups) ≡ flat_map rows_of groups
+rows-standing at_top [] = refl
+rows-standing at_top (group ∷ groups) = ap (λ rest. rows_of group ++ rest) (rows-standing at_top groups)
+
+pub inventory-standing : (at_top : Bool) (groups : List Listed) → inventory_from (map (standing at_top) groups) ≡ inventory_from groups
+inventory-standing at_top groups = same_inventory _ _ _ _ (places-standing at_top groups) (rows-standing at_top groups)
 
 module _ (group child : Subtree) (listed more : List Listed) (is : inventory_of child ≡ inventory_from listed) where
   -- what further groups of the document give below the group

@@ -1,7 +1,7 @@
 -- The groups below a body, by the members under `children`, and what the reader's list says of them.
-use Rattle.std.proofs.Common.{◌≡◌, ℕ, ◌+◌, ◌≤◌, min, Option, Some, List, [], ◌∷◌, ◌++◌, map, Ordering, Less, Equal, Greater, unwrap_or, nat_cmp, refl, sym, ap}
+use Rattle.std.proofs.Common.{◌≡◌, ℕ, ◌+◌, ◌≤◌, min, Bool, false, Option, Some, List, [], ◌∷◌, ◌++◌, map, Ordering, Less, Equal, Greater, unwrap_or, nat_cmp, refl, sym, ap}
 use Rattle.std.proofs.Common.{◌∙◌, append_assoc, arith}
-use Rattle.std.specs.List.{filter, flat_map}
+use Rattle.std.specs.List.{flat_map}
 use Rattle.std.specs.Ordering.{match_ordering}
 use Rattle.std.specs.Cmp.Lexicographic.{slice_cmp}
 use Rattle.std.proofs.lemmas.List.{map-append}
@@ -11,8 +11,9 @@ use Rattle.serde_json.specs.View.{view}
 use Rattle.inventory_model.specs.Names.{Name}
 use Rattle.inventory_read.specs.Keys.{all_key, children_key}
 use Rattle.inventory_read.specs.Documents as documents
-use Rattle.inventory_read.specs.Documents.{members_in, part, under, with_below, below_body, below_members, groups_in, groups_among, groups_from, entries_in, merged, is_beside_all, groups_of}
-use Rattle.inventory_read.specs.Listings.{Outline, outline_of, outline_at, most}
+use Rattle.inventory_read.specs.Documents.{members_in, part, standing, under, with_below, below_body, below_members, groups_in, groups_among, groups_from, entries_in, merged, groups_beside_all, groups_of}
+use Rattle.inventory_read.specs.Listings.{Outline, entry_of, outline_of, outline_at, most}
+use Rattle.inventory_read.specs.declared.listing.Entry.{Entry}
 use Rattle.inventory_read.specs.declared.listing.Listed.{Listed}
 
 groups_in-is : (value : Data) → groups_in value ≡ groups_among (members_in value)
@@ -50,6 +51,11 @@ outline_at-under depth name (group ∷ groups) =
     ap (λ d. record { name = group.name; body = group.body; depth = d }) (omega arith) in
     rw (first, outline_at-under depth name groups) refl
 
+-- where a group stands changes no outline
+pub outline_at-standing : (depth : ℕ) (at_top : Bool) (groups : List documents.Listed) → map (outline_at depth) (map (standing at_top) groups) ≡ map (outline_at depth) groups
+outline_at-standing depth at_top [] = refl
+outline_at-standing depth at_top (group ∷ groups) = ap (λ rest. outline_at depth group ∷ rest) (outline_at-standing depth at_top groups)
+
 cons_same : {X : Type 0} {x y : X} {xs ys : List X} → x ≡ y → xs ≡ ys → x ∷ xs ≡ y ∷ ys
 cons_same e f = cc
 
@@ -59,7 +65,7 @@ pub listed_with_below : (before after : List Listed) (group : Listed) (depth : �
     → members ≡ members_in (part children_key (view group.body.now)) → whole ≡ map outline_of after ++ map (outline_at depth) (groups_among members)
     → whole ≡ map outline_of before ++ map (outline_at group.depth) (with_below group.name.now (view group.body.now) (below_body (view group.body.now)))
 listed_with_below before after group depth members whole pushed fits deep is e =
-    let own : outline_of group ≡ outline_at group.depth (record { above = []; name = group.name.now; body = view group.body.now }) =
+    let own : outline_of group ≡ outline_at group.depth (record { above = []; name = group.name.now; body = view group.body.now; at_top = false }) =
     ap (λ d. record { name = group.name.now; body = view group.body.now; depth = d }) (omega arith) in
     let below : map (outline_at depth) (groups_among members) ≡ map (outline_at group.depth) (map (under group.name.now) (below_body (view group.body.now))) =
     sym (outline_at-under group.depth group.name.now (below_body (view group.body.now)) ∙ rw (below_body-is, ← deep, ← is) refl) in
@@ -69,6 +75,17 @@ listed_with_below before after group depth members whole pushed fits deep is e =
     ∙ append_assoc (map outline_of before) (outline_of group ∷ []) _
     ∙ ap (λ rest. map outline_of before ++ rest) (cons_same own below)
 
+-- a child of `all` and all below it, once they have been added
+pub listed_child : (before after : List Listed) (child : Entry) (rest : List documents.Listed) (whole : List Outline)
+    → map outline_of after ≡ map outline_of before ++ map (outline_at 2) (with_below child.name.now (view child.body.now) (below_body (view child.body.now)))
+    → map outline_of before ++ map (outline_at 2) (groups_from (entry_of child) ++ rest) ≡ whole → map outline_of after ++ map (outline_at 2) rest ≡ whole
+listed_child before after child rest whole listed e =
+    let own = with_below child.name.now (view child.body.now) (below_body (view child.body.now)) in
+    ap (λ first. first ++ map (outline_at 2) rest) (listed ∙ ap (λ added. map outline_of before ++ added) (sym (outline_at-standing 2 child.at_top own)))
+    ∙ append_assoc (map outline_of before) (map (outline_at 2) (groups_from (entry_of child))) (map (outline_at 2) rest)
+    ∙ ap (λ last. map outline_of before ++ last) (sym (map-append (outline_at 2) (groups_from (entry_of child)) rest))
+    ∙ e
+
 -- `all` and all below it, once those below it have been listed
 pub listed_all : (groups : List Outline) (body : Data) (below : List documents.Listed)
     → groups ≡ record { name = all_key; body = body; depth = 1 } ∷ map (outline_at 2) below → groups ≡ map (outline_at 1) (with_below all_key body below)
@@ -77,10 +94,10 @@ listed_all groups body below e =
 
 -- `all` and its children, as the reader has them, are all groups of the document
 pub groups_of-is : (document all : Data) (children : List documents.Entry)
-    → children ≡ merged (entries_in (part children_key all)) (filter is_beside_all (entries_in document)) → all ≡ part all_key document
+    → children ≡ merged (entries_in (part children_key all)) (groups_beside_all document) → all ≡ part all_key document
     → with_below all_key all (flat_map groups_from children) ≡ groups_of document
 groups_of-is document all children listed body =
     let children_in : Data → List documents.Entry =
-    λ value. merged (entries_in (part children_key value)) (filter is_beside_all (entries_in document)) in
+    λ value. merged (entries_in (part children_key value)) (groups_beside_all document) in
     ap (λ list. with_below all_key all (flat_map groups_from list)) listed
     ∙ ap (λ value. with_below all_key value (flat_map groups_from (children_in value))) body

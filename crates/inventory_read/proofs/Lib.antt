@@ -6,6 +6,7 @@ pub mod Repeats
 pub mod Counts
 pub mod Builds
 pub mod Verdicts
+pub mod Checks
 pub mod Unbroken
 pub mod MergeLaws
 pub mod Named

@@ -1,17 +1,18 @@
 -- A document that breaks no rule names its groups and hosts by the alphabet.
-use Rattle.std.proofs.Common.{◌≡◌, true, List, [], ◌∷◌, ◌++◌, map, refl, sym, ◌∙◌}
+use Rattle.std.proofs.Common.{◌≡◌, Bool, false, true, List, [], ◌∷◌, ◌++◌, map, refl, sym, ◌∙◌}
 use Rattle.std.specs.Cmp.Derive.{both_true}
-use Rattle.std.specs.List.{list_all}
+use Rattle.std.specs.List.{flat_map, list_all}
 use Rattle.std.proofs.lemmas.Bool.{and_parts}
 use Rattle.std.proofs.lemmas.List.Folds.{list_all-append, list_all-map}
 use Rattle.serde_json.specs.Data.{Data}
 use Rattle.inventory_model.specs.Names.{Name, is_name}
-use Rattle.inventory_read.specs.Documents.{Entry, Listed, under, with_below, entries_in, groups_of, part}
+use Rattle.inventory_read.specs.Documents.{Entry, Listed, standing, under, with_below, entries_in, groups_of, part}
 use Rattle.inventory_read.specs.Keys.{hosts_key, vars_key, children_key}
+use Rattle.inventory_read.specs.Paths.{text_path_of}
 use Rattle.inventory_read.specs.Named.{has_name, is_named, are_named}
-use Rattle.inventory_read.specs.Rules.{BadName, bad_top, bad_name, bad_shape, bad_limit, unknown_key, broken_by_host, broken_by_hosts, broken_by_group, broken}
+use Rattle.inventory_read.specs.Rules.{BadName, bad_top, bad_name, bad_shape, bad_part, bad_limit, broken_by_keys, broken_by_host, broken_by_hosts, broken_by_group, broken_in, broken}
 use Rattle.inventory_read.proofs.Unbroken.{first_nil, rest_nil, kept}
-use Rattle.inventory_read.proofs.Verdicts.{by_groups}
+use Rattle.inventory_read.proofs.Verdicts.{none_placed}
 
 hosts_named : (hosts : List Entry) → broken_by_hosts hosts ≡ [] → list_all has_name hosts ≡ true
 hosts_named [] e = refl
@@ -24,25 +25,26 @@ group_named group e =
     let body = group.body in
     let own = kept (is_name group.name) (BadName group.name) (first_nil (bad_name group.name) _ e) in
     let shape = rest_nil (bad_name group.name) _ e in
-    let key = rest_nil (bad_shape body) _ shape in
-    let vars = rest_nil (unknown_key body) _ key in
-    let hosts = rest_nil (bad_shape (part vars_key body)) _ vars in
-    let children = rest_nil (bad_shape (part hosts_key body)) _ hosts in
-    let limit = rest_nil (bad_shape (part children_key body)) _ children in
+    let key = rest_nil (bad_shape [] body) _ shape in
+    let vars = rest_nil (broken_by_keys (entries_in body)) _ key in
+    let hosts = rest_nil (bad_part vars_key body) _ vars in
+    let children = rest_nil (bad_part hosts_key body) _ hosts in
+    let limit = rest_nil (bad_part children_key body) _ children in
     let rows = first_nil (broken_by_hosts (entries_in (part hosts_key body))) [] (rest_nil (bad_limit (part vars_key body)) _ limit) in
     both_true own (hosts_named (entries_in (part hosts_key body)) rows)
 
-groups_named : (groups : List Listed) → by_groups groups ≡ [] → are_named groups ≡ true
+groups_named : (groups : List Listed) → flat_map broken_in groups ≡ [] → are_named groups ≡ true
 groups_named [] e = refl
 groups_named (group ∷ groups) e =
-    both_true (group_named group (first_nil (broken_by_group group.name group.body) (by_groups groups) e)) (groups_named groups (rest_nil (broken_by_group group.name group.body) (by_groups groups) e))
+    let own = none_placed (text_path_of group) (broken_by_group group.name group.body) (first_nil (broken_in group) (flat_map broken_in groups) e) in
+    both_true (group_named group own) (groups_named groups (rest_nil (broken_in group) (flat_map broken_in groups) e))
 
 pub unbroken-named : (document : Data) → broken document ≡ [] → are_named (groups_of document) ≡ true
 unbroken-named document e =
-    groups_named (groups_of document) (first_nil (by_groups (groups_of document)) _ (rest_nil (bad_top document) _ e))
+    groups_named (groups_of document) (first_nil (flat_map broken_in (groups_of document)) _ (rest_nil (bad_top document) _ e))
 
 module _ (name : Name) (body : Data) (below : List Listed) (e : are_named (with_below name body below) ≡ true) where
-  parts : (is_named (record { above = []; name = name; body = body }) ≡ true) × (are_named (map (under name) below) ≡ true)
+  parts : (is_named (record { above = []; name = name; body = body; at_top = false }) ≡ true) × (are_named (map (under name) below) ≡ true)
   parts = and_parts _ _ e
 
   pub below_named : are_named below ≡ true
@@ -51,3 +53,7 @@ module _ (name : Name) (body : Data) (below : List Listed) (e : are_named (with_
 pub parts_named : (groups more : List Listed) → are_named (groups ++ more) ≡ true → (are_named groups ≡ true) × (are_named more ≡ true)
 parts_named groups more e =
     and_parts (are_named groups) (are_named more) (sym (list_all-append is_named groups more) ∙ e)
+
+-- where groups stand changes no name
+pub standing_named : (at_top : Bool) (groups : List Listed) → are_named (map (standing at_top) groups) ≡ are_named groups
+standing_named at_top groups = list_all-map is_named (standing at_top) groups

@@ -1,5 +1,5 @@
 -- The groups of an inventory's document, in preorder.
-use Rattle.std.specs.Prelude.{Bool, not, List, [], ◌∷◌, ◌++◌, map, take, drop, unwrap_or}
+use Rattle.std.specs.Prelude.{Bool, true, false, not, List, [], ◌∷◌, ◌++◌, map, take, drop, unwrap_or}
 use Rattle.std.specs.List.{filter, flat_map, prefix_len}
 use Rattle.std.specs.Ordering.{nat_cmp, is_lt, match_ordering}
 use Rattle.std.specs.Cmp.Lexicographic.{slice_cmp}
@@ -8,15 +8,16 @@ use Rattle.serde_json.specs.Find.{get}
 use Rattle.inventory_model.specs.Names.{Name, same_name}
 use Rattle.inventory_read.specs.Keys.{all_key, children_key}
 
--- an entry of an object
+-- an entry of an object; `at_top` marks the groups that the top value lists beside `all`
 pub record Entry : Type 0 where
   pub name : Name
   pub value : Data
+  pub at_top : Bool
 
 -- the entries in the order of their names, which a document's objects keep; each name stands once
 abbrev pub entries : Members → List Entry
 entries no_members = []
-entries (member name value more) = record { name = name; value = value } ∷ entries more
+entries (member name value more) = record { name = name; value = value; at_top = false } ∷ entries more
 
 -- the entries of an object, as they are kept; any other value has none
 abbrev pub members_in : Data → Members
@@ -34,11 +35,12 @@ entries_in value = entries (members_in value)
 abbrev pub part : Name → Data → Data
 part key value = unwrap_or (get key value) null
 
--- a group as the document lists it: the names above it from the outermost in, its own name, and its body
+-- a group as the document lists it: the names above it from the outermost in, its own name, its body, and whether it stands beside `all` or below a group that does
 pub record Listed : Type 0 where
   pub above : List Name
   pub name : Name
   pub body : Data
+  pub at_top : Bool
 
 -- the group one group further down
 abbrev pub under : Name → Listed → Listed
@@ -46,7 +48,7 @@ under outer group = record group { above = outer ∷ group.above }
 
 -- a group, and after it all those below it
 abbrev pub with_below : Name → Data → List Listed → List Listed
-with_below name body below = record { above = []; name = name; body = body } ∷ map (under name) below
+with_below name body below = record { above = []; name = name; body = body; at_top = false } ∷ map (under name) below
 
 -- the groups below a body, where `children` of the body lists groups in the order of their names
 abbrev mutual
@@ -74,9 +76,12 @@ abbrev mutual
   groups_among no_members = []
   groups_among (member name body more) = with_below name body (below_body body) ++ groups_among more
 
--- a group of this name and body, and all below it
+abbrev pub standing : Bool → Listed → Listed
+standing at_top group = record group { at_top = at_top }
+
+-- a group of this name and body, and all below it, where the entry stands
 abbrev pub groups_from : Entry → List Listed
-groups_from group = with_below group.name group.value (below_body group.value)
+groups_from group = map (standing group.at_top) (with_below group.name group.value (below_body group.value))
 
 -- the second name stands before the first
 abbrev pub comes_after : Entry → Entry → Bool
@@ -91,10 +96,17 @@ merged (entry ∷ own) others =
 abbrev pub is_beside_all : Entry → Bool
 is_beside_all entry = not (same_name entry.name all_key)
 
--- the children of `all`: its own, and the groups that the top value lists beside it
+abbrev pub beside : Entry → Entry
+beside entry = record entry { at_top = true }
+
+-- the groups that the top value lists beside `all`
+abbrev pub groups_beside_all : Data → List Entry
+groups_beside_all document = map beside (filter is_beside_all (entries_in document))
+
+-- the children of `all`: its own, and those that stand beside it
 abbrev pub children_of_all : Data → List Entry
 children_of_all document =
-    merged (entries_in (part children_key (part all_key document))) (filter is_beside_all (entries_in document))
+    merged (entries_in (part children_key (part all_key document))) (groups_beside_all document)
 
 -- all groups of the document in preorder, `all` first; where it is missing it has no body
 abbrev pub groups_of : Data → List Listed

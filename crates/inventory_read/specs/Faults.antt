@@ -1,7 +1,9 @@
 -- Which rule a fault names.
-use Rattle.std.specs.Prelude.{◌≡◌, ℕ, Option, Some, None, Result, [], List, MatchResult, MatchOption, ⊤, ◌++◌, codes, decimal}
+use Rattle.std.specs.Prelude.{◌≡◌, ℕ, Option, Some, None, Result, [], ◌∷◌, List, MatchResult, MatchOption, ⊤, ◌++◌, codes, decimal}
 use Rattle.std.specs.Fmt.{◌++?◌, debug_str}
 use Rattle.std.specs.String.{string_bytes}
+use Rattle.inventory_read.specs.Keys.{down_key, hosts_key, max_down_key, vars_key}
+use Rattle.inventory_read.specs.Paths.{further}
 use Rattle.inventory_read.specs.Rules as rules
 use Rattle.inventory_read.specs.Rules.{Breach, first_of}
 use Rattle.inventory_read.specs.declared.flaw.Flaw.{Flaw}
@@ -9,14 +11,15 @@ use Rattle.inventory_read.specs.declared.flaw.Flaw.TheVariants as flaw
 use Rattle.inventory_read.specs.declared.fault.ReadFault.{ReadFault}
 use Rattle.inventory_read.specs.declared.fault.ReadFault.TheVariants as fault
 
+-- which rule a group's flaw breaks, with its path from the group's body on
 abbrev pub breach_of_flaw : Flaw → Breach
 breach_of_flaw (flaw.BadName name) = rules.BadName name.now
-breach_of_flaw flaw.BadBody = rules.BadShape
-breach_of_flaw (flaw.BadPart key) = rules.BadShape
-breach_of_flaw (flaw.BadHost host) = rules.BadShape
-breach_of_flaw (flaw.UnknownKey key) = rules.UnknownKey
-breach_of_flaw flaw.BadLimit = rules.BadLimit
-breach_of_flaw (flaw.BadDown host) = rules.BadDown
+breach_of_flaw flaw.BadBody = rules.BadShape []
+breach_of_flaw (flaw.BadPart key) = rules.BadShape (further (key.now ∷ []))
+breach_of_flaw (flaw.BadHost host) = rules.BadShape (further (hosts_key ∷ host.now ∷ []))
+breach_of_flaw (flaw.UnknownKey key) = rules.UnknownKey (further (key.now ∷ []))
+breach_of_flaw flaw.BadLimit = rules.BadLimit (further (vars_key ∷ max_down_key ∷ []))
+breach_of_flaw (flaw.BadDown host) = rules.BadDown (further (hosts_key ∷ host.now ∷ down_key ∷ []))
 
 -- no rule is broken, or the flaw names the first that is
 abbrev pub IsVerdict : {T : Type 0} → Result T Flaw → List Breach → Type 0
@@ -26,10 +29,10 @@ IsVerdict result broken =
 -- want of memory breaks no rule
 abbrev pub breach_of : ReadFault → Option Breach
 breach_of fault.NotJson = Some rules.NotJson
-breach_of (fault.BadShape at) = Some rules.BadShape
-breach_of (fault.UnknownKey at) = Some rules.UnknownKey
-breach_of (fault.BadLimit at) = Some rules.BadLimit
-breach_of (fault.BadDown at) = Some rules.BadDown
+breach_of (fault.BadShape at) = Some (rules.BadShape (string_bytes at))
+breach_of (fault.UnknownKey at) = Some (rules.UnknownKey (string_bytes at))
+breach_of (fault.BadLimit at) = Some (rules.BadLimit (string_bytes at))
+breach_of (fault.BadDown at) = Some (rules.BadDown (string_bytes at))
 breach_of (fault.BadName name) = Some (rules.BadName (string_bytes name))
 breach_of (fault.TwicePlaced group) = Some (rules.TwicePlaced group)
 breach_of fault.TooDeep = Some rules.TooDeep

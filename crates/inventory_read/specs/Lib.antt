@@ -3,6 +3,7 @@ pub mod Documents
 pub mod Named
 pub mod Percentages
 pub mod Values
+pub mod Paths
 pub mod Rules
 pub mod Listings
 pub mod Faults

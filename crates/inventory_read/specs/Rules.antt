@@ -1,22 +1,23 @@
 -- The rules of the format, and which of them a document breaks.
-use Rattle.std.specs.Prelude.{ℕ, ◌+◌, Bool, true, false, ◌&&◌, Option, Some, None, List, [], ◌∷◌, ◌++◌, length, nat_le, is_some, if◌then◌else◌}
-use Rattle.std.specs.List.{list_all, flat_map}
+use Rattle.std.specs.Prelude.{ℕ, ◌+◌, Bool, true, false, ◌&&◌, ◌||◌, Option, Some, None, List, [], ◌∷◌, ◌++◌, map, length, nat_le, is_some, if◌then◌else◌}
+use Rattle.std.specs.List.{flat_map}
 use Rattle.serde_json.specs.Data.{Data, null, boolean, number, string, array, object}
 use Rattle.serde_json.specs.Find.{get}
 use Rattle.inventory_model.specs.Names.{Name, is_name, is_among, are_distinct}
 use Rattle.inventory_model.specs.Places.{Inventory}
 use Rattle.inventory_model.specs.Bounds.{depth_bound, groups_bound, rows_bound, group_names, are_within_depth}
 use Rattle.inventory_read.specs.Keys.{hosts_key, children_key, vars_key, max_down_key, down_key, body_keys}
-use Rattle.inventory_read.specs.Documents.{Entry, entries_in, part, groups_of}
+use Rattle.inventory_read.specs.Documents.{Entry, Listed, entries_in, part, groups_of}
+use Rattle.inventory_read.specs.Paths.{further, text_path_of}
 use Rattle.inventory_read.specs.Values.{limit_of, inventory_of}
 
--- a rule that is broken; of a bad name which, and of a group that stands twice its preorder number, counted from 1
+-- a rule that is broken, and by what: the path of a value, a bad name, or of a group that stands twice its preorder number, counted from 1
 pub data Breach : Type 0 where
   NotJson : Breach
-  BadShape : Breach
-  UnknownKey : Breach
-  BadLimit : Breach
-  BadDown : Breach
+  BadShape : List ℕ → Breach
+  UnknownKey : List ℕ → Breach
+  BadLimit : List ℕ → Breach
+  BadDown : List ℕ → Breach
   BadName : Name → Breach
   TwicePlaced : ℕ → Breach
   TooDeep : Breach
@@ -25,6 +26,18 @@ pub data Breach : Type 0 where
 -- the breach, where the rule isn't kept
 abbrev pub unless : Bool → Breach → List Breach
 unless kept breach = if kept then [] else breach ∷ []
+
+-- a breach whose path begins at a group's body, in the whole text
+abbrev pub at : List ℕ → Breach → Breach
+at path NotJson = NotJson
+at path (BadShape rest) = BadShape (path ++ rest)
+at path (UnknownKey rest) = UnknownKey (path ++ rest)
+at path (BadLimit rest) = BadLimit (path ++ rest)
+at path (BadDown rest) = BadDown (path ++ rest)
+at path (BadName name) = BadName name
+at path (TwicePlaced group) = TwicePlaced group
+at path TooDeep = TooDeep
+at path TooMany = TooMany
 
 abbrev pub first_of : List Breach → Option Breach
 first_of [] = None
@@ -69,41 +82,56 @@ bad_name name = unless (is_name name) (BadName name)
 
 -- 202: the top value is no object
 abbrev pub bad_top : Data → List Breach
-bad_top document = unless (is_object document) BadShape
+bad_top document = unless (is_object document) (BadShape [])
+
+abbrev pub has_shape : Data → Bool
+has_shape value = is_null value || is_object value
 
 -- 202: what is to be null or an object is neither: a group's body, its `vars`, `hosts` and `children`, a host's variables
-abbrev pub bad_shape : Data → List Breach
-bad_shape value = if is_null value then [] else unless (is_object value) BadShape
+abbrev pub bad_shape : List ℕ → Data → List Breach
+bad_shape path value = unless (has_shape value) (BadShape path)
 
 -- 203: a group's body has another key than those three
 abbrev pub has_known_name : Entry → Bool
 has_known_name entry = is_among entry.name body_keys
 
-abbrev pub unknown_key : Data → List Breach
-unknown_key body = unless (list_all has_known_name (entries_in body)) UnknownKey
+abbrev pub broken_by_key : Entry → List Breach
+broken_by_key entry = unless (has_known_name entry) (UnknownKey (further (entry.name ∷ [])))
+
+abbrev pub broken_by_keys : List Entry → List Breach
+broken_by_keys entries = flat_map broken_by_key entries
 
 -- 204: a group's `max_down` is no limit
 abbrev pub is_limit : Data → Bool
 is_limit value = is_some (limit_of value)
 
 abbrev pub bad_limit : Data → List Breach
-bad_limit vars = unless (is_none_or is_limit (get max_down_key vars)) BadLimit
+bad_limit vars = unless (is_none_or is_limit (get max_down_key vars)) (BadLimit (further (vars_key ∷ max_down_key ∷ [])))
 
 -- 205: a host's `down` is no truth value
-abbrev pub bad_down : Data → List Breach
-bad_down variables = unless (is_none_or is_truth (get down_key variables)) BadDown
+abbrev pub bad_down : Name → Data → List Breach
+bad_down host variables = unless (is_none_or is_truth (get down_key variables)) (BadDown (further (hosts_key ∷ host ∷ down_key ∷ [])))
 
 abbrev pub broken_by_host : Entry → List Breach
-broken_by_host host = joined (bad_name host.name ∷ bad_shape host.value ∷ bad_down host.value ∷ [])
+broken_by_host host =
+    joined (bad_name host.name ∷ bad_shape (further (hosts_key ∷ host.name ∷ [])) host.value ∷ bad_down host.name host.value ∷ [])
 
 abbrev pub broken_by_hosts : List Entry → List Breach
 broken_by_hosts hosts = flat_map broken_by_host hosts
 
--- the rules that a group breaks by itself
+-- 202, of what stands under a key of a group's body
+abbrev pub bad_part : Name → Data → List Breach
+bad_part key body = bad_shape (further (key ∷ [])) (part key body)
+
+-- the rules that a group breaks by itself, with paths from its body on
 abbrev pub broken_by_group : Name → Data → List Breach
 broken_by_group name body =
-    joined (bad_name name ∷ bad_shape body ∷ unknown_key body ∷ bad_shape (part vars_key body) ∷ bad_shape (part hosts_key body)
-    ∷ bad_shape (part children_key body) ∷ bad_limit (part vars_key body) ∷ broken_by_hosts (entries_in (part hosts_key body)) ∷ [])
+    joined (bad_name name ∷ bad_shape [] body ∷ broken_by_keys (entries_in body) ∷ bad_part vars_key body ∷ bad_part hosts_key body
+    ∷ bad_part children_key body ∷ bad_limit (part vars_key body) ∷ broken_by_hosts (entries_in (part hosts_key body)) ∷ [])
+
+-- the same, where the group stands in the text
+abbrev pub broken_in : Listed → List Breach
+broken_in group = map (at (text_path_of group)) (broken_by_group group.name group.body)
 
 -- how many names stand before the first that was met before it
 abbrev pub count_before_repeat : List Name → List Name → ℕ
@@ -137,4 +165,4 @@ broken_by_tree inventory =
 -- of the groups together
 abbrev pub broken : Data → List Breach
 broken document =
-    joined (bad_top document ∷ flat_map (λ group. broken_by_group group.name group.body) (groups_of document) ∷ broken_by_tree (inventory_of document) ∷ [])
+    joined (bad_top document ∷ flat_map broken_in (groups_of document) ∷ broken_by_tree (inventory_of document) ∷ [])

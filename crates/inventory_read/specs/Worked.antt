@@ -2,7 +2,7 @@
 use Rattle.std.specs.Prelude.{ℕ, List, [], ◌∷◌, codes}
 use Rattle.serde_json.specs.Data.{unsigned, Data, null, number, object, Members, no_members, member}
 use Rattle.inventory_model.specs.Names.{Name}
-use Rattle.inventory_read.specs.Keys.{all_key, hosts_key, children_key, vars_key, max_down_key}
+use Rattle.inventory_read.specs.Keys.{all_key, hosts_key, children_key, vars_key, max_down_key, down_key}
 
 abbrev one : Name → Data → Data
 one key value = object (member key value no_members)
@@ -37,6 +37,12 @@ b_and_d = object (member (codes "b") (one hosts_key (one (codes "own") null)) (m
 abbrev pub beside_all : Data
 beside_all =
     object (member (codes "a") null (member all_key (one children_key b_and_d) (member (codes "b") null (member (codes "c") null no_members))))
+
+-- below `all` a host whose `down` is no truth value, and below a group beside it a group that is no object
+abbrev pub flaws_below : Data
+flaws_below =
+    object (member all_key (one children_key (one (codes "g") (one hosts_key (one (codes "h") (one down_key null)))))
+    (member (codes "web") (one children_key (one (codes "x") (number (unsigned 1)))) no_members))
 
 -- `all` has a limit that is too large and a key that has no meaning; web stands below itself
 abbrev pub three_faults : Data

@@ -3,6 +3,7 @@
 
 mod bounds;
 mod build;
+mod checking;
 mod entries;
 mod fault;
 mod flaw;

@@ -7,18 +7,17 @@ ghost use Rattle.serde_json.specs.View.{view};
 ghost use Rattle.inventory_read.specs.Documents as documents;
 ghost use Rattle.inventory_read.specs.Faults.{IsRefusal, IsFirst, breach_of};
 ghost use Rattle.inventory_read.specs.Keys.{all_key};
-ghost use Rattle.inventory_read.specs.Listings.{broken_at, outline_of, listing_of};
+ghost use Rattle.inventory_read.specs.Listings.{entry_of, outline_of, listing_of};
 ghost use Rattle.inventory_read.specs.Reads.{IsReadAs, IsTrueOf, IsNoJson};
 ghost use Rattle.inventory_read.specs.Rules as rules;
 ghost use Rattle.inventory_read.specs.Values as values;
 
 use crate::bounds::check_tree;
 use crate::build::build_all;
+use crate::checking::check_groups;
 use crate::fault::ReadFault;
 use crate::keys::ALL;
-use crate::listing::{Listed, children_of_all, list_groups};
-use crate::path::fault_at;
-use crate::rules::check_group;
+use crate::listing::{Entry, Listed, children_of_all, list_groups};
 use group_tree::Tree;
 use serde_json::Value;
 use std::alloc::{Allocator, Global};
@@ -46,18 +45,6 @@ fn check_top(scratch: Global, document: &Value) -> Result<(), ReadFault>
     }
 }
 
-fn check_groups(scratch: Global, groups: &[Listed<'_>]) -> Result<(), ReadFault>
-    ensures { IsRefusal result (flat_map broken_at groups.now) }
-{
-    for index in 0..groups.len() {
-        let group = groups[index];
-        if let Err(flaw) = check_group(group.name, group.body) {
-            return Err(fault_at(scratch, groups, index, flaw)?);
-        }
-    }
-    Ok(())
-}
-
 /// The body of `all`; where it is missing, nothing.
 fn body_of_all<'a>(document: &'a Value, nothing: &'a Value) -> &'a Value
     requires { view nothing.now ≡ null }
@@ -66,13 +53,20 @@ fn body_of_all<'a>(document: &'a Value, nothing: &'a Value) -> &'a Value
     document.get(ALL).unwrap_or(nothing)
 }
 
-/// The first rule that the document breaks, where these are its groups.
-fn check(scratch: Global, document: &Value, groups: &[Listed<'_>]) -> Result<(), ReadFault>
-    requires { map outline_of groups.now ≡ listing_of (documents.groups_of (view document.now)) }
+/// The first rule that the document breaks, where this is the body of `all`, these are its children, and the groups are all of them.
+fn check(
+    scratch: Global,
+    document: &Value,
+    all: &Value,
+    children: &[Entry<'_>],
+    groups: &[Listed<'_>],
+) -> Result<(), ReadFault>
+    requires all { documents.with_below all_key (view all.now) (flat_map documents.groups_from (map entry_of children.now)) ≡ documents.groups_of (view document.now) }
+    requires listed { map outline_of groups.now ≡ listing_of (documents.groups_of (view document.now)) }
     ensures { IsRefusal result (rules.broken (view document.now)) }
 {
     check_top(scratch, document)?;
-    check_groups(scratch, groups)?;
+    check_groups(scratch, all, children)?;
     check_tree(scratch, groups)
 }
 
@@ -89,7 +83,13 @@ fn tree_of<A: Allocator + Clone>(
     let all = body_of_all(document, &nothing);
     let children = children_of_all(scratch, document, all)?;
     let groups = list_groups(scratch, all, children.as_slice())?;
-    check(scratch, document, groups.as_slice())?;
+    check(
+        scratch,
+        document,
+        all,
+        children.as_slice(),
+        groups.as_slice(),
+    )?;
     let root = build_all(alloc, scratch, all, children.as_slice())?;
     Ok(Tree::within_bounds(root))
 }

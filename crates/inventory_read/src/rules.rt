@@ -1,6 +1,5 @@
 //! The rules that each group of a document keeps by itself.
-ghost use Rattle.std.specs.Prelude.{◌≡◌, ◌∷◌, [], true, IsTrue, IfSome, unwrap_or, option_map};
-ghost use Rattle.std.specs.List.{list_all};
+ghost use Rattle.std.specs.Prelude.{◌≡◌, ◌∷◌, [], false, true, IsTrue, IfSome, unwrap_or, option_map};
 ghost use Rattle.serde_json.specs.Data.{null};
 ghost use Rattle.serde_json.specs.Find.{get};
 ghost use Rattle.serde_json.specs.View.{view, members_view};
@@ -8,6 +7,7 @@ ghost use Rattle.inventory_model.specs.Names.{is_among};
 ghost use Rattle.inventory_read.specs.Documents.{entries, entries_in, part};
 ghost use Rattle.inventory_read.specs.Faults.{IsVerdict};
 ghost use Rattle.inventory_read.specs.Keys.{body_keys, vars_key, hosts_key};
+ghost use Rattle.inventory_read.specs.Paths.{further};
 ghost use Rattle.inventory_read.specs.Rules as rules;
 
 use crate::entries::{entries_at, entries_of};
@@ -28,13 +28,13 @@ fn check_name<'a>(name: &'a str) -> Result<(), Flaw<'a>>
 }
 
 fn has_shape(value: &Value) -> bool
-    ensures { rules.bad_shape (view value.now) ≡ rules.unless result rules.BadShape }
+    ensures { result ≡ rules.has_shape (view value.now) }
 {
     value.is_null() || value.is_object()
 }
 
 fn check_body<'a>(body: &'a Value) -> Result<(), Flaw<'a>>
-    ensures { IsVerdict result (rules.bad_shape (view body.now)) }
+    ensures { IsVerdict result (rules.bad_shape [] (view body.now)) }
 {
     if has_shape(body) {
         Ok(())
@@ -50,7 +50,7 @@ fn is_body_key(key: &str) -> bool
 }
 
 fn check_keys<'a>(body: &'a Value) -> Result<(), Flaw<'a>>
-    ensures { IsVerdict result (rules.unknown_key (view body.now)) }
+    ensures { IsVerdict result (rules.broken_by_keys (entries_in (view body.now))) }
 {
     let Some(object) = entries_of(body) else {
         return Ok(());
@@ -64,7 +64,7 @@ fn check_keys<'a>(body: &'a Value) -> Result<(), Flaw<'a>>
 }
 
 fn check_part<'a>(body: &'a Value, key: &'a str) -> Result<(), Flaw<'a>>
-    ensures { IsVerdict result (rules.bad_shape (part key.now (view body.now))) }
+    ensures { IsVerdict result (rules.bad_part key.now (view body.now)) }
 {
     match body.get(key) {
         Some(value) if !has_shape(value) => Err(Flaw::BadPart(key)),
@@ -85,7 +85,7 @@ fn check_limit<'a>(body: &'a Value) -> Result<(), Flaw<'a>>
 }
 
 fn check_host_shape<'a>(name: &'a str, variables: &'a Value) -> Result<(), Flaw<'a>>
-    ensures { IsVerdict result (rules.bad_shape (view variables.now)) }
+    ensures { IsVerdict result (rules.bad_shape (further (hosts_key ∷ name.now ∷ [])) (view variables.now)) }
 {
     if has_shape(variables) {
         Ok(())
@@ -95,7 +95,7 @@ fn check_host_shape<'a>(name: &'a str, variables: &'a Value) -> Result<(), Flaw<
 }
 
 fn check_down<'a>(name: &'a str, variables: &'a Value) -> Result<(), Flaw<'a>>
-    ensures { IsVerdict result (rules.bad_down (view variables.now)) }
+    ensures { IsVerdict result (rules.bad_down name.now (view variables.now)) }
 {
     match variables.get(DOWN) {
         Some(value) if !value.is_boolean() => Err(Flaw::BadDown(name)),
@@ -104,7 +104,7 @@ fn check_down<'a>(name: &'a str, variables: &'a Value) -> Result<(), Flaw<'a>>
 }
 
 fn check_host<'a>(name: &'a str, variables: &'a Value) -> Result<(), Flaw<'a>>
-    ensures { IsVerdict result (rules.broken_by_host (record { name = name.now; value = view variables.now })) }
+    ensures { IsVerdict result (rules.broken_by_host (record { name = name.now; value = view variables.now; at_top = false })) }
 {
     check_name(name)?;
     check_host_shape(name, variables)?;

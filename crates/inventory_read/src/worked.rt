@@ -3,10 +3,10 @@ ghost use Rattle.std.specs.Prelude.{◌≡◌, Some, None, [], ◌∷◌, map, c
 ghost use Rattle.inventory_model.specs.Limits.{Count, Percent};
 ghost use Rattle.inventory_model.specs.Places.{Place, Row, row_path};
 ghost use Rattle.inventory_read.specs.Keys.{all_key};
-ghost use Rattle.inventory_read.specs.Rules.{broken, UnknownKey, BadLimit, TwicePlaced};
+ghost use Rattle.inventory_read.specs.Rules.{broken, BadShape, UnknownKey, BadLimit, BadDown, TwicePlaced};
 ghost use Rattle.inventory_read.specs.Values.{inventory_of, limit_of};
 ghost use Rattle.serde_json.specs.Data.{string};
-ghost use Rattle.inventory_read.specs.Worked.{two_racks, beside_all, three_faults};
+ghost use Rattle.inventory_read.specs.Worked.{two_racks, beside_all, flaws_below, three_faults};
 
 /// Four groups in preorder, each with its limit, and five rows.
 pub fn two_racks_are_four_groups()
@@ -34,7 +34,12 @@ pub fn groups_beside_all_come_below_it()
 
 /// Each broken rule is listed, those of the groups before those of the tree.
 pub fn three_faults_are_listed()
-    ensures { broken three_faults ≡ UnknownKey ∷ BadLimit ∷ TwicePlaced 3 ∷ [] }
+    ensures { broken three_faults ≡ UnknownKey (codes "all/x") ∷ BadLimit (codes "all/vars/max_down") ∷ TwicePlaced 3 ∷ [] }
+{}
+
+/// Each flaw stands at its path from the top value: a group beside `all` isn't sought below it.
+pub fn flaws_have_their_paths()
+    ensures { broken flaws_below ≡ BadDown (codes "all/children/g/hosts/h/down") ∷ BadShape (codes "web/children/x") ∷ [] }
 {}
 
 /// A percentage has one to three digits, of a number up to 100.
