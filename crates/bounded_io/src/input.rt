@@ -1,5 +1,5 @@
 //! Reading an input whole, within a bound.
-ghost use Rattle.std.specs.Prelude.{IfOk, IfErr};
+ghost use Rattle.std.specs.Prelude.{◌≡◌, IfOk, IfErr};
 ghost use Rattle.bounded_io.specs.Reading.{IsWholeInput, BreaksInput};
 
 use crate::input_fault::InputFault;
@@ -14,10 +14,11 @@ const CHUNK: usize = 65_536;
 
 /// Reads to the end of the reader. It never asks the reader for more than one byte past the bound, and takes no memory
 /// for that byte. A fault `File` comes only where a read failed. An interrupted read is a failed one, and is not tried
-/// again.
+/// again. Whether the reader's reads may fail stays as it was.
 pub fn read_input<R: Input>(alloc: Global, reader: &mut R) -> Result<Vec<u8>, InputFault>
     ensures ok { IfOk result (λ input. IsWholeInput (R.remaining reader.old) (R.remaining reader.new) input.items) }
     ensures err { IfErr result (BreaksInput (R.is_reliable reader.old) (R.remaining reader.old) (R.remaining reader.new)) }
+    ensures stays { R.is_reliable reader.new ≡ R.is_reliable reader.old }
 {
     let mut input = Vec::new(alloc);
     let mut chunk = [0; CHUNK];

@@ -8,7 +8,7 @@ use Rattle.bounded_io.specs.declared.input_fault.InputFault.{InputFault}
 use Rattle.bounded_io.specs.declared.input_fault.InputFault.TheVariants as input_fault
 use Rattle.command_line.specs.declared.command.Source.{Source}
 use Rattle.command_line.specs.declared.command.Source.TheVariants.{StandardInput, File}
-use Rattle.rollout.specs.Systems.{Fails, Sources, Known, Opens, sources_of}
+use Rattle.rollout.specs.Systems.{Fails, Sources, Known, Opens}
 use Rattle.rollout.specs.declared.fault.Fault.{Fault}
 use Rattle.rollout.specs.declared.fault.Fault.TheVariants.{Line, Input, Read, Fleet, Playbook, Pattern, Mixed, LongLine, Write, Memory}
 
@@ -66,20 +66,18 @@ IsUnreadable sources source old new LongLine = ⊥
 IsUnreadable sources source old new (Write fault) = ⊥
 IsUnreadable sources source old new Memory = ⊥
 
--- both inputs were read whole, the inventory first; what is known of standard input may change by its being read
+-- both inputs were read whole, the inventory first
 pub record ReadsBoth (sources : Sources) (inventory playbook : Source) (old new : Option (List ℕ)) (first second : List ℕ) : Type 0 where
   pub between : Option (List ℕ)
-  pub is_reliable : Bool
   pub is_inventory : IsTextOf sources inventory old between first
-  pub is_playbook : IsTextOf (sources_of sources.files is_reliable) playbook between new second
+  pub is_playbook : IsTextOf sources playbook between new second
 
 -- the inventory was read whole, and the playbook could not be
 pub record LacksPlaybook (sources : Sources) (inventory playbook : Source) (old new : Option (List ℕ)) (fault : Fault) : Type 0 where
   pub first : List ℕ
   pub between : Option (List ℕ)
-  pub is_reliable : Bool
   pub is_inventory : IsTextOf sources inventory old between first
-  pub unreadable : IsUnreadable (sources_of sources.files is_reliable) playbook between new fault
+  pub unreadable : IsUnreadable sources playbook between new fault
 
 -- the fault names the first input that could not be read whole
 abbrev pub LacksInput : Sources → Source → Source → Option (List ℕ) → Option (List ℕ) → Fault → Type 0

@@ -35,9 +35,8 @@ pub record EndsRehearsal (sources : Sources) (inventory playbook : Source) (inpu
   pub first : List ℕ
   pub second : List ℕ
   pub between : Option (List ℕ)
-  pub is_reliable : Bool
   pub texts : ReadsBoth sources inventory playbook input_old between first second
-  pub ends : EndsEarly is_reliable first second between input_new out_old out_new fault
+  pub ends : EndsEarly sources.is_reliable first second between input_new out_old out_new fault
 
 -- the command `rehearse`: no command is read before both inputs were
 abbrev pub RehearsesInputs : Sources → Source → Source → Option (List ℕ) → Option (List ℕ) → Option (List ℕ) → Option (List ℕ) → Result Status Fault → Type 0

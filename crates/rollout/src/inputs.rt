@@ -1,5 +1,5 @@
 //! Reading the two inputs of a line that names an inventory and a playbook.
-ghost use Rattle.std.specs.Prelude.{IfOk, IfErr};
+ghost use Rattle.std.specs.Prelude.{◌≡◌, IfOk, IfErr};
 ghost use Rattle.rollout.specs.Inputs.{LacksInput, ReadsBoth};
 ghost use Rattle.rollout.specs.Systems.{sources_of};
 
@@ -22,6 +22,7 @@ pub fn read_both<S: System, I: Input>(
         (I.remaining input.old) (I.remaining input.new) texts.0.items texts.1.items) }
     ensures err { IfErr result
         (LacksInput (sources_of (S.files system.now) (I.is_reliable input.old)) inventory playbook (I.remaining input.old) (I.remaining input.new)) }
+    ensures stays { I.is_reliable input.new ≡ I.is_reliable input.old }
 {
     let inventory = match read_source(system, alloc, inventory, input) {
         Ok(text) => text,

@@ -23,6 +23,7 @@ pub fn read_source<S: System, I: Input>(
         IsTextOf (sources_of (S.files system.now) (I.is_reliable input.old)) source (I.remaining input.old) (I.remaining input.new) text.items) }
     ensures err { IfErr result
         (IsUnreadable (sources_of (S.files system.now) (I.is_reliable input.old)) source (I.remaining input.old) (I.remaining input.new)) }
+    ensures stays { I.is_reliable input.new ≡ I.is_reliable input.old }
 {
     match &source {
         Source::StandardInput => match read_input(alloc, input) {
