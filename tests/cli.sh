@@ -537,6 +537,12 @@ Arguments:
 
 Options:
   -h, --help  Print help
+
+Standard input has a command a line, about the first play of PLAY. Nothing is run.
+  advance [HOST ..]  the next batch is over, and of it just these hosts failed
+  plan               the plan of the hosts that still wait
+  show               how each host stands, and whether the play has ended
+  undo               takes the last advance back
 '
 for words in 'rehearse --help' 'rehearse -h' 'help rehearse'; do
     run $words

@@ -42,6 +42,13 @@ Exit status:
   4  a batch ended the run: too many of its hosts have failed, or all
   5  want of memory";
 
+const COMMANDS: &str = "\
+Standard input has a command a line, about the first play of PLAY. Nothing is run.
+  advance [HOST ..]  the next batch is over, and of it just these hosts failed
+  plan               the plan of the hosts that still wait
+  show               how each host stands, and whether the play has ended
+  undo               takes the last advance back";
+
 fn rollout<'a>(alloc: Global) -> Result<Command<'a>, AllocError>
     ensures { IfOk result (λ c. app_of c ≡ spec.rollout) }
 {
@@ -101,6 +108,7 @@ fn rehearse<'a>(alloc: Global) -> Result<Command<'a>, AllocError>
         .about(
             "Answers what a run of a play would come to if these hosts failed, command by command",
         )
+        .after_help(COMMANDS)
         .arg(inventory(alloc))?
         .arg(playbook(alloc))
 }
