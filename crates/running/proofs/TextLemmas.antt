@@ -8,12 +8,14 @@ use Rattle.domains.specs.FleetViews.{FleetView}
 use Rattle.fleet_states.specs.declared.status.Status.{Status}
 use Rattle.host_vars.specs.declared.vars.Vars.{Vars}
 use Rattle.outcome_results.specs.Endings.{Ending}
+use Rattle.planning.specs.PlanTexts.{IsPlaybookFault}
+use Rattle.planning.specs.declared.fault.PlanFault.{PlanFault}
 use Rattle.play_model.specs.declared.play.Play.{Play}
 use Rattle.roll_logs.specs.Told.{Work}
 use Rattle.roll_run.specs.declared.run.Run.{Run}
 use Rattle.roll_run.specs.declared.fault.RunFault.{RunFault}
 use Rattle.roll_run.specs.Plays.{AreBroken, AreRuns}
-use Rattle.running.specs.Inputs.{AreHostsIn, AreInputs, IsNoInventory, IsNoPlaybook, RefusesTexts}
+use Rattle.running.specs.Inputs.{AreHostsIn, AreInputs, IsNoInventory, RefusesTexts}
 use Rattle.running.specs.Recaps.{are_several, broken_text, runs_text}
 use Rattle.running.specs.RunTexts.{IsBrokenRecap, IsRecap, IsTrueFault, TellsBroken, TellsRuns, WritesRecap}
 use Rattle.running.specs.declared.end.RunEnd.{RunEnd}
@@ -31,13 +33,10 @@ inventory_is_refused inventory playbook Memory refused = tt
 inventory_is_refused inventory playbook (Broken why) refused = absurd refused
 inventory_is_refused inventory playbook (Write fault) refused = absurd refused
 
-pub playbook_is_refused : (inventory playbook : List ℕ) (fleet : FleetView) (vars : List Vars) (fault : RunTextFault) → AreHostsIn inventory fleet vars → IsNoPlaybook fleet playbook fault
-    → RefusesTexts inventory playbook fault
-playbook_is_refused inventory playbook fleet vars (Refused fault) hosts refused =
+pub playbook_is_refused : (inventory playbook : List ℕ) (fleet : FleetView) (vars : List Vars) (fault : PlanFault) → AreHostsIn inventory fleet vars → IsPlaybookFault fleet playbook fault
+    → RefusesTexts inventory playbook (Refused fault)
+playbook_is_refused inventory playbook fleet vars fault hosts refused =
     inr (record { fleet = fleet; built = record { inventory = hosts.inventory; reads = hosts.reads; built = hosts.built }; refused = refused })
-playbook_is_refused inventory playbook fleet vars Memory hosts refused = tt
-playbook_is_refused inventory playbook fleet vars (Broken why) hosts refused = absurd refused
-playbook_is_refused inventory playbook fleet vars (Write fault) hosts refused = absurd refused
 
 module _ (may : Work → Ending → Type 0) (inventory playbook : List ℕ) (forks : ℕ) (old new : Option (List ℕ)) where
   pub refusal_is_true : (fault : RunTextFault) → Keeps old new → RefusesTexts inventory playbook fault → IsTrueFault may inventory playbook forks old new fault

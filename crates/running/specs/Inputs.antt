@@ -1,20 +1,17 @@
 -- What the texts of an inventory and a playbook say to a run, and what refuses them.
-use Rattle.std.specs.Prelude.{◌≡◌, ◌⊎◌, ℕ, None, List, ◌∷◌, All, map}
-use Rattle.std.specs.List.{find}
+use Rattle.std.specs.Prelude.{◌≡◌, ◌⊎◌, ℕ, List, ◌∷◌, All, map}
 use Rattle.inventory_model.specs.Places.{Inventory}
 use Rattle.inventory_read.specs.Reads as inventories
 use Rattle.domains.specs.FleetViews.{FleetView}
 use Rattle.domains.specs.Fleets.{IsFleetOf}
-use Rattle.domains.specs.Patterns.{names_nothing}
 use Rattle.fleet_states.specs.declared.status.Status.{Status}
 use Rattle.fleet_states.specs.Starts.{start_statuses}
 use Rattle.variable_layers.specs.Shared.{AreHostsOf}
 use Rattle.host_vars.specs.declared.vars.Vars.{Vars}
 use Rattle.host_vars.specs.HostVars.{HasNoResult, variables_of}
 use Rattle.play_model.specs.declared.play.Play.{Play}
-use Rattle.play_read.specs.Reads as playbooks
-use Rattle.play_plan.specs.PlayPlans.{named_parts, targets}
-use Rattle.planning.specs.PlanTexts.{IsPlaybookFault, IsRefusedAfter, IsUnread}
+use Rattle.play_plan.specs.PlayPlans.{targets}
+use Rattle.planning.specs.PlanTexts.{ArePlaysIn, IsRefusedAfter, IsUnread}
 use Rattle.running.specs.declared.fault.RunTextFault.{RunTextFault}
 use Rattle.running.specs.declared.fault.RunTextFault.TheVariants.{Refused, Memory, Broken, Write}
 
@@ -32,18 +29,6 @@ IsNoInventory text (Refused fault) = IsUnread text fault
 IsNoInventory text Memory = Unit {0}
 IsNoInventory text (Broken why) = ⊥
 IsNoInventory text (Write fault) = ⊥
-
--- the plays are those that the text says, and each part of each play's pattern names a host or a group
-pub record ArePlaysIn (fleet : FleetView) (text : List ℕ) (plays : List Play) : Type 0 where
-  pub reads : playbooks.IsReadAs 16 text plays
-  pub known : find (names_nothing fleet) (named_parts plays) ≡ None
-
--- what refuses a playbook's text
-abbrev pub IsNoPlaybook : FleetView → List ℕ → RunTextFault → Type 0
-IsNoPlaybook fleet text (Refused fault) = IsPlaybookFault fleet text fault
-IsNoPlaybook fleet text Memory = Unit {0}
-IsNoPlaybook fleet text (Broken why) = ⊥
-IsNoPlaybook fleet text (Write fault) = ⊥
 
 -- the first play begins so: its hosts wait, but those that are off
 pub record IsFirstStart (fleet : FleetView) (plays : List Play) (statuses : List Status) : Type 0 where

@@ -3,7 +3,7 @@ ghost use Rattle.std.specs.Prelude.{◌≡◌, IfErr, IfOk};
 ghost use Rattle.fleet_states.specs.Starts.{start_statuses};
 ghost use Rattle.batch_plan.specs.Beginnings.{IsReady};
 ghost use Rattle.play_plan.specs.PlayPlans.{targets};
-ghost use Rattle.running.specs.Inputs.{AreInputs, ArePlaysIn, IsNoPlaybook, RefusesTexts};
+ghost use Rattle.running.specs.Inputs.{AreInputs, RefusesTexts};
 
 use crate::fault::RunTextFault;
 use crate::hosts::{Hosts, read_hosts};
@@ -11,10 +11,8 @@ use batch_plan::start;
 use domains::Fleet;
 use fleet_states::Status;
 use host_vars::Vars;
-use planning::PlanFault;
+use planning::read_known_plays;
 use play_model::Play;
-use play_plan::look_up_all;
-use play_read::read_plays;
 use std::alloc::{AllocError, Global};
 
 /// What the texts of an inventory and a playbook say: the fleet, of each host its variables, the plays, and the status of each host with
@@ -25,25 +23,6 @@ pub(crate) struct Inputs {
     pub(crate) vars: Vec<Vars>,
     pub(crate) plays: Vec<Play>,
     pub(crate) statuses: Vec<Status>,
-}
-
-/// The plays of a playbook, once the patterns of all of them were looked up.
-fn read_known_plays(
-    alloc: Global,
-    fleet: &Fleet,
-    playbook: &[u8],
-) -> Result<Vec<Play>, RunTextFault>
-    ensures ok { IfOk result (λ plays. ArePlaysIn fleet.now playbook.now plays.items) }
-    ensures err { IfErr result (IsNoPlaybook fleet.now playbook.now) }
-{
-    let plays = match read_plays(alloc, playbook) {
-        Ok(plays) => plays,
-        Err(fault) => return Err(RunTextFault::Refused(PlanFault::Playbook(fault))),
-    };
-    match look_up_all(alloc, fleet, plays.as_slice()) {
-        Ok(()) => Ok(plays),
-        Err(fault) => Err(RunTextFault::Refused(PlanFault::Pattern(fault))),
-    }
 }
 
 /// The statuses with which a first play begins. Only want of memory refuses it, where its pattern was looked up.
@@ -74,7 +53,7 @@ pub(crate) fn read_inputs(
     };
     let plays = match read_known_plays(alloc, &fleet, playbook) {
         Ok(plays) => plays,
-        Err(fault) => return Err(fault),
+        Err(fault) => return Err(RunTextFault::Refused(fault)),
     };
     let statuses = start_first(alloc, &fleet, &plays[0])?;
     Ok(Inputs {
