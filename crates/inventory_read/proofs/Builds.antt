@@ -11,7 +11,7 @@ use Rattle.inventory_model.specs.Subtrees as subtrees
 use Rattle.inventory_read.specs.Documents.{Listed, standing, under, with_below}
 use Rattle.inventory_read.specs.Values.{place_of, row_of, rows_of, hosts_in, limit_in, variables_in, inventory_from}
 
--- the group, and then these groups as further ones below it
+-- the group, and then these groups as keys_text ones below it
 abbrev pub reach : Subtree → List Listed → Inventory
 reach group more = beside (inventory_of group) (inventory_from (map (under group.name) more))
 
@@ -34,19 +34,19 @@ same_inventory : (a b : List Place) (x y : List Row) → a ≡ b → x ≡ y →
 same_inventory a b x y e f = cc
 
 -- where groups stand changes nothing of what they say
-places-standing : (at_top : Bool) (groups : List Listed) → map place_of (map (standing at_top) groups) ≡ map place_of groups
-places-standing at_top [] = refl
-places-standing at_top (group ∷ groups) = ap (λ rest. place_of group ∷ rest) (places-standing at_top groups)
+places-standing : (past_all : Bool) (groups : List Listed) → map place_of (map (standing past_all) groups) ≡ map place_of groups
+places-standing past_all [] = refl
+places-standing past_all (group ∷ groups) = ap (λ rest. place_of group ∷ rest) (places-standing past_all groups)
 
-rows-standing : (at_top : Bool) (groups : List Listed) → flat_map rows_of (map (standing at_top) groups) ≡ flat_map rows_of groups
-rows-standing at_top [] = refl
-rows-standing at_top (group ∷ groups) = ap (λ rest. rows_of group ++ rest) (rows-standing at_top groups)
+rows-standing : (past_all : Bool) (groups : List Listed) → flat_map rows_of (map (standing past_all) groups) ≡ flat_map rows_of groups
+rows-standing past_all [] = refl
+rows-standing past_all (group ∷ groups) = ap (λ rest. rows_of group ++ rest) (rows-standing past_all groups)
 
-pub inventory-standing : (at_top : Bool) (groups : List Listed) → inventory_from (map (standing at_top) groups) ≡ inventory_from groups
-inventory-standing at_top groups = same_inventory _ _ _ _ (places-standing at_top groups) (rows-standing at_top groups)
+pub inventory-standing : (past_all : Bool) (groups : List Listed) → inventory_from (map (standing past_all) groups) ≡ inventory_from groups
+inventory-standing past_all groups = same_inventory _ _ _ _ (places-standing past_all groups) (rows-standing past_all groups)
 
 module _ (group child : Subtree) (listed more : List Listed) (is : inventory_of child ≡ inventory_from listed) where
-  -- what further groups of the document give below the group
+  -- what keys_text groups of the document give below the group
   abbrev places_below : List Listed → List Place
   places_below groups = map place_of (map (under group.name) groups)
 

@@ -11,7 +11,7 @@ use Rattle.inventory_read.specs.Faults.{IsFirst}
 use Rattle.inventory_read.specs.Keys.{all_key}
 use Rattle.inventory_read.specs.Listings.{broken_from, broken_under, way_to}
 use Rattle.inventory_read.specs.Paths.{text_path, names_to}
-use Rattle.inventory_read.specs.Rules.{Breach, at, broken_by_group, broken_in}
+use Rattle.inventory_read.specs.Rules.{Breach, placed, broken_by_group, broken_in}
 use Rattle.inventory_read.specs.declared.fault.ReadFault.{ReadFault}
 use Rattle.inventory_read.proofs.Verdicts.{IsFirst-front}
 
@@ -40,22 +40,22 @@ pub broken_below : (above : List Name) (name : Name) (groups : List Listed) → 
 broken_below above name [] = refl
 broken_below above name (group ∷ groups) =
     let own : broken_under above (under name group) ≡ broken_under (above ++ name ∷ []) group =
-    ap (λ names. map (at (text_path names)) (broken_by_group group.name group.body)) (way_on above name (names_to group)) in
+    ap (λ names. map (placed (text_path names)) (broken_by_group group.name group.body)) (way_on above name (names_to group)) in
     rw (own, broken_below above name groups) refl
 
 -- a group and all below it, by the way to what holds it
 pub broken_with_below : (above : List Name) (name : Name) (body : Data) → flat_map (broken_under above) (with_below name body (below_body body)) ≡ broken_from (above ++ name ∷ []) name body
 broken_with_below above name body =
-    ap (λ rest. map (at (text_path (above ++ name ∷ []))) (broken_by_group name body) ++ rest) (broken_below above name (below_body body))
+    ap (λ rest. map (placed (text_path (above ++ name ∷ []))) (broken_by_group name body) ++ rest) (broken_below above name (below_body body))
 
-placed_below_all : (at_top : Bool) (group : Listed) → broken_in (under all_key (standing at_top group)) ≡ broken_under (if at_top then [] else (all_key ∷ [])) group
+placed_below_all : (past_all : Bool) (group : Listed) → broken_in (under all_key (standing past_all group)) ≡ broken_under (if past_all then [] else (all_key ∷ [])) group
 placed_below_all true group = refl
 placed_below_all false group = refl
 
-broken_below_all : (at_top : Bool) (groups : List Listed)
-    → flat_map broken_in (map (under all_key) (map (standing at_top) groups)) ≡ flat_map (broken_under (if at_top then [] else (all_key ∷ []))) groups
-broken_below_all at_top [] = refl
-broken_below_all at_top (group ∷ groups) = rw (placed_below_all at_top group, broken_below_all at_top groups) refl
+broken_below_all : (past_all : Bool) (groups : List Listed)
+    → flat_map broken_in (map (under all_key) (map (standing past_all) groups)) ≡ flat_map (broken_under (if past_all then [] else (all_key ∷ []))) groups
+broken_below_all past_all [] = refl
+broken_below_all past_all (group ∷ groups) = rw (placed_below_all past_all group, broken_below_all past_all groups) refl
 
 -- what children of `all` and all below them break
 abbrev pub broken_by_children : List Entry → List Breach
@@ -68,7 +68,7 @@ broken_by_first child children =
     let below = with_below child.name child.value (below_body child.value) in
     ap (flat_map broken_in) (map-append (under all_key) (groups_from child) more)
     ∙ flat_map-append broken_in (map (under all_key) (groups_from child)) (map (under all_key) more)
-    ∙ ap (λ first. first ++ broken_by_children children) (broken_below_all child.at_top below ∙ broken_with_below (if child.at_top then [] else (all_key ∷ [])) child.name child.value)
+    ∙ ap (λ first. first ++ broken_by_children children) (broken_below_all child.past_all below ∙ broken_with_below (if child.past_all then [] else (all_key ∷ [])) child.name child.value)
 
 -- the first of the groups below another, and the others
 pub broken_by_member : (way : List Name) (name : Name) (body : Data) (more : List Listed)
@@ -78,7 +78,7 @@ broken_by_member way name body more =
     ∙ ap (λ first. first ++ flat_map (broken_under way) more) (broken_with_below way name body)
 
 -- a group that breaks nothing, by itself and below it
-pub breaks_nothing : (way : List Name) (name : Name) (body : Data) → map (at (text_path way)) (broken_by_group name body) ≡ [] → flat_map (broken_under way) (below_body body) ≡ []
+pub breaks_nothing : (way : List Name) (name : Name) (body : Data) → map (placed (text_path way)) (broken_by_group name body) ≡ [] → flat_map (broken_under way) (below_body body) ≡ []
     → broken_from way name body ≡ []
 breaks_nothing way name body own below = rw (own, below) refl
 

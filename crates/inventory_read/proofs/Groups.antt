@@ -52,9 +52,9 @@ outline_at-under depth name (group ∷ groups) =
     rw (first, outline_at-under depth name groups) refl
 
 -- where a group stands changes no outline
-pub outline_at-standing : (depth : ℕ) (at_top : Bool) (groups : List documents.Listed) → map (outline_at depth) (map (standing at_top) groups) ≡ map (outline_at depth) groups
-outline_at-standing depth at_top [] = refl
-outline_at-standing depth at_top (group ∷ groups) = ap (λ rest. outline_at depth group ∷ rest) (outline_at-standing depth at_top groups)
+pub outline_at-standing : (depth : ℕ) (past_all : Bool) (groups : List documents.Listed) → map (outline_at depth) (map (standing past_all) groups) ≡ map (outline_at depth) groups
+outline_at-standing depth past_all [] = refl
+outline_at-standing depth past_all (group ∷ groups) = ap (λ rest. outline_at depth group ∷ rest) (outline_at-standing depth past_all groups)
 
 cons_same : {X : Type 0} {x y : X} {xs ys : List X} → x ≡ y → xs ≡ ys → x ∷ xs ≡ y ∷ ys
 cons_same e f = cc
@@ -65,7 +65,7 @@ pub listed_with_below : (before after : List Listed) (group : Listed) (depth : �
     → members ≡ members_in (part children_key (view group.body.now)) → whole ≡ map outline_of after ++ map (outline_at depth) (groups_among members)
     → whole ≡ map outline_of before ++ map (outline_at group.depth) (with_below group.name.now (view group.body.now) (below_body (view group.body.now)))
 listed_with_below before after group depth members whole pushed fits deep is e =
-    let own : outline_of group ≡ outline_at group.depth (record { above = []; name = group.name.now; body = view group.body.now; at_top = false }) =
+    let own : outline_of group ≡ outline_at group.depth (record { above = []; name = group.name.now; body = view group.body.now; past_all = false }) =
     ap (λ d. record { name = group.name.now; body = view group.body.now; depth = d }) (omega arith) in
     let below : map (outline_at depth) (groups_among members) ≡ map (outline_at group.depth) (map (under group.name.now) (below_body (view group.body.now))) =
     sym (outline_at-under group.depth group.name.now (below_body (view group.body.now)) ∙ rw (below_body-is, ← deep, ← is) refl) in
@@ -81,7 +81,7 @@ pub listed_child : (before after : List Listed) (child : Entry) (rest : List doc
     → map outline_of before ++ map (outline_at 2) (groups_from (entry_of child) ++ rest) ≡ whole → map outline_of after ++ map (outline_at 2) rest ≡ whole
 listed_child before after child rest whole listed e =
     let own = with_below child.name.now (view child.body.now) (below_body (view child.body.now)) in
-    ap (λ first. first ++ map (outline_at 2) rest) (listed ∙ ap (λ added. map outline_of before ++ added) (sym (outline_at-standing 2 child.at_top own)))
+    ap (λ first. first ++ map (outline_at 2) rest) (listed ∙ ap (λ added. map outline_of before ++ added) (sym (outline_at-standing 2 child.past_all own)))
     ∙ append_assoc (map outline_of before) (map (outline_at 2) (groups_from (entry_of child))) (map (outline_at 2) rest)
     ∙ ap (λ last. map outline_of before ++ last) (sym (map-append (outline_at 2) (groups_from (entry_of child)) rest))
     ∙ e

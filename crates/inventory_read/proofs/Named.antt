@@ -44,7 +44,7 @@ unbroken-named document e =
     groups_named (groups_of document) (first_nil (flat_map broken_in (groups_of document)) _ (rest_nil (bad_top document) _ e))
 
 module _ (name : Name) (body : Data) (below : List Listed) (e : are_named (with_below name body below) ≡ true) where
-  parts : (is_named (record { above = []; name = name; body = body; at_top = false }) ≡ true) × (are_named (map (under name) below) ≡ true)
+  parts : (is_named (record { above = []; name = name; body = body; past_all = false }) ≡ true) × (are_named (map (under name) below) ≡ true)
   parts = and_parts _ _ e
 
   pub below_named : are_named below ≡ true
@@ -55,5 +55,5 @@ parts_named groups more e =
     and_parts (are_named groups) (are_named more) (sym (list_all-append is_named groups more) ∙ e)
 
 -- where groups stand changes no name
-pub standing_named : (at_top : Bool) (groups : List Listed) → are_named (map (standing at_top) groups) ≡ are_named groups
-standing_named at_top groups = list_all-map is_named (standing at_top) groups
+pub standing_named : (past_all : Bool) (groups : List Listed) → are_named (map (standing past_all) groups) ≡ are_named groups
+standing_named past_all groups = list_all-map is_named (standing past_all) groups

@@ -5,7 +5,7 @@ use Rattle.std.specs.List.{flat_map}
 use Rattle.serde_json.specs.Data.{Data}
 use Rattle.inventory_read.specs.Documents.{groups_of}
 use Rattle.inventory_read.specs.Faults.{IsFirst, IsRefusal, breach_of}
-use Rattle.inventory_read.specs.Rules.{Breach, at, first_of, bad_top, broken_by_tree, broken_in, broken}
+use Rattle.inventory_read.specs.Rules.{Breach, placed, first_of, bad_top, broken_by_tree, broken_in, broken}
 use Rattle.inventory_read.specs.Values.{inventory_of}
 use Rattle.inventory_read.specs.declared.fault.ReadFault.{ReadFault}
 
@@ -15,11 +15,11 @@ first_here [] rest breach e = cc
 first_here (first ∷ part) rest breach e = e
 
 -- breaches keep their order where their paths are made whole
-pub first_placed : (path : List ℕ) (breaches : List Breach) (breach : Breach) → first_of breaches ≡ Some breach → first_of (map (at path) breaches) ≡ Some (at path breach)
+pub first_placed : (path : List ℕ) (breaches : List Breach) (breach : Breach) → first_of breaches ≡ Some breach → first_of (map (placed path) breaches) ≡ Some (placed path breach)
 first_placed path [] breach e = cc
 first_placed path (first ∷ breaches) breach e = cc
 
-pub none_placed : (path : List ℕ) (breaches : List Breach) → map (at path) breaches ≡ [] → breaches ≡ []
+pub none_placed : (path : List ℕ) (breaches : List Breach) → map (placed path) breaches ≡ [] → breaches ≡ []
 none_placed path [] e = refl
 none_placed path (first ∷ breaches) e = cc
 

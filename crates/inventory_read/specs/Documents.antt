@@ -8,16 +8,16 @@ use Rattle.serde_json.specs.Find.{get}
 use Rattle.inventory_model.specs.Names.{Name, same_name}
 use Rattle.inventory_read.specs.Keys.{all_key, children_key}
 
--- an entry of an object; `at_top` marks the groups that the top value lists beside `all`
+-- an entry of an object; `past_all` marks a group to which the way in the text doesn't lead through `all`: the top value lists it beside `all`
 pub record Entry : Type 0 where
   pub name : Name
   pub value : Data
-  pub at_top : Bool
+  pub past_all : Bool
 
 -- the entries in the order of their names, which a document's objects keep; each name stands once
 abbrev pub entries : Members → List Entry
 entries no_members = []
-entries (member name value more) = record { name = name; value = value; at_top = false } ∷ entries more
+entries (member name value more) = record { name = name; value = value; past_all = false } ∷ entries more
 
 -- the entries of an object, as they are kept; any other value has none
 abbrev pub members_in : Data → Members
@@ -35,20 +35,21 @@ entries_in value = entries (members_in value)
 abbrev pub part : Name → Data → Data
 part key value = unwrap_or (get key value) null
 
--- a group as the document lists it: the names above it from the outermost in, its own name, its body, and whether it stands beside `all` or below a group that does
+-- a group as the document lists it: the names above it from the outermost in, its own name, its body, and whether the way to it in the
+-- text leads past `all`
 pub record Listed : Type 0 where
   pub above : List Name
   pub name : Name
   pub body : Data
-  pub at_top : Bool
+  pub past_all : Bool
 
--- the group one group further down
+-- the group one group keys_text down
 abbrev pub under : Name → Listed → Listed
 under outer group = record group { above = outer ∷ group.above }
 
 -- a group, and after it all those below it
 abbrev pub with_below : Name → Data → List Listed → List Listed
-with_below name body below = record { above = []; name = name; body = body; at_top = false } ∷ map (under name) below
+with_below name body below = record { above = []; name = name; body = body; past_all = false } ∷ map (under name) below
 
 -- the groups below a body, where `children` of the body lists groups in the order of their names
 abbrev mutual
@@ -76,12 +77,13 @@ abbrev mutual
   groups_among no_members = []
   groups_among (member name body more) = with_below name body (below_body body) ++ groups_among more
 
+-- the same group, to which the way leads past `all`, or through it
 abbrev pub standing : Bool → Listed → Listed
-standing at_top group = record group { at_top = at_top }
+standing past_all group = record group { past_all = past_all }
 
--- a group of this name and body, and all below it, where the entry stands
+-- a group of this name and body, and all below it, each marked as the entry is
 abbrev pub groups_from : Entry → List Listed
-groups_from group = map (standing group.at_top) (with_below group.name group.value (below_body group.value))
+groups_from group = map (standing group.past_all) (with_below group.name group.value (below_body group.value))
 
 -- the second name stands before the first
 abbrev pub comes_after : Entry → Entry → Bool
@@ -96,14 +98,14 @@ merged (entry ∷ own) others =
 abbrev pub is_beside_all : Entry → Bool
 is_beside_all entry = not (same_name entry.name all_key)
 
-abbrev pub beside : Entry → Entry
-beside entry = record entry { at_top = true }
+abbrev pub led_past_all : Entry → Entry
+led_past_all entry = record entry { past_all = true }
 
 -- the groups that the top value lists beside `all`
 abbrev pub groups_beside_all : Data → List Entry
-groups_beside_all document = map beside (filter is_beside_all (entries_in document))
+groups_beside_all document = map led_past_all (filter is_beside_all (entries_in document))
 
--- the children of `all`: its own, and those that stand beside it
+-- the children of `all`: its own, and the groups beside it
 abbrev pub children_of_all : Data → List Entry
 children_of_all document =
     merged (entries_in (part children_key (part all_key document))) (groups_beside_all document)

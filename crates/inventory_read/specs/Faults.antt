@@ -1,9 +1,8 @@
 -- Which rule a fault names.
-use Rattle.std.specs.Prelude.{◌≡◌, ℕ, Option, Some, None, Result, [], ◌∷◌, List, MatchResult, MatchOption, ⊤, ◌++◌, codes, decimal}
+use Rattle.std.specs.Prelude.{◌≡◌, ℕ, Option, Some, None, Result, [], List, MatchResult, MatchOption, ⊤, ◌++◌, codes, decimal}
 use Rattle.std.specs.Fmt.{◌++?◌, debug_str}
 use Rattle.std.specs.String.{string_bytes}
-use Rattle.inventory_read.specs.Keys.{down_key, hosts_key, max_down_key, vars_key}
-use Rattle.inventory_read.specs.Paths.{further}
+use Rattle.inventory_read.specs.Paths.{down_path, host_path, limit_path, part_path}
 use Rattle.inventory_read.specs.Rules as rules
 use Rattle.inventory_read.specs.Rules.{Breach, first_of}
 use Rattle.inventory_read.specs.declared.flaw.Flaw.{Flaw}
@@ -15,11 +14,11 @@ use Rattle.inventory_read.specs.declared.fault.ReadFault.TheVariants as fault
 abbrev pub breach_of_flaw : Flaw → Breach
 breach_of_flaw (flaw.BadName name) = rules.BadName name.now
 breach_of_flaw flaw.BadBody = rules.BadShape []
-breach_of_flaw (flaw.BadPart key) = rules.BadShape (further (key.now ∷ []))
-breach_of_flaw (flaw.BadHost host) = rules.BadShape (further (hosts_key ∷ host.now ∷ []))
-breach_of_flaw (flaw.UnknownKey key) = rules.UnknownKey (further (key.now ∷ []))
-breach_of_flaw flaw.BadLimit = rules.BadLimit (further (vars_key ∷ max_down_key ∷ []))
-breach_of_flaw (flaw.BadDown host) = rules.BadDown (further (hosts_key ∷ host.now ∷ down_key ∷ []))
+breach_of_flaw (flaw.BadPart key) = rules.BadShape (part_path key.now)
+breach_of_flaw (flaw.BadHost host) = rules.BadShape (host_path host.now)
+breach_of_flaw (flaw.UnknownKey key) = rules.UnknownKey (part_path key.now)
+breach_of_flaw flaw.BadLimit = rules.BadLimit limit_path
+breach_of_flaw (flaw.BadDown host) = rules.BadDown (down_path host.now)
 
 -- no rule is broken, or the flaw names the first that is
 abbrev pub IsVerdict : {T : Type 0} → Result T Flaw → List Breach → Type 0

@@ -1,4 +1,4 @@
--- The reader's list of groups, against the document's.
+-- The reader's list of groups, against the document's, and what they break, by the names on the way to them.
 use Rattle.std.specs.Prelude.{ℕ, ◌+◌, ◌-◌, ◌^◌, ◌++◌, min, if◌then◌else◌, List, [], ◌∷◌, map, length}
 use Rattle.std.specs.List.{flat_map}
 use Rattle.serde_json.specs.Data.{Data}
@@ -8,14 +8,14 @@ use Rattle.inventory_model.specs.Subtrees.{Host}
 use Rattle.inventory_read.specs.Documents as documents
 use Rattle.inventory_read.specs.Keys.{all_key}
 use Rattle.inventory_read.specs.Paths.{text_path, names_to}
-use Rattle.inventory_read.specs.Rules.{Breach, at, broken_by_group}
+use Rattle.inventory_read.specs.Rules.{Breach, placed, broken_by_group}
 use Rattle.inventory_read.specs.Values.{hosts_in}
 use Rattle.inventory_read.specs.declared.listing.Entry.{Entry}
 use Rattle.inventory_read.specs.declared.listing.Listed.{Listed}
 
 -- what an entry of the reader's says
 abbrev pub entry_of : Entry → documents.Entry
-entry_of entry = record { name = entry.name.now; value = view entry.body.now; at_top = entry.at_top }
+entry_of entry = record { name = entry.name.now; value = view entry.body.now; past_all = entry.past_all }
 
 -- what counts of a group in the reader's list; `usize` is never reached, since `serde_json` limits the nesting
 pub record Outline : Type 0 where
@@ -46,13 +46,13 @@ rows_at group = hosts_in (view group.body.now)
 
 -- the names on the way to a child of `all`
 abbrev pub way_to : documents.Entry → List Name
-way_to child = (if child.at_top then [] else (all_key ∷ [])) ++ child.name ∷ []
+way_to child = (if child.past_all then [] else (all_key ∷ [])) ++ child.name ∷ []
 
--- what a group breaks that is listed below another, to which these names lead
+-- what a group breaks that is listed below another, to which the names above lead
 abbrev pub broken_under : List Name → documents.Listed → List Breach
-broken_under way group = map (at (text_path (way ++ names_to group))) (broken_by_group group.name group.body)
+broken_under above group = map (placed (text_path (above ++ names_to group))) (broken_by_group group.name group.body)
 
 -- what a group and all below it break, where these names lead to the group
 abbrev pub broken_from : List Name → Name → Data → List Breach
 broken_from way name body =
-    map (at (text_path way)) (broken_by_group name body) ++ flat_map (broken_under way) (documents.below_body body)
+    map (placed (text_path way)) (broken_by_group name body) ++ flat_map (broken_under way) (documents.below_body body)

@@ -8,10 +8,10 @@ use Rattle.inventory_model.specs.Places.{Inventory}
 use Rattle.inventory_model.specs.Bounds.{depth_bound, groups_bound, rows_bound, group_names, are_within_depth}
 use Rattle.inventory_read.specs.Keys.{hosts_key, children_key, vars_key, max_down_key, down_key, body_keys}
 use Rattle.inventory_read.specs.Documents.{Entry, Listed, entries_in, part, groups_of}
-use Rattle.inventory_read.specs.Paths.{further, text_path_of}
+use Rattle.inventory_read.specs.Paths.{down_path, host_path, limit_path, part_path, text_path_of}
 use Rattle.inventory_read.specs.Values.{limit_of, inventory_of}
 
--- a rule that is broken, and by what: the path of a value, a bad name, or of a group that stands twice its preorder number, counted from 1
+-- a rule that is broken, and by what: the path of a value, a bad name, or the preorder number, counted from 1, of a group whose name stood before
 pub data Breach : Type 0 where
   NotJson : Breach
   BadShape : List ℕ → Breach
@@ -28,16 +28,16 @@ abbrev pub unless : Bool → Breach → List Breach
 unless kept breach = if kept then [] else breach ∷ []
 
 -- a breach whose path begins at a group's body, in the whole text
-abbrev pub at : List ℕ → Breach → Breach
-at path NotJson = NotJson
-at path (BadShape rest) = BadShape (path ++ rest)
-at path (UnknownKey rest) = UnknownKey (path ++ rest)
-at path (BadLimit rest) = BadLimit (path ++ rest)
-at path (BadDown rest) = BadDown (path ++ rest)
-at path (BadName name) = BadName name
-at path (TwicePlaced group) = TwicePlaced group
-at path TooDeep = TooDeep
-at path TooMany = TooMany
+abbrev pub placed : List ℕ → Breach → Breach
+placed path NotJson = NotJson
+placed path (BadShape rest) = BadShape (path ++ rest)
+placed path (UnknownKey rest) = UnknownKey (path ++ rest)
+placed path (BadLimit rest) = BadLimit (path ++ rest)
+placed path (BadDown rest) = BadDown (path ++ rest)
+placed path (BadName name) = BadName name
+placed path (TwicePlaced group) = TwicePlaced group
+placed path TooDeep = TooDeep
+placed path TooMany = TooMany
 
 abbrev pub first_of : List Breach → Option Breach
 first_of [] = None
@@ -96,7 +96,7 @@ abbrev pub has_known_name : Entry → Bool
 has_known_name entry = is_among entry.name body_keys
 
 abbrev pub broken_by_key : Entry → List Breach
-broken_by_key entry = unless (has_known_name entry) (UnknownKey (further (entry.name ∷ [])))
+broken_by_key entry = unless (has_known_name entry) (UnknownKey (part_path entry.name))
 
 abbrev pub broken_by_keys : List Entry → List Breach
 broken_by_keys entries = flat_map broken_by_key entries
@@ -106,22 +106,22 @@ abbrev pub is_limit : Data → Bool
 is_limit value = is_some (limit_of value)
 
 abbrev pub bad_limit : Data → List Breach
-bad_limit vars = unless (is_none_or is_limit (get max_down_key vars)) (BadLimit (further (vars_key ∷ max_down_key ∷ [])))
+bad_limit vars = unless (is_none_or is_limit (get max_down_key vars)) (BadLimit limit_path)
 
 -- 205: a host's `down` is no truth value
 abbrev pub bad_down : Name → Data → List Breach
-bad_down host variables = unless (is_none_or is_truth (get down_key variables)) (BadDown (further (hosts_key ∷ host ∷ down_key ∷ [])))
+bad_down host variables = unless (is_none_or is_truth (get down_key variables)) (BadDown (down_path host))
 
 abbrev pub broken_by_host : Entry → List Breach
 broken_by_host host =
-    joined (bad_name host.name ∷ bad_shape (further (hosts_key ∷ host.name ∷ [])) host.value ∷ bad_down host.name host.value ∷ [])
+    joined (bad_name host.name ∷ bad_shape (host_path host.name) host.value ∷ bad_down host.name host.value ∷ [])
 
 abbrev pub broken_by_hosts : List Entry → List Breach
 broken_by_hosts hosts = flat_map broken_by_host hosts
 
 -- 202, of what stands under a key of a group's body
 abbrev pub bad_part : Name → Data → List Breach
-bad_part key body = bad_shape (further (key ∷ [])) (part key body)
+bad_part key body = bad_shape (part_path key) (part key body)
 
 -- the rules that a group breaks by itself, with paths from its body on
 abbrev pub broken_by_group : Name → Data → List Breach
@@ -129,9 +129,9 @@ broken_by_group name body =
     joined (bad_name name ∷ bad_shape [] body ∷ broken_by_keys (entries_in body) ∷ bad_part vars_key body ∷ bad_part hosts_key body
     ∷ bad_part children_key body ∷ bad_limit (part vars_key body) ∷ broken_by_hosts (entries_in (part hosts_key body)) ∷ [])
 
--- the same, where the group stands in the text
+-- the same, with paths in the whole text
 abbrev pub broken_in : Listed → List Breach
-broken_in group = map (at (text_path_of group)) (broken_by_group group.name group.body)
+broken_in group = map (placed (text_path_of group)) (broken_by_group group.name group.body)
 
 -- how many names stand before the first that was met before it
 abbrev pub count_before_repeat : List Name → List Name → ℕ

@@ -7,7 +7,7 @@ ghost use Rattle.inventory_read.specs.Faults.{IsRefusal};
 ghost use Rattle.inventory_read.specs.Keys.{all_key};
 ghost use Rattle.inventory_read.specs.Listings.{broken_from, entry_of, way_to};
 ghost use Rattle.inventory_read.specs.Paths.{text_path};
-ghost use Rattle.inventory_read.specs.Rules.{at, broken_by_group, broken_in};
+ghost use Rattle.inventory_read.specs.Rules.{placed, broken_by_group, broken_in};
 
 use crate::entries::entries_at;
 use crate::fault::ReadFault;
@@ -20,7 +20,7 @@ use std::alloc::{AllocError, Global};
 
 /// Checks a group by itself, to which these names lead.
 fn check_own(scratch: Global, names: &[&str], name: &str, body: &Value) -> Result<(), ReadFault>
-    ensures { IsRefusal result (map (at (text_path (map (λ name. name.now) names.now))) (broken_by_group name.now (view body.now))) }
+    ensures { IsRefusal result (map (placed (text_path (map (λ name. name.now) names.now))) (broken_by_group name.now (view body.now))) }
 {
     match check_group(name, body) {
         Ok(()) => Ok(()),
@@ -28,7 +28,8 @@ fn check_own(scratch: Global, names: &[&str], name: &str, body: &Value) -> Resul
     }
 }
 
-/// Checks a group, and after it all those below it. The names lead to the group, and do so again behind it.
+/// Checks a group, and after it all those below it. The names lead to the group and, where nothing is broken, do so again at the
+/// end.
 fn check_from<'a>(
     scratch: Global,
     names: &mut Vec<&'a str>,
@@ -55,7 +56,7 @@ fn lead_to<'a>(names: &mut Vec<&'a str>, child: Entry<'a>) -> Result<(), AllocEr
     ensures { OnOk result (map (λ name. name.now) names.new.items ≡ way_to (entry_of child.entry)) }
 {
     names.clear();
-    if !child.at_top {
+    if !child.past_all {
         names.push(ALL)?;
     }
     names.push(child.name)?;

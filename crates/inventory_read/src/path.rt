@@ -2,8 +2,8 @@
 ghost use Rattle.std.specs.Prelude.{◌≡◌, ◌++◌, IfOk, OnOk, Some, map};
 ghost use Rattle.std.specs.String.{string_bytes};
 ghost use Rattle.inventory_read.specs.Faults.{breach_of, breach_of_flaw};
-ghost use Rattle.inventory_read.specs.Paths.{further, text_path};
-ghost use Rattle.inventory_read.specs.Rules.{at};
+ghost use Rattle.inventory_read.specs.Paths.{keys_text, text_path};
+ghost use Rattle.inventory_read.specs.Rules.{placed};
 
 use crate::fault::ReadFault;
 use crate::flaw::Flaw;
@@ -12,7 +12,7 @@ use std::alloc::{AllocError, Global};
 
 /// Goes on with the keys, each after `/`.
 fn push_keys(path: &mut String, keys: &[&str]) -> Result<(), AllocError>
-    ensures { OnOk result (string_bytes path.new ≡ string_bytes path.old ++ further (map (λ key. key.now) keys.now)) }
+    ensures { OnOk result (string_bytes path.new ≡ string_bytes path.old ++ keys_text (map (λ key. key.now) keys.now)) }
 {
     for key in keys {
         path.push_str("/")?;
@@ -23,7 +23,7 @@ fn push_keys(path: &mut String, keys: &[&str]) -> Result<(), AllocError>
 
 /// The path of the group to which these names lead from an entry of the top value, and from there these keys.
 fn path_to(scratch: Global, names: &[&str], keys: &[&str]) -> Result<String, AllocError>
-    ensures { IfOk result (λ path. string_bytes path ≡ text_path (map (λ name. name.now) names.now) ++ further (map (λ key. key.now) keys.now)) }
+    ensures { IfOk result (λ path. string_bytes path ≡ text_path (map (λ name. name.now) names.now) ++ keys_text (map (λ key. key.now) keys.now)) }
 {
     let mut path = names.join(scratch, "/children/")?;
     push_keys(&mut path, keys)?;
@@ -36,7 +36,7 @@ pub(crate) fn fault_at(
     names: &[&str],
     flaw: Flaw<'_>,
 ) -> Result<ReadFault, AllocError>
-    ensures { IfOk result (λ fault. breach_of fault ≡ Some (at (text_path (map (λ name. name.now) names.now)) (breach_of_flaw flaw.entry))) }
+    ensures { IfOk result (λ fault. breach_of fault ≡ Some (placed (text_path (map (λ name. name.now) names.now)) (breach_of_flaw flaw.entry))) }
 {
     match flaw {
         Flaw::BadName(name) => Ok(ReadFault::BadName {

@@ -53,7 +53,8 @@ fn body_of_all<'a>(document: &'a Value, nothing: &'a Value) -> &'a Value
     document.get(ALL).unwrap_or(nothing)
 }
 
-/// The first rule that the document breaks, where this is the body of `all`, these are its children, and the groups are all of them.
+/// The first rule that the document breaks, where this is the body of `all`, these are its children, and the list
+/// has `all` and each group below it.
 fn check(
     scratch: Global,
     document: &Value,

@@ -7,7 +7,7 @@ ghost use Rattle.inventory_model.specs.Names.{is_among};
 ghost use Rattle.inventory_read.specs.Documents.{entries, entries_in, part};
 ghost use Rattle.inventory_read.specs.Faults.{IsVerdict};
 ghost use Rattle.inventory_read.specs.Keys.{body_keys, vars_key, hosts_key};
-ghost use Rattle.inventory_read.specs.Paths.{further};
+ghost use Rattle.inventory_read.specs.Paths.{host_path};
 ghost use Rattle.inventory_read.specs.Rules as rules;
 
 use crate::entries::{entries_at, entries_of};
@@ -85,7 +85,7 @@ fn check_limit<'a>(body: &'a Value) -> Result<(), Flaw<'a>>
 }
 
 fn check_host_shape<'a>(name: &'a str, variables: &'a Value) -> Result<(), Flaw<'a>>
-    ensures { IsVerdict result (rules.bad_shape (further (hosts_key ∷ name.now ∷ [])) (view variables.now)) }
+    ensures { IsVerdict result (rules.bad_shape (host_path name.now) (view variables.now)) }
 {
     if has_shape(variables) {
         Ok(())
@@ -104,7 +104,7 @@ fn check_down<'a>(name: &'a str, variables: &'a Value) -> Result<(), Flaw<'a>>
 }
 
 fn check_host<'a>(name: &'a str, variables: &'a Value) -> Result<(), Flaw<'a>>
-    ensures { IsVerdict result (rules.broken_by_host (record { name = name.now; value = view variables.now; at_top = false })) }
+    ensures { IsVerdict result (rules.broken_by_host (record { name = name.now; value = view variables.now; past_all = false })) }
 {
     check_name(name)?;
     check_host_shape(name, variables)?;

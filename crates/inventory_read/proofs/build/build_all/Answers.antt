@@ -27,7 +27,7 @@ build-requires g c =
     drop_more children l.child-index child c.loop-child-test.true ∙ ap (λ e. e ∷ drop (l.child-index + 1) children) (sym c.child-item.is) in
     let own = with_below child.name.now (view child.body.now) (below_body (view child.body.now)) in
     let more = flat_map groups_from (map entry_of (drop (l.child-index + 1) children)) in
-    sym (standing_named child.at_top own) ∙ (parts_named (groups_from (entry_of child)) more (rw next at l.invariant.names)).0
+    sym (standing_named child.past_all own) ∙ (parts_named (groups_from (entry_of child)) more (rw next at l.invariant.names)).0
 
 pub loop-child-preserved : goal.loop-child-preserved
 loop-child-preserved g c =
@@ -41,6 +41,6 @@ loop-child-preserved g c =
       named = ap (λ (group : Subtree). group.name) c.in_ok-add_child.ensures.ok ∙ l.invariant.named;
       built =
           reach-with_child l.group c.in_ok-build.field-0 c.add_child.new.self (groups_from (entry_of child)) more c.in_ok-add_child.ensures.ok
-          (c.in_ok-build.ensures ∙ sym (inventory-standing child.at_top (with_below child.name.now (view child.body.now) (below_body (view child.body.now))))) ∙ (rw next at l.invariant.built);
+          (c.in_ok-build.ensures ∙ sym (inventory-standing child.past_all (with_below child.name.now (view child.body.now) (below_body (view child.body.now))))) ∙ (rw next at l.invariant.built);
       names = (parts_named (groups_from (entry_of child)) more (rw next at l.invariant.names)).1;
     }

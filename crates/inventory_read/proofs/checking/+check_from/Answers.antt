@@ -8,7 +8,7 @@ use Rattle.inventory_read.specs.Documents.{below_body, groups_among, with_below}
 use Rattle.inventory_read.specs.Faults.{IsFirst}
 use Rattle.inventory_read.specs.Listings.{broken_from, broken_under}
 use Rattle.inventory_read.specs.Paths.{text_path}
-use Rattle.inventory_read.specs.Rules.{at, broken_by_group}
+use Rattle.inventory_read.specs.Rules.{placed, broken_by_group}
 use Rattle.inventory_read.proofs.Checks.{breaks_nothing, first_below, pass_below, pop_last}
 use Rattle.inventory_read.proofs.Groups.{below_body-is}
 use Rattle.inventory_read.proofs.Verdicts.{IsFirst-front, IsRefusal-passed_on}
@@ -23,15 +23,15 @@ returns-in_err-check_own-clause-first t c =
     let way = texts c.args.names.now.items in
     let name = c.args.name.now in
     let body = view c.args.body.now in
-    let first : IsFirst fault (map (at (text_path way)) (broken_by_group name body)) = rw c.as_slice.ensures.value at c.in_err-check_own.ensures in
+    let first : IsFirst fault (map (placed (text_path way)) (broken_by_group name body)) = rw c.as_slice.ensures.value at c.in_err-check_own.ensures in
     IsRefusal-passed_on c.from_residual.result fault (broken_from way name body) c.from_residual.ensures.1
-    (IsFirst-front fault (map (at (text_path way)) (broken_by_group name body)) (flat_map (broken_under way) (below_body body)) first)
+    (IsFirst-front fault (map (placed (text_path way)) (broken_by_group name body)) (flat_map (broken_under way) (below_body body)) first)
 
 pub returns-in_default-clause-first : goal.returns-in_default-clause-first
 returns-in_default-clause-first t c =
     let way = texts c.args.names.now.items in
     let body = view c.args.body.now in
-    let own : map (at (text_path way)) (broken_by_group c.args.name.now body) ≡ [] = rw c.as_slice.ensures.value at c.in_ok-check_own.ensures in
+    let own : map (placed (text_path way)) (broken_by_group c.args.name.now body) ≡ [] = rw c.as_slice.ensures.value at c.in_ok-check_own.ensures in
     let below : below_body body ≡ [] = below_body-is body ∙ ap groups_among c.in_default.ensures.entries in
     breaks_nothing way c.args.name.now body own (ap (flat_map (broken_under way)) below)
 
@@ -41,7 +41,7 @@ returns-in_err-check_from-clause-first t c =
     let fault = c.in_err-check_from.field-0.0 in
     let way = texts c.args.names.now.items in
     let body = view c.args.body.now in
-    let own : map (at (text_path way)) (broken_by_group c.args.name.now body) ≡ [] = rw c.as_slice.ensures.value at c.in_ok-check_own.ensures in
+    let own : map (placed (text_path way)) (broken_by_group c.args.name.now body) ≡ [] = rw c.as_slice.ensures.value at c.in_ok-check_own.ensures in
     let child = string_bytes c.in-Some-2.name.now in
     let child_body = view c.in-Some-2.body.now in
     let more = groups_among (members_view c.next.new.self) in
@@ -55,7 +55,7 @@ returns-in_err-check_from-clause-first t c =
     ∙ ap (λ name. way ++ name ∷ []) c.as_str.ensures.value in
     let first : IsFirst fault (broken_from (way ++ child ∷ []) child child_body) = rw (names, c.as_str-in-loop-name.ensures.value) at c.in_err-check_from.ensures.first in
     IsRefusal-passed_on c.from_residual-in_err-check_from.result fault (broken_from way c.args.name.now body) c.from_residual-in_err-check_from.ensures.1
-    (first_below fault way (map (at (text_path way)) (broken_by_group c.args.name.now body)) child child_body (below_body body) more own rest first)
+    (first_below fault way (map (placed (text_path way)) (broken_by_group c.args.name.now body)) child child_body (below_body body) more own rest first)
 
 pub loop-name-preserved : goal.loop-name-preserved
 loop-name-preserved t c =
@@ -82,7 +82,7 @@ pub returns-clause-first : goal.returns-clause-first
 returns-clause-first t c =
     let way = texts c.args.names.now.items in
     let body = view c.args.body.now in
-    let own : map (at (text_path way)) (broken_by_group c.args.name.now body) ≡ [] = rw c.as_slice.ensures.value at c.in_ok-check_own.ensures in
+    let own : map (placed (text_path way)) (broken_by_group c.args.name.now body) ≡ [] = rw c.as_slice.ensures.value at c.in_ok-check_own.ensures in
     let left : c.loop-name.name-iterator ≡ [] = c.in-None.ensures.steps.0 in
     let start : c.into_iter-name-iterator.result ≡ c.in-Some.children.now.entries = search rules in
     let below : groups_among (members_view c.into_iter-name-iterator.result) ≡ below_body body =

@@ -5,7 +5,7 @@ use Rattle.inventory_read.specs.Faults.{IsFirst}
 use Rattle.inventory_read.specs.Keys.{all_key}
 use Rattle.inventory_read.specs.Listings.{broken_from, entry_of, way_to}
 use Rattle.inventory_read.specs.Paths.{text_path}
-use Rattle.inventory_read.specs.Rules.{at, broken_by_group}
+use Rattle.inventory_read.specs.Rules.{placed, broken_by_group}
 use Rattle.inventory_read.proofs.Checks.{broken_by_children, first_child, pass_child}
 use Rattle.inventory_read.proofs.Verdicts.{IsFirst-front, IsRefusal-passed_on}
 use Rattle.inventory_read.proofs.checking.check_groups.Goals as goal
@@ -13,7 +13,7 @@ use Rattle.inventory_read.proofs.checking.check_groups.Goals as goal
 pub returns-in_err-check_own : goal.returns-in_err-check_own
 returns-in_err-check_own c =
     let fault = c.in_err-check_own.field-0.0 in
-    let own = map (at (text_path (all_key ∷ []))) (broken_by_group all_key (view c.args.all.now)) in
+    let own = map (placed (text_path (all_key ∷ []))) (broken_by_group all_key (view c.args.all.now)) in
     let below = broken_by_children (map entry_of c.args.children.now) in
     let first : IsFirst fault own = rw (c.as_slice.ensures.value, c.in_ok-push.ensures.items, c.new-names.ensures.items) at c.in_err-check_own.ensures in
     IsRefusal-passed_on c.from_residual-in_err-check_own.result fault (own ++ below) c.from_residual-in_err-check_own.ensures.1 (IsFirst-front fault own below first)
@@ -24,7 +24,7 @@ returns-in_err-check_from c =
     let fault = c.in_err-check_from.field-0.0 in
     let children = c.args.children.now in
     let child = c.child-item.result in
-    let own = map (at (text_path (all_key ∷ []))) (broken_by_group all_key (view c.args.all.now)) in
+    let own = map (placed (text_path (all_key ∷ []))) (broken_by_group all_key (view c.args.all.now)) in
     let kept : own ≡ [] = rw (c.as_slice.ensures.value, c.in_ok-push.ensures.items, c.new-names.ensures.items) at c.in_ok-check_own.ensures in
     let next : drop l.child-index children ≡ child ∷ drop (l.child-index + 1) children =
     drop_more children l.child-index child c.loop-child-test.true ∙ ap (λ e. e ∷ drop (l.child-index + 1) children) (sym c.child-item.is) in
