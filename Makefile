@@ -1,5 +1,5 @@
 # `make` builds the program and runs it. The gate is `make check`: every proof, test and edit of must-fail/, then the scripts on the program that this built.
-.PHONY: build check drawn edits scripts touched
+.PHONY: build check drawn edits planted scripts touched
 
 build:
 	@sh tests/build.sh
@@ -18,6 +18,10 @@ touched:
 # All edits, those too that the gate doesn't try. `make edits`, `make edits SINCE=main`, `make edits CRATES="cond recap"`
 edits:
 	@SINCE="$(SINCE)" CRATES="$(CRATES)" sh tests/edits.sh
+
+# Bugs, each put into the program: a script has to tell it. `make planted`, `make planted NAMES="first_word_lost"`, `make planted JOBS=3`
+planted:
+	@NAMES="$(NAMES)" JOBS="$(JOBS)" python3 tests/planted.py
 
 # Drawn cases, as many as you like: the built program beside the slow one of tests/slow. `make drawn`, `make drawn SEED=7 CASES=30000`
 drawn:

@@ -296,6 +296,16 @@ for forks in 1 2 7 64; do
 done
 many 4096 64 '{"command":"true"}'
 check '4,096 hosts' 0 "$(all 4096 "ok=1 $updated" finished)$newline" ''
+# one host a batch, so as many boundaries as hosts, and one more
+hosts 600 >"$work/hosts.json"
+printf '[{"hosts":"all","serial":1,"tasks":[{"command":"true"}]}]' >"$work/play.json"
+run run "$work/hosts.json" "$work/play.json"
+check '601 boundaries' 0 "$(awk -v count=600 -v ending="ok=1 $updated" 'BEGIN {
+    for (i = 0; i < count; i++) printf "boundary %d: plan batches=%d bound=serial waiting=%d size=1\nopen: h%04d\n", i + 1, count - i, count - i, i
+    printf "boundary %d: plan batches=0 bound=nothing\n", count + 1
+    for (i = 0; i < count; i++) printf "h%04d %s\n", i, ending
+    print "end finished"
+}')$newline" ''
 # over a million events: each host is claimed and reports at each step, though no program is started
 many 4096 64 "$(seq 1 128 | sed 's/.*/{"command":"true","when":false}/' | paste -sd, -)"
 check '4,096 hosts, each of which skips 128 steps' 0 "$(all 4096 'ok=0 changed=0 failed=0 skipped=128 ignored=0 state=updated' finished)$newline" ''
