@@ -10,3 +10,4 @@ pub mod Checks
 pub mod Unbroken
 pub mod MergeLaws
 pub mod Named
+pub mod Steps

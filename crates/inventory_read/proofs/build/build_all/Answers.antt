@@ -1,6 +1,5 @@
 use Rattle.std.proofs.Common.{◌≡◌, ◌+◌, ◌∷◌, map, drop, refl, sym, ap, ◌∙◌}
 use Rattle.std.specs.List.{flat_map}
-use Rattle.std.proofs.lemmas.List.{drop_more}
 use Rattle.serde_json.specs.View.{view}
 use Rattle.inventory_model.specs.Subtrees.{Subtree}
 use Rattle.inventory_read.specs.Documents.{below_body, groups_from, with_below}
@@ -8,6 +7,7 @@ use Rattle.inventory_read.specs.Keys.{all_key}
 use Rattle.inventory_read.specs.Listings.{entry_of}
 use Rattle.inventory_read.proofs.Builds.{inventory-standing, reach-with_child}
 use Rattle.inventory_read.proofs.Named.{below_named, parts_named, standing_named}
+use Rattle.inventory_read.proofs.Steps.{drop_item}
 use Rattle.inventory_read.proofs.build.build_all.Goals as goal
 
 pub loop-child-init : goal.loop-child-init
@@ -24,7 +24,7 @@ build-requires g c =
     let children = c.args.children.now in
     let child = c.child-item.result in
     let next : drop l.child-index children ≡ child ∷ drop (l.child-index + 1) children =
-    drop_more children l.child-index child c.loop-child-test.true ∙ ap (λ e. e ∷ drop (l.child-index + 1) children) (sym c.child-item.is) in
+    drop_item children l.child-index child c.loop-child-test.true c.child-item.is in
     let own = with_below child.name.now (view child.body.now) (below_body (view child.body.now)) in
     let more = flat_map groups_from (map entry_of (drop (l.child-index + 1) children)) in
     sym (standing_named child.past_all own) ∙ (parts_named (groups_from (entry_of child)) more (rw next at l.invariant.names)).0
@@ -35,7 +35,7 @@ loop-child-preserved g c =
     let children = c.args.children.now in
     let child = c.child-item.result in
     let next : drop l.child-index children ≡ child ∷ drop (l.child-index + 1) children =
-    drop_more children l.child-index child c.loop-child-test.true ∙ ap (λ e. e ∷ drop (l.child-index + 1) children) (sym c.child-item.is) in
+    drop_item children l.child-index child c.loop-child-test.true c.child-item.is in
     let more = flat_map groups_from (map entry_of (drop (l.child-index + 1) children)) in
     record {
       named = ap (λ (group : Subtree). group.name) c.in_ok-add_child.ensures.ok ∙ l.invariant.named;

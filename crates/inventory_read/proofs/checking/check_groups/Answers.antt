@@ -1,5 +1,4 @@
-use Rattle.std.proofs.Common.{◌≡◌, ◌+◌, [], ◌∷◌, ◌++◌, map, drop, sym, ap, ◌∙◌}
-use Rattle.std.proofs.lemmas.List.{drop_more}
+use Rattle.std.proofs.Common.{◌≡◌, ◌+◌, [], ◌∷◌, ◌++◌, map, drop}
 use Rattle.serde_json.specs.View.{view}
 use Rattle.inventory_read.specs.Faults.{IsFirst}
 use Rattle.inventory_read.specs.Keys.{all_key}
@@ -8,6 +7,7 @@ use Rattle.inventory_read.specs.Paths.{text_path}
 use Rattle.inventory_read.specs.Rules.{placed, broken_by_group}
 use Rattle.inventory_read.proofs.Checks.{broken_by_children, first_child, pass_child}
 use Rattle.inventory_read.proofs.Verdicts.{IsFirst-front, IsRefusal-passed_on}
+use Rattle.inventory_read.proofs.Steps.{drop_item}
 use Rattle.inventory_read.proofs.checking.check_groups.Goals as goal
 
 pub returns-in_err-check_own : goal.returns-in_err-check_own
@@ -27,7 +27,7 @@ returns-in_err-check_from c =
     let own = map (placed (text_path (all_key ∷ []))) (broken_by_group all_key (view c.args.all.now)) in
     let kept : own ≡ [] = rw (c.as_slice.ensures.value, c.in_ok-push.ensures.items, c.new-names.ensures.items) at c.in_ok-check_own.ensures in
     let next : drop l.child-index children ≡ child ∷ drop (l.child-index + 1) children =
-    drop_more children l.child-index child c.loop-child-test.true ∙ ap (λ e. e ∷ drop (l.child-index + 1) children) (sym c.child-item.is) in
+    drop_item children l.child-index child c.loop-child-test.true c.child-item.is in
     let first : IsFirst fault (broken_from (way_to (entry_of child)) child.name.now (view child.body.now)) = rw c.in_ok-lead_to.ensures at c.in_err-check_from.ensures.first in
     IsRefusal-passed_on c.from_residual-in_err-check_from.result fault (own ++ broken_by_children (map entry_of children)) c.from_residual-in_err-check_from.ensures.1
     (first_child fault own (entry_of child) (map entry_of children) (map entry_of (drop (l.child-index + 1) children)) kept (rw next at l.invariant) first)
@@ -38,6 +38,6 @@ loop-child-preserved c =
     let children = c.args.children.now in
     let child = c.child-item.result in
     let next : drop l.child-index children ≡ child ∷ drop (l.child-index + 1) children =
-    drop_more children l.child-index child c.loop-child-test.true ∙ ap (λ e. e ∷ drop (l.child-index + 1) children) (sym c.child-item.is) in
+    drop_item children l.child-index child c.loop-child-test.true c.child-item.is in
     let kept : broken_from (way_to (entry_of child)) child.name.now (view child.body.now) ≡ [] = rw c.in_ok-lead_to.ensures at c.in_ok-check_from.ensures.first in
     pass_child (entry_of child) (map entry_of children) (map entry_of (drop (l.child-index + 1) children)) (rw next at l.invariant) kept
