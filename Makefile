@@ -1,5 +1,5 @@
 # `make` builds the program and runs it. The gate is `make check`: every proof, test and edit of must-fail/, then the scripts on the program that this built.
-.PHONY: build check drawn edits planted scripts touched
+.PHONY: build check drawn drifts edits pages planted scripts touched
 
 build:
 	@sh tests/build.sh
@@ -26,3 +26,11 @@ planted:
 # Drawn cases, as many as you like: the built program beside the slow one of tests/slow. `make drawn`, `make drawn SEED=7 CASES=30000`
 drawn:
 	@SEED="$(SEED)" CASES="$(CASES)" sh tests/drawn.sh
+
+# The lists and counts of the pages that are made from the tree; tests/house.sh fails where this would change anything.
+pages:
+	@python3 tests/house/made.py
+
+# Drifts of the pages and the tree, each put into a copy: tests/house.sh has to tell it.
+drifts:
+	@python3 tests/house/drifts.py

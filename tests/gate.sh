@@ -26,7 +26,7 @@ counted() {
 
 if [ $# -eq 0 ]; then
     counted rt ci
-    set -- cli inventories playbooks broken memory workers once programs noted rehearsal drawn readme
+    set -- cli inventories playbooks broken memory workers once programs noted rehearsal drawn readme house
 fi
 for script in "$@"; do
     [ -e "tests/$script.sh" ] || continue

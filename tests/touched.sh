@@ -77,7 +77,7 @@ if [ -n "$build" ] || [ ! -x "$program" ]; then
     part 'program'
 fi
 
-scripts='cli inventories playbooks broken memory programs noted rehearsal drawn readme'
+scripts='cli inventories playbooks broken memory programs noted rehearsal drawn readme house'
 case " $names " in *' roll_core '* | *' ticket_line '*) scripts="$scripts once" ;; esac
 case " $names " in *' fork_pool '*) scripts="$scripts workers" ;; esac
 BUILT_ALONE=yes sh tests/gate.sh $scripts >"$work/scripts" 2>&1

@@ -1,0 +1,304 @@
+#!/usr/bin/env python3
+"""Compares the pages with the tree: lists, counts, and the names of files, calls, scripts and targets. It proves nothing and runs nothing.
+
+tests/house.sh runs it. Each comparison is a row; the last line counts them.
+"""
+
+import difflib
+import os
+import re
+import sys
+
+import made
+import tree
+
+HANDLES = "Handles allowed: Threads, Wait, Processes.\n"
+# Numbers of papers, theorems and issues; the repository stands alone.
+CITES = re.compile(r"(?<!\w)(?:R(?:1[0-6]|[1-9])|T[1-5]|D(?:1[0-9]|2[01]|[1-9])|W(?:1[0-9]|2[01]|[1-9])|[Dd]ocument 0[1-4]|[Ii]ssue #?\d+)(?!\w)")
+# What ran at some time, under the names of that time.
+HISTORY = "docs/TRIED.md"
+# Scripts that others share, or that a target of the Makefile is for.
+NOT_IN_THE_GATE = {"all", "build", "common", "contracts", "crates", "edits", "gate", "test", "touched"}
+
+
+class Count:
+    """How many rows passed, and how many failed."""
+
+    def __init__(self):
+        self.passed = self.failed = 0
+
+    def row(self, holds, what):
+        if holds:
+            self.passed += 1
+        else:
+            self.failed += 1
+            print(f"FAILED: {what}")
+
+
+def stands(path):
+    """Whether a file stands in the tree; a word in capitals stands for any name, and so does a star."""
+    pattern = re.sub(r"\b[A-Z]{3,}\b(?!\.md)", "*", path.rstrip("/"))
+    return bool(tree.found(pattern)) or os.path.exists(os.path.join(tree.TOP, path))
+
+
+def ticks(text):
+    """What stands in backticks, outside of blocks of code."""
+    return re.findall(r"`([^`\n]+)`", re.sub(r"^```.*?^```", "", text, flags=re.S | re.M))
+
+
+def compare_made_parts(count):
+    """`make pages` would change nothing, each part stands somewhere, and no row lacks what only its author can say."""
+    pages, parts = made.made_pages()
+    for name in made.MAKERS:
+        count.row(len(parts.get(name, [])) == 1, f"the part {name} that `make pages` makes stands on one page, not on {parts.get(name, [])}")
+    for path, text in pages.items():
+        old = tree.read(path)
+        lines = [line for line in difflib.unified_diff(old.split("\n"), text.split("\n"), lineterm="", n=0) if not line.startswith(("---", "+++", "@@"))]
+        for line in lines[:6]:
+            print("    " + line[:200])
+        count.row(old == text, f"{path}: `make pages` changes {len(lines)} lines")
+        for _, name, body, _ in made.PART.findall(text):
+            for cells in made.rows_of(body) if name != "crates" else []:
+                count.row(all(cells), f"{path}: the row '{cells[0]}' of {name} has an empty cell")
+
+
+def compare_edits(count):
+    """Each edit and each planted bug can be applied, and few enough edits are left to the gate."""
+    edits = tree.edits()
+    for (crate, name), (folder, pairs) in edits.items():
+        why = tree.unfit(f"crates/{crate}", pairs)
+        count.row(not why, f"crates/{crate}/{folder}/{name}.edit: {why}")
+    for name, (pairs, by) in tree.bugs().items():
+        why = tree.unfit("", pairs)
+        count.row(not why, f"tests/planted/{name}.edit: {why}")
+        script, crate = re.match(r"tests/\w+\.sh\b", by), re.match(r"the tests of (\w+)", by)
+        told = script and stands(script[0]) or crate and stands(f"crates/{crate[1]}/src")
+        count.row(told, f"tests/planted/{name}.edit: shown by '{by}', which isn't there")
+    tried = [crate for (crate, _), (folder, _) in edits.items() if folder == "must-fail"]
+    count.row(len(tried) <= made.MOST_EDITS, f"{len(tried)} edits in must-fail/, of at most {made.MOST_EDITS}")
+    count.row(len(set(tried)) <= made.MOST_ROOMS, f"edits in must-fail/ of {len(set(tried))} crates, of at most {made.MOST_ROOMS}")
+
+
+def compare_crates(count, crates):
+    """Each folder of crates/ has its line, which names only what the crate's files name; each root says first what it is for."""
+    folders = {path.split("/")[1] for path in tree.found("crates/*/src")}
+    for name in folders | set(crates):
+        count.row(name in folders, f"crates.txt has {name}, and crates/{name} has no src")
+        count.row(name in crates, f"crates/{name} has no line in crates.txt")
+    for name in folders & set(crates):
+        count.row(tree.purpose(name), f"crates/{name}: the first line of its root doesn't say what it is for")
+        words = set()
+        for path in tree.found(f"crates/{name}/**/*.rt", f"crates/{name}/**/*.antt"):
+            words.update(re.findall(r"\w+", tree.read(path)))
+        for below in crates[name]:
+            count.row(below in words, f"crates.txt: {name} stands on {below}, which no file of it names")
+
+
+def compare_table_of_crates(count, crates, named):
+    """README has one row for each crate; what a row names in brackets are public functions of its crates."""
+    text = tree.read("README.md")
+    start = text.find("\n## What is proved today, crate by crate")
+    table = text[start : text.find("\n## ", start + 1)] if start >= 0 else ""
+    seen = {}
+    for cells in made.rows_of(table):
+        own = [name for name in ticks(cells[0])]
+        for name in own:
+            seen[name] = seen.get(name, 0) + 1
+            count.row(name in crates, f"README.md: a row for {name}, which is no crate")
+        for brackets in re.findall(r"\(([^()]*`[^()]*)\)", " ".join(cells[1:])):
+            for call in ticks(brackets):
+                if re.fullmatch(r"[\w:]+", call):
+                    holds = any(call in named[name].public for name in own if name in named)
+                    count.row(holds or call in named or is_key(call), f"README.md: no public function {call} in {', '.join(own)}")
+    for name in crates:
+        count.row(seen.get(name) == 1, f"README.md: {seen.get(name, 0)} rows for {name}")
+
+
+def is_key(word):
+    """A key or a word of a playbook or an inventory, as FORMATS has it."""
+    return f"`{word}`" in tree.read("docs/FORMATS.md")
+
+
+def compare_table_of_contracts(count, named):
+    """Each call of a row of PROVED's table of contracts stands in the crate of that row."""
+    text = tree.read("docs/PROVED.md")
+    start = text.find("\n## Contracts, crate by crate")
+    crate = ""
+    for cells in made.rows_of(text[start : text.find("\n## ", start + 1)]):
+        crate = cells[0].strip("`") or crate
+        count.row(crate in named, f"docs/PROVED.md: contracts of {crate}, which is no crate")
+        for call in ticks(cells[1]):
+            if re.fullmatch(r"[\w:]+", call) and crate in named:
+                has = named[crate]
+                count.row(call in has.public | has.functions | has.types, f"docs/PROVED.md: {crate} has no {call}")
+
+
+def compare_definitions(count, crates):
+    """Each file and definition of DEFINITIONS stands where it says."""
+    crate = []
+    for line in tree.read("docs/DEFINITIONS.md").split("\n"):
+        if line.startswith("#"):
+            crate = re.findall(r"crates/(\w+)/specs", line)
+        cells = made.cells_of(line) if line.startswith("| ") else []
+        if len(cells) != 3 or cells[2] == "File":
+            continue
+        for name in crate:
+            count.row(name in crates, f"docs/DEFINITIONS.md: {name} is no crate")
+        carried = crate
+        for part in cells[2].split(";"):
+            carried = [name for name in ticks(part) if name in crates] or carried
+            files = []
+            for word in ticks(part):
+                if re.fullmatch(r"[\w/]+\.(antt|rt)", word):
+                    files = [path for name in carried for path in tree.found(f"crates/{name}/specs/{word}", f"crates/{name}/{word}")]
+                    count.row(files, f"docs/DEFINITIONS.md: no file {word} in {', '.join(carried)}")
+                elif re.fullmatch(r"\w+", word) and word not in crates and files:
+                    holds = any(re.search(rf"(?<!\w){word}(?!\w)", tree.read(path)) for path in files)
+                    count.row(holds, f"docs/DEFINITIONS.md: no {word} in {', '.join(files)}")
+
+
+def compare_counts(count, crates):
+    """Numbers of crates, bugs and rules in running text."""
+    right = {"crates": len(crates), "bugs": len(tree.bugs()), "rules": len(tree.rules())}
+    for path in tree.pages():
+        if path == HISTORY:
+            continue
+        text = made.PART.sub("", tree.read(path))
+        for line in text.split("\n"):
+            if not line.startswith("|"):
+                for number, what in re.findall(r"\b(\d+) (?:planted |turned )?(crates|bugs|rules)\b", line):
+                    count.row(int(number) == right[what], f"{path}: {number} {what}; the tree has {right[what]}")
+
+
+def compare_paths(count):
+    """Each file that a page names stands, and so does each target of `make`; each target is named by some page."""
+    targets, named = tree.targets(), set()
+    for path in tree.pages():
+        text = tree.read(path)
+        if path == HISTORY:
+            continue
+        for name in sorted(set(re.findall(r"(?<![\w/.-])((?:crates|tests|bench|docs|examples|\.ci)/[\w*./-]*[\w*/])", text))):
+            if "/out" not in name:
+                count.row(stands(name), f"{path}: no file {name}")
+        for target in sorted(set(re.findall(r"`make ([a-z_]+)", text) + re.findall(r"^(?:    |\$ )make ([a-z_]+)", text, re.M))):
+            named.add(target)
+            count.row(target in targets, f"{path}: the Makefile has no target {target}")
+    for target in targets - {"build"}:
+        count.row(target in named, f"no page names `make {target}`")
+
+
+def compare_files_of_crates(count, crates):
+    """A file named as `src/..` or `specs/..` stands in a crate that the same line or its heading names."""
+    for path in tree.pages():
+        if path in (HISTORY, "docs/DEFINITIONS.md"):
+            continue
+        heading, before = [], []
+        for line in tree.read(path).split("\n"):
+            if line.startswith("#"):
+                heading = [word for word in ticks(line) if word in crates]
+                before = []
+            here = [name for word in ticks(line) for name in re.findall(r"^(?:crates/)?(\w+)", word) if name in crates]
+            cells = made.cells_of(line) if line.startswith("|") else []
+            if cells and not cells[0] and not here:
+                here = before
+            if not line.strip() or re.match(r"[-*\d|]", line):
+                before = here or (before if cells else [])
+            else:
+                before = here + before
+            for word in ticks(line):
+                file = re.fullmatch(r"((?:src|specs|proofs)/[\w/]+\.(?:rt|antt))", word)
+                if file:
+                    own = here + before + heading
+                    count.row(any(stands(f"crates/{name}/{file[1]}") for name in own), f"{path}: no file {file[1]} in {', '.join(dict.fromkeys(own)) or 'any crate that stands with it'}")
+
+
+def compare_names(count, crates, named):
+    """Each name in backticks that looks like one of the sources (a_name, AName, a::name) stands in them."""
+    words = set(crates)
+    for path in tree.found("crates/*/src/**/*.rt", "crates/*/specs/**/*.antt", "tests/**/*.*", "bench/*", "examples/**/*.*", "Makefile", "crates.txt"):
+        if os.path.isfile(os.path.join(tree.TOP, path)) and not path.endswith(".md"):
+            words.update(re.findall(r"\w+", tree.read(path)))
+    for path in tree.pages():
+        if path in (HISTORY, "docs/FROM_ANSIBLE.md"):
+            continue
+        text = made.PART.sub("", tree.read(path))
+        for word in sorted(set(ticks(text))):
+            if re.search(r"[A-Z]{3,}", word):
+                continue
+            if re.fullmatch(r"[A-Za-z]\w*(?:::\w+)*(?:\(\))?", word) and (re.search(r"_|::", word) or re.search(r"[a-z][A-Z]", word)):
+                parts = re.findall(r"\w+", word)
+                holds = all(part in words for part in parts)
+                if holds and len(parts) == 2 and parts[0] in named:
+                    has = named[parts[0]]
+                    holds = parts[1] in has.functions | has.public | has.types or any(parts[1] in tree.read(file) for file in tree.found(f"crates/{parts[0]}/src/**/*.rt"))
+                count.row(holds, f"{path}: no {word} in the sources")
+
+
+def compare_scripts(count):
+    """Both lists of scripts have each script of tests/, and ARCHITECTURE names each."""
+    scripts = {os.path.basename(path)[:-3] for path in tree.found("tests/*.sh")} - NOT_IN_THE_GATE
+    architecture = tree.read("docs/ARCHITECTURE.md")
+    for path in ("tests/gate.sh", "tests/all.sh"):
+        listed = re.search(r"(?:set --|gate\.sh\") ((?:[a-z]+ ){3,}[a-z]+)", tree.read(path))
+        listed = set(listed[1].split()) if listed else set()
+        for name in sorted(scripts | listed):
+            count.row(name in scripts and name in listed, f"{path}: {name} is " + ("listed, and no script" if name in listed else "a script, and not listed"))
+    for name in sorted(scripts):
+        count.row(f"tests/{name}.sh" in architecture, f"docs/ARCHITECTURE.md doesn't name tests/{name}.sh")
+
+
+def compare_folders(count):
+    """Examples and measurements are named by the pages that list them."""
+    examples = tree.read("examples/README.md")
+    for path in tree.found("examples/*", "examples/ansible/*"):
+        name = path[len("examples/") :]
+        if name not in ("README.md", "ansible"):
+            count.row(name in examples, f"examples/README.md doesn't name {name}")
+    speed = "".join(tree.read(path) for path in tree.pages())
+    for path in tree.found("bench/*"):
+        if os.path.isfile(os.path.join(tree.TOP, path)) and "." not in path:
+            count.row(path in speed, f"no page names {path}")
+
+
+def compare_trusted(count, crates):
+    """README says of each ported library that a crate stands on that it is trusted, and of no other."""
+    trusted = re.search(r"^\*\*Trusted\*\*:(?:.+\n)+", tree.read("README.md"), re.M)
+    trusted = set(ticks(trusted[0])) if trusted else set()
+    ported = {below for name in crates for below in crates[name]} - set(crates)
+    for name in sorted(ported | trusted):
+        count.row(name in ported and name in trusted, f"README.md: {name} is " + ("trusted, and no crate stands on it" if name in trusted else "not among what is trusted"))
+
+
+def compare_texts(count):
+    """HANDLES is its line, and no text cites a paper or an issue by number."""
+    count.row(tree.read("HANDLES") == HANDLES, "HANDLES is not its exact line")
+    for path in tree.found("**/*.rt", "**/*.antt", "**/*.md", "**/*.edit", "**/*.sh", "**/*.py"):
+        if path.startswith("tests/house/"):
+            continue
+        cite = CITES.search(tree.read(path))
+        count.row(not cite, f"{path} cites by number: {cite[0] if cite else ''}")
+
+
+def main():
+    count, crates = Count(), tree.crates()
+    named = {name: tree.Crate(name) for name in crates}
+    compare_made_parts(count)
+    compare_edits(count)
+    compare_crates(count, crates)
+    compare_table_of_crates(count, crates, named)
+    compare_table_of_contracts(count, named)
+    compare_definitions(count, crates)
+    compare_counts(count, crates)
+    compare_paths(count)
+    compare_files_of_crates(count, crates)
+    compare_names(count, crates, named)
+    compare_scripts(count)
+    compare_folders(count)
+    compare_trusted(count, crates)
+    compare_texts(count)
+    print(f"{count.passed} passed, {count.failed} failed")
+    return 1 if count.failed or not count.passed else 0
+
+
+if __name__ == "__main__":
+    sys.exit(main())

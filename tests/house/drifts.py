@@ -1,0 +1,228 @@
+#!/usr/bin/env python3
+"""Shows that tests/house.sh fails where the pages and the tree drift apart: each drift is put into a copy of the tree, alone, and has to be told there.
+
+    make drifts
+
+It takes the names that it changes from the pages as they stand. The last line counts the drifts that were told.
+"""
+
+import os
+import re
+import shutil
+import subprocess
+import sys
+import tempfile
+from concurrent.futures import ThreadPoolExecutor
+
+import made
+import tree
+
+
+class Copy:
+    """A copy of the tree that is changed in one place."""
+
+    def __init__(self, top):
+        self.top = top
+
+    def read(self, path):
+        with open(os.path.join(self.top, path), encoding="utf-8") as file:
+            return file.read()
+
+    def write(self, path, text):
+        with open(os.path.join(self.top, path), "w", encoding="utf-8") as file:
+            file.write(text)
+
+    def change(self, path, old, new, count=1):
+        text = self.read(path)
+        if old not in text or old == new:
+            raise ValueError(f"{path} has no {old}")
+        self.write(path, text.replace(old, new, count))
+
+    def move(self, path, to):
+        os.rename(os.path.join(self.top, path), os.path.join(self.top, to))
+
+
+def page_of(part):
+    """The page on which a made part stands, and its text."""
+    path = made.made_pages()[1][part][0]
+    return path, next(body for _, name, body, _ in made.PART.findall(tree.read(path)) if name == part)
+
+
+def row_in(part, place=3):
+    """A row of a made part, with its page."""
+    path, body = page_of(part)
+    return path, [line for line in body.split("\n") if line.startswith("| ")][place] + "\n"
+
+
+def a_crate_left_out_of_architecture(copy):
+    copy.change(*row_in("crates"), "")
+
+
+def a_crate_left_out_of_readme(copy):
+    text = copy.read("README.md")
+    row = re.search(r"crate by crate\n.*?^(\| `\w+` \|[^\n]*\n)", text, re.M | re.S)[1]
+    copy.write("README.md", text.replace(row, ""))
+
+
+def a_crate_that_is_gone(copy):
+    name = list(tree.crates())[-1]
+    copy.write("crates.txt", re.sub(rf"^{name}:.*\n", "", copy.read("crates.txt"), flags=re.M))
+
+
+def a_count_of_crates_off_by_one(copy):
+    path, body = page_of("crates")
+    number = re.search(r"(\d+) crates", body)[1]
+    copy.change(path, f"{number} crates", f"{int(number) + 1} crates")
+
+
+def a_count_of_bugs_off_by_one(copy):
+    path, body = page_of("bugs")
+    number = re.search(r"(\d+) bugs", body)[1]
+    copy.change(path, f"{number} bugs", f"{int(number) - 1} bugs")
+
+
+def a_function_renamed(copy):
+    text = tree.read("README.md")
+    row, name = re.search(r"^\| `(\w+)` \|[^\n]*?\(`(?:\w+::)?(\w+)`\)", text[text.index("crate by crate") :], re.M).groups()
+    changed = False
+    for path in tree.found(f"crates/{row}/src/**/*.rt"):
+        source = copy.read(path)
+        anew = re.sub(rf"\b{name}\b", name + "_anew", source)
+        changed |= anew != source
+        copy.write(path, anew)
+    if not changed:
+        raise ValueError(f"{row} has no {name}")
+
+
+def an_edit_without_a_row(copy):
+    path = tree.found("crates/*/edits/*.edit")[0]
+    copy.write(os.path.join(os.path.dirname(path), "what_nobody_wrote_down.edit"), copy.read(path))
+
+
+def a_row_without_an_edit(copy):
+    os.remove(os.path.join(copy.top, tree.found("crates/*/edits/*.edit")[1]))
+
+
+def an_edit_that_nobody_tried(copy):
+    path, row = row_in("edits")
+    cells = made.cells_of(row)
+    copy.change(path, row, "| " + " | ".join([*cells[:2], "", ""]) + " |\n")
+
+
+def an_edit_that_fits_no_more(copy):
+    (crate, _), (_, pairs) = next(iter(tree.edits().items()))
+    copy.change(f"crates/{crate}/{pairs[0][0]}", pairs[0][1], "")
+
+
+def a_dependency_off(copy):
+    crates = tree.crates()
+    name = next(name for name, below in crates.items() if len(below) > 2)
+    line = next(line for line in tree.read("crates.txt").split("\n") if line.startswith(name + ":"))
+    copy.change("crates.txt", line, line.rsplit(" ", 1)[0])
+
+
+def a_dependency_off_in_the_page(copy):
+    path, row = row_in("crates", -1)
+    copy.change(path, row, row.rsplit(", ", 1)[0] + " |\n")
+
+
+def a_first_line_off(copy):
+    root = tree.found("crates/*/src/lib.rt")[2]
+    first = copy.read(root).split("\n")[0]
+    copy.change(root, first, first.rstrip(".") + " and more.")
+
+
+def a_scripts_name_off(copy):
+    path = re.search(r"tests/(?!house)\w+\.sh", tree.read("docs/ARCHITECTURE.md"))[0]
+    copy.move(path, path[:-3] + "_anew.sh")
+
+
+def a_script_that_no_list_has(copy):
+    copy.write("tests/anew.sh", "exit\n")
+
+
+def a_target_off(copy):
+    target = re.search(r"`make (\w+)", tree.read("docs/GATE.md"))[1]
+    copy.write("Makefile", re.sub(rf"^{target}:", f"{target}_anew:", copy.read("Makefile"), flags=re.M))
+
+
+def a_stale_file_name(copy):
+    path = re.search(r"`(crates/\w+/(?:src|specs)/\w+\.\w+)`", tree.read("docs/ARCHITECTURE.md"))[1]
+    folder, name = os.path.split(path)
+    copy.move(path, f"{folder}/x{name}")
+
+
+def a_definition_renamed(copy):
+    crate, file, name = re.search(r"\(`crates/(\w+)/specs`\)\n\n\|[^\n]*\n\|[^\n]*\n\|[^\n]*\| `(\w+\.antt)`: `(\w+)`", tree.read("docs/DEFINITIONS.md")).groups()
+    path = f"crates/{crate}/specs/{file}"
+    copy.write(path, re.sub(rf"(?<!\w){name}(?!\w)", name + "Anew", copy.read(path)))
+
+
+def a_bug_without_a_row(copy):
+    path = tree.found("tests/planted/*.edit")[0]
+    copy.write("tests/planted/what_nobody_wrote_down.edit", copy.read(path))
+
+
+def a_rule_without_a_row(copy):
+    path = "tests/slow/rules_of_inputs.py"
+    copy.change(path, "JSON = {\n", 'JSON = {\n    "json-anew": "Anew.",\n')
+
+
+def an_example_that_no_page_names(copy):
+    copy.write("examples/anew.json", "{}\n")
+
+
+def other_handles(copy):
+    copy.write("HANDLES", "Handles allowed: none.\n")
+
+
+def a_citation_by_number(copy):
+    copy.change("docs/DECISIONS.md", "# Decisions\n", "# Decisions\n\nSee T" + "3.\n")
+
+
+DRIFTS = [drift for name, drift in list(globals().items()) if getattr(drift, "__module__", None) == __name__ and callable(drift) and not isinstance(drift, type)]
+DRIFTS = [drift for drift in DRIFTS if drift.__code__.co_varnames[:1] == ("copy",)]
+
+
+def told(top):
+    """What tests/house.sh says of a tree: the rows that fail, and whether it ended by its count."""
+    said = subprocess.run(["sh", "tests/house.sh"], cwd=top, capture_output=True, text=True, stdin=subprocess.DEVNULL)
+    rows = re.findall(r"^FAILED: (.*)$", said.stdout, re.M)
+    return rows, bool(re.search(r"^\d+ passed, \d+ failed\n\Z", said.stdout, re.M)) and (said.returncode != 0) == bool(rows)
+
+
+def try_drift(drift, source, work):
+    copy = Copy(os.path.join(work, drift.__name__))
+    shutil.copytree(source, copy.top)
+    try:
+        drift(copy)
+        rows, ended = told(copy.top)
+        return next((row for row in rows if ".md" in row), rows[0]) if rows and ended else None
+    finally:
+        shutil.rmtree(copy.top)
+
+
+def main():
+    passed = 0
+    with tempfile.TemporaryDirectory(prefix="drifts-") as work, ThreadPoolExecutor(os.cpu_count()) as pool:
+        source = os.path.join(work, "source")
+        skip = shutil.ignore_patterns("out", ".git", "__pycache__")
+        shutil.copytree(tree.TOP, source, ignore=skip)
+        rows, ended = told(source)
+        if rows or not ended:
+            print(f"FAILED: without a drift: {rows[:1] or 'no count'}\n0 passed, {len(DRIFTS)} failed")
+            return 1
+        tries = [(drift.__name__.replace("_", " "), pool.submit(try_drift, drift, source, work)) for drift in DRIFTS]
+        for name, tried in tries:
+            try:
+                row = tried.result()
+            except (OSError, ValueError, TypeError, StopIteration) as error:
+                row, name = None, f"{name} ({type(error).__name__}: {error})"
+            passed += bool(row)
+            print(f"{name}: {row}" if row else f"FAILED: {name}: nothing tells it", flush=True)
+    print(f"{passed} passed, {len(DRIFTS) - passed} failed")
+    return passed != len(DRIFTS)
+
+
+if __name__ == "__main__":
+    sys.exit(main())
