@@ -1,5 +1,5 @@
 # `make` builds the program and runs it. The gate is `make check`: every proof, test and edit of must-fail/, then the scripts on the program that this built.
-.PHONY: build check drawn drifts edits pages planted scripts touched
+.PHONY: build check drawn drifts edits look pages planted scripts test touched
 
 build:
 	@sh tests/build.sh
@@ -34,3 +34,11 @@ pages:
 # Drifts of the pages and the tree, each put into a copy: tests/house.sh has to tell it.
 drifts:
 	@python3 tests/house/drifts.py
+
+# The program without proofs, in a minute and a half, for a look at it.
+look:
+	@python3 tests/look.py
+
+# The scripts that need the program alone, side by side, on the proved program or on that of `make look`.
+test:
+	@sh tests/test.sh

@@ -41,16 +41,48 @@ for name in $names; do
     done
 done
 
-# A line a crate, with the minutes and seconds since the beginning.
+# ready 'NAME ..': where these crates are proved, those that can be proved next: all that they stand on is.
+ready() {
+    awk -v proved="$1" '
+        BEGIN { for (n = split(proved, list, " "); n > 0; n--) is[list[n]] }
+        { name = $1; sub(/:.*/, "", name); sub(/^[^:]*:/, ""); uses[name] = $0; order[++count] = name }
+        END {
+            for (i = 1; i <= count; i++) {
+                waits = order[i] in is
+                for (n = split(uses[order[i]], list, " "); n > 0; n--) waits = waits || (list[n] in uses) && !(list[n] in is)
+                if (!waits) { printf "%s%s", between, order[i]; between = ", " }
+            }
+        }' crates.txt
+}
+
+# A line a crate, with the minutes and seconds since the beginning; where a minute passes without one, what all others wait for.
 began=$(date +%s)
+said=$began
 count=0
+proved=
 all=$(echo $names | wc -w)
-echo "$all crates to prove; $(nproc) processors"
+echo "$all crates to prove, with $(nproc) processors; what an earlier run proved on this machine is kept. Where nothing was, it takes most of an hour with four"
+echo 'processors. `make look` builds the program without proofs in a minute and a half.'
 cd "$copy" || exit 1
 {
+    while sleep 2; do echo 'a while'; done &
+    ticks=$!
     rt ci 2>&1
-    echo "ended $?"
+    status=$?
+    kill "$ticks"
+    echo "ended $status"
 } | while IFS= read -r line; do
+    now=$(date +%s)
+    seconds=$((now - began))
+    case $line in
+    'a while')
+        if [ $((now - said)) -ge 60 ]; then
+            said=$now
+            printf '%3d:%02d  waiting for %s\n' $((seconds / 60)) $((seconds % 60)) "$(ready "$proved")"
+        fi
+        continue
+        ;;
+    esac
     printf '%s\n' "$line" >>"$work/log"
     case $line in
     'rt: '*' proved' | 'rt: '*' is kept: '*) ;;
@@ -60,7 +92,8 @@ cd "$copy" || exit 1
     name=${name%% *}
     case $name in *:) continue ;; esac
     count=$((count + 1))
-    seconds=$(($(date +%s) - began))
+    proved="$proved $name"
+    said=$now
     line=${line#rt: }
     printf '%3d:%02d  %2d of %d  %s\n' $((seconds / 60)) $((seconds % 60)) "$count" "$all" "${line%%: an earlier run*}"
 done

@@ -1,7 +1,8 @@
-# What the scripts share: the built program, a folder of their own, and the count of what passed.
+# What the scripts share: the built program (ROLLOUT is another), a folder of their own, and the count of what passed. UNPROVED says that the program was built
+# without proofs, as `make look` does: then what can't be told of it is left out.
 set -u
 top=$(cd "$(dirname "$0")/.." && pwd)
-rollout=$top/crates/rollout/out/rollout
+rollout=${ROLLOUT:-$top/crates/rollout/out/rollout}
 work=$(mktemp -d)
 trap 'rm -rf "$work"' EXIT
 passed=0
@@ -18,6 +19,13 @@ pass() {
 fail() {
     failed=$((failed + 1))
     echo "FAILED: $1"
+}
+
+# proved WHAT: whether rows of this can be told of the program: not where it was built without proofs.
+proved() {
+    [ -z "${UNPROVED:-}" ] && return
+    echo "left out on a program without proofs: $1"
+    false
 }
 
 # The last line, and the exit status.

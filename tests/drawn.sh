@@ -37,7 +37,11 @@ counted() {
 
 counted rows "$rollout"
 counted leasts
-counted great "$rollout"
+if [ -z "${UNPROVED:-}" ]; then
+    counted great "$rollout"
+else
+    echo 'left out on a program without proofs: what the greatest inputs take'
+fi
 counted drawn "$rollout" "${SEED:-}" "${CASES:-}"
 counted forecast "$rollout" "${SEED:-}" "${CASES:+$((CASES / 30 + 1))}"
 echo "$passed passed, $failed failed"

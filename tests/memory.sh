@@ -3,7 +3,7 @@
 # the recap of what it came to goes out beside that. The opening of a file is refused for want of memory too, as a system does that has none left, and the start of a
 # thread.
 # Those of the tests too that hold whatever one allocation is refused. It needs a C compiler, crates/rollout/out/rollout, and
-# what rt ci (or rt test) leaves in the out/ of each crate named below. Where BUILT_ALONE is set, those that left nothing are passed over.
+# what rt ci (or rt test) leaves in the out/ of each crate named below. Those that left nothing are passed over, but where ALL_BUILT is set.
 . "$(dirname "$0")/common.sh"
 
 cat >"$work/refuse.c" <<'C'
@@ -364,7 +364,7 @@ six_refused 2 2
 while read -r crate name; do
     tests=$top/crates/$crate/out/${crate}_tests
     if [ ! -x "$tests" ]; then
-        [ -n "${BUILT_ALONE:-}" ] && echo "$crate isn't built: passed over" || fail "$tests isn't built"
+        [ -z "${ALL_BUILT:-}" ] && echo "$crate isn't built: passed over" || fail "$tests isn't built"
         continue
     fi
     number=1

@@ -127,19 +127,21 @@ advanced: a d
 > b"undo\nadvance\n"
 ! 1 rollout: 904 Write written=14
 LINES
-typed 'more commands than may be, of which nobody reads the last answers' open <<'LINES'
+if proved '16 million lines of commands'; then
+    typed 'more commands than may be, of which nobody reads the last answers' open <<'LINES'
 > b"\n" * 16777200 + b"undo\n"
 nothing to undo
 |
 > b"undo\n" * 3
 ! 1 rollout: 904 Write written=16
 LINES
-typed 'more commands than may be, told before they end' open <<'LINES'
+    typed 'more commands than may be, told before they end' open <<'LINES'
 > b"\n" * 16777211 + b"undo\n"
 nothing to undo
 > b"\n"
 ! 1 rollout: 903 InputTooLarge
 LINES
+fi
 
 cat >"$work/terminal.py" <<'PYTHON'
 """terminal.py SEEN PROGRAM WORD..: types `undo` and the end of input at a terminal, which standard input and error are, and standard output too unless its answers

@@ -1,13 +1,13 @@
 #!/bin/sh
 # The workers of a step, many times over: programs that have to run at once do, rows are the same at every number of forks and pace, and
 # each thread refused in turn is want of memory. Each time the test ends within ten seconds, and each thread that it started has ended.
-# It needs a C compiler and crates/fork_pool/out/fork_pool_tests, which rt ci (or rt test) leaves. Where BUILT_ALONE is set and that
-# isn't there, all is passed over.
+# It needs a C compiler and crates/fork_pool/out/fork_pool_tests, which rt ci (or rt test) leaves. Where that isn't there all is passed over, but where ALL_BUILT
+# is set.
 . "$(dirname "$0")/common.sh"
 
 tests=$top/crates/fork_pool/out/fork_pool_tests
 if [ ! -x "$tests" ]; then
-    [ -n "${BUILT_ALONE:-}" ] && echo "fork_pool isn't built: passed over" && pass || fail "$tests isn't built"
+    [ -z "${ALL_BUILT:-}" ] && echo "fork_pool isn't built: passed over" && pass || fail "$tests isn't built"
     finish
     exit
 fi
