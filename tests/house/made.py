@@ -47,6 +47,19 @@ def made_crates(_said):
     return f"{len(crates)} crates.\n\n" + table(("Crate", "What it is for", "Stands on"), rows)
 
 
+def made_families(said):
+    """The families, each with its crates that are there, lowest first; a crate of none stands in a row of its own, for somebody to say."""
+    crates = list(tree.crates())
+    rows, placed = [], set()
+    for cells in rows_of(said):
+        own = [name for name in crates if f"`{name}`" in cells[2] and name not in placed]
+        placed.update(own)
+        if own:
+            rows.append((*cells[:2], ", ".join(f"`{name}`" for name in own)))
+    lost = [name for name in crates if name not in placed]
+    return table(("Family", "What it is about", "Crates"), rows + [("", "", f"`{name}`") for name in lost])
+
+
 def made_edits(said):
     """Each crate's edits, with the files that they change."""
     known, alone = {}, {}
@@ -104,7 +117,7 @@ def made_rules(said):
     return f"{len(rules)} rules:\n\n" + table(("Turned rule", "First case that tells it", "The rule"), rows)
 
 
-MAKERS = {"crates": made_crates, "edits": made_edits, "edit_counts": made_edit_counts, "bugs": made_bugs, "rules": made_rules}
+MAKERS = {"families": made_families, "crates": made_crates, "edits": made_edits, "edit_counts": made_edit_counts, "bugs": made_bugs, "rules": made_rules}
 
 
 def made_pages():

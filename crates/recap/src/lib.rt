@@ -1,4 +1,4 @@
-//! The texts that the program prints.
+//! The texts of the fleet's table and of a plan, and bytes as one line shows them.
 #![tactic(auto)]
 
 mod fields;
