@@ -307,8 +307,10 @@ check '601 boundaries' 0 "$(awk -v count=600 -v ending="ok=1 $updated" 'BEGIN {
     print "end finished"
 }')$newline" ''
 # over a million events: each host is claimed and reports at each step, though no program is started
-many 4096 64 "$(seq 1 128 | sed 's/.*/{"command":"true","when":false}/' | paste -sd, -)"
-check '4,096 hosts, each of which skips 128 steps' 0 "$(all 4096 'ok=0 changed=0 failed=0 skipped=128 ignored=0 state=updated' finished)$newline" ''
+if proved 'half a million steps'; then
+    many 4096 64 "$(seq 1 128 | sed 's/.*/{"command":"true","when":false}/' | paste -sd, -)"
+    check '4,096 hosts, each of which skips 128 steps' 0 "$(all 4096 'ok=0 changed=0 failed=0 skipped=128 ignored=0 state=updated' finished)$newline" ''
+fi
 twice='ok=2 changed=2 failed=0 skipped=0 ignored=0 state=updated'
 many 64 64 '{"command":{"argv":["sh","-c","yes $0 | head -c 60000; yes $0.err | head -c 60000 >&2","{{ inventory_hostname }}"]},"register":"r"},{"command":{"argv":["sh","-c","test \"$(yes $0 | head -c 60000)\" = \"$1\" -a \"$(yes $0.err | head -c 60000)\" = \"$2\"","{{ inventory_hostname }}","{{ r.stdout }}","{{ r.stderr }}"]}}'
 check 'each of 64 at once keeps its own outputs' 0 "$(all 64 "$twice" finished)$newline" ''

@@ -61,7 +61,7 @@ echo "$1 $failed" >"$work/$script.counts"
     if [ "$failed" -eq 0 ]; then
         grep '^left out\|passed over\|^skipped' "$work/$script.said"
     else
-        sed '$d' "$work/$script.said"
+        sed '$d' "$work/$script.said" | cut -c 1-300
     fi
     echo "$script: $1 passed, $failed failed, in $(($(date +%s) - began)) s"
 } >"$work/$script.told"
