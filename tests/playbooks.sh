@@ -360,10 +360,13 @@ unplanned '65 sizes before the last of them' "$fleet" "$(sized 64 -1)" 'rollout:
 name=$(head -c 4096 /dev/zero | tr '\0' n)
 planned 'two conditions as long as may be' "$fleet" "[{\"hosts\":\"a\",\"tasks\":[{\"command\":\"b\",\"when\":[\"$name\",\"$name\"]}]}]" "$(lines "$one_batch a")"
 unplanned 'a condition one byte longer' "$fleet" "[{\"hosts\":\"a\",\"tasks\":[{\"command\":\"b\",\"when\":\"${name}n\"}]}]" 'rollout: 504 TooLong step=1 key=when at=4096'
-# a search to the end of the text at each of them would take many minutes
+# a search to the end of the text at each of them would take many minutes of a processor
 awk 'BEGIN { printf "[{\"hosts\":\"a\",\"tasks\":[{\"command\":\""; for (i = 0; i < 1000000; i++) printf "{{ "; printf "\"}]}]" }' >"$work/openings.json"
 printf '%s' "$fleet" >"$work/inventory.json"
-timeout 60 "$rollout" plan "$work/inventory.json" "$work/openings.json" >"$work/out" 2>"$work/errors" </dev/null
+(
+    ulimit -t 60
+    "$rollout" plan "$work/inventory.json" "$work/openings.json" >"$work/out" 2>"$work/errors" </dev/null
+)
 status=$?
 check 'a million openings without an end' 1 '' "rollout: 602 BadBraces step=1$newline"
 finish
