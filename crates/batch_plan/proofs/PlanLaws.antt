@@ -19,7 +19,7 @@ use Rattle.fleet_states.proofs.SafetyLemmas.{exceeds_less}
 use Rattle.batch_plan.specs.declared.answers.Answer.TheVariants.{Planned, Blocked}
 use Rattle.batch_plan.specs.Holding.{held_hosts, is_held_back}
 use Rattle.batch_plan.specs.Laws.{AnswersOneLess, FirstMayBeOpened, HeldMayBeSetAside, MayBeOpened, OneBatchLess, PlansHoldNobody, StandsInOne}
-use Rattle.batch_plan.specs.Plans.{IsPlan, batch_numbers, times_in}
+use Rattle.batch_plan.specs.Plans.{IsPlan, times_in}
 use Rattle.batch_plan.proofs.CountLemmas.{count_absent}
 use Rattle.batch_plan.proofs.MovedLemmas.{is_full_for-moved, status_at-moved}
 
@@ -195,7 +195,7 @@ one_batch_less groups statuses cap batch rest bound best =
 
 pub answers_one_less : AnswersOneLess
 answers_one_less fleet statuses cap batch rest bound least (Planned plan) best =
-    (one_batch_less (groups_of fleet) statuses cap batch rest bound least).same (batch_numbers plan.batches.items) plan.bound best
+    (one_batch_less (groups_of fleet) statuses cap batch rest bound least).same plan.batches plan.bound best
 answers_one_less fleet statuses cap batch rest bound least (Blocked group waiting) best =
     best.no_plan rest (one_batch_less (groups_of fleet) statuses cap batch rest bound least).plan
 

@@ -2,6 +2,7 @@
 #![tactic(auto)]
 
 pub mod answers;
+mod batches;
 mod beginnings;
 mod checker;
 mod counting;
@@ -16,6 +17,7 @@ mod planner;
 mod rooms;
 
 pub use answers::{Answer, Bound};
+pub use batches::Batches;
 pub use beginnings::{restart, start};
 pub use checker::check_plan;
 pub use counting::{counted, place_of};

@@ -16,7 +16,7 @@ use Rattle.batch_plan.specs.declared.answers.Answer.{Answer}
 use Rattle.batch_plan.specs.declared.answers.Answer.TheVariants.{Planned, Blocked}
 use Rattle.batch_plan.specs.Answers.{IsBest}
 use Rattle.batch_plan.specs.Places.{AreCountsOf, AreSameBut, told_places}
-use Rattle.batch_plan.specs.Plans.{IsPlan, batch_numbers}
+use Rattle.batch_plan.specs.Plans.{IsPlan}
 use Rattle.batch_plan.proofs.FollowLemmas.{counts_follow}
 use Rattle.fleet_states.specs.Groups.{groups_of}
 use Rattle.fleet_numbers.specs.NumberLists.{list_at}
@@ -75,7 +75,7 @@ opens_some fleet bound before boundary best goes_on = by before boundary.answer 
     by : (before : Option End) (answer : Answer) → IsBest fleet boundary.statuses.items bound answer → option_or before (end_without_batch boundary.statuses.items answer) ≡ None → 0 < length (next_batch answer)
     by (Some end) answer best none = absurd (cc)
     by None (Blocked group waiting) best none = absurd (cc)
-    by None (Planned plan) best none = first (batch_numbers plan.batches.items) best.plan none
+    by None (Planned plan) best none = first plan.batches best.plan none
 
 over_is : (phase : Phase) → is_over phase ≡ true → phase ≡ ended (halt_in phase)
 over_is between is = absurd (cc)
