@@ -22,6 +22,7 @@ use Rattle.batch_plan.specs.Laws.{AnswersOneLess, FirstMayBeOpened, HeldMayBeSet
 use Rattle.batch_plan.specs.Plans.{IsPlan, times_in}
 use Rattle.batch_plan.proofs.CountLemmas.{count_absent}
 use Rattle.batch_plan.proofs.MovedLemmas.{is_full_for-moved, status_at-moved}
+use Rattle.batch_plan.proofs.UnblockedLemmas.{none_where}
 
 -- what each number that stands in a list passes
 all_numbers : (p : ℕ → Bool) (xs : List ℕ) → ((n : ℕ) → has_number n xs ≡ true → p n ≡ true) → list_all p xs ≡ true
@@ -225,11 +226,6 @@ held_may_be_set_aside fleet statuses =
   where
     held_here : List ℕ
     held_here = held_hosts fleet statuses
-
--- where nobody passes none is listed
-none_where : (test : ℕ → Bool) → ((n : ℕ) → test n ≡ false) → (xs : List ℕ) → filter test xs ≡ []
-none_where test none [] = refl
-none_where test none (x ∷ xs) = ap (λ b. cond b (x ∷ filter test xs) (filter test xs)) (none x) ∙ none_where test none xs
 
 module _ (groups : List FleetGroup) (statuses : List Status) (cap : Option ℕ) (batches : List (List ℕ)) (plan : IsPlan groups statuses cap batches) (host : ℕ) where
   -- a host of a batch has room in its groups
