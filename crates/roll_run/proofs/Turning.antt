@@ -151,8 +151,11 @@ module _ {R : Type 0} (old ran new : BoardView R) (behind : List Boundary) (boun
 
       between_them : IsBetween new.kernel (behind ++ boundary ∷ []) ended_so
       between_them =
+          let batch : List ℕ = next_batch boundary.answer in
+          let at_rest : KernelView = kernels.with_event (record old.kernel { log = old.kernel.log ++ opened batch ∷ run.more }) closed in
+          let Ends : ℕ → Type 0 = λ failed. IsBetween at_rest (behind ++ boundary ∷ []) (end_with (halt_in (state_of ran.kernel).phase) failed (length batch)) in
           subst (λ (k : KernelView). IsBetween k (behind ++ boundary ∷ []) ended_so) (sym done_is)
-          (subst (λ f. IsBetween (kernels.with_event (record old.kernel { log = old.kernel.log ++ opened (next_batch boundary.answer) ∷ run.more }) closed) (behind ++ boundary ∷ []) (end_with (halt_in (state_of ran.kernel).phase) f (length (next_batch boundary.answer)))) (ap (λ (k : KernelView). failures (state_of k)) (sym run.kernel))
+          (subst Ends (ap (λ (k : KernelView). failures (state_of k)) (sym run.kernel))
           (closes old.kernel boundary run.more was_legal run.inside behind before (halt_in (state_of ran.kernel).phase) at goes_on (ap (λ (k : KernelView). (state_of k).phase) (sym run.kernel) ∙ phase_is)))
 
   pub same_behind : IsSameRoll old new
