@@ -5,10 +5,10 @@ use Rattle.std.proofs.lemmas.List.FromFn.{fill_by_all}
 use Rattle.fleet_states.specs.declared.status.Status.{Status}
 use Rattle.fleet_states.specs.declared.status.Status.TheVariants.{Idle}
 use Rattle.std.proofs.lemmas.List.Sums.{sum_by-cons}
-use Rattle.std.proofs.lemmas.Bool.{and_parts, not-true, both_ways, eq-eqb, ne_eqb, or_parts, cases_eq, cases_Bool}
+use Rattle.std.proofs.lemmas.Bool.{and_parts, not-true, both_ways, eq-eqb, ne_eqb, or_parts, cases_eq, cases_Bool, false_from_ne_true}
 use Rattle.fleet_numbers.specs.NumberLists.{has_number}
 use Rattle.fleet_states.specs.Statuses.{are_distinct, is_waiting, status_at, waiting_count}
-use Rattle.fleet_states.proofs.CountLemmas.{bit, count_by-cons, count_le}
+use Rattle.fleet_states.proofs.CountLemmas.{bit, count_by-cons, count_le, count_some}
 use Rattle.batch_plan.specs.Plans.{times_in}
 
 -- a sum of sums may be taken in either order
@@ -48,6 +48,21 @@ pub total_is : (statuses : List Status) → count_by is_waiting statuses ≡ wai
 total_is statuses =
     ap (count_by is_waiting) (fill_by_all (status_at statuses) statuses (length statuses) Idle refl (λ k l. refl))
     ∙ sum_of_map (λ status. bit (is_waiting status)) (status_at statuses) (range_with_len 0 (length statuses))
+
+-- a number that stands in a list is counted
+pub counted_here : (n : ℕ) (xs : List ℕ) → has_number n xs ≡ true → 0 < count_by (nat_eq n) xs
+counted_here n xs here = count_some (nat_eq n) n xs here (eq-eqb n n refl)
+
+-- numbers of which each is counted once at most are distinct
+pub distinct_counted : (xs : List ℕ) → ((n : ℕ) → count_by (nat_eq n) xs ≤ 1) → are_distinct xs ≡ true
+distinct_counted [] once = refl
+distinct_counted (x ∷ xs) once =
+    ap (λ b. not b && are_distinct xs) (false_from_ne_true (has_number x xs) again) ∙ distinct_counted xs (λ n. omega (arith, once n, count_by-cons (nat_eq n) x xs))
+  where
+    again : has_number x xs ≡ true → ⊥
+    again here =
+        let own : bit (nat_eq x x) ≡ 1 = ap bit (eq-eqb x x refl) in
+        omega (arith, once x, count_by-cons (nat_eq x) x xs, own, counted_here x xs here)
 
 -- a number that does not stand in the list is counted 0 times
 pub count_absent : (n : ℕ) (xs : List ℕ) → has_number n xs ≡ false → count_by (nat_eq n) xs ≡ 0

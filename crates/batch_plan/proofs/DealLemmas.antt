@@ -1,29 +1,15 @@
 -- Hosts dealt to batches: each goes to one, and a run of hosts goes to all in equal shares.
-use Rattle.std.proofs.Common.{◌≡◌, ℕ, zero, suc, ◌+◌, ◌%◌, ◌≤◌, ◌<◌, Bool, true, false, ◌&&◌, cond, nat_eq, List, [], ◌∷◌, ◌++◌, length, get_or, set, sym, ap, ◌∙◌, refl, arith, inl, inr, ◌⊎◌}
+use Rattle.std.proofs.Common.{◌≡◌, ℕ, zero, suc, ◌+◌, ◌-◌, ◌*◌, ◌/◌, ◌%◌, ◌≤◌, ◌<◌, Bool, true, false, ◌&&◌, cond, nat_eq, List, [], ◌∷◌, ◌++◌, length, map, drop, get_or, sym, ap, ◌∙◌, refl, arith, inl, inr, ◌⊎◌}
 use Rattle.std.specs.List.{sum_by, count_by, range_with_len}
-use Rattle.std.proofs.lemmas.Bool.{eq-eqb, ne_eqb, cases_eq, cases_lt}
-use Rattle.std.proofs.lemmas.Nat.{mod_below}
-use Rattle.std.proofs.lemmas.List.{append-nil, ext_get_or, get_or-set_same, get_or-set_other, length-set}
-use Rattle.std.proofs.lemmas.List.FromFn.{length-map-range_with_len, get_or-map-range_with_len}
+use Rattle.std.proofs.lemmas.Bool.{eq-eqb, ne_eqb, cases_lt}
+use Rattle.std.proofs.lemmas.Nat.{div-add-mod', mod-mul-add, mod_below}
+use Rattle.std.proofs.lemmas.List.{drop-drop, drop_all, drop_more}
+use Rattle.std.proofs.lemmas.List.FromFn.{length-map-range_with_len, get_or-map-range_with_len, map-range_with_len_more}
 use Rattle.std.proofs.lemmas.List.Sums.{sum_by_push, sum_by-cons}
 use Rattle.fleet_states.proofs.CountLemmas.{bit, count_by-cons}
 use Rattle.fleet_states.proofs.NumberLemmas.{range_more}
 use Rattle.batch_plan.specs.Deals.{dealt, dealt_to}
 use Rattle.batch_plan.proofs.CountLemmas.{sum_of_map, sum_same}
-
--- one more host
-pub dealt_to-push : (count batch place : ℕ) (hosts : List ℕ) (host : ℕ)
-    → dealt_to count batch place (hosts ++ host ∷ []) ≡ dealt_to count batch place hosts ++ cond (nat_eq ((place + length hosts) % count) batch) (host ∷ []) []
-dealt_to-push count batch place [] host =
-    ap (λ n. cond (nat_eq (n % count) batch) (host ∷ []) []) (omega arith)
-dealt_to-push count batch place (first ∷ hosts) host =
-    let far : place + 1 + length hosts ≡ place + length (first ∷ hosts) = omega arith in
-    let more = dealt_to-push count batch (place + 1) hosts host ∙ ap (λ n. dealt_to count batch (place + 1) hosts ++ cond (nat_eq (n % count) batch) (host ∷ []) []) far in
-    by_bool more (nat_eq (place % count) batch)
-  where
-    by_bool : dealt_to count batch (place + 1) (hosts ++ host ∷ []) ≡ dealt_to count batch (place + 1) hosts ++ cond (nat_eq ((place + length (first ∷ hosts)) % count) batch) (host ∷ []) [] → (b : Bool) → cond b (first ∷ dealt_to count batch (place + 1) (hosts ++ host ∷ [])) (dealt_to count batch (place + 1) (hosts ++ host ∷ [])) ≡ cond b (first ∷ dealt_to count batch (place + 1) hosts) (dealt_to count batch (place + 1) hosts) ++ cond (nat_eq ((place + length (first ∷ hosts)) % count) batch) (host ∷ []) []
-    by_bool more true = ap (λ (l : List ℕ). first ∷ l) more
-    by_bool more false = more
 
 -- what passes of a batch
 pub count_dealt : (p : ℕ → Bool) (count batch place host : ℕ) (hosts : List ℕ)
@@ -95,36 +81,91 @@ pub get_or-dealt : (hosts : List ℕ) (count batch : ℕ) (d : List ℕ) → bat
 get_or-dealt hosts count batch d within =
     get_or-map-range_with_len (λ batch. dealt_to count batch 0 hosts) 0 count batch batch d within (omega arith)
 
--- one more host is dealt
-pub dealt_more : (hosts : List ℕ) (host count at : ℕ) → at < count → at ≡ length hosts % count
-    → set (dealt hosts count) at (get_or (dealt hosts count) at [] ++ host ∷ []) ≡ dealt (hosts ++ host ∷ []) count
-dealt_more hosts host count at within is =
-    ext_get_or [] changed later (long ∙ sym (length-dealt (hosts ++ host ∷ []) count)) (λ k l. by_case k (omega (arith, l, long)) (cases_eq k at))
+-- among so many places in a row no two leave the same number when divided by it
+module _ (count : ℕ) (some : 0 < count) where
+  small : (n : ℕ) → n < count → n % count ≡ n
+  small n l = ap (λ m. m % count) (omega arith) ∙ mod-mul-add 0 count n l
+
+  turn : (n : ℕ) → (n + count) % count ≡ n % count
+  turn n =
+      let q : ℕ = n / count in
+      let r : ℕ = n % count in
+      let whole : q * count + r ≡ n = div-add-mod' n count in
+      let more : (q + 1) * count ≡ q * count + count = omega arith in
+      let sum : n + count ≡ (q + 1) * count + r = omega (arith, whole, more) in
+      ap (λ m. m % count) sum ∙ mod-mul-add (q + 1) count r (mod_below n count some)
+
+  other_before : (batch j : ℕ) → batch < count → j < batch → (0 + j) % count ≡ batch → ⊥
+  other_before batch j l m e =
+      let own : (0 + j) % count ≡ j = ap (λ n. n % count) (omega arith) ∙ small j (omega (arith, l, m)) in
+      omega (arith, own, e, m)
+
+  other_behind : (batch j : ℕ) → batch < count → j < count - 1 → (batch + 1 + j) % count ≡ batch → ⊥
+  other_behind batch j l m e = by_case (cases_lt (batch + 1 + j) count)
+    where
+      by_case : (batch + 1 + j < count) ⊎ (count ≤ batch + 1 + j) → ⊥
+      by_case (inl less) = omega (arith, small (batch + 1 + j) less, e)
+      by_case (inr more) =
+          let rest : ℕ = batch + 1 + j - count in
+          let is : batch + 1 + j ≡ rest + count = omega (arith, more) in
+          let below : rest < batch = omega (arith, more, m) in
+          let own : (batch + 1 + j) % count ≡ rest = ap (λ n. n % count) is ∙ turn rest ∙ small rest (omega (arith, below, l)) in
+          omega (arith, own, e, below)
+
+  -- a whole turn of places leaves the same numbers
+  dealt_turn : (batch place : ℕ) (hosts : List ℕ) → dealt_to count batch (place + count) hosts ≡ dealt_to count batch place hosts
+  dealt_turn batch place [] = refl
+  dealt_turn batch place (host ∷ hosts) =
+      let next : place + count + 1 ≡ place + 1 + count = omega arith in
+      let rest : dealt_to count batch (place + count + 1) hosts ≡ dealt_to count batch (place + 1) hosts = ap (λ n. dealt_to count batch n hosts) next ∙ dealt_turn batch (place + 1) hosts in
+      ap (λ n. cond (nat_eq n batch) (host ∷ dealt_to count batch (place + count + 1) hosts) (dealt_to count batch (place + count + 1) hosts)) (turn place)
+      ∙ ap (λ (l : List ℕ). cond (nat_eq (place % count) batch) (host ∷ l) l) rest
+
+-- hosts at places that leave other numbers are passed over
+dealt_past : (count batch gap place : ℕ) (hosts : List ℕ) → ((j : ℕ) → j < gap → (place + j) % count ≡ batch → ⊥)
+    → dealt_to count batch place hosts ≡ dealt_to count batch (place + gap) (drop gap hosts)
+dealt_past count batch zero place hosts other = ap (λ n. dealt_to count batch n hosts) (omega arith)
+dealt_past count batch (suc gap) place [] other = refl
+dealt_past count batch (suc gap) place (host ∷ hosts) other =
+    let here : nat_eq (place % count) batch ≡ false = ne_eqb (place % count) batch (λ e. other 0 (omega arith) (ap (λ n. n % count) (omega arith) ∙ e)) in
+    let later : (j : ℕ) → j < gap → (place + 1 + j) % count ≡ batch → ⊥ = λ j l e. other (suc j) (omega (arith, l)) (ap (λ n. n % count) (omega arith) ∙ e) in
+    ap (λ b. cond b (host ∷ dealt_to count batch (place + 1) hosts) (dealt_to count batch (place + 1) hosts)) here
+    ∙ dealt_past count batch gap (place + 1) hosts later
+    ∙ ap (λ n. dealt_to count batch n (drop gap hosts)) (omega arith)
+
+-- the first host of a batch has the place of the batch's number
+pub dealt_first : (count batch : ℕ) (hosts : List ℕ) → batch < count → dealt_to count batch 0 hosts ≡ dealt_to count batch batch (drop batch hosts)
+dealt_first count batch hosts l =
+    dealt_past count batch batch 0 hosts (λ j m. other_before count (omega (arith, l)) batch j l m)
+    ∙ ap (λ n. dealt_to count batch n (drop batch hosts)) (omega arith)
+
+-- and each next one is behind as many places as there are batches
+pub dealt_next : (count batch host : ℕ) (hosts : List ℕ) → batch < count
+    → dealt_to count batch batch (host ∷ hosts) ≡ host ∷ dealt_to count batch batch (drop (count - 1) hosts)
+dealt_next count batch host hosts l =
+    let some : 0 < count = omega (arith, l) in
+    let own : nat_eq (batch % count) batch ≡ true = eq-eqb (batch % count) batch (small count some batch l) in
+    let far : batch + 1 + (count - 1) ≡ batch + count = omega (arith, some) in
+    ap (λ b. cond b (host ∷ dealt_to count batch (batch + 1) hosts) (dealt_to count batch (batch + 1) hosts)) own
+    ∙ ap (λ (l : List ℕ). host ∷ l)
+    (dealt_past count batch (count - 1) (batch + 1) hosts (λ j m. other_behind count some batch j l m)
+    ∙ ap (λ n. dealt_to count batch n (drop (count - 1) hosts)) far
+    ∙ dealt_turn count some batch batch (drop (count - 1) hosts))
+
+-- one more host of the batch stands at this place; the next is behind a whole turn, or there is none
+pub dealt_at : (count batch place next : ℕ) (hosts : List ℕ) → batch < count → place < length hosts → (next ≡ place + count) ⊎ ((length hosts ≤ next) × (next ≤ place + count))
+    → dealt_to count batch batch (drop place hosts) ≡ get_or hosts place 0 ∷ dealt_to count batch batch (drop next hosts)
+dealt_at count batch place next hosts l inside is =
+    ap (dealt_to count batch batch) (drop_more hosts place 0 inside)
+    ∙ dealt_next count batch (get_or hosts place 0) (drop (place + 1) hosts) l
+    ∙ ap (λ (rest : List ℕ). get_or hosts place 0 ∷ dealt_to count batch batch rest)
+    (drop-drop (count - 1) (place + 1) hosts ∙ ap (λ n. drop n hosts) (omega (arith, l)) ∙ far is)
   where
-    before : List (List ℕ)
-    before = dealt hosts count
+    far : (next ≡ place + count) ⊎ ((length hosts ≤ next) × (next ≤ place + count)) → drop (place + count) hosts ≡ drop next hosts
+    far (inl e) = ap (λ n. drop n hosts) (sym e)
+    far (inr m) = drop_all (place + count) hosts (omega (arith, m.0, m.1)) ∙ sym (drop_all next hosts m.0)
 
-    changed : List (List ℕ)
-    changed = set (dealt hosts count) at (get_or (dealt hosts count) at [] ++ host ∷ [])
-
-    later : List (List ℕ)
-    later = dealt (hosts ++ host ∷ []) count
-
-    long : length changed ≡ count
-    long = length-set (dealt hosts count) at (get_or (dealt hosts count) at [] ++ host ∷ []) ∙ length-dealt hosts count
-
-    by_case : (k : ℕ) → k < count → (k ≡ at) ⊎ (k ≡ at → ⊥) → get_or (set (dealt hosts count) at (get_or (dealt hosts count) at [] ++ host ∷ [])) k [] ≡ get_or (dealt (hosts ++ host ∷ []) count) k []
-    by_case k l (inl e) =
-        let here : nat_eq ((0 + length hosts) % count) k ≡ true = eq-eqb ((0 + length hosts) % count) k (ap (λ n. n % count) (omega arith) ∙ sym is ∙ sym e) in
-        let wrote = get_or-set_same (dealt hosts count) at (get_or (dealt hosts count) at [] ++ host ∷ []) [] (omega (arith, within, length-dealt hosts count)) in
-        let old = get_or-dealt hosts count at [] within in
-        let new = get_or-dealt (hosts ++ host ∷ []) count k [] l in
-        ap (λ n. get_or (set (dealt hosts count) at (get_or (dealt hosts count) at [] ++ host ∷ [])) n []) e ∙ wrote ∙ ap (λ (l : List ℕ). l ++ host ∷ []) old
-        ∙ ap (λ n. dealt_to count n 0 hosts ++ host ∷ []) (sym e) ∙ ap (λ b. dealt_to count k 0 hosts ++ cond b (host ∷ []) []) (sym here) ∙ sym (dealt_to-push count k 0 hosts host) ∙ sym new
-    by_case k l (inr d) =
-        let other : nat_eq ((0 + length hosts) % count) k ≡ false = ne_eqb ((0 + length hosts) % count) k (λ e. d (sym e ∙ ap (λ n. n % count) (omega arith) ∙ sym is)) in
-        let kept = get_or-set_other (dealt hosts count) at k (get_or (dealt hosts count) at [] ++ host ∷ []) [] d in
-        let old = get_or-dealt hosts count k [] l in
-        let new = get_or-dealt (hosts ++ host ∷ []) count k [] l in
-        let none = append-nil (dealt_to count k 0 hosts) in
-        kept ∙ old ∙ sym none ∙ ap (λ b. dealt_to count k 0 hosts ++ cond b (host ∷ []) []) (sym other) ∙ sym (dealt_to-push count k 0 hosts host) ∙ sym new
+-- one more batch
+pub dealt_more : (hosts : List ℕ) (count batch : ℕ) → map (λ b. dealt_to count b 0 hosts) (range_with_len 0 (batch + 1))
+    ≡ map (λ b. dealt_to count b 0 hosts) (range_with_len 0 batch) ++ dealt_to count batch 0 hosts ∷ []
+dealt_more hosts count batch = map-range_with_len_more (λ b. dealt_to count b 0 hosts) 0 batch batch (omega arith)

@@ -10,31 +10,19 @@ use Rattle.domains.specs.Starts.{exceeds}
 use Rattle.fleet_states.specs.declared.status.Status.{Status}
 use Rattle.fleet_states.specs.Statuses.{are_distinct, is_waiting, status_at}
 use Rattle.fleet_states.specs.Groups.{FleetGroup, groups_of, members_among, room}
-use Rattle.fleet_states.proofs.CountLemmas.{bit, count_by-cons, count_some}
+use Rattle.fleet_states.proofs.CountLemmas.{count_some}
 use Rattle.fleet_states.proofs.SafetyLemmas.{exceeds_less}
 use Rattle.fleet_states.proofs.GroupLemmas.{groups_of_hosts}
 use Rattle.fleet_states.proofs.NumberLemmas.{list_all_number}
 use Rattle.fleet_states.proofs.StatusLemmas.{status_at-past}
 use Rattle.batch_plan.specs.Plans.{IsPlan, times_in}
 use Rattle.batch_plan.specs.Checks.{StandOnce, keep_room, keeps_cap, keeps_room}
-use Rattle.batch_plan.proofs.CountLemmas.{count_absent}
+use Rattle.batch_plan.proofs.CountLemmas.{count_absent, distinct_counted}
 use Rattle.batch_plan.proofs.PlannedLemmas.{among_least}
 
 pub unlimited_keeps : (members : List ℕ) (batches : List (List ℕ)) → list_all (keeps_room None members) batches ≡ true
 unlimited_keeps members [] = refl
 unlimited_keeps members (batch ∷ batches) = unlimited_keeps members batches
-
--- numbers each of which is counted once at most are distinct
-distinct_once : (xs : List ℕ) → ((n : ℕ) → count_by (nat_eq n) xs ≤ 1) → are_distinct xs ≡ true
-distinct_once [] once = refl
-distinct_once (x ∷ xs) once =
-    and_from (not (has_number x xs)) (are_distinct xs) (not_from_false (has_number x xs) (false_from_ne_true (has_number x xs) again))
-    (distinct_once xs (λ n. omega (arith, once n, count_by-cons (nat_eq n) x xs)))
-  where
-    again : has_number x xs ≡ true → ⊥
-    again here =
-        let one : bit (nat_eq x x) ≡ 1 = ap bit (eq-eqb x x refl) in
-        omega (arith, once x, count_by-cons (nat_eq x) x xs, one, count_some (nat_eq x) x xs here (eq-eqb x x refl))
 
 module _ (fleet : FleetView) (statuses : List Status) (cap : Option ℕ) (batches : List (List ℕ)) where
   module _ (plan : IsPlan (groups_of fleet) statuses cap batches) where
@@ -50,7 +38,7 @@ module _ (fleet : FleetView) (statuses : List Status) (cap : Option ℕ) (batche
 
     batch_distinct : (k : ℕ) (d : List ℕ) → k < length batches → are_distinct (get_or batches k d) ≡ true
     batch_distinct k d within =
-        distinct_once (get_or batches k d) (λ n. omega (arith, batch_times n k d within, times_few n))
+        distinct_counted (get_or batches k d) (λ n. omega (arith, batch_times n k d within, times_few n))
 
     batch_waits : (k : ℕ) (d : List ℕ) → k < length batches → (host : ℕ) → has_number host (get_or batches k d) ≡ true → is_waiting (status_at statuses host) ≡ true
     batch_waits k d within host here = by_case (is_waiting (status_at statuses host)) refl

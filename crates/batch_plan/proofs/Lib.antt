@@ -12,6 +12,7 @@ pub mod BeginningLemmas
 pub mod StuckLemmas
 pub mod MovedLemmas
 pub mod HoldingLemmas
+pub mod UnblockedLemmas
 pub mod PlanLaws
 pub mod RoomLemmas
 pub mod CheckLemmas

@@ -1,8 +1,8 @@
 -- What may be done with a plan, and what its first batch leaves.
 use Rattle.std.proofs.Common.{◌≡◌, ℕ, zero, suc, ◌+◌, ◌≤◌, ◌<◌, Bool, true, false, ◌&&◌, ◌||◌, not, cond, nat_eq, nat_lt, Option}
-use Rattle.std.proofs.Common.{List, [], ◌∷◌, length, get_or, filter, sym, ap, ◌∙◌, refl, arith, inl, inr, ◌⊎◌}
+use Rattle.std.proofs.Common.{List, [], ◌∷◌, length, get_or, sym, ap, ◌∙◌, refl, arith, inl, inr, ◌⊎◌}
 use Rattle.std.specs.List.{count_by, list_all, range_with_len}
-use Rattle.std.proofs.lemmas.Bool.{and_from, and_parts, both_ways, cases_Bool, cases_eq, cases_lt, eq-eqb, false_from_ne_true, ne_eqb, or_left, or_right}
+use Rattle.std.proofs.lemmas.Bool.{and_from, and_parts, both_ways, cases_Bool, cases_eq, cases_lt, eq-eqb, ne_eqb, or_left, or_right}
 use Rattle.std.proofs.lemmas.List.Folds.{list_any_none}
 use Rattle.std.proofs.lemmas.List.Sums.{sum_by-cons}
 use Rattle.fleet_numbers.specs.NumberLists.{has_number, list_at}
@@ -13,36 +13,22 @@ use Rattle.fleet_states.specs.declared.status.Status.{Status}
 use Rattle.fleet_states.specs.declared.status.Status.TheVariants.{Updated}
 use Rattle.fleet_states.specs.Statuses.{are_distinct, changed, is_waiting, status_at}
 use Rattle.fleet_states.specs.Groups.{FleetGroup, groups_of, is_full_for, is_stuck, members_among, room}
-use Rattle.fleet_states.proofs.CountLemmas.{bit, count_by-cons, count_le, count_some}
+use Rattle.fleet_states.proofs.CountLemmas.{bit, count_le}
 use Rattle.fleet_states.proofs.NumberLemmas.{distinct_rising}
 use Rattle.fleet_states.proofs.SafetyLemmas.{exceeds_less}
 use Rattle.batch_plan.specs.declared.answers.Answer.TheVariants.{Planned, Blocked}
 use Rattle.batch_plan.specs.Holding.{held_hosts, is_held_back}
 use Rattle.batch_plan.specs.Laws.{AnswersOneLess, FirstMayBeOpened, HeldMayBeSetAside, MayBeOpened, OneBatchLess, PlansHoldNobody, StandsInOne}
-use Rattle.batch_plan.specs.Plans.{IsPlan, batch_numbers, times_in}
-use Rattle.batch_plan.proofs.CountLemmas.{count_absent}
+use Rattle.batch_plan.specs.Plans.{IsPlan, times_in}
+use Rattle.batch_plan.proofs.CountLemmas.{count_absent, counted_here, distinct_counted}
 use Rattle.batch_plan.proofs.MovedLemmas.{is_full_for-moved, status_at-moved}
+use Rattle.batch_plan.proofs.UnblockedLemmas.{none_where}
 
 -- what each number that stands in a list passes
 all_numbers : (p : ℕ → Bool) (xs : List ℕ) → ((n : ℕ) → has_number n xs ≡ true → p n ≡ true) → list_all p xs ≡ true
 all_numbers p [] each = refl
 all_numbers p (x ∷ xs) each =
     and_from (p x) (list_all p xs) (each x (or_left (nat_eq x x) (has_number x xs) (eq-eqb x x refl))) (all_numbers p xs (λ n e. each n (or_right (nat_eq n x) (has_number n xs) e)))
-
--- a number that stands in a list is counted
-counted_here : (n : ℕ) (xs : List ℕ) → has_number n xs ≡ true → 0 < count_by (nat_eq n) xs
-counted_here n xs here = count_some (nat_eq n) n xs here (eq-eqb n n refl)
-
--- numbers of which each is counted once at most are distinct
-distinct_counted : (xs : List ℕ) → ((n : ℕ) → count_by (nat_eq n) xs ≤ 1) → are_distinct xs ≡ true
-distinct_counted [] once = refl
-distinct_counted (x ∷ xs) once =
-    ap (λ b. not b && are_distinct xs) (false_from_ne_true (has_number x xs) again) ∙ distinct_counted xs (λ n. omega (arith, once n, count_by-cons (nat_eq n) x xs))
-  where
-    again : has_number x xs ≡ true → ⊥
-    again here =
-        let own : bit (nat_eq x x) ≡ 1 = ap bit (eq-eqb x x refl) in
-        omega (arith, once x, count_by-cons (nat_eq x) x xs, own, counted_here x xs here)
 
 bit_most : (b : Bool) → bit b ≤ 1
 bit_most true = omega arith
@@ -195,7 +181,7 @@ one_batch_less groups statuses cap batch rest bound best =
 
 pub answers_one_less : AnswersOneLess
 answers_one_less fleet statuses cap batch rest bound least (Planned plan) best =
-    (one_batch_less (groups_of fleet) statuses cap batch rest bound least).same (batch_numbers plan.batches.items) plan.bound best
+    (one_batch_less (groups_of fleet) statuses cap batch rest bound least).same plan.batches plan.bound best
 answers_one_less fleet statuses cap batch rest bound least (Blocked group waiting) best =
     best.no_plan rest (one_batch_less (groups_of fleet) statuses cap batch rest bound least).plan
 
@@ -225,11 +211,6 @@ held_may_be_set_aside fleet statuses =
   where
     held_here : List ℕ
     held_here = held_hosts fleet statuses
-
--- where nobody passes none is listed
-none_where : (test : ℕ → Bool) → ((n : ℕ) → test n ≡ false) → (xs : List ℕ) → filter test xs ≡ []
-none_where test none [] = refl
-none_where test none (x ∷ xs) = ap (λ b. cond b (x ∷ filter test xs) (filter test xs)) (none x) ∙ none_where test none xs
 
 module _ (groups : List FleetGroup) (statuses : List Status) (cap : Option ℕ) (batches : List (List ℕ)) (plan : IsPlan groups statuses cap batches) (host : ℕ) where
   -- a host of a batch has room in its groups

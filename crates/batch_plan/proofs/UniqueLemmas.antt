@@ -12,7 +12,6 @@ use Rattle.batch_plan.specs.declared.answers.Bound.{Bound}
 use Rattle.batch_plan.specs.declared.answers.Bound.TheVariants.{Group, Serial, OneHost, Nothing}
 use Rattle.batch_plan.specs.declared.answers.Answer.TheVariants.{Planned, Blocked}
 use Rattle.batch_plan.specs.Needs.{Needs, is_blocked, need_at, need_of, needs_of}
-use Rattle.batch_plan.specs.Plans.{batch_numbers}
 use Rattle.batch_plan.specs.Bounds.{Forces, rank}
 use Rattle.batch_plan.specs.Deals.{dealt, waiting_in_order}
 use Rattle.batch_plan.specs.Answers.{IsDealtPlan, IsFirstBlocked}
@@ -99,11 +98,11 @@ module _ (fleet : FleetView) (statuses : List Status) (cap : Option ℕ) where
 
 pub one_answer : OneAnswer
 one_answer fleet statuses cap (Planned plan) (Planned other) best dealt_first other_best dealt_second =
-    same_plan fleet statuses cap (batch_numbers plan.batches.items) (batch_numbers other.batches.items) plan.bound other.bound dealt_first dealt_second
+    same_plan fleet statuses cap plan.batches other.batches plan.bound other.bound dealt_first dealt_second
 one_answer fleet statuses cap (Planned plan) (Blocked group waiting) best dealt_first other_best dealt_second =
-    other_best.no_plan (batch_numbers plan.batches.items) best.plan
+    other_best.no_plan plan.batches best.plan
 one_answer fleet statuses cap (Blocked group waiting) (Planned plan) best dealt_first other_best dealt_second =
-    best.no_plan (batch_numbers plan.batches.items) other_best.plan
+    best.no_plan plan.batches other_best.plan
 one_answer fleet statuses cap (Blocked group waiting) (Blocked other number) best dealt_first other_best dealt_second =
     let there = same_blocked fleet statuses cap group.index other.index waiting number best other_best in
     (ap (λ (n : ℕ). record { index = n }) there, best.waiting_are ∙ ap (λ (n : ℕ). waiting_count statuses (group_at (groups_of fleet) n).members) there ∙ sym other_best.waiting_are)

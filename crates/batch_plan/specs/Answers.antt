@@ -8,7 +8,7 @@ use Rattle.batch_plan.specs.declared.answers.Bound.{Bound}
 use Rattle.batch_plan.specs.declared.answers.Answer.{Answer}
 use Rattle.batch_plan.specs.declared.answers.Answer.TheVariants.{Planned, Blocked}
 use Rattle.batch_plan.specs.Needs.{is_blocked, need_of, needs_of}
-use Rattle.batch_plan.specs.Plans.{IsPlan, batch_numbers}
+use Rattle.batch_plan.specs.Plans.{IsPlan}
 use Rattle.batch_plan.specs.Bounds.{Forces, IsNamedBound}
 use Rattle.batch_plan.specs.Deals.{dealt, waiting_in_order}
 
@@ -28,7 +28,7 @@ pub record IsFirstBlocked (groups : List FleetGroup) (statuses : List Status) (c
 
 abbrev pub IsBest : FleetView → List Status → Option ℕ → Answer → Type 0
 IsBest fleet statuses cap (Planned plan) =
-    IsLeastPlan (groups_of fleet) statuses cap (batch_numbers plan.batches.items) plan.bound
+    IsLeastPlan (groups_of fleet) statuses cap plan.batches plan.bound
 IsBest fleet statuses cap (Blocked group waiting) =
     IsFirstBlocked (groups_of fleet) statuses cap group.index waiting
 
@@ -40,14 +40,14 @@ pub record IsDealtPlan (fleet : FleetView) (statuses : List Status) (cap : Optio
 -- the one answer of the rule by which hosts are dealt
 abbrev pub IsDealtAnswer : FleetView → List Status → Option ℕ → Answer → Type 0
 IsDealtAnswer fleet statuses cap (Planned plan) =
-    IsDealtPlan fleet statuses cap (batch_numbers plan.batches.items) plan.bound
+    IsDealtPlan fleet statuses cap plan.batches plan.bound
 IsDealtAnswer fleet statuses cap (Blocked group waiting) =
     IsFirstBlocked (groups_of fleet) statuses cap group.index waiting
 
 -- the same batches and the same bound, or the same group with as many hosts that wait
 abbrev pub IsSameAnswer : Answer → Answer → Type 0
 IsSameAnswer (Planned plan) (Planned other) =
-    (batch_numbers plan.batches.items ≡ batch_numbers other.batches.items) × (plan.bound ≡ other.bound)
+    (plan.batches ≡ other.batches) × (plan.bound ≡ other.bound)
 IsSameAnswer (Planned plan) (Blocked group waiting) = ⊥
 IsSameAnswer (Blocked group waiting) (Planned plan) = ⊥
 IsSameAnswer (Blocked group waiting) (Blocked other number) = (group ≡ other) × (waiting ≡ number)

@@ -10,7 +10,7 @@ use Rattle.fleet_states.specs.Groups.{FleetGroup, Fits, group_at, groups_of, is_
 use Rattle.domain_counts.specs.Counts.{Counted}
 use Rattle.batch_plan.specs.declared.answers.Bound.{Bound}
 use Rattle.batch_plan.specs.Needs.{is_blocked, need_of, needs_of}
-use Rattle.batch_plan.specs.Plans.{IsPlan, batch_numbers}
+use Rattle.batch_plan.specs.Plans.{IsPlan}
 use Rattle.batch_plan.specs.Bounds.{Forces}
 use Rattle.batch_plan.specs.Answers.{IsBest, IsDealtAnswer, IsLeastPlan, IsSameAnswer, IsDealtPlan, IsFirstBlocked}
 use Rattle.batch_plan.specs.Holding.{held_hosts}
@@ -85,7 +85,7 @@ OneBatchLess =
 
 -- a plan of so many batches
 abbrev pub HasBatches : ℕ → Answer → Type 0
-HasBatches count (Planned plan) = length (batch_numbers plan.batches.items) ≡ count
+HasBatches count (Planned plan) = length plan.batches ≡ count
 HasBatches count (Blocked group waiting) = ⊥
 
 -- so the best answer is then a plan of one batch less

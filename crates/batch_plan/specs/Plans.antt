@@ -1,9 +1,5 @@
 -- Plans: the batches in which all waiting hosts go.
-use Rattle.std.specs.Prelude.{◌≡◌, ℕ, ◌<◌, false, cond, nat_eq, Option, List, All, map, sum_by, count_by, length}
-use Rattle.std.specs.declared.alloc.Global.{Global}
-use Rattle.std.specs.declared.vec.Vec.{Vec}
-use Rattle.group_tree.specs.declared.ids.HostId.{HostId}
-use Rattle.domains.specs.Ids.{host_numbers}
+use Rattle.std.specs.Prelude.{◌≡◌, ℕ, ◌<◌, false, cond, nat_eq, Option, List, All, sum_by, count_by, length}
 use Rattle.domains.specs.Starts.{exceeds}
 use Rattle.fleet_states.specs.declared.status.Status.{Status}
 use Rattle.fleet_states.specs.Statuses.{is_waiting, status_at}
@@ -19,7 +15,3 @@ pub record IsPlan (groups : List FleetGroup) (statuses : List Status) (cap : Opt
   pub none_empty : All (λ batch. 0 < length batch) batches
   pub fits : All (Fits groups statuses) batches
   pub within_cap : All (λ batch. exceeds cap (length batch) ≡ false) batches
-
--- the batches by the numbers of their hosts
-abbrev pub batch_numbers : List (Vec HostId Global) → List (List ℕ)
-batch_numbers batches = map (λ (batch : Vec HostId Global). host_numbers batch.items) batches

@@ -1,5 +1,6 @@
 //! What the planner answers.
-use group_tree::{GroupId, HostId};
+use crate::batches::Batches;
+use group_tree::GroupId;
 
 /// Why no plan has fewer batches: so many hosts wait, and so many of them may go down at once.
 #[derive(Clone, Copy, Debug, PartialEq, Eq)]
@@ -22,7 +23,7 @@ pub enum Bound {
 /// Batches of waiting hosts, and why they are not fewer.
 #[derive(Debug, Drop)]
 pub struct Plan {
-    pub batches: Vec<Vec<HostId>>,
+    pub batches: Batches,
     pub bound: Bound,
 }
 

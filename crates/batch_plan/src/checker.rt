@@ -7,11 +7,12 @@ ghost use Rattle.fleet_states.specs.Statuses.{is_waiting, status_at};
 ghost use Rattle.fleet_states.specs.Groups.{groups_of};
 ghost use Rattle.batch_plan.specs.Needs.{needs_of};
 ghost use Rattle.batch_plan.specs.Needs as needs;
-ghost use Rattle.batch_plan.specs.Plans.{IsPlan, batch_numbers};
+ghost use Rattle.batch_plan.specs.Plans.{IsPlan};
 ghost use Rattle.batch_plan.specs.Bounds.{Forces, IsForced};
 ghost use Rattle.batch_plan.specs.Checks as model;
 
 use crate::answers::{Bound, Plan};
+use crate::batches::Batches;
 use crate::marks::stand_once;
 use crate::needs::Need;
 use crate::places_left::keep_room;
@@ -50,11 +51,11 @@ fn keeps_cap(statuses: &[Status], cap: Option<u32>, batch: &[HostId]) -> bool
     !batch.is_empty() && is_within(cap, batch.len()) && is_waiting_batch(statuses, batch)
 }
 
-fn keep_cap(statuses: &[Status], cap: Option<u32>, batches: &[Vec<HostId>]) -> bool
-    ensures { result ≡ list_all (model.keeps_cap statuses.now cap) (batch_numbers batches.now) }
+fn keep_cap(statuses: &[Status], cap: Option<u32>, batches: &Batches) -> bool
+    ensures { result ≡ list_all (model.keeps_cap statuses.now cap) batches.now }
 {
-    for batch in batches {
-        if !keeps_cap(statuses, cap, batch.as_slice()) {
+    for place in 0..batches.len() {
+        if !keeps_cap(statuses, cap, batches.at(place)) {
             return false;
         }
     }
@@ -125,10 +126,10 @@ fn serial_need(waiting: usize, cap: Option<u32>) -> Option<Need>
 /// fewer batches then. No memory is taken.
 pub fn check_plan(fleet: &Fleet, statuses: &[Status], cap: Option<u32>, plan: &Plan) -> bool
     requires hosts { length statuses.now ≡ length fleet.now.hosts }
-    ensures { IsTrue result ↔ (IsPlan (groups_of fleet.now) statuses.now cap (batch_numbers plan.now.batches.items)
-        × Forces (needs_of (groups_of fleet.now) statuses.now cap) (length plan.now.batches.items) plan.now.bound) }
+    ensures { IsTrue result ↔ (IsPlan (groups_of fleet.now) statuses.now cap plan.now.batches
+        × Forces (needs_of (groups_of fleet.now) statuses.now cap) (length plan.now.batches) plan.now.bound) }
 {
-    let batches = plan.batches.as_slice();
+    let batches = &plan.batches;
     if !keep_cap(statuses, cap, batches) {
         return false;
     }

@@ -1,35 +1,40 @@
 //! How hosts are dealt to batches.
-ghost use Rattle.std.specs.Prelude.{◌≡◌, ◌<◌, IfOk, length, map, []};
-ghost use Rattle.std.specs.List.{range_with_len};
+ghost use Rattle.std.specs.Prelude.{◌≡◌, ◌++◌, ◌<◌, IfOk, OnOk, length};
 ghost use Rattle.domains.specs.Ids.{host_numbers};
-ghost use Rattle.batch_plan.specs.Plans.{batch_numbers};
-ghost use Rattle.batch_plan.specs.Deals.{dealt};
+ghost use Rattle.batch_plan.specs.Deals.{dealt, dealt_to};
 
+use crate::batches::Batches;
 use group_tree::HostId;
 use std::alloc::{AllocError, Global};
 
-fn empty_batches(alloc: Global, count: usize) -> Result<Vec<Vec<HostId>>, AllocError>
-    ensures { IfOk result (λ batches. batch_numbers batches.items ≡ dealt [] count) }
+/// Adds the hosts of one batch: of so many batches each gets a host in turn.
+fn deal_to(
+    dealt: &mut Vec<HostId>,
+    hosts: &[HostId],
+    batch: usize,
+    count: usize,
+) -> Result<(), AllocError>
+    requires { batch < count }
+    ensures { OnOk result (host_numbers dealt.new.items ≡ host_numbers dealt.old.items ++ dealt_to count batch 0 (host_numbers hosts.now)) }
 {
-    let mut batches = Vec::with_capacity(alloc, count)?;
-    for place in 0..count {
-        batches.push(Vec::new(alloc))?;
+    let mut place = batch;
+    while place < hosts.len() {
+        dealt.push(hosts[place])?;
+        place = place.saturating_add(count);
     }
-    Ok(batches)
+    Ok(())
 }
 
-/// Deals the hosts to so many batches, one host to each in turn.
-pub(crate) fn deal(
-    alloc: Global,
-    hosts: &[HostId],
-    count: usize,
-) -> Result<Vec<Vec<HostId>>, AllocError>
+/// Deals the hosts to so many batches, one host to each in turn. What is returned takes no more memory than it needs.
+pub(crate) fn deal(alloc: Global, hosts: &[HostId], count: usize) -> Result<Batches, AllocError>
     requires { 0 < length hosts.now → 0 < count }
-    ensures { IfOk result (λ batches. batch_numbers batches.items ≡ dealt (host_numbers hosts.now) count) }
+    ensures { IfOk result (λ batches. batches ≡ dealt (host_numbers hosts.now) count) }
 {
-    let mut batches = empty_batches(alloc, count)?;
-    for place in 0..hosts.len() {
-        batches[place % count].push(hosts[place])?;
+    let mut dealt = Vec::with_capacity(alloc, hosts.len())?;
+    let mut ends = Vec::with_capacity(alloc, count)?;
+    for batch in 0..count {
+        deal_to(&mut dealt, hosts, batch, count)?;
+        ends.push(dealt.len())?;
     }
-    Ok(batches)
+    Ok(Batches::from_ends(dealt, ends))
 }

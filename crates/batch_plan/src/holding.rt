@@ -7,14 +7,17 @@ ghost use Rattle.fleet_states.specs.Groups.{groups_of};
 ghost use Rattle.batch_plan.specs.Needs.{need_at, need_of};
 ghost use Rattle.batch_plan.specs.Holding as model;
 ghost use Rattle.batch_plan.specs.Holding.{HoldingUnblocks, held_hosts};
+ghost use Rattle.batch_plan.specs.Places.{AreCountsOf};
 ghost use Rattle.batch_plan.specs.Inside as inside;
 
 use crate::counting::{counted, list_needs};
+use crate::naming::first_blocked;
 use crate::needs::Need;
+use domain_counts::Domains;
 use domains::Fleet;
 use fleet_states::{Status, status_of};
 use group_tree::{GroupId, HostId};
-use std::alloc::{AllocError, Global};
+use std::alloc::{AllocError, Allocator, Global};
 
 fn is_full(need: Option<Need>) -> bool
     ensures { result ≡ inside.is_full need }
@@ -81,6 +84,25 @@ fn list_held(
     Ok(hosts)
 }
 
+/// The waiting hosts that a limited group without room holds, by name, for a fleet of which the counts stand. Once they are
+/// set aside, no plan is blocked. Where no group with waiting hosts is full, only the groups are looked at, and no host. Only
+/// want of memory refuses it.
+pub fn held_over<A: Allocator>(
+    alloc: Global,
+    domains: &Domains<'_, A>,
+    statuses: &[Status],
+) -> Result<Vec<HostId>, AllocError>
+    requires { AreCountsOf statuses.now domains.now }
+    ensures hosts { IfOk result (λ hosts. host_numbers hosts.items ≡ held_hosts domains.now.fleet statuses.now) }
+    ensures unblocks { IfOk result (λ _. HoldingUnblocks domains.now.fleet statuses.now) }
+{
+    let needs = list_needs(alloc, domains)?;
+    match first_blocked(needs.as_slice()) {
+        Some(_blocked) => list_held(alloc, domains.fleet(), statuses, needs.as_slice()),
+        None => Ok(Vec::new(alloc)),
+    }
+}
+
 /// The waiting hosts that a limited group without room holds, by name. Once they are set aside, no plan is blocked. Only
 /// want of memory refuses it.
 pub fn held(alloc: Global, fleet: &Fleet, statuses: &[Status]) -> Result<Vec<HostId>, AllocError>
@@ -89,8 +111,7 @@ pub fn held(alloc: Global, fleet: &Fleet, statuses: &[Status]) -> Result<Vec<Hos
     ensures unblocks { IfOk result (λ _. HoldingUnblocks fleet.now statuses.now) }
 {
     let domains = counted(alloc, fleet, statuses)?;
-    let needs = list_needs(alloc, &domains)?;
-    list_held(alloc, fleet, statuses, needs.as_slice())
+    held_over(alloc, &domains, statuses)
 }
 
 /// Sets these hosts aside; a number that no host has is passed over.

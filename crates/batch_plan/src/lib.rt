@@ -2,6 +2,7 @@
 #![tactic(auto)]
 
 pub mod answers;
+mod batches;
 mod beginnings;
 mod checker;
 mod counting;
@@ -16,11 +17,12 @@ mod planner;
 mod rooms;
 
 pub use answers::{Answer, Bound};
+pub use batches::Batches;
 pub use beginnings::{restart, start};
 pub use checker::check_plan;
 pub use counting::{counted, place_of};
 pub use fleet_states::Status;
-pub use holding::{held, set_aside};
+pub use holding::{held, held_over, set_aside};
 pub use laws::{
     a_blocked_group_has_no_plan, a_plan_holds_nobody_back, an_answer_exists,
     an_updated_batch_leaves_one_less, bounds_hold, counts_follow_a_change,

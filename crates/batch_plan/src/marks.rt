@@ -1,10 +1,11 @@
 //! How often each host stands in batches.
 ghost use Rattle.std.specs.Prelude.{◌≡◌, ℕ, ◌+◌, ◌<◌, ◌≤◌, ◌↔◌, IsTrue, cond, count_by, length, min, nat_eq, slice_index};
 ghost use Rattle.domains.specs.Ids.{host_numbers};
-ghost use Rattle.batch_plan.specs.Plans.{batch_numbers, times_in};
+ghost use Rattle.batch_plan.specs.Plans.{times_in};
 ghost use Rattle.batch_plan.specs.Checks.{StandOnce};
 ghost use Rattle.batch_plan.specs.Checks as model;
 
+use crate::batches::Batches;
 use domains::HOSTS_BOUND;
 use fleet_states::{Status, status_of};
 use group_tree::HostId;
@@ -30,13 +31,13 @@ fn mark_batch(marks: &mut [u8], batch: &[HostId])
     }
 }
 
-fn mark_all(marks: &mut [u8], batches: &[Vec<HostId>])
+fn mark_all(marks: &mut [u8], batches: &Batches)
     ensures len { length marks.new ≡ length marks.old }
     ensures times { (other : ℕ) → other < length marks.old
-        → min 2 (slice_index marks.new other) ≡ min 2 (slice_index marks.old other + times_in (batch_numbers batches.now) other) }
+        → min 2 (slice_index marks.new other) ≡ min 2 (slice_index marks.old other + times_in batches.now other) }
 {
-    for batch in batches {
-        mark_batch(marks, batch.as_slice());
+    for place in 0..batches.len() {
+        mark_batch(marks, batches.at(place));
     }
 }
 
@@ -65,9 +66,9 @@ fn are_as_due(statuses: &[Status], marks: &[u8]) -> bool
 }
 
 /// Whether each host that waits stands in the batches once, and no other host that has a status does.
-pub(crate) fn stand_once(statuses: &[Status], batches: &[Vec<HostId>]) -> bool
+pub(crate) fn stand_once(statuses: &[Status], batches: &Batches) -> bool
     requires { length statuses.now ≤ 4096 }
-    ensures { IsTrue result ↔ StandOnce statuses.now (batch_numbers batches.now) }
+    ensures { IsTrue result ↔ StandOnce statuses.now batches.now }
 {
     let mut marks = [0; HOSTS_BOUND];
     mark_all(&mut marks, batches);

@@ -5,10 +5,10 @@ ghost use Rattle.fleet_numbers.specs.NumberLists.{IsRising, are_below, has_numbe
 ghost use Rattle.domains.specs.Ids.{group_numbers, host_numbers};
 ghost use Rattle.domains.specs.FleetViews.{IsSound};
 ghost use Rattle.fleet_states.specs.Groups.{groups_of};
-ghost use Rattle.batch_plan.specs.Plans.{batch_numbers};
 ghost use Rattle.batch_plan.specs.Checks as model;
 ghost use Rattle.batch_plan.specs.Checks.{FitInto, KeepPlaces, chain_count, places_in};
 
+use crate::batches::Batches;
 use crate::rooms::room;
 use domains::Fleet;
 use fleet_states::Status;
@@ -118,29 +118,24 @@ fn fill(fleet: &Fleet, statuses: &[Status], left: &mut [usize])
 }
 
 /// Whether each group has places for all its members of each batch.
-fn all_fit(fleet: &Fleet, left: &mut [usize], batches: &[Vec<HostId>]) -> bool
+fn all_fit(fleet: &Fleet, left: &mut [usize], batches: &Batches) -> bool
     requires len { length left.old ≡ length fleet.now.groups }
-    requires within { list_all (are_below (length fleet.now.hosts)) (batch_numbers batches.now) ≡ true }
+    requires within { list_all (are_below (length fleet.now.hosts)) batches.now ≡ true }
     requires small { (group : ℕ) → group < length left.old → slice_index left.old group < 2 ^ 32 }
-    ensures { IsTrue result ↔ ((place : ℕ) → place < length batches.now → FitInto fleet.now.chains left.old (list_at (batch_numbers batches.now) place)) }
+    ensures { IsTrue result ↔ ((place : ℕ) → place < length batches.now → FitInto fleet.now.chains left.old (list_at batches.now place)) }
 {
-    for batch in batches {
-        if !fits(fleet, left, batch.as_slice()) {
+    for place in 0..batches.len() {
+        if !fits(fleet, left, batches.at(place)) {
             return false;
         }
     }
     true
 }
 
-fn keep_places(
-    fleet: &Fleet,
-    statuses: &[Status],
-    left: &mut [usize],
-    batches: &[Vec<HostId>],
-) -> bool
+fn keep_places(fleet: &Fleet, statuses: &[Status], left: &mut [usize], batches: &Batches) -> bool
     requires len { length left.old ≡ length fleet.now.groups }
-    requires within { list_all (are_below (length fleet.now.hosts)) (batch_numbers batches.now) ≡ true }
-    ensures { IsTrue result ↔ KeepPlaces fleet.now statuses.now (batch_numbers batches.now) }
+    requires within { list_all (are_below (length fleet.now.hosts)) batches.now ≡ true }
+    ensures { IsTrue result ↔ KeepPlaces fleet.now statuses.now batches.now }
 {
     fill(fleet, statuses, left);
     all_fit(fleet, left, batches)
@@ -148,10 +143,10 @@ fn keep_places(
 
 /// Whether no batch has more hosts of a group than that has room for. Each host is looked at as often as it has limited
 /// groups, and each group's members once.
-pub(crate) fn keep_room(fleet: &Fleet, statuses: &[Status], batches: &[Vec<HostId>]) -> bool
-    requires { list_all (are_below (length fleet.now.hosts)) (batch_numbers batches.now) ≡ true }
+pub(crate) fn keep_room(fleet: &Fleet, statuses: &[Status], batches: &Batches) -> bool
+    requires { list_all (are_below (length fleet.now.hosts)) batches.now ≡ true }
     ensures sound { IsSound fleet.now }
-    ensures keep { result ≡ list_all (model.keep_room statuses.now (batch_numbers batches.now)) (groups_of fleet.now) }
+    ensures keep { result ≡ list_all (model.keep_room statuses.now batches.now) (groups_of fleet.now) }
 {
     let mut left = [0; GROUPS_BOUND];
     let groups = fleet.groups();

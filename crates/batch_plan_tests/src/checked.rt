@@ -1,6 +1,6 @@
 //! Plans from elsewhere that are checked.
 use batch_plan::answers::Plan;
-use batch_plan::{Bound, Status, check_plan};
+use batch_plan::{Batches, Bound, Status, check_plan};
 use domains::Fleet;
 use group_tree::{Group, GroupFault, GroupId, HostId};
 use sample_fleets::{fleet_of, group, with};
@@ -26,13 +26,13 @@ fn rack_bound(waiting: usize) -> Bound {
 
 /// A plan with the hosts of these numbers, a list for each batch.
 fn plan_of(alloc: Global, batches: &[&[usize]], bound: Bound) -> Result<Plan, AllocError> {
-    let mut numbered = Vec::new(alloc);
+    let mut numbered = Batches::new(alloc);
     for batch in batches {
         let mut hosts = Vec::new(alloc);
         for index in *batch {
             hosts.push(HostId { index: *index })?;
         }
-        numbered.push(hosts)?;
+        numbered.push(hosts.as_slice())?;
     }
     Ok(Plan {
         batches: numbered,

@@ -1,15 +1,12 @@
 -- Two texts have one plan.
-use Rattle.std.proofs.Common.{◌≡◌, ℕ, Option, None, Some, List, [], ◌∷◌, length, sym, ap, ◌∙◌, refl, subst, Global, Vec}
+use Rattle.std.proofs.Common.{◌≡◌, ℕ, Option, None, Some, List, [], ◌∷◌, length, sym, ap, ◌∙◌, refl, subst}
 use Rattle.std.specs.List.{AllZip, slice_get}
 use Rattle.std.specs.Prelude.{IsSomeAnd}
-use Rattle.std.proofs.lemmas.List.{length-map}
 use Rattle.std.proofs.lemmas.Option.{same_Some}
 use Rattle.std.proofs.lemmas.Slice.Zip.{AllZip-right}
 use Rattle.inventory_model.specs.Places.{Inventory}
 use Rattle.inventory_read.specs.Values.{inventory_of}
-use Rattle.group_tree.specs.declared.ids.HostId.{HostId}
 use Rattle.group_tree.specs.declared.ids.GroupId.{GroupId}
-use Rattle.domains.specs.Ids.{host_numbers}
 use Rattle.domains.specs.FleetViews.{FleetView}
 use Rattle.domains.specs.Fleets.{IsFleetOf}
 use Rattle.domains.proofs.UniqueLemmas.{one_fleet}
@@ -58,10 +55,7 @@ first_alike most text plays more later rest play other first second are also =
 -- the same answers are written alike
 same_lines : (fleet : FleetView) (answer other : Answer) → IsSameAnswer answer other → (answer_line fleet answer ≡ answer_line fleet other) × (answer_lines fleet answer ≡ answer_lines fleet other)
 same_lines fleet (Planned plan) (Planned other) same =
-    let numbers : Vec HostId Global → List ℕ = λ batch. host_numbers batch.items in
-    let many : length plan.batches.items ≡ length other.batches.items =
-    sym (length-map plan.batches.items numbers) ∙ ap length same.0 ∙ length-map other.batches.items numbers in
-    (ap (λ (n : ℕ). planned_line fleet n plan.bound) many ∙ ap (planned_line fleet (length other.batches.items)) same.1, ap (batch_lines fleet) same.0)
+    (ap (λ (batches : List (List ℕ)). planned_line fleet (length batches) plan.bound) same.0 ∙ ap (planned_line fleet (length other.batches)) same.1, ap (batch_lines fleet) same.0)
 same_lines fleet (Planned plan) (Blocked group waiting) same = absurd same
 same_lines fleet (Blocked group waiting) (Planned plan) same = absurd same
 same_lines fleet (Blocked group waiting) (Blocked other number) same =

@@ -15,7 +15,7 @@ use Rattle.batch_plan.specs.declared.answers.Answer.{Answer}
 use Rattle.batch_plan.specs.declared.answers.Answer.TheVariants.{Planned, Blocked}
 use Rattle.batch_plan.specs.Answers.{IsBest}
 use Rattle.batch_plan.specs.Holding.{set_aside}
-use Rattle.batch_plan.specs.Plans.{IsPlan, batch_numbers}
+use Rattle.batch_plan.specs.Plans.{IsPlan}
 use Rattle.batch_plan.proofs.PlanLaws.{first_may_be_opened}
 use Rattle.play_course.specs.declared.boundary.Boundary.{Boundary}
 use Rattle.play_course.specs.declared.end.End.{End}
@@ -49,7 +49,7 @@ opened_waits setting opened statuses boundary host is here = by_answer boundary.
         ready_waits boundary.statuses.items batch host (first_may_be_opened (groups_of setting.fleet) boundary.statuses.items bound batch rest plan).ready inside
 
     by_answer : (answer : Answer) → IsBest setting.fleet boundary.statuses.items bound answer → has_number host (next_batch answer) ≡ true → is_waiting (status_at boundary.statuses.items host) ≡ true
-    by_answer (Planned plan) best inside = by_batches (batch_numbers plan.batches.items) best.plan inside
+    by_answer (Planned plan) best inside = by_batches plan.batches best.plan inside
     by_answer (Blocked group waiting) best inside = absurd (cc)
 
 module _ (setting : Setting) (opened : ℕ) (statuses : List Status) (boundary : Boundary) (host : ℕ) (is : IsBoundary setting opened statuses boundary) where

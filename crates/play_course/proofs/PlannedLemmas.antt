@@ -22,7 +22,7 @@ use Rattle.batch_plan.specs.declared.answers.Bound.{Bound}
 use Rattle.batch_plan.specs.Answers.{IsBest, IsLeastPlan}
 use Rattle.batch_plan.specs.Holding.{set_aside}
 use Rattle.batch_plan.specs.Laws.{HasBatches}
-use Rattle.batch_plan.specs.Plans.{IsPlan, batch_numbers}
+use Rattle.batch_plan.specs.Plans.{IsPlan}
 use Rattle.batch_plan.proofs.PlanLaws.{answers_one_less, first_may_be_opened, one_batch_less, plans_hold_nobody}
 use Rattle.play_course.specs.declared.boundary.Boundary.{Boundary}
 use Rattle.play_course.specs.declared.end.End.{End}
@@ -116,7 +116,7 @@ module _ (setting : Setting) (most : Option ℕ) (one : (opened : ℕ) → setti
 
       by_answer : (On bs → AreAsPlanned bs) → (answer : Answer) → b.answer ≡ answer → IsFollowedByAll answer bs
       by_answer later (Planned plan) same =
-          by_batches later (batch_numbers plan.batches.items) plan.bound (ap next_batch same) (subst (λ a. IsBest setting.fleet b.statuses.items most a) same (best_within opened statuses b is.0))
+          by_batches later plan.batches plan.bound (ap next_batch same) (subst (λ a. IsBest setting.fleet b.statuses.items most a) same (best_within opened statuses b is.0))
           (subst (λ a. After (end_without_batch b.statuses.items a)) same is.1)
       by_answer later (Blocked group waiting) same = (subst (λ a. After (end_without_batch b.statuses.items a)) same is.1).0
 

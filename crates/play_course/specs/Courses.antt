@@ -14,7 +14,6 @@ use Rattle.batch_plan.specs.declared.answers.Answer.{Answer}
 use Rattle.batch_plan.specs.declared.answers.Answer.TheVariants.{Planned, Blocked}
 use Rattle.batch_plan.specs.Answers.{IsBest, IsDealtAnswer}
 use Rattle.batch_plan.specs.Holding.{set_aside}
-use Rattle.batch_plan.specs.Plans.{batch_numbers}
 use Rattle.play_course.specs.declared.boundary.Boundary.{Boundary}
 use Rattle.play_course.specs.declared.end.End.{End}
 use Rattle.play_course.specs.declared.end.End.TheVariants as ending
@@ -42,7 +41,7 @@ IsBoundary setting opened statuses boundary = IsPlannedFrom setting.fleet settin
 
 -- the batches of an answer
 abbrev pub batches_of : Answer → List (List ℕ)
-batches_of (Planned plan) = batch_numbers plan.batches.items
+batches_of (Planned plan) = plan.batches
 batches_of (Blocked group waiting) = []
 
 -- the batch that is opened: the first one of the plan, and nobody where there is none
@@ -67,7 +66,7 @@ end_at_rest statuses = if list_any is_held statuses then ending.Held else ending
 -- how a play ends where no batch can be opened: a group blocks every plan, or nobody waits
 abbrev pub end_without_batch : List Status → Answer → Option End
 end_without_batch statuses (Blocked group waiting) = Some (ending.Blocked group)
-end_without_batch statuses (Planned plan) = if length (batch_numbers plan.batches.items) == 0 then Some (end_at_rest statuses) else None
+end_without_batch statuses (Planned plan) = if length plan.batches == 0 then Some (end_at_rest statuses) else None
 
 -- the step at which the batch halts, if at one
 abbrev pub halt_of : Setting → List ℕ → Option ℕ

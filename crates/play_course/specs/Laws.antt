@@ -8,7 +8,6 @@ use Rattle.batch_outcome.specs.Laws.{AgreeOn}
 use Rattle.batch_plan.specs.declared.answers.Answer.{Answer}
 use Rattle.batch_plan.specs.declared.answers.Answer.TheVariants.{Planned, Blocked}
 use Rattle.batch_plan.specs.Answers.{IsSameAnswer}
-use Rattle.batch_plan.specs.Plans.{batch_numbers}
 use Rattle.play_course.specs.declared.boundary.Boundary.{Boundary}
 use Rattle.play_course.specs.declared.end.End.{End}
 use Rattle.play_course.specs.Courses.{IsBoundary, IsCourse, Setting, end_here, ended_by, led_to, next_batch}
@@ -105,7 +104,7 @@ OthersDecideNothing =
 
 -- an answer that is followed by as many boundaries as its plan has batches
 abbrev pub IsFollowedByAll : Answer → List Boundary → Type 0
-IsFollowedByAll (Planned plan) rest = length rest ≡ length (batch_numbers plan.batches.items)
+IsFollowedByAll (Planned plan) rest = length rest ≡ length plan.batches
 IsFollowedByAll (Blocked group waiting) rest = rest ≡ []
 
 abbrev pub AreAsPlanned : List Boundary → Type 0

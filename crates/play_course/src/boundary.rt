@@ -78,10 +78,7 @@ impl Boundary {
         ensures { host_numbers result.now ≡ model.next_batch self.now.answer }
     {
         match &self.answer {
-            Answer::Planned(plan) => match plan.batches.first() {
-                Some(batch) => batch.as_slice(),
-                None => &[],
-            },
+            Answer::Planned(plan) => plan.batches.first(),
             Answer::Blocked { .. } => &[],
         }
     }

@@ -8,7 +8,6 @@ use Rattle.batch_plan.specs.declared.answers.Bound.{Bound}
 use Rattle.batch_plan.specs.declared.answers.Bound.TheVariants.{Group, Serial, OneHost, Nothing}
 use Rattle.batch_plan.specs.declared.answers.Answer.{Answer}
 use Rattle.batch_plan.specs.declared.answers.Answer.TheVariants.{Planned, Blocked}
-use Rattle.batch_plan.specs.Plans.{batch_numbers}
 use Rattle.recap.specs.LimitsText.{field_text}
 
 -- the name of a host after a space; a number that no host has is given an empty name
@@ -65,12 +64,12 @@ held_line fleet (host ∷ hosts) = names_line (codes "held:") fleet (host ∷ ho
 
 -- the first line of a plan's text
 abbrev pub answer_line : FleetView → Answer → List ℕ
-answer_line fleet (Planned plan) = planned_line fleet (length plan.batches.items) plan.bound
+answer_line fleet (Planned plan) = planned_line fleet (length plan.batches) plan.bound
 answer_line fleet (Blocked group waiting) = blocked_line fleet group.index waiting
 
 -- the lines of its batches; a blocked plan has none
 abbrev pub answer_lines : FleetView → Answer → List ℕ
-answer_lines fleet (Planned plan) = batch_lines fleet (batch_numbers plan.batches.items)
+answer_lines fleet (Planned plan) = batch_lines fleet plan.batches
 answer_lines fleet (Blocked group waiting) = []
 
 -- the plan or the group that blocks it, then the hosts set aside

@@ -2,12 +2,11 @@
 ghost use Rattle.bounded_io.specs.Writing.{Writes};
 ghost use Rattle.bounded_io.specs.Sending.{SendsText};
 ghost use Rattle.domains.specs.Ids.{host_numbers};
-ghost use Rattle.batch_plan.specs.Plans.{batch_numbers};
 ghost use Rattle.recap.specs.PlanText.{answer_line, answer_lines, batch_line, batch_lines, blocked_line, bound_text, group_bound, held_line, plan_text, planned_line, serial_bound};
 
 use crate::fields::write_field;
 use crate::names::{group_name, write_names_line};
-use batch_plan::{Answer, Bound};
+use batch_plan::{Answer, Batches, Bound};
 use bounded_io::{TextWriter, WriteFault};
 use domains::Fleet;
 use group_tree::{GroupId, HostId};
@@ -83,11 +82,11 @@ fn write_batch<W: Write>(text: &mut TextWriter<'_, W>, fleet: &Fleet, number: u6
     write_names_line(text, ":", fleet, batch);
 }
 
-fn write_batches<W: Write>(text: &mut TextWriter<'_, W>, fleet: &Fleet, batches: &[Vec<HostId>])
-    ensures { Writes W.contents text.old text.new (batch_lines fleet.now (batch_numbers batches.now)) }
+fn write_batches<W: Write>(text: &mut TextWriter<'_, W>, fleet: &Fleet, batches: &Batches)
+    ensures { Writes W.contents text.old text.new (batch_lines fleet.now batches.now) }
 {
     for place in 0..batches.len() {
-        write_batch(text, fleet, place as u64 + 1, batches[place].as_slice());
+        write_batch(text, fleet, place as u64 + 1, batches.at(place));
     }
 }
 
@@ -112,7 +111,7 @@ fn write_answer_lines<W: Write>(text: &mut TextWriter<'_, W>, fleet: &Fleet, ans
     ensures { Writes W.contents text.old text.new (answer_lines fleet.now answer.now) }
 {
     if let Answer::Planned(plan) = answer {
-        write_batches(text, fleet, plan.batches.as_slice());
+        write_batches(text, fleet, &plan.batches);
     }
 }
 

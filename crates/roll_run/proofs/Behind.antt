@@ -86,7 +86,9 @@ batches_by_events log behind begun events none =
     batches_at_boundaries log ∙ ap batches_in events ∙ batches-append (events_at_each behind) begun ∙ ap₂ ◌++◌ (batches_at_each behind) none
     ∙ append-nil (opened_batches behind)
 
-pub rows_behind-push : (roll : Roll) (columns : Columns) (host : ℕ) (boundaries : List Boundary) (before : List Entry) (boundary : Boundary) → rows_behind roll columns host before (boundaries ++ boundary ∷ []) ≡ cond (has_number host (next_batch boundary.answer)) (rows_of roll columns (next_batch boundary.answer) host) (rows_behind roll columns host before boundaries)
+pub rows_behind-push : (roll : Roll) (columns : Columns) (host : ℕ) (boundaries : List Boundary) (before : List Entry) (boundary : Boundary)
+    → rows_behind roll columns host before (boundaries ++ boundary ∷ [])
+    ≡ cond (has_number host (next_batch boundary.answer)) (rows_of roll columns (next_batch boundary.answer) host) (rows_behind roll columns host before boundaries)
 rows_behind-push roll columns host [] before boundary = refl
 rows_behind-push roll columns host (b ∷ bs) before boundary =
     rows_behind-push roll columns host bs (cond (has_number host (next_batch b.answer)) (rows_of roll columns (next_batch b.answer) host) before) boundary

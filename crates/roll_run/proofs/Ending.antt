@@ -100,7 +100,9 @@ broken_between kernel new behind before more at begun is =
         }
 
 -- it is broken off as it opens the batch of a boundary, or within it
-pub broken_at : {R : Type 0} (old new : BoardView R) (behind boundaries : List Boundary) (boundary : Boundary) (before : Option End) → IsAt old.kernel behind boundary before → boundaries ≡ behind ++ boundary ∷ [] → end_here before boundary ≡ None → HasBroken (next_batch boundary.answer) old new → IsOnCourse new.kernel boundaries
+pub broken_at : {R : Type 0} (old new : BoardView R) (behind boundaries : List Boundary) (boundary : Boundary) (before : Option End)
+    → IsAt old.kernel behind boundary before → boundaries ≡ behind ++ boundary ∷ [] → end_here before boundary ≡ None
+    → HasBroken (next_batch boundary.answer) old new → IsOnCourse new.kernel boundaries
 broken_at old new behind boundaries boundary before at are goes_on broken =
     subst (λ (k : KernelView). IsOnCourse k boundaries) (sym broken.kernel) (subst (IsOnCourse (grown old.kernel broken.more)) (sym are) (on broken.opens_it))
   where

@@ -16,7 +16,7 @@ use Rattle.batch_plan.specs.declared.answers.Answer.{Answer}
 use Rattle.batch_plan.specs.declared.answers.Answer.TheVariants.{Planned, Blocked}
 use Rattle.batch_plan.specs.Answers.{IsBest}
 use Rattle.batch_plan.specs.Places.{AreCountsOf, AreSameBut, told_places}
-use Rattle.batch_plan.specs.Plans.{IsPlan, batch_numbers}
+use Rattle.batch_plan.specs.Plans.{IsPlan}
 use Rattle.batch_plan.proofs.FollowLemmas.{counts_follow}
 use Rattle.fleet_states.specs.Groups.{groups_of}
 use Rattle.fleet_numbers.specs.NumberLists.{list_at}
@@ -75,7 +75,7 @@ opens_some fleet bound before boundary best goes_on = by before boundary.answer 
     by : (before : Option End) (answer : Answer) → IsBest fleet boundary.statuses.items bound answer → option_or before (end_without_batch boundary.statuses.items answer) ≡ None → 0 < length (next_batch answer)
     by (Some end) answer best none = absurd (cc)
     by None (Blocked group waiting) best none = absurd (cc)
-    by None (Planned plan) best none = first (batch_numbers plan.batches.items) best.plan none
+    by None (Planned plan) best none = first plan.batches best.plan none
 
 over_is : (phase : Phase) → is_over phase ≡ true → phase ≡ ended (halt_in phase)
 over_is between is = absurd (cc)
@@ -151,8 +151,11 @@ module _ {R : Type 0} (old ran new : BoardView R) (behind : List Boundary) (boun
 
       between_them : IsBetween new.kernel (behind ++ boundary ∷ []) ended_so
       between_them =
+          let batch : List ℕ = next_batch boundary.answer in
+          let at_rest : KernelView = kernels.with_event (record old.kernel { log = old.kernel.log ++ opened batch ∷ run.more }) closed in
+          let Ends : ℕ → Type 0 = λ failed. IsBetween at_rest (behind ++ boundary ∷ []) (end_with (halt_in (state_of ran.kernel).phase) failed (length batch)) in
           subst (λ (k : KernelView). IsBetween k (behind ++ boundary ∷ []) ended_so) (sym done_is)
-          (subst (λ f. IsBetween (kernels.with_event (record old.kernel { log = old.kernel.log ++ opened (next_batch boundary.answer) ∷ run.more }) closed) (behind ++ boundary ∷ []) (end_with (halt_in (state_of ran.kernel).phase) f (length (next_batch boundary.answer)))) (ap (λ (k : KernelView). failures (state_of k)) (sym run.kernel))
+          (subst Ends (ap (λ (k : KernelView). failures (state_of k)) (sym run.kernel))
           (closes old.kernel boundary run.more was_legal run.inside behind before (halt_in (state_of ran.kernel).phase) at goes_on (ap (λ (k : KernelView). (state_of k).phase) (sym run.kernel) ∙ phase_is)))
 
   pub same_behind : IsSameRoll old new

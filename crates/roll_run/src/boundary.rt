@@ -15,7 +15,7 @@ use domain_counts::Domains;
 use fleet_states::{Status, status_of};
 use group_tree::HostId;
 use play_course::Boundary;
-use play_plan::list_aside;
+use play_plan::list_aside_over;
 use roll_core::{Board, Runner};
 use std::alloc::{AllocError, Allocator, Global};
 use std::sync::ledger::Ledger;
@@ -114,7 +114,7 @@ pub(crate) fn come_to_boundary<A: Allocator, R: Runner, L: Ledger>(
     ensures err { OnErr result (boundaries.new.items ≡ boundaries.old.items) }
 {
     let play = board.play();
-    let held = list_aside(alloc, board.fleet(), board.statuses(), play.on_blocked())?;
+    let held = list_aside_over(alloc, domains, board.statuses(), play.on_blocked())?;
     set_aside(alloc, board, domains, held.as_slice())?;
     let cap = play.cap(targeted, count(boundaries.as_slice()));
     let boundary = Boundary::planned(alloc, domains, held, board.statuses(), cap)?;

@@ -1,12 +1,10 @@
 -- Two runs of plays that are alike, whose programs end as the same columns say, have one recap.
-use Rattle.std.proofs.Common.{◌≡◌, ℕ, zero, suc, ◌+◌, ◌-◌, ◌<◌, Bool, true, false, cond, nat_lt, Option, None, Some, List, [], ◌∷◌, ◌++◌, length, map, refl, sym, ap, ap₂, ◌∙◌, subst, arith, Vec, Global}
+use Rattle.std.proofs.Common.{◌≡◌, ℕ, zero, suc, ◌+◌, ◌-◌, ◌<◌, Bool, true, false, cond, nat_lt, Option, None, Some, List, [], ◌∷◌, ◌++◌, length, map, refl, sym, ap, ap₂, ◌∙◌, subst, arith}
 use Rattle.std.specs.List.{flat_map, range_with_len}
 use Rattle.std.specs.Prelude.{slice_index_or, string_bytes}
 use Rattle.std.proofs.Math.Path.{fun_ext}
-use Rattle.std.proofs.lemmas.List.{length-map}
 use Rattle.host_patterns.specs.Patterns.{parts_of}
 use Rattle.fleet_numbers.specs.NumberLists.{has_number, list_at}
-use Rattle.group_tree.specs.declared.ids.HostId.{HostId}
 use Rattle.group_tree.specs.declared.ids.GroupId.{GroupId}
 use Rattle.domains.specs.FleetViews.{FleetView}
 use Rattle.domains.specs.Ids.{host_numbers}
@@ -49,10 +47,7 @@ use Rattle.running.proofs.AlikeTracks.{same_steps, same_track, same_whole}
 -- the same answers are written alike, and open the same batch
 same_line : (fleet : FleetView) (answer other : Answer) → IsSameAnswer answer other → answer_line fleet answer ≡ answer_line fleet other
 same_line fleet (Planned plan) (Planned other) same =
-    let numbers : Vec HostId Global → List ℕ = λ batch. host_numbers batch.items in
-    let many : length plan.batches.items ≡ length other.batches.items =
-    sym (length-map plan.batches.items numbers) ∙ ap length same.0 ∙ length-map other.batches.items numbers in
-    ap (λ (n : ℕ). planned_line fleet n plan.bound) many ∙ ap (planned_line fleet (length other.batches.items)) same.1
+    ap (λ (batches : List (List ℕ)). planned_line fleet (length batches) plan.bound) same.0 ∙ ap (planned_line fleet (length other.batches)) same.1
 same_line fleet (Planned plan) (Blocked group waiting) same = absurd same
 same_line fleet (Blocked group waiting) (Planned plan) same = absurd same
 same_line fleet (Blocked group waiting) (Blocked other number) same =

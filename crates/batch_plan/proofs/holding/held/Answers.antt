@@ -1,18 +1,14 @@
-use Rattle.std.proofs.Common.{map, length, refl, ap, ◌∙◌}
-use Rattle.std.specs.List.{range_with_len}
+use Rattle.std.proofs.Common.{◌≡◌, IfOk, refl, sym, subst}
+use Rattle.domains.specs.Ids.{host_numbers}
 use Rattle.domain_counts.specs.Counts.{Counted}
-use Rattle.batch_plan.specs.Inside.{counted_need}
-use Rattle.batch_plan.specs.Places.{place_of}
-use Rattle.batch_plan.proofs.CountedLemmas.{needs_are}
+use Rattle.batch_plan.specs.Holding.{held_hosts}
+use Rattle.batch_plan.specs.Places.{AreCountsOf}
 use Rattle.batch_plan.proofs.holding.held.Goals as goal
 
-pub list_held-requires : goal.list_held-requires
-list_held-requires c =
-    let fleet = c.args.fleet.now in
-    let statuses = c.args.statuses.now in
-    let counted : Counted = record { fleet = fleet; places = map place_of statuses } in
-    let needs_by = λ (d : Counted). map (counted_need d) (range_with_len 0 (length d.fleet.groups)) in
-    record {
-      all = c.requires;
-      needs = c.as_slice.ensures.value ∙ c.in_ok-needs.ensures.needs ∙ ap needs_by c.in_ok-domains.ensures ∙ needs_are statuses counted (record { all_hosts = c.requires; places = refl });
-    }
+pub held_over-requires : goal.held_over-requires
+held_over-requires c =
+    subst (λ (counted : Counted). AreCountsOf c.args.statuses.now counted) (sym c.in_ok-domains.ensures) (record { all_hosts = c.requires; places = refl })
+
+pub returns-clause-hosts : goal.returns-clause-hosts
+returns-clause-hosts c =
+    subst (λ (counted : Counted). IfOk c.held_over.result (λ hosts. host_numbers hosts.items ≡ held_hosts counted.fleet c.args.statuses.now)) c.in_ok-domains.ensures c.held_over.ensures.hosts

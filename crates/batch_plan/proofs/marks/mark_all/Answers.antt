@@ -1,22 +1,19 @@
-use Rattle.std.proofs.Common.{◌≡◌, ℕ, List, [], nat_eq, get_or, ap, ◌∙◌, arith}
+use Rattle.std.proofs.Common.{◌≡◌, ◌<◌, ℕ, List, [], nat_eq, length, get_or, sym, ap, ◌∙◌, arith}
 use Rattle.std.specs.List.{count_by}
 use Rattle.std.proofs.lemmas.List.Sums.{sum_by_more}
 use Rattle.domains.specs.Ids.{host_numbers}
-use Rattle.batch_plan.specs.Plans.{batch_numbers}
-use Rattle.batch_plan.proofs.CheckLemmas.{batch_at, batch_inside}
 use Rattle.batch_plan.proofs.marks.mark_all.Goals as goal
 
-pub loop-batch-preserved : goal.loop-batch-preserved
-loop-batch-preserved c =
+pub loop-place-preserved : goal.loop-place-preserved
+loop-place-preserved c =
     let batches = c.args.batches.now in
-    let i = c.loop-batch.batch-index in
-    let invariant = c.loop-batch.invariant in
-    let inside = batch_inside batches i c.loop-batch-test.true c.batch-item.result c.batch-item.is c.as_slice.result.now c.as_slice.ensures.value in
-    let at = batch_at batches i c.loop-batch-test.true c.batch-item.result c.batch-item.is c.as_slice.result.now c.as_slice.ensures.value in
+    let i = c.loop-place.place in
+    let invariant = c.loop-place.invariant in
+    let inside : i < length batches = omega arith in
     let times : ℕ → List ℕ → ℕ = λ other (b : List ℕ). count_by (nat_eq other) b in
-    let here : (other : ℕ) → times other (get_or (batch_numbers batches) i []) ≡ times other (host_numbers c.as_slice.result.now) = λ other. ap (times other) at in
+    let here : (other : ℕ) → times other (get_or batches i []) ≡ times other (host_numbers c.at.result.now) = λ other. ap (times other) (sym c.at.ensures) in
     record {
       len = c.mark_batch.ensures.len ∙ invariant.len;
       times = λ other l. omega
-          (arith, here other, sum_by_more (times other) (batch_numbers batches) i [] inside, invariant.times other l, c.mark_batch.ensures.times other (omega (arith, l, invariant.len)));
+          (arith, here other, sum_by_more (times other) batches i [] inside, invariant.times other l, c.mark_batch.ensures.times other (omega (arith, l, invariant.len)));
     }

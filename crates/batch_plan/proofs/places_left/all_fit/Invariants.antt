@@ -1,12 +1,11 @@
 use Rattle.std.proofs.Common.{◌≡◌, ℕ, ◌<◌}
 use Rattle.fleet_numbers.specs.NumberLists.{list_at}
-use Rattle.batch_plan.specs.Plans.{batch_numbers}
 use Rattle.batch_plan.specs.Checks.{FitInto}
 use Rattle.batch_plan.proofs.places_left.all_fit.Given as goal
 
-abbrev pub invariant-loop-batch : goal.invariant-loop-batch
-invariant-loop-batch l =
+abbrev pub invariant-loop-place : goal.invariant-loop-place
+invariant-loop-place l =
     record {
       same : l.left ≡ l.initial.left;
-      fit : (place : ℕ) → place < l.batch-index → FitInto l.fleet.chains l.initial.left (list_at (batch_numbers l.batches) place);
+      fit : (place : ℕ) → place < l.place → FitInto l.fleet.chains l.initial.left (list_at l.batches place);
     }

@@ -6,7 +6,6 @@ use Rattle.batch_plan.specs.Deals.{dealt}
 use Rattle.fleet_states.specs.declared.status.Status.{Status}
 use Rattle.batch_plan.specs.Places.{AreCountsOf}
 use Rattle.batch_plan.specs.Needs.{is_blocked, need_at}
-use Rattle.batch_plan.specs.Plans.{batch_numbers}
 use Rattle.batch_plan.specs.declared.needs.Need.{Need}
 use Rattle.batch_plan.proofs.AnswerLemmas.{blocked_answer, planned_answer}
 use Rattle.batch_plan.proofs.planner.plan_over.Goals as goal
@@ -32,7 +31,7 @@ returns g c =
     let dealt_are = c.in_ok-batches.ensures ∙ ap (λ (l : List HostId). dealt (host_numbers l) best.count) c.as_slice-3.ensures.value in
     let both = λ (statuses : List Status) (are : AreCountsOf statuses c.args.domains.now). planned_answer statuses c.args.domains.now are c.as_slice-2.result.now needs
     c.in_ok-needs.ensures.sound c.args.cap c.requires hosts c.in_ok-hosts.ensures c.len.result many best.count best.bound free c.name_bound-best.ensures
-    (batch_numbers c.in_ok-batches.batches.items) dealt_are in
+    c.in_ok-batches.batches dealt_are in
     record {
       best = λ statuses are. (both statuses are).0;
       dealt = λ statuses are. (both statuses are).1;

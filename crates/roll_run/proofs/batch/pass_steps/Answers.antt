@@ -18,12 +18,20 @@ loop-preserved g c =
 pub returns-in-Ok-BatchEnd-default-clause-ok : goal.returns-in-Ok-BatchEnd-default-clause-ok
 returns-in-Ok-BatchEnd-default-clause-ok g c =
     let passed = c.in-Ok-BatchEnd-default.ensures.ok in
-    record { worked = works_further c.args.board c.loop.board c.in-Ok-BatchEnd-default.after c.loop.invariant.worked passed.worked; over = at_its_end c.in-Ok-BatchEnd-default.field-0-0 (state_of c.in-Ok-BatchEnd-default.after.kernel).phase c.in-Ok-BatchEnd-default.field-0-0-is passed.goes; tallies = passed.tallies }
+    record {
+      worked = works_further c.args.board c.loop.board c.in-Ok-BatchEnd-default.after c.loop.invariant.worked passed.worked;
+      over = at_its_end c.in-Ok-BatchEnd-default.field-0-0 (state_of c.in-Ok-BatchEnd-default.after.kernel).phase c.in-Ok-BatchEnd-default.field-0-0-is passed.goes;
+      tallies = passed.tallies;
+    }
 
 pub returns-in-Ok-Halt-default-clause-ok : goal.returns-in-Ok-Halt-default-clause-ok
 returns-in-Ok-Halt-default-clause-ok g c =
     let passed = c.in-Ok-Halt-default.ensures.ok in
-    record { worked = works_further c.args.board c.loop.board c.in-Ok-Halt-default.after c.loop.invariant.worked passed.worked; over = at_its_halt c.in-Ok-Halt-default.field-0-0 (state_of c.in-Ok-Halt-default.after.kernel).phase c.in-Ok-Halt-default.field-0-0-is passed.goes; tallies = passed.tallies }
+    record {
+      worked = works_further c.args.board c.loop.board c.in-Ok-Halt-default.after c.loop.invariant.worked passed.worked;
+      over = at_its_halt c.in-Ok-Halt-default.field-0-0 (state_of c.in-Ok-Halt-default.after.kernel).phase c.in-Ok-Halt-default.field-0-0-is passed.goes;
+      tallies = passed.tallies;
+    }
 
 pub returns-in-Err-clause-err : goal.returns-in-Err-clause-err
 returns-in-Err-clause-err g c = works_further c.args.board c.loop.board c.in-Err.refused.1 c.loop.invariant.worked c.in-Err.ensures.err

@@ -5,6 +5,7 @@ use Rattle.domains.specs.Ids.{host_numbers}
 use Rattle.fleet_states.specs.declared.status.Status.{Status}
 use Rattle.group_tree.specs.declared.ids.HostId.{HostId}
 use Rattle.batch_plan.specs.Answers.{IsBest, IsDealtAnswer}
+use Rattle.batch_plan.specs.Places.{AreCountsOf}
 use Rattle.play_model.specs.declared.play.Play.{Play}
 use Rattle.play_model.specs.declared.on_blocked.OnBlocked.{OnBlocked}
 use Rattle.play_model.specs.Sizes.{cap}
@@ -12,6 +13,10 @@ use Rattle.play_plan.specs.PlayPlans.{aside_by, targets}
 use Rattle.roll_kernel.specs.Views.{state_of}
 use Rattle.roll_run.proofs.Coming.{cap_of_few, notes}
 use Rattle.roll_run.proofs.boundary.come_to_boundary.Goals as goal
+
+pub list_aside_over-requires : goal.list_aside_over-requires
+list_aside_over-requires g c =
+    subst (λ (l : List Status). AreCountsOf l c.args.domains.now) (sym c.statuses.ensures.value) c.requires.counts
 
 pub returns-clause-ok : goal.returns-clause-ok
 returns-clause-ok g c before at =
@@ -22,7 +27,7 @@ returns-clause-ok g c before at =
     let lent : hosts ≡ host_numbers c.in_ok-held.held.items = ap host_numbers c.as_slice.ensures.value in
     let mode = c.on_blocked.ensures ∙ ap (λ (p : Play). p.on_blocked) c.play-play.ensures in
     let hosts_are : hosts ≡ aside_by play.on_blocked kernel.fleet (state_of kernel).statuses =
-    lent ∙ c.in_ok-held.ensures ∙ ap (λ (m : OnBlocked). aside_by m c.fleet.result.now c.statuses.result.now) mode ∙ ap (λ (f : FleetView). aside_by play.on_blocked f c.statuses.result.now) c.fleet.ensures
+    lent ∙ c.in_ok-held.ensures ∙ ap (λ (m : OnBlocked). aside_by m c.args.domains.now.fleet c.statuses.result.now) mode ∙ ap (λ (f : FleetView). aside_by play.on_blocked f c.statuses.result.now) c.requires.fleet
     ∙ ap (aside_by play.on_blocked kernel.fleet) c.statuses.ensures.value in
     let held : host_numbers boundary.held.items ≡ hosts = ap (λ v. host_numbers v.items) c.in_ok-boundary.ensures.held ∙ sym lent in
     let many = length (targets kernel.fleet play) in

@@ -38,7 +38,9 @@ returns-in-Ok-clause-turned g c =
     let told = c.close_batch-end.ensures.counts ∙ ap (λ hosts. told_places hosts (state_of c.close_batch-end.new.board.kernel).statuses c.args.domains.now) again in
     let size = sym (length-host_numbers c.next_batch-in-Ok.result.now) ∙ ap length again in
     let ended = c.close_batch-end.ensures.end ∙ ap (end_with (halt_in (state_of c.in-Ok.board.kernel).phase) (failures (state_of c.in-Ok.board.kernel))) size in
-    is_behind c.args.board c.in-Ok.board c.close_batch-end.new.board noted.behind noted.boundary c.args.before noted.at goes_on run c.close_batch-end.ensures.event c.close_batch-end.ensures.legal c.args.boundaries.now c.args.domains.now c.close_batch-end.new.domains c.close_batch-end.result noted.boundaries_are c.requires.counts told ended
+    is_behind c.args.board c.in-Ok.board c.close_batch-end.new.board noted.behind noted.boundary c.args.before noted.at goes_on run
+    c.close_batch-end.ensures.event c.close_batch-end.ensures.legal c.args.boundaries.now c.args.domains.now c.close_batch-end.new.domains
+    c.close_batch-end.result noted.boundaries_are c.requires.counts told ended
 
 pub returns-in-Ok-clause-same : goal.returns-in-Ok-clause-same
 returns-in-Ok-clause-same g c =
