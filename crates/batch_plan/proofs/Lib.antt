@@ -15,7 +15,6 @@ pub mod HoldingLemmas
 pub mod PlanLaws
 pub mod RoomLemmas
 pub mod CheckLemmas
-pub mod PlacesLemmas
 pub mod FittingLemmas
 pub mod ExactLemmas
 pub mod UniqueLemmas
