@@ -16,7 +16,6 @@ pub mod UnblockedLemmas
 pub mod PlanLaws
 pub mod RoomLemmas
 pub mod CheckLemmas
-pub mod PlacesLemmas
 pub mod FittingLemmas
 pub mod ExactLemmas
 pub mod UniqueLemmas

@@ -11,6 +11,7 @@ ghost use Rattle.batch_plan.specs.Checks.{FitInto, KeepPlaces, chain_count, plac
 use crate::batches::Batches;
 use crate::rooms::room;
 use domains::Fleet;
+use fleet_numbers::raise_counts;
 use fleet_states::Status;
 use group_tree::{GroupId, HostId};
 
@@ -32,19 +33,6 @@ fn take(left: &mut [usize], chain: &[GroupId]) -> bool
         left[group.index] -= 1;
     }
     true
-}
-
-/// Gives a place back to each of these groups.
-fn give_back(left: &mut [usize], chain: &[GroupId])
-    requires rising { IsRising (length left.old) (group_numbers chain.now) }
-    requires small { (group : ℕ) → group < length left.old → slice_index left.old group < 2 ^ 32 }
-    ensures len { length left.new ≡ length left.old }
-    ensures given { (group : ℕ) → group < length left.old
-        → slice_index left.new group ≡ slice_index left.old group + cond (has_number group (group_numbers chain.now)) 1 0 }
-{
-    for group in chain {
-        left[group.index] += 1;
-    }
 }
 
 /// Takes the places of all these hosts; false where a group has too few left.
@@ -75,7 +63,7 @@ fn give_back_all(fleet: &Fleet, left: &mut [usize], batch: &[HostId])
         → slice_index left.new group ≡ slice_index left.old group + chain_count fleet.now.chains group (host_numbers batch.now) }
 {
     for host in batch {
-        give_back(left, fleet.chain(*host));
+        raise_counts(left, fleet.chain(*host));
     }
 }
 

@@ -6,7 +6,8 @@ use Rattle.std.proofs.lemmas.List.{map-append, take_all, length-map, get_or-map}
 use Rattle.group_tree.specs.declared.ids.GroupId.{GroupId}
 use Rattle.domains.specs.Ids.{group_numbers}
 use Rattle.domain_counts.specs.declared.place.Place.{Place}
-use Rattle.domain_counts.specs.Places.{bit, waits, is_down}
+use Rattle.fleet_numbers.specs.NumberLists.{bit}
+use Rattle.domain_counts.specs.Places.{waits, is_down}
 use Rattle.domain_counts.specs.Nodes.{Node, Subtree, under, own_node, nodes_of, side_by_side, path_of, groups_in, RiseFrom}
 use Rattle.domain_counts.specs.Changes.{begins, recounted, recounted_along}
 use Rattle.domain_counts.specs.Finds.{tops_of, IsAt, IsGap}

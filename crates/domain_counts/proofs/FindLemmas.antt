@@ -94,9 +94,6 @@ found_below (first ∷ trees) zero group d tree within found =
 found_below (first ∷ trees) (suc place) group d tree within found =
     list_any-append (counts_as group tree) (nodes_of first) (side_by_side trees) ∙ or_right _ _ (found_below trees place group d tree (omega arith) found)
 
-any-append : (n : ℕ) (xs ys : List ℕ) → has_number n (xs ++ ys) ≡ (has_number n xs || has_number n ys)
-any-append n xs ys = list_any-append (nat_eq n) xs ys
-
 -- a group after one tree and before the next is below the one, or nowhere
 pub gap_has : (low : ℕ) (trees : List Subtree) (place group : ℕ) (d : Subtree) → RiseFrom low (all_groups trees) → place < length trees
     → get_or (tops_of trees) place 0 < group → ((later : ℕ) → place < later → later < length trees → group < get_or (tops_of trees) later 0)
@@ -108,7 +105,7 @@ gap_has low (tree ∷ trees) zero group d up within less more none =
     let right = rise_right (tree.group + 1) own (all_groups trees) parts.1 in
     ap (has_number group) (groups_split tree trees)
     ∙ ap (λ b. b || has_number group (own ++ all_groups trees)) (ne_eqb group tree.group (λ e. omega (arith, less, e)))
-    ∙ any-append group own (all_groups trees)
+    ∙ list_any-append (nat_eq group) own (all_groups trees)
     ∙ ap (λ b. b || has_number group (all_groups trees)) none
     ∙ after trees right (λ l. more 1 (omega arith) (omega arith))
   where
@@ -140,7 +137,7 @@ gap_has low (tree ∷ trees) (suc place) group d up within less more none =
         let apart : nat_eq group tree.group ≡ false = ne_eqb group tree.group (λ e. omega (arith, first, top_less own next.group later parts)) in
         let below : has_number group own ≡ false = has_past group (tree.group + 1) next.group own later parts first in
         ap (λ b. b || has_number group (own ++ all_groups (next ∷ rest))) apart
-        ∙ any-append group own (all_groups (next ∷ rest))
+        ∙ list_any-append (nat_eq group) own (all_groups (next ∷ rest))
         ∙ ap (λ b. b || has_number group (all_groups (next ∷ rest))) below
         ∙ past
       where

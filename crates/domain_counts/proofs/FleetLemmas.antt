@@ -5,20 +5,21 @@ use Rattle.std.specs.List.{list_all}
 use Rattle.std.proofs.lemmas.List.{get_or_past, get_or_default, get_or-set_same, get_or-set_other, get_or-replicate, length-replicate, length-set}
 use Rattle.std.proofs.lemmas.List.Sums.{count_by-le-length}
 use Rattle.std.proofs.lemmas.Bool.{and_from, lt-ltb, le-ltb, not_from_false, cases_lt}
-use Rattle.fleet_numbers.specs.NumberLists.{has_number, list_at, IsRising}
+use Rattle.fleet_numbers.specs.NumberLists.{bit, has_number, list_at, IsRising}
 use Rattle.fleet_numbers.specs.Chains.{is_limited}
 use Rattle.domains.specs.FleetViews.{FleetView, IsSound, IsInSubtree}
 use Rattle.std.proofs.lemmas.Simd.{map-map}
 use Rattle.domain_counts.specs.declared.place.Place.{Place}
 use Rattle.domain_counts.specs.declared.place.Place.TheVariants.{Up}
-use Rattle.domain_counts.specs.Places.{bit, waits, is_down}
+use Rattle.domain_counts.specs.Places.{waits, is_down}
 use Rattle.domain_counts.specs.Nodes.{Node, Subtree, side_by_side, path_of, groups_in, RiseFrom}
 use Rattle.domain_counts.specs.Changes.{begins, recounted, recounted_along, counts_on}
 use Rattle.domain_counts.specs.Counts.{Counted, place_at, waiting_in, down_in, limited_groups, node_at, nodes_at, bare, moved, member_bit, HasMoved, IsCounted}
 use Rattle.domain_counts.proofs.WhereLemmas.{rise_where, length-where, map_where, all_where}
 use Rattle.domain_counts.proofs.PathLemmas.{IsBelow, on_chain}
 use Rattle.domain_counts.proofs.FoundLemmas.{groups_are}
-use Rattle.domain_counts.proofs.CountLemmas.{count_none, count_some, count_change}
+use Rattle.fleet_numbers.proofs.TestCounts.{count_none, count_at}
+use Rattle.domain_counts.proofs.CountLemmas.{count_change}
 
 pub nodes_rise : (counted : Counted) → RiseFrom 0 (groups_in (nodes_at counted))
 nodes_rise counted =
@@ -149,8 +150,8 @@ module _ (counted : Counted) (sound : IsSound counted.fleet) where
                 → Balances b (new_down group) (down_in counted group) (is_down (place_of host)) (is_down is)
                 → recounted_if b group ≡ node_at (moved counted host is) group
             by_member true e waiting down =
-                let some_wait = count_some (λ x. waits (place_of x)) host (members group) e in
-                let some_down = count_some (λ x. is_down (place_of x)) host (members group) e in
+                let some_wait = count_at (λ x. waits (place_of x)) host (members group) e in
+                let some_down = count_at (λ x. is_down (place_of x)) host (members group) e in
                 let same_waiting : new_waiting group ≡ (waiting_in counted group - bit (waits (place_of host))) + bit (waits is) = omega (arith, some_wait, waiting) in
                 let same_down : new_down group ≡ (down_in counted group - bit (is_down (place_of host))) + bit (is_down is) = omega (arith, some_down, down) in
                 rw (same_waiting, same_down) refl
@@ -181,8 +182,8 @@ module _ (counted : Counted) (sound : IsSound counted.fleet) where
           by : (b : Bool) → is_in host group ≡ b → (not b || can_leave (place_of host) group) ≡ true
           by false e = refl
           by true e =
-              let some_wait = count_some (λ x. waits (place_of x)) host (members group) e in
-              let some_down = count_some (λ x. is_down (place_of x)) host (members group) e in
+              let some_wait = count_at (λ x. waits (place_of x)) host (members group) e in
+              let some_down = count_at (λ x. is_down (place_of x)) host (members group) e in
               and_from _ _ (not_from_false _ (le-ltb _ _ some_wait)) (not_from_false _ (le-ltb _ _ some_down))
 
 -- what is asked of the trees, and what is kept of them

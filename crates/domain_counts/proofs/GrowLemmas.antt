@@ -3,12 +3,11 @@ use Rattle.std.proofs.Common.{◌≡◌, ℕ, ◌+◌, ◌≤◌, ◌<◌, Bool,
 use Rattle.std.proofs.Common.{◌∙◌, refl, arith, add-one, length-append}
 use Rattle.std.proofs.lemmas.List.{map-append, append-nil, length-replicate}
 use Rattle.std.proofs.Math.Seq.{take-append_seam}
-use Rattle.fleet_numbers.specs.NumberLists.{numbers_where}
+use Rattle.fleet_numbers.specs.NumberLists.{bit, numbers_where}
 use Rattle.fleet_numbers.specs.Chains.{is_limited}
 use Rattle.domains.specs.FleetViews.{FleetView, IsSound}
 use Rattle.domain_counts.specs.declared.place.Place.{Place}
 use Rattle.domain_counts.specs.declared.place.Place.TheVariants.{Up}
-use Rattle.domain_counts.specs.Places.{bit}
 use Rattle.domain_counts.specs.Nodes.{Node, Subtree, own_node, side_by_side}
 use Rattle.domain_counts.specs.Shapes.{last_path}
 use Rattle.domain_counts.specs.Counts.{Counted, limited_above, stands_below, node_at, nodes_at, bare, bare_before, IsCounted}

@@ -5,7 +5,8 @@ use Rattle.std.specs.List.{list_all}
 use Rattle.std.proofs.lemmas.Bool.{eq-eqb, and_parts, not-true, ltb-true, ltb-false}
 use Rattle.std.proofs.lemmas.List.Folds.{list_all-append}
 use Rattle.domain_counts.specs.declared.place.Place.{Place}
-use Rattle.domain_counts.specs.Places.{bit, waits, is_down}
+use Rattle.fleet_numbers.specs.NumberLists.{bit}
+use Rattle.domain_counts.specs.Places.{waits, is_down}
 use Rattle.domain_counts.specs.Nodes.{Node, Subtree, under, own_node, nodes_of, side_by_side, path_of}
 use Rattle.domain_counts.specs.Changes.{begins, counts_on}
 

@@ -1,7 +1,8 @@
 -- What one host's change of place does to the counts.
 use Rattle.std.specs.Prelude.{ℕ, ◌+◌, ◌-◌, Bool, true, false, ◌&&◌, ◌||◌, not, nat_eq, nat_lt, cond, List, [], ◌∷◌}
 use Rattle.domain_counts.specs.declared.place.Place.{Place}
-use Rattle.domain_counts.specs.Places.{bit, waits, is_down}
+use Rattle.fleet_numbers.specs.NumberLists.{bit}
+use Rattle.domain_counts.specs.Places.{waits, is_down}
 use Rattle.domain_counts.specs.Nodes.{Node, path_of}
 
 -- the first list is a beginning of the second

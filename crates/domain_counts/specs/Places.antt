@@ -1,5 +1,5 @@
 -- What a host counts as.
-use Rattle.std.specs.Prelude.{ℕ, Bool, true, false, cond}
+use Rattle.std.specs.Prelude.{Bool, true, false}
 use Rattle.domain_counts.specs.declared.place.Place.{Place}
 use Rattle.domain_counts.specs.declared.place.Place.TheVariants.{Up, Waits, Down}
 
@@ -12,6 +12,3 @@ abbrev pub is_down : Place → Bool
 is_down Down = true
 is_down Up = false
 is_down Waits = false
-
-abbrev pub bit : Bool → ℕ
-bit test = cond test 1 0

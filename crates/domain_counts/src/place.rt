@@ -1,6 +1,7 @@
 //! Where a host stands for the counts.
 ghost use Rattle.std.specs.Prelude.{◌≡◌};
-ghost use Rattle.domain_counts.specs.Places.{bit, waits, is_down};
+ghost use Rattle.fleet_numbers.specs.NumberLists.{bit};
+ghost use Rattle.domain_counts.specs.Places.{waits, is_down};
 
 /// What a host counts as.
 #[derive(Clone, Copy, Debug, PartialEq, Eq)]

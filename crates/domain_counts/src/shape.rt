@@ -2,7 +2,7 @@
 ghost use Rattle.std.specs.Prelude.{◌≡◌, ◌+◌, ◌≤◌, ◌<◌, ◌++◌, ◌∷◌, [], length, take, IfOk, OnOk};
 ghost use Rattle.domain_counts.specs.Nodes.{own_node, side_by_side};
 ghost use Rattle.fleet_numbers.specs.Chains.{is_limited};
-ghost use Rattle.domain_counts.specs.Places.{bit};
+ghost use Rattle.fleet_numbers.specs.NumberLists.{bit};
 ghost use Rattle.domain_counts.specs.Shapes.{last_path};
 ghost use Rattle.domain_counts.specs.Counts.{limited_above, bare_before};
 ghost use Rattle.domains.specs.FleetViews.{IsSound};

@@ -12,7 +12,7 @@ use Rattle.inventory_model.specs.Bounds.{group_names}
 use Rattle.inventory_model.specs.Limits.{Limit}
 use Rattle.fleet_numbers.specs.NumberLists.{has_number, list_at, are_below, IsRising}
 use Rattle.fleet_numbers.specs.GroupPaths.{paths_from}
-use Rattle.fleet_numbers.specs.DealOrder.{IsDealt, groups_bound}
+use Rattle.fleet_numbers.specs.DealOrder.{IsDealt, numbered_bound}
 use Rattle.fleet_numbers.proofs.RisingLemmas.{Ascends, Ascends-rising, are_below-rising}
 use Rattle.fleet_numbers.proofs.PathLemmas.{length-paths_from}
 use Rattle.domains.specs.Hosts.{is_off}
@@ -126,9 +126,9 @@ module _ (inventory : Inventory) (n : Numbers) (l : FleetLists) (numbered : IsNu
   pub limits_len : length counts ≡ length members
   limits_len = limits_long ∙ sym members_len
 
-  pub chains_below : All (λ (chain : List ℕ). are_below groups_bound chain ≡ true) chains
+  pub chains_below : All (λ (chain : List ℕ). are_below numbered_bound chain ≡ true) chains
   chains_below k d at =
-      are_below-more (length inventory.places) groups_bound (get_or chains k d) (omega (arith, within.groups))
+      are_below-more (length inventory.places) numbered_bound (get_or chains k d) (omega (arith, within.groups))
       (are_below-rising (length inventory.places) (get_or chains k d) (groups_rise k d at))
 
   pub nested : AreChainsNested subtree_ends chains → IsNested inventory

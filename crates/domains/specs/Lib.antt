@@ -6,6 +6,7 @@ pub mod Ids
 pub mod FleetViews
 pub mod Fleets
 pub mod Faults
+pub mod FaultNumbers
 pub mod Patterns
 pub mod Walks
 pub mod Walked

@@ -1,4 +1,7 @@
 //! Why an inventory is no fleet.
+ghost use Rattle.std.specs.Prelude.{◌≡◌};
+ghost use Rattle.domains.specs.FaultNumbers.{fleet_number};
+
 use std::alloc::AllocError;
 use thiserror::Error;
 
@@ -22,6 +25,20 @@ pub enum FleetFault {
     },
     #[error("out of memory")]
     Memory,
+}
+
+impl FleetFault {
+    /// The number of the rule that is broken; want of memory breaks none.
+    pub fn number(&self) -> Option<u16>
+        ensures { result ≡ fleet_number self.now }
+    {
+        match self {
+            FleetFault::NotNested { .. } => Some(301),
+            FleetFault::StartOver { .. } => Some(302),
+            FleetFault::TooManyHosts => Some(303),
+            FleetFault::Memory => None,
+        }
+    }
 }
 
 impl From<AllocError> for FleetFault {

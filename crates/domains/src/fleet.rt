@@ -2,7 +2,7 @@
 ghost use Rattle.std.specs.Prelude.{◌≡◌, ℕ, List, IfOk, IfErr, IsTrue, All, IsPermutation, length};
 ghost use Rattle.std.specs.List.{range_with_len};
 ghost use Rattle.fleet_numbers.specs.NumberLists.{are_below};
-ghost use Rattle.fleet_numbers.specs.DealOrder.{groups_bound, IsDealt};
+ghost use Rattle.fleet_numbers.specs.DealOrder.{numbered_bound, IsDealt};
 ghost use Rattle.domains.specs.Ids.{group_lists, host_numbers};
 ghost use Rattle.domains.specs.FleetViews.{IsSound};
 ghost use Rattle.domains.specs.Fleets.{IsFleetOf};
@@ -93,7 +93,7 @@ fn name_breach(alloc: Global, numbers: &Numbers, breach: Breach) -> Result<Fleet
 
 /// The fleet of these numbers and lists, once its hosts are dealt.
 fn deal(alloc: Global, numbers: Numbers, lists: FleetLists) -> Result<Fleet, AllocError>
-    requires below { All (λ chain. IsTrue (are_below groups_bound chain)) (group_lists lists.chains.items) }
+    requires below { All (λ chain. IsTrue (are_below numbered_bound chain)) (group_lists lists.chains.items) }
     requires sound { (order : List ℕ) → IsPermutation (range_with_len 0 (length (group_lists lists.chains.items))) order
         → IsDealt (group_lists lists.chains.items) order → IsSound (dealt_fleet numbers lists order) }
     ensures dealt { IfOk result (λ fleet. fleet ≡ dealt_fleet numbers lists fleet.order) }

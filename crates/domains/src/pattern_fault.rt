@@ -1,4 +1,7 @@
 //! Why a pattern names no hosts.
+ghost use Rattle.std.specs.Prelude.{◌≡◌};
+ghost use Rattle.domains.specs.FaultNumbers.{pattern_number};
+
 use std::alloc::AllocError;
 use thiserror::Error;
 
@@ -9,6 +12,18 @@ pub enum PatternFault {
     NoSuchName { name: String },
     #[error("out of memory")]
     Memory,
+}
+
+impl PatternFault {
+    /// The number of the rule that is broken; want of memory breaks none.
+    pub fn number(&self) -> Option<u16>
+        ensures { result ≡ pattern_number self.now }
+    {
+        match self {
+            PatternFault::NoSuchName { .. } => Some(304),
+            PatternFault::Memory => None,
+        }
+    }
 }
 
 impl From<AllocError> for PatternFault {

@@ -1,2 +1,1 @@
-pub mod RunningCounts
 pub mod LedgerLemmas

@@ -4,9 +4,9 @@ ghost use Rattle.fleet_states.specs.Groups.{IsSafe, groups_of};
 ghost use Rattle.down_ledger.specs.Ledgers.{is_marked, down_in, is_full, ledger_of, with_mark, HasRoom, IsFirstFull, IsWithinLimits};
 
 use crate::counting::{count_marked, is_marked, list_counts, mark_down};
-use crate::counts::{lower, raise};
 use crate::share::{Full, Share};
 use domains::Fleet;
+use fleet_numbers::{lower_counts, raise_counts};
 use fleet_states::Status;
 use group_tree::{GroupId, HostId};
 use std::alloc::{AllocError, Global};
@@ -84,7 +84,7 @@ impl<'f> DownLedger<'f> {
             Some(group) => return Err(Full { group }),
             None => {}
         }
-        raise(&mut self.counts, self.fleet.chain(host));
+        raise_counts(&mut self.counts, self.fleet.chain(host));
         self.marks[host.index] = true;
         Ok(Share { host })
     }
@@ -94,7 +94,7 @@ impl<'f> DownLedger<'f> {
         requires { is_marked self.old.down share.host.index ≡ true }
         ensures { self.new ≡ with_mark self.old share.host.index false }
     {
-        lower(&mut self.counts, self.fleet.chain(share.host));
+        lower_counts(&mut self.counts, self.fleet.chain(share.host));
         self.marks[share.host.index] = false;
     }
 

@@ -2,7 +2,6 @@
 #![tactic(auto)]
 
 mod counting;
-mod counts;
 mod ledger;
 mod share;
 

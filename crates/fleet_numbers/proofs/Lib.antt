@@ -1,6 +1,9 @@
 pub mod SortedNamesLemmas
 pub mod FindLemmas
 pub mod RisingLemmas
+pub mod NumberLemmas
+pub mod TestCounts
+pub mod RunningCounts
 pub mod ListLemmas
 pub mod ChainLemmas
 pub mod LoopLemmas

@@ -114,23 +114,22 @@ are_below-ascends low high (x ∷ xs) up =
 pub are_below-rising : (bound : ℕ) (xs : List ℕ) → IsRising bound xs → are_below bound xs ≡ true
 are_below-rising bound xs e = are_below-ascends 0 bound xs (Ascends-rising bound xs e)
 
+-- one more number after those from `low` on
+pub range_on : (low count next : ℕ) → low + count ≡ next → range_with_len low (count + 1) ≡ range_with_len low count ++ next ∷ []
+range_on low count next e =
+    let same : (n : ℕ) → range_with_len low n ≡ map (λ x. x) (range_with_len low n) = λ n. sym (map-id (range_with_len low n)) in
+    same (count + 1) ∙ map-range_with_len_more (λ x. x) low count next e ∙ ap (λ (l : List ℕ). l ++ next ∷ []) (sym (same count))
+
 pub numbers_where_more : (p : ℕ → Bool) (n : ℕ) → numbers_where p (n + 1) ≡ numbers_where p n ++ cond (p n) (n ∷ []) []
 numbers_where_more p n =
-    ap (filter p) (range_more 0 n n (omega arith)) ∙ filter-append p (range_with_len 0 n) (n ∷ [])
-  where
-    range_more : (a k j : ℕ) → a + k ≡ j → range_with_len a (k + 1) ≡ range_with_len a k ++ j ∷ []
-    range_more a k j e =
-        sym (map-id (range_with_len a (k + 1))) ∙ map-range_with_len_more (λ x. x) a k j e ∙ ap (λ (l : List ℕ). l ++ j ∷ []) (map-id (range_with_len a k))
-
-any-append : (n : ℕ) (xs ys : List ℕ) → has_number n (xs ++ ys) ≡ (has_number n xs || has_number n ys)
-any-append n xs ys = list_any-append (nat_eq n) xs ys
+    ap (filter p) (range_on 0 n n (omega arith)) ∙ filter-append p (range_with_len 0 n) (n ∷ [])
 
 -- what passes stands in the list, and nothing else
 pub has_number-numbers_where : (p : ℕ → Bool) (bound n : ℕ) → has_number n (numbers_where p bound) ≡ (nat_lt n bound && p n)
 has_number-numbers_where p zero n = ap (λ b. b && p n) (sym (le-ltb n 0 (omega arith)))
 has_number-numbers_where p (suc bound) n =
     ap (has_number n) (ap (numbers_where p) (sym (add-one bound)) ∙ numbers_where_more p bound)
-    ∙ any-append n (numbers_where p bound) (cond (p bound) (bound ∷ []) [])
+    ∙ list_any-append (nat_eq n) (numbers_where p bound) (cond (p bound) (bound ∷ []) [])
     ∙ ap (λ b. b || has_number n (cond (p bound) (bound ∷ []) [])) (has_number-numbers_where p bound n)
     ∙ by_case (cases_eq n bound)
   where

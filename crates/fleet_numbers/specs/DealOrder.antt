@@ -3,8 +3,8 @@ use Rattle.std.specs.Prelude.{◌≡◌, ℕ, ◌<◌, ◌≤◌, ◌+◌, ◌�
 use Rattle.fleet_numbers.specs.NumberLists.{list_at}
 
 -- more groups than these are never numbered
-abbrev pub groups_bound : ℕ
-groups_bound = 0x1_0000
+abbrev pub numbered_bound : ℕ
+numbered_bound = 0x1_0000
 
 -- the number of the last group, counted from 1, and 0 where there is none
 abbrev pub deal_key : List ℕ → ℕ

@@ -1,10 +1,19 @@
 -- Lists of numbers of hosts and groups.
-use Rattle.std.specs.Prelude.{◌≡◌, nat_lt, ℕ, Bool, true, nat_eq, List, [], ◌∷◌, filter, length, slice_index_or, zero, suc, cond}
+use Rattle.std.specs.Prelude.{◌≡◌, nat_lt, ℕ, Bool, true, ◌&&◌, not, nat_eq, List, [], ◌∷◌, filter, length, slice_index_or, zero, suc, cond}
 use Rattle.std.specs.List.{list_any, list_all, range_with_len}
 
 -- the number stands in the list
 abbrev pub has_number : ℕ → List ℕ → Bool
 has_number number numbers = list_any (nat_eq number) numbers
+
+-- no number stands twice
+abbrev pub are_distinct : List ℕ → Bool
+are_distinct [] = true
+are_distinct (number ∷ numbers) = not (has_number number numbers) && are_distinct numbers
+
+-- 1 where a test passes, else 0
+abbrev pub bit : Bool → ℕ
+bit test = cond test 1 0
 
 -- the numbers below `count` that pass, rising
 abbrev pub numbers_where : (ℕ → Bool) → ℕ → List ℕ

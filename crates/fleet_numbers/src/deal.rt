@@ -3,14 +3,14 @@ ghost use Rattle.std.specs.Prelude.{◌≡◌, length, map, IfOk, All, IsTrue, I
 ghost use Rattle.std.specs.List.{range_with_len};
 ghost use Rattle.fleet_numbers.specs.NumberLists.{list_at, are_below};
 ghost use Rattle.fleet_numbers.specs.Ids.{group_lists, group_numbers, host_numbers};
-ghost use Rattle.fleet_numbers.specs.DealOrder.{deal_key, groups_bound, IsDealt, ArePlacesOf};
+ghost use Rattle.fleet_numbers.specs.DealOrder.{deal_key, numbered_bound, IsDealt, ArePlacesOf};
 
 use group_tree::{GroupId, HostId};
 use std::alloc::{AllocError, Global};
 
 /// The number of the last group, counted from 1, and 0 where there is none.
 fn deal_key(chain: &[GroupId]) -> usize
-    requires { IsTrue (are_below groups_bound (group_numbers chain.now)) }
+    requires { IsTrue (are_below numbered_bound (group_numbers chain.now)) }
     ensures { result ≡ deal_key (group_numbers chain.now) }
 {
     match chain.last() {
@@ -21,7 +21,7 @@ fn deal_key(chain: &[GroupId]) -> usize
 
 /// Each host's key with its number, in order.
 fn list_keys(alloc: Global, chains: &[Vec<GroupId>]) -> Result<Vec<(usize, usize)>, AllocError>
-    requires { All (λ chain. IsTrue (are_below groups_bound chain)) (group_lists chains.now) }
+    requires { All (λ chain. IsTrue (are_below numbered_bound chain)) (group_lists chains.now) }
     ensures { IfOk result (λ keys. keys.items
         ≡ map (λ host. (deal_key (list_at (group_lists chains.now) host), host)) (range_with_len 0 (length (group_lists chains.now)))) }
 {
@@ -36,7 +36,7 @@ fn list_keys(alloc: Global, chains: &[Vec<GroupId>]) -> Result<Vec<(usize, usize
 /// The hosts by the innermost of their limited groups, those without one first, then by number; `chains` has each
 /// host's limited groups.
 pub fn list_deal_order(alloc: Global, chains: &[Vec<GroupId>]) -> Result<Vec<HostId>, AllocError>
-    requires { All (λ chain. IsTrue (are_below groups_bound chain)) (group_lists chains.now) }
+    requires { All (λ chain. IsTrue (are_below numbered_bound chain)) (group_lists chains.now) }
     ensures each_once { IfOk result (λ order. IsPermutation (range_with_len 0 (length (group_lists chains.now))) (host_numbers order.items)) }
     ensures dealt { IfOk result (λ order. IsDealt (group_lists chains.now) (host_numbers order.items)) }
 {

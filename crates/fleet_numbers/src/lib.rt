@@ -1,7 +1,8 @@
-//! Hosts and groups by their numbers: distinct names, paths, members, chains and the deal order.
+//! Hosts and groups by their numbers: distinct names, paths, members, chains, the deal order and running counts.
 #![tactic(auto)]
 
 mod chains;
+mod counts;
 mod deal;
 mod lists;
 mod members;
@@ -11,6 +12,7 @@ mod paths;
 mod runs;
 
 pub use chains::{first_crossing, list_chains, list_subtree_ends};
+pub use counts::{lower_counts, raise_counts};
 pub use deal::{list_deal_order, list_deal_places};
 pub use lists::NumberLists;
 pub use members::{list_held, list_hosts_by_group, list_members};

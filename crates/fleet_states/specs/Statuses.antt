@@ -1,6 +1,7 @@
 -- The statuses of hosts, found by the hosts' numbers.
-use Rattle.std.specs.Prelude.{◌≡◌, ℕ, Bool, true, false, ◌&&◌, not, List, [], ◌∷◌, All, cond, map, length, count_by, slice_index_or}
+use Rattle.std.specs.Prelude.{◌≡◌, ℕ, Bool, true, false, ◌&&◌, List, All, cond, map, length, count_by, slice_index_or}
 use Rattle.std.specs.List.{list_all, range_with_len}
+pub use Rattle.fleet_numbers.specs.NumberLists.{are_distinct}
 use Rattle.fleet_numbers.specs.NumberLists.{has_number}
 use Rattle.fleet_states.specs.declared.status.Status.{Status}
 use Rattle.fleet_states.specs.declared.status.Status.TheVariants.{Idle, Waiting, Running, Updated, Failed, Halted, Off, Held}
@@ -52,11 +53,6 @@ down_count statuses hosts = count_by (λ host. is_down (status_at statuses host)
 -- how many of these hosts wait
 abbrev pub waiting_count : List Status → List ℕ → ℕ
 waiting_count statuses hosts = count_by (λ host. is_waiting (status_at statuses host)) hosts
-
--- no number stands twice
-abbrev pub are_distinct : List ℕ → Bool
-are_distinct [] = true
-are_distinct (number ∷ numbers) = not (has_number number numbers) && are_distinct numbers
 
 -- the hosts wait, and none stands twice
 abbrev pub are_ready : List Status → List ℕ → Bool

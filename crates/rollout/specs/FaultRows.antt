@@ -11,6 +11,7 @@ use Rattle.command_line.specs.declared.fault.LineFault.{LineFault}
 use Rattle.command_line.specs.declared.fault.LineFault.TheVariants as line_fault
 use Rattle.cond.specs.declared.fault.CondFault.{CondFault}
 use Rattle.cond.specs.declared.fault.CondFault.TheVariants as cond_fault
+use Rattle.domains.specs.FaultNumbers.{fleet_number, pattern_number}
 use Rattle.domains.specs.declared.fault.FleetFault.{FleetFault}
 use Rattle.domains.specs.declared.fault.FleetFault.TheVariants as fleet_fault
 use Rattle.domains.specs.declared.pattern_fault.PatternFault.{PatternFault}
@@ -75,12 +76,6 @@ read_row (read_fault.BadLimit at) = row (codes "BadLimit") (text (codes "at") (s
 read_row (read_fault.BadDown at) = row (codes "BadDown") (text (codes "at") (string_bytes at) ∷ [])
 read_row read_fault.Memory = no_row
 
-abbrev pub fleet_number : FleetFault → Option ℕ
-fleet_number (fleet_fault.NotNested host first second) = Some 301
-fleet_number (fleet_fault.StartOver group down limit) = Some 302
-fleet_number fleet_fault.TooManyHosts = Some 303
-fleet_number fleet_fault.Memory = None
-
 abbrev pub fleet_row : FleetFault → Row
 fleet_row (fleet_fault.NotNested host first second) =
     row (codes "NotNested") (text (codes "host") (string_bytes host) ∷ text (codes "first") (string_bytes first) ∷ text (codes "second") (string_bytes second) ∷ [])
@@ -88,10 +83,6 @@ fleet_row (fleet_fault.StartOver group down limit) =
     row (codes "StartOver") (text (codes "group") (string_bytes group) ∷ number (codes "down") down ∷ number (codes "limit") limit ∷ [])
 fleet_row fleet_fault.TooManyHosts = row (codes "TooManyHosts") []
 fleet_row fleet_fault.Memory = no_row
-
-abbrev pub pattern_number : PatternFault → Option ℕ
-pattern_number (pattern_fault.NoSuchName name) = Some 304
-pattern_number pattern_fault.Memory = None
 
 abbrev pub pattern_row : PatternFault → Row
 pattern_row (pattern_fault.NoSuchName name) = name_row (codes "NoSuchName") (string_bytes name)

@@ -47,34 +47,14 @@ impl Fault {
             Fault::Line(fault) => fault.number(),
             Fault::Input { fault, .. } => fault.number(),
             Fault::Read(fault) => fault.number(),
-            Fault::Fleet(fault) => fleet_number(fault),
+            Fault::Fleet(fault) => fault.number(),
             Fault::Playbook(fault) => fault.number(),
-            Fault::Pattern(fault) => pattern_number(fault),
+            Fault::Pattern(fault) => fault.number(),
             Fault::Mixed => Some(822),
             Fault::LongLine => Some(906),
             Fault::Write(fault) => Some(fault.number()),
             Fault::Memory => None,
         }
-    }
-}
-
-fn fleet_number(fault: &FleetFault) -> Option<u16>
-    ensures { result ≡ rows.fleet_number fault.now }
-{
-    match fault {
-        FleetFault::NotNested { .. } => Some(301),
-        FleetFault::StartOver { .. } => Some(302),
-        FleetFault::TooManyHosts => Some(303),
-        FleetFault::Memory => None,
-    }
-}
-
-fn pattern_number(fault: &PatternFault) -> Option<u16>
-    ensures { result ≡ rows.pattern_number fault.now }
-{
-    match fault {
-        PatternFault::NoSuchName { .. } => Some(304),
-        PatternFault::Memory => None,
     }
 }
 

@@ -3,6 +3,7 @@ use Rattle.std.proofs.Common.{◌≡◌, ℕ, zero, suc, ◌+◌, ◌-◌, ◌�
 use Rattle.std.specs.List.{count_by, list_any}
 use Rattle.std.proofs.lemmas.List.{ext_get_or, get_or_past, take_all, take-map}
 use Rattle.std.proofs.lemmas.List.Folds.{list_any_more}
+use Rattle.std.proofs.Math.Bool.{or-false}
 use Rattle.std.proofs.lemmas.Bool.{and_from, and_parts, both_ways, cases_lt, eqb-true, lt-ltb, ltb-true, or_cases, or_left, or_right}
 use Rattle.group_tree.specs.declared.ids.HostId.{HostId}
 use Rattle.fleet_numbers.specs.NumberLists.{has_number}
@@ -16,7 +17,7 @@ use Rattle.fleet_states.specs.Groups.{FleetGroup, Fits, IsSafe, group_at, is_ful
 use Rattle.fleet_states.proofs.CountLemmas.{bit, count_add, count_le}
 use Rattle.fleet_states.proofs.DownLemmas.{down_count-opened}
 use Rattle.fleet_states.proofs.HostLemmas.{length-host_numbers, number_of_host}
-use Rattle.fleet_states.proofs.NumberLemmas.{distinct_fresh, has_other, has_own, number_at, or_false}
+use Rattle.fleet_states.proofs.NumberLemmas.{distinct_fresh, has_other, has_own, number_at}
 use Rattle.fleet_states.proofs.ReadyLemmas.{are_ready_more, given_back, ready_waits, waits_still}
 use Rattle.fleet_states.proofs.SafetyLemmas.{fits_from}
 use Rattle.roster.specs.Rosters.{HasChanged, NobodyRests, RosterView, seated_at}
@@ -65,11 +66,11 @@ module _ (statuses : List Status) (hosts : List ℕ) (i : ℕ) (within : i < len
   one_more = count_add (λ h. has_number h (take (i + 1) hosts)) (λ h. has_number h (take i hosts)) (λ h. has_number h (get_or hosts i 0 ∷ [])) splits group.members
     where
       own_is : (h : ℕ) → has_number h (get_or hosts i 0 ∷ []) ≡ true → h ≡ get_or hosts i 0
-      own_is h is = eqb-true h (get_or hosts i 0) (sym (or_false (nat_eq h (get_or hosts i 0))) ∙ is)
+      own_is h is = eqb-true h (get_or hosts i 0) (sym (or-false (nat_eq h (get_or hosts i 0))) ∙ is)
 
       has_more : (h : ℕ) → has_number h (take (i + 1) hosts) ≡ (has_number h (take i hosts) || has_number h (get_or hosts i 0 ∷ []))
       has_more h =
-          list_any_more (nat_eq h) hosts i 0 within ∙ ap (λ b. has_number h (take i hosts) || b) (sym (or_false (nat_eq h (get_or hosts i 0))))
+          list_any_more (nat_eq h) hosts i 0 within ∙ ap (λ b. has_number h (take i hosts) || b) (sym (or-false (nat_eq h (get_or hosts i 0))))
 
       either : (a b c : Bool) → a ≡ (b || c) → (b && c) ≡ false → bit a ≡ bit b + bit c
       either a true true e apart = absurd (both_ways true apart refl)

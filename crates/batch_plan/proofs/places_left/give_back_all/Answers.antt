@@ -23,7 +23,7 @@ loop-host-preserved c =
     let chain : list_at fleet.chains (get_or xs i 0) ≡ group_numbers c.chain.result.now = ap (list_at fleet.chains) (number_of_host batch i none c.loop-host-test.true) ∙ sym c.chain.ensures.chain in
     let here : (group : ℕ) → f group (get_or xs i 0) ≡ cond (has_number group (group_numbers c.chain.result.now)) 1 0 = λ group. ap (λ (l : List ℕ). cond (has_number group l) 1 0) chain in
     record {
-      len = c.give_back.ensures.len ∙ invariant.len;
+      len = c.raise_counts.auto.counts ∙ invariant.len;
       given = λ group l. omega
-          (arith, here group, sum_by_more (f group) xs i 0 inside, invariant.given group l, c.give_back.ensures.given group (omega (arith, l, invariant.len)));
+          (arith, here group, sum_by_more (f group) xs i 0 inside, invariant.given group l, c.raise_counts.ensures group (omega (arith, l, invariant.len)));
     }

@@ -1,5 +1,5 @@
 use Rattle.std.proofs.Common.{is_some, ap}
-use Rattle.domain_counts.specs.Places.{bit}
+use Rattle.fleet_numbers.specs.NumberLists.{bit}
 use Rattle.domain_counts.proofs.shape.limit_count.Goals as goal
 
 pub returns-in-Some : goal.returns-in-Some

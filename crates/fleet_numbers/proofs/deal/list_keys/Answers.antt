@@ -3,7 +3,7 @@ use Rattle.std.proofs.lemmas.List.{length-map}
 use Rattle.group_tree.specs.declared.ids.GroupId.{GroupId}
 use Rattle.fleet_numbers.specs.NumberLists.{are_below}
 use Rattle.fleet_numbers.specs.Ids.{group_lists}
-use Rattle.fleet_numbers.specs.DealOrder.{deal_key, groups_bound}
+use Rattle.fleet_numbers.specs.DealOrder.{deal_key, numbered_bound}
 use Rattle.fleet_numbers.proofs.ListLemmas.{lent_list}
 use Rattle.fleet_numbers.proofs.DealLemmas.{keys_more}
 use Rattle.fleet_numbers.proofs.deal.list_keys.Goals as goal
@@ -12,7 +12,7 @@ pub deal_key-key-requires : goal.deal_key-key-requires
 deal_key-key-requires c =
     let chains = c.args.chains.now in
     let lent = lent_list (λ (group : GroupId). group.index) chains c.loop-host.host c.index-chains-host.result c.as_slice.result.now c.loop-host-test.true c.index-chains-host.is c.as_slice.ensures.value in
-    subst (λ (chain : List ℕ). are_below groups_bound chain ≡ true) (sym lent) (c.requires c.loop-host.host [] (simp length-map c.loop-host-test.true))
+    subst (λ (chain : List ℕ). are_below numbered_bound chain ≡ true) (sym lent) (c.requires c.loop-host.host [] (simp length-map c.loop-host-test.true))
 
 pub loop-host-preserved : goal.loop-host-preserved
 loop-host-preserved c =

@@ -8,14 +8,14 @@ use Rattle.down_ledger.specs.Inside.{IsCounted}
 use Rattle.down_ledger.proofs.LedgerLemmas.{given_back_counted, length-counts, marked_within, some_counted}
 use Rattle.down_ledger.proofs.ledger.DownLedger.give_back.Goals as goal
 
-pub lower-requires-clause-rising : goal.lower-requires-clause-rising
-lower-requires-clause-rising c =
+pub lower_counts-requires-clause-rising : goal.lower_counts-requires-clause-rising
+lower_counts-requires-clause-rising c =
     let ledger : LedgerView = record { fleet = c.self.inside.fleet.now; down = c.self.inside.marks.items } in
     let long : length c.deref_mut.result.now ≡ length ledger.fleet.groups = ap length c.deref_mut.ensures.value ∙ length-counts ledger c.self.inside.counts.items c.self.invariant in
     subst (λ (n : ℕ). IsRising n (group_numbers c.chain.result.now)) (sym long) c.chain.ensures.rise
 
-pub lower-requires-clause-some : goal.lower-requires-clause-some
-lower-requires-clause-some c group holds =
+pub lower_counts-requires-clause-some : goal.lower_counts-requires-clause-some
+lower_counts-requires-clause-some c group holds =
     let ledger : LedgerView = record { fleet = c.self.inside.fleet.now; down = c.self.inside.marks.items } in
     let host = c.args.share.host.index in
     let own : List ℕ = group_numbers c.chain.result.now in
@@ -29,15 +29,15 @@ pub invariant_of-self : goal.invariant_of-self
 invariant_of-self c =
     let ledger : LedgerView = record { fleet = c.self.inside.fleet.now; down = c.self.inside.marks.items } in
     let counts : List ℕ = c.self.inside.counts.items in
-    let new : List ℕ = c.lower.new.counts in
+    let new : List ℕ = c.lower_counts.new.counts in
     let own : List ℕ = group_numbers c.chain.result.now in
-    let long : length new ≡ length counts = c.lower.auto.counts ∙ ap length c.deref_mut.ensures.value in
+    let long : length new ≡ length counts = c.lower_counts.auto.counts ∙ ap length c.deref_mut.ensures.value in
     let items : take c.self.inside.counts.len (new ++ drop (length new) counts) ≡ new = with_items_is c.self.inside.counts new (omega (arith, long, c.self.inside.counts.ok)) in
     let host = c.args.share.host.index in
     let marked : is_marked ledger.down host ≡ true = subst (λ (v : LedgerView). is_marked v.down host ≡ true) (sym c.self.view_is) c.requires in
     let within : host < length ledger.fleet.hosts = omega (arith, marked_within ledger.down host marked, c.self.invariant.all_marked) in
     let lowered : (group : ℕ) → group < length counts → get_or new group 0 + cond (has_number group (list_at ledger.fleet.chains host)) 1 0 ≡ get_or counts group 0 =
     λ group l. sym (ap (λ (k : List ℕ). get_or new group 0 + cond (has_number group k) 1 0) c.chain.ensures.chain)
-    ∙ c.lower.ensures group (omega (arith, l, ap length c.deref_mut.ensures.value))
+    ∙ c.lower_counts.ensures group (omega (arith, l, ap length c.deref_mut.ensures.value))
     ∙ ap (λ (k : List ℕ). get_or k group 0) c.deref_mut.ensures.value in
     subst (λ (l : List ℕ). IsCounted (with_mark ledger host false) l) (sym items) (given_back_counted ledger counts new c.self.invariant host within long marked lowered)

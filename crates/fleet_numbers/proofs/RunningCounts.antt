@@ -2,18 +2,17 @@
 use Rattle.std.proofs.Common.{◌≡◌, ℕ, ◌+◌, ◌-◌, ◌<◌, true, false, List, length, get_or, set, take, sym, ap, ◌∙◌, subst, arith, inl, inr, ◌⊎◌}
 use Rattle.std.proofs.lemmas.List.{get_or-map, get_or-set_same, get_or-set_other, length-map}
 use Rattle.group_tree.specs.declared.ids.GroupId.{GroupId}
-use Rattle.domains.specs.Ids.{group_numbers}
 use Rattle.std.proofs.lemmas.Bool.{cases_eq}
-use Rattle.fleet_numbers.specs.NumberLists.{has_number, IsRising}
+use Rattle.fleet_numbers.specs.Ids.{group_numbers}
+use Rattle.fleet_numbers.specs.NumberLists.{bit, has_number, IsRising}
 use Rattle.fleet_numbers.proofs.RisingLemmas.{Ascends-rising, are_below-rising, below_at, fresh}
-use Rattle.fleet_states.proofs.NumberLemmas.{has_other, has_own, number_at}
-use Rattle.fleet_states.proofs.CountLemmas.{bit}
+use Rattle.fleet_numbers.proofs.NumberLemmas.{has_other, has_own, number_at}
 
 module _ (bound : ℕ) (groups : List ℕ) (i : ℕ) (up : IsRising bound groups) (within : i < length groups) where
-  pub group_within : get_or groups i 0 < bound
+  group_within : get_or groups i 0 < bound
   group_within = below_at bound groups i (are_below-rising bound groups up) within
 
-  pub first_time : has_number (get_or groups i 0) (take i groups) ≡ false
+  first_time : has_number (get_or groups i 0) (take i groups) ≡ false
   first_time = fresh 0 bound groups i (Ascends-rising bound groups up) within
 
   own : (group : ℕ) → group ≡ get_or groups i 0 → (bit (has_number group (take i groups)) ≡ 0) × (bit (has_number group (take (i + 1) groups)) ≡ 1)
@@ -23,7 +22,8 @@ module _ (bound : ℕ) (groups : List ℕ) (i : ℕ) (up : IsRising bound groups
   other : (group : ℕ) → (group ≡ get_or groups i 0 → ⊥) → has_number group (take (i + 1) groups) ≡ has_number group (take i groups)
   other group d = has_other groups i within group d
 
-  pub raised_more : (old now new : List ℕ) → length now ≡ bound → new ≡ set now (get_or groups i 0) (get_or now (get_or groups i 0) 0 + 1) → (group : ℕ) → get_or now group 0 ≡ get_or old group 0 + bit (has_number group (take i groups)) → get_or new group 0 ≡ get_or old group 0 + bit (has_number group (take (i + 1) groups))
+  raised_more : (old now new : List ℕ) → length now ≡ bound → new ≡ set now (get_or groups i 0) (get_or now (get_or groups i 0) 0 + 1) → (group : ℕ)
+      → get_or now group 0 ≡ get_or old group 0 + bit (has_number group (take i groups)) → get_or new group 0 ≡ get_or old group 0 + bit (has_number group (take (i + 1) groups))
   raised_more old now new len is group before = by_case (cases_eq group at)
     where
       at : ℕ
@@ -42,7 +42,8 @@ module _ (bound : ℕ) (groups : List ℕ) (i : ℕ) (up : IsRising bound groups
           let kept : get_or new group 0 ≡ get_or now group 0 = ap (λ (l : List ℕ). get_or l group 0) is ∙ get_or-set_other now at group count 0 d in
           kept ∙ before ∙ ap (λ b. get_or old group 0 + bit b) (sym (other group d))
 
-  pub lowered_more : (old now new : List ℕ) → length now ≡ bound → new ≡ set now (get_or groups i 0) (get_or now (get_or groups i 0) 0 - 1) → 0 < get_or now (get_or groups i 0) 0 → (group : ℕ) → get_or now group 0 + bit (has_number group (take i groups)) ≡ get_or old group 0 → get_or new group 0 + bit (has_number group (take (i + 1) groups)) ≡ get_or old group 0
+  lowered_more : (old now new : List ℕ) → length now ≡ bound → new ≡ set now (get_or groups i 0) (get_or now (get_or groups i 0) 0 - 1) → 0 < get_or now (get_or groups i 0) 0
+      → (group : ℕ) → get_or now group 0 + bit (has_number group (take i groups)) ≡ get_or old group 0 → get_or new group 0 + bit (has_number group (take (i + 1) groups)) ≡ get_or old group 0
   lowered_more old now new len is some group before = by_case (cases_eq group at)
     where
       at : ℕ
@@ -63,7 +64,8 @@ module _ (bound : ℕ) (groups : List ℕ) (i : ℕ) (up : IsRising bound groups
           ap (λ (n : ℕ). n + bit (has_number group (take (i + 1) groups))) kept ∙ ap (λ b. get_or now group 0 + bit b) (other group d) ∙ before
 
   -- a count that has not been lowered yet is still positive
-  pub some_left : (old now : List ℕ) → length now ≡ bound → ((group : ℕ) → has_number group groups ≡ true → 0 < get_or old group 0) → ((group : ℕ) → group < bound → get_or now group 0 + bit (has_number group (take i groups)) ≡ get_or old group 0) → 0 < get_or now (get_or groups i 0) 0
+  some_left : (old now : List ℕ) → length now ≡ bound → ((group : ℕ) → has_number group groups ≡ true → 0 < get_or old group 0) → ((group : ℕ) → group < bound
+      → get_or now group 0 + bit (has_number group (take i groups)) ≡ get_or old group 0) → 0 < get_or now (get_or groups i 0) 0
   some_left old now len positive lowered =
       let here : 0 < get_or old (get_or groups i 0) 0 = positive (get_or groups i 0) (number_at groups i within) in
       let now_is : get_or now (get_or groups i 0) 0 + bit (has_number (get_or groups i 0) (take i groups)) ≡ get_or old (get_or groups i 0) 0 = lowered (get_or groups i 0) group_within in
@@ -81,14 +83,20 @@ module _ (bound : ℕ) (groups : List GroupId) (i : ℕ) (d : GroupId) (up : IsR
   pub below_group : (get_or groups i d).index < bound
   below_group = subst (λ (n : ℕ). n < bound) at_is (group_within bound (group_numbers groups) i up inside)
 
-  pub raised_group : (old now new : List ℕ) → length now ≡ bound → new ≡ set now (get_or groups i d).index (get_or now (get_or groups i d).index 0 + 1) → (group : ℕ) → get_or now group 0 ≡ get_or old group 0 + bit (has_number group (take i (group_numbers groups))) → get_or new group 0 ≡ get_or old group 0 + bit (has_number group (take (i + 1) (group_numbers groups)))
+  pub raised_group : (old now new : List ℕ) → length now ≡ bound → new ≡ set now (get_or groups i d).index (get_or now (get_or groups i d).index 0 + 1) → (group : ℕ)
+      → get_or now group 0 ≡ get_or old group 0 + bit (has_number group (take i (group_numbers groups)))
+      → get_or new group 0 ≡ get_or old group 0 + bit (has_number group (take (i + 1) (group_numbers groups)))
   raised_group old now new len is =
       raised_more bound (group_numbers groups) i up inside old now new len (subst (λ (n : ℕ). new ≡ set now n (get_or now n 0 + 1)) (sym at_is) is)
 
-  pub lowered_group : (old now new : List ℕ) → length now ≡ bound → new ≡ set now (get_or groups i d).index (get_or now (get_or groups i d).index 0 - 1) → 0 < get_or now (get_or groups i d).index 0 → (group : ℕ) → get_or now group 0 + bit (has_number group (take i (group_numbers groups))) ≡ get_or old group 0 → get_or new group 0 + bit (has_number group (take (i + 1) (group_numbers groups))) ≡ get_or old group 0
+  pub lowered_group : (old now new : List ℕ) → length now ≡ bound → new ≡ set now (get_or groups i d).index (get_or now (get_or groups i d).index 0 - 1)
+      → 0 < get_or now (get_or groups i d).index 0 → (group : ℕ) → get_or now group 0 + bit (has_number group (take i (group_numbers groups))) ≡ get_or old group 0
+      → get_or new group 0 + bit (has_number group (take (i + 1) (group_numbers groups))) ≡ get_or old group 0
   lowered_group old now new len is some =
-      lowered_more bound (group_numbers groups) i up inside old now new len (subst (λ (n : ℕ). new ≡ set now n (get_or now n 0 - 1)) (sym at_is) is) (subst (λ (n : ℕ). 0 < get_or now n 0) (sym at_is) some)
+      lowered_more bound (group_numbers groups) i up inside old now new len (subst (λ (n : ℕ). new ≡ set now n (get_or now n 0 - 1)) (sym at_is) is)
+      (subst (λ (n : ℕ). 0 < get_or now n 0) (sym at_is) some)
 
-  pub some_left_group : (old now : List ℕ) → length now ≡ bound → ((group : ℕ) → has_number group (group_numbers groups) ≡ true → 0 < get_or old group 0) → ((group : ℕ) → group < bound → get_or now group 0 + bit (has_number group (take i (group_numbers groups))) ≡ get_or old group 0) → 0 < get_or now (get_or groups i d).index 0
+  pub some_left_group : (old now : List ℕ) → length now ≡ bound → ((group : ℕ) → has_number group (group_numbers groups) ≡ true → 0 < get_or old group 0) → ((group : ℕ) → group < bound
+      → get_or now group 0 + bit (has_number group (take i (group_numbers groups))) ≡ get_or old group 0) → 0 < get_or now (get_or groups i d).index 0
   some_left_group old now len positive lowered =
       subst (λ (n : ℕ). 0 < get_or now n 0) at_is (some_left bound (group_numbers groups) i up inside old now len positive lowered)

@@ -1,7 +1,7 @@
 use Rattle.std.proofs.Common.{length, arith, refl, ◌∙◌}
 use Rattle.std.proofs.lemmas.List.{length-set}
-use Rattle.down_ledger.proofs.RunningCounts.{below_group, lowered_group, some_left_group}
-use Rattle.down_ledger.proofs.counts.lower.Goals as goal
+use Rattle.fleet_numbers.proofs.RunningCounts.{below_group, lowered_group, some_left_group}
+use Rattle.fleet_numbers.proofs.counts.lower_counts.Goals as goal
 
 pub offset_bounds-counts-group : goal.offset_bounds-counts-group
 offset_bounds-counts-group c =

@@ -1,7 +1,7 @@
 use Rattle.std.proofs.Common.{length, arith, refl, ◌∙◌}
 use Rattle.std.proofs.lemmas.List.{length-set}
-use Rattle.down_ledger.proofs.RunningCounts.{below_group, raised_group}
-use Rattle.down_ledger.proofs.counts.raise.Goals as goal
+use Rattle.fleet_numbers.proofs.RunningCounts.{below_group, raised_group}
+use Rattle.fleet_numbers.proofs.counts.raise_counts.Goals as goal
 
 pub offset_bounds-counts-group : goal.offset_bounds-counts-group
 offset_bounds-counts-group c =
