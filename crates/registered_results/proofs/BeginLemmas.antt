@@ -77,10 +77,17 @@ same_name-sym x y = by_case (bytes_eq x y) (bytes_eq y x) refl refl
     by_case true false e f = sym ((bytes_eq-Decides y x).1 (sym ((bytes_eq-Decides x y).0 e))) ∙ f
     by_case false true e f = sym e ∙ (bytes_eq-Decides x y).1 (sym ((bytes_eq-Decides y x).0 f))
 
+-- the name stands among the first of these, or it is taken already
+abbrev is_among_first : {Y : Type 0} → List (String Y) → ℕ → Name → Bool → Bool
+is_among_first names count other taken = stands_in other (take count names) || taken
+
 -- one name more
-pub name_more : {Y : Type 0} (names : List (String Y)) (i : ℕ) (text : String Y) (name other : Name) (taken : Bool) → i < length names → text ≡ get_or names i text → name ≡ string_bytes text → (bytes_eq name other || (stands_in other (take i names) || taken)) ≡ (stands_in other (take (i + 1) names) || taken)
+pub name_more : {Y : Type 0} (names : List (String Y)) (i : ℕ) (text : String Y) (name other : Name) (taken : Bool) → i < length names
+    → text ≡ get_or names i text → name ≡ string_bytes text → (bytes_eq name other || is_among_first names i other taken) ≡ is_among_first names (i + 1) other taken
 name_more {Y = Y} names i text name other taken within is called =
-    swapped (bytes_eq name other) (stands_in other (take i names)) taken ∙ ap (λ b. (stands_in other (take i names) || b) || taken) same ∙ sym (ap (λ b. b || taken) (list_any_more test names i text within))
+    swapped (bytes_eq name other) (stands_in other (take i names)) taken
+    ∙ ap (λ b. (stands_in other (take i names) || b) || taken) same
+    ∙ sym (ap (λ b. b || taken) (list_any_more test names i text within))
   where
     test : String Y → Bool
     test x = bytes_eq other (string_bytes x)

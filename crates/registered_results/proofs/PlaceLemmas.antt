@@ -53,20 +53,24 @@ module _ (numbers : Name → Option ℕ) (rows : List (Option Registered)) (own 
   abbrev held : List (Option Registered) → Name → Option (Option Registered)
   held items other = option_or (option_and_then (slice_get items) (numbers other)) (own other)
 
-  pub result_at_number : ((a b : Name) (n : ℕ) → numbers a ≡ Some n → numbers b ≡ Some n → a ≡ b) → numbers name ≡ Some number → number < length rows → (other : Name) → result (held (set rows number (Some registered)) other) ≡ cond (bytes_eq name other) (Some (row_of registered)) (result (held rows other))
+  -- with the result at that number
+  abbrev written : List (Option Registered)
+  written = set rows number (Some registered)
+
+  pub result_at_number : ((a b : Name) (n : ℕ) → numbers a ≡ Some n → numbers b ≡ Some n → a ≡ b) → numbers name ≡ Some number → number < length rows
+      → (other : Name) → result (held written other) ≡ cond (bytes_eq name other) (Some (row_of registered)) (result (held rows other))
   result_at_number one has within other = by_case (bytes_eq name other) refl
     where
-      at : (items : List (Option Registered)) → Option (Option Registered)
-      at items = option_and_then (slice_get items) (numbers other)
+      in_place : Option (Option Registered) → Option Row
+      in_place place = result (option_or place (own other))
 
-      apart : bytes_eq name other ≡ false → (found : Option ℕ) → numbers other ≡ found → option_and_then (slice_get (set rows number (Some registered))) found ≡ option_and_then (slice_get rows) found
+      apart : bytes_eq name other ≡ false → (found : Option ℕ) → numbers other ≡ found → option_and_then (slice_get written) found ≡ option_and_then (slice_get rows) found
       apart differs None e = refl
       apart differs (Some found) e =
           beside_set rows number found (Some registered) (λ is. absurd (cc (sym ((bytes_eq-Decides name other).1 (one name other number has (e ∙ ap Some is))) ∙ differs)))
 
-      by_case : (b : Bool) → bytes_eq name other ≡ b → result (held (set rows number (Some registered)) other) ≡ cond b (Some (row_of registered)) (result (held rows other))
+      by_case : (b : Bool) → bytes_eq name other ≡ b → result (held written other) ≡ cond b (Some (row_of registered)) (result (held rows other))
       by_case true same =
           let here : numbers other ≡ Some number = ap numbers (sym ((bytes_eq-Decides name other).0 same)) ∙ has in
-          ap (λ (place : Option (Option Registered)). result (option_or place (own other))) (ap (option_and_then (slice_get (set rows number (Some registered)))) here ∙ at_set rows number (Some registered) within)
-      by_case false differs =
-          ap (λ (place : Option (Option Registered)). result (option_or place (own other))) (apart differs (numbers other) refl)
+          ap in_place (ap (option_and_then (slice_get written)) here ∙ at_set rows number (Some registered) within)
+      by_case false differs = ap in_place (apart differs (numbers other) refl)

@@ -13,4 +13,8 @@ returns-clause-results c =
     let all = c.in_ok-take_all-2.ensures.results (λ other. stands_in other c.shared_names.result.now || false) shared name in
     let own = ap (stands_in name) (c.as_slice.ensures ∙ c.keys.ensures.rest) in
     let numbers = c.shared_names.ensures name in
-    all ∙ ap (λ (b : Bool). cond (b || (stands_in name c.shared_names.result.now || false)) (result_of c.args.self.now name) None) own ∙ ap (λ (b : Bool). cond (stands_in name (keys c.args.self.now.own) || (b || false)) (result_of c.args.self.now name) None) numbers ∙ all_taken c.args.self.now name
+    let taken = λ (by_own by_number : Bool). cond (by_own || (by_number || false)) (result_of c.args.self.now name) None in
+    all
+    ∙ ap (λ (b : Bool). taken b (stands_in name c.shared_names.result.now)) own
+    ∙ ap (taken (stands_in name (keys c.args.self.now.own))) numbers
+    ∙ all_taken c.args.self.now name

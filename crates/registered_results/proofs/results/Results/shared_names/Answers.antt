@@ -9,4 +9,6 @@ use Rattle.registered_results.proofs.results.Results.shared_names.Goals as goal
 pub returns-in-Some : goal.returns-in-Some
 returns-in-Some c =
     λ name.
-    ap (stands_in name) (c.names.ensures ∙ ap (λ registers. registers.names.keys) c.deref.ensures) ∙ sym (is_found (λ key. bytes_eq name (string_bytes key)) (arc_value c.in-Some.registers).names.keys) ∙ ap (λ r. is_some (option_and_then (λ registers. number_in (arc_value registers) name) r)) (sym c.in-Some.is)
+    ap (stands_in name) (c.names.ensures ∙ ap (λ registers. registers.names.keys) c.deref.ensures)
+    ∙ sym (is_found (λ key. bytes_eq name (string_bytes key)) (arc_value c.in-Some.registers).names.keys)
+    ∙ ap (λ r. is_some (option_and_then (λ registers. number_in (arc_value registers) name) r)) (sym c.in-Some.is)

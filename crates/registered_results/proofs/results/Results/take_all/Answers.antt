@@ -1,4 +1,5 @@
 use Rattle.std.proofs.Common.{◌||◌, None, Bool, cond, take, ap, ◌∙◌}
+use Rattle.inventory_model.specs.Names.{Name}
 use Rattle.registered_results.specs.Registers.{stands_in}
 use Rattle.registered_results.specs.Results.{result_of}
 use Rattle.registered_results.proofs.BeginLemmas.{name_more}
@@ -12,5 +13,8 @@ loop-name-preserved c =
       places = λ other has. c.in_ok-take.ensures.places other (c.loop-name.invariant.places other has);
       results =
           λ taken begins other.
-          c.in_ok-take.ensures.results (λ o. stands_in o (take i names) || taken o) (c.loop-name.invariant.results taken begins) other ∙ ap (λ (b : Bool). cond b (result_of c.args.from.now other) None) (name_more names i c.name-item.result c.as_str.result.now other (taken other) c.loop-name-test.true c.name-item.is c.as_str.ensures.value);
+          let before : Name → Bool = λ o. stands_in o (take i names) || taken o in
+          let more = name_more names i c.name-item.result c.as_str.result.now other (taken other) c.loop-name-test.true c.name-item.is c.as_str.ensures.value in
+          c.in_ok-take.ensures.results before (c.loop-name.invariant.results taken begins) other
+          ∙ ap (λ (b : Bool). cond b (result_of c.args.from.now other) None) more;
     }
