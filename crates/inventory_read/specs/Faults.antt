@@ -1,6 +1,5 @@
 -- Which rule a fault names.
-use Rattle.std.specs.Prelude.{◌≡◌, ℕ, Option, Some, None, Result, [], List, MatchResult, MatchOption, ⊤, ◌++◌, codes, decimal}
-use Rattle.std.specs.Fmt.{◌++?◌, debug_str}
+use Rattle.std.specs.Prelude.{◌≡◌, ℕ, Option, Some, None, Result, [], List, MatchResult, MatchOption, ⊤}
 use Rattle.std.specs.String.{string_bytes}
 use Rattle.inventory_read.specs.Paths.{down_path, host_path, limit_path, part_path}
 use Rattle.inventory_read.specs.Rules as rules
@@ -50,23 +49,6 @@ number_of (fault.TwicePlaced group) = Some 102
 number_of fault.TooDeep = Some 103
 number_of fault.TooMany = Some 104
 number_of fault.Memory = None
-
--- a text in quotes, behind others
-abbrev quoted : List ℕ → List ℕ → Option (List ℕ)
-quoted before text = Some before ++? debug_str text
-
--- what a fault says of itself; of names and paths with other letters than ASCII's no clause can tell
-abbrev pub text_of : ReadFault → Option (List ℕ)
-text_of fault.NotJson = Some (codes "the text is no JSON")
-text_of (fault.BadShape at) = quoted (codes "not of the shape that the format asks for: ") (string_bytes at)
-text_of (fault.UnknownKey at) = quoted (codes "a key that the format does not name: ") (string_bytes at)
-text_of (fault.BadLimit at) = quoted (codes "neither a whole number from 0 to 65535 nor a percentage: ") (string_bytes at)
-text_of (fault.BadDown at) = quoted (codes "neither true nor false: ") (string_bytes at)
-text_of (fault.BadName name) = quoted (codes "not a name of letters, digits, dots, dashes and underscores: ") (string_bytes name)
-text_of (fault.TwicePlaced group) = Some (codes "group " ++ (decimal group ++ codes " has the name of one before it"))
-text_of fault.TooDeep = Some (codes "the groups are nested too deep")
-text_of fault.TooMany = Some (codes "too many groups or hosts")
-text_of fault.Memory = Some (codes "out of memory")
 
 -- the fault names the first of these, or want of memory
 abbrev pub IsFirst : ReadFault → List Breach → Type 0

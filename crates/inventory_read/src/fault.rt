@@ -3,30 +3,39 @@ ghost use Rattle.std.specs.Prelude.{◌≡◌};
 ghost use Rattle.inventory_read.specs.Faults.{number_of};
 
 use std::alloc::{AllocError, AllocFailed};
-use std::error::Error;
-use std::fmt;
+use thiserror::Error;
 
 /// Why a text is no inventory: the first rule that it breaks. A path `at` is the keys from the top value, joined
 /// by `/`; the top value's is empty.
-#[derive(Debug, PartialEq, Eq, Drop)]
+#[derive(Debug, PartialEq, Eq, Drop, Error)]
 pub enum ReadFault {
+    #[error("the text is no JSON")]
     NotJson,
     /// A value is neither null nor an object, or the top value is no object.
+    #[error("not of the shape that the format asks for: {at:?}")]
     BadShape { at: String },
     /// A group's body has a key that the format does not name.
+    #[error("a key that the format does not name: {at:?}")]
     UnknownKey { at: String },
     /// A group's `max_down` is no whole number from 0 to 65,535.
+    #[error("neither a whole number from 0 to 65535 nor a percentage: {at:?}")]
     BadLimit { at: String },
     /// A host's `down` is no truth value.
+    #[error("neither true nor false: {at:?}")]
     BadDown { at: String },
     /// The name of a group or a host is not 1 to 255 ASCII letters, digits, dots, dashes and underscores.
+    #[error("not a name of letters, digits, dots, dashes and underscores: {name:?}")]
     BadName { name: String },
     /// Two groups have one name. `group` is the preorder number, counted from 1, of the first whose name stood before.
+    #[error("group {group} has the name of one before it")]
     TwicePlaced { group: usize },
     /// A group is more than 32 deep; `all` has depth 1.
+    #[error("the groups are nested too deep")]
     TooDeep,
     /// There are more than 1,024 groups or 16,384 host rows.
+    #[error("too many groups or hosts")]
     TooMany,
+    #[error("out of memory")]
     Memory,
 }
 
@@ -49,44 +58,6 @@ impl ReadFault {
         }
     }
 }
-
-impl fmt::Display for ReadFault {
-    ghost use Rattle.inventory_read.specs.Faults.{text_of};
-
-    ghost output = { text_of };
-
-    fn fmt<W: fmt::Write>(&self, f: &mut fmt::Formatter<W>) -> fmt::Result {
-        match self {
-            ReadFault::NotJson => write!(f, "the text is no JSON"),
-            ReadFault::BadShape { at } => write!(
-                f,
-                "not of the shape that the format asks for: {at:?}"
-            ),
-            ReadFault::UnknownKey { at } => write!(
-                f,
-                "a key that the format does not name: {at:?}"
-            ),
-            ReadFault::BadLimit { at } => write!(
-                f,
-                "neither a whole number from 0 to 65535 nor a percentage: {at:?}"
-            ),
-            ReadFault::BadDown { at } => write!(f, "neither true nor false: {at:?}"),
-            ReadFault::BadName { name } => write!(
-                f,
-                "not a name of letters, digits, dots, dashes and underscores: {name:?}"
-            ),
-            ReadFault::TwicePlaced { group } => write!(
-                f,
-                "group {group} has the name of one before it"
-            ),
-            ReadFault::TooDeep => write!(f, "the groups are nested too deep"),
-            ReadFault::TooMany => write!(f, "too many groups or hosts"),
-            ReadFault::Memory => write!(f, "out of memory"),
-        }
-    }
-}
-
-impl Error for ReadFault {}
 
 impl From<AllocError> for ReadFault {
     ghost use Rattle.std.specs.Prelude.{◌≡◌};
