@@ -84,6 +84,7 @@ BAD_CONDITIONS = [
     ("(" * 32 + "$", 501, 32),
     ("not " * 33 + "true", 503, 128),
     ("not(" * 16 + "not v" + ")" * 16, 503, 64),
+    ("(v) or " * 33, 502, 231),
     (["flag", "v) $"], 502, 1),
 ]
 # A text or a list, and whether it holds; None where it meets a name without a value.

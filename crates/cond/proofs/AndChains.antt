@@ -1,5 +1,5 @@
 -- A chain of parts that And joins, gathered from left to right.
-use Rattle.std.proofs.Common.{◌≡◌, ℕ, ◌≤◌, max, true, false, List, [], ◌∷◌, ◌++◌, map, sym, refl, ap, ◌∙◌, arith, Some, Ok, Err}
+use Rattle.std.proofs.Common.{◌≡◌, ℕ, ◌≤◌, true, false, List, [], ◌∷◌, ◌++◌, append-nil, map, sym, refl, ap, ◌∙◌, arith, Some, Ok, Err}
 use Rattle.cond.specs.Tokens.{Token, Or, And, Closing}
 use Rattle.cond.specs.Grammar.{All, neg, and, Neg, all_then, neg_then, all_depth, neg_depth}
 use Rattle.cond.specs.Meaning.{Environment, Verdict, both, all_meaning, neg_meaning}
@@ -9,7 +9,8 @@ use Rattle.cond.specs.Readings.{ends_all, ends_neg, Reads, Refuses}
 use Rattle.cond.specs.declared.stop.Stop.{Stop}
 use Rattle.cond.specs.declared.tree.Tree.{Tree}
 use Rattle.cond.proofs.Unambiguous.{neg_same, all_ends_neg, no_and}
-use Rattle.cond.proofs.LeavesLaws.{more_leaves}
+use Rattle.cond.proofs.Appended.{neg_appended}
+use Rattle.cond.proofs.Lifts.{Holds, lifted}
 
 -- the parts, each with the And behind it, before the rest
 abbrev pub chain : List Neg → List Token → List Token
@@ -69,10 +70,12 @@ begun : (t : Token) (tokens : List Token) → first tokens ≡ Some t → tokens
 begun t [] e = absurd (cc)
 begun t (x ∷ rest) e = let same : x ≡ t = cc in ap (λ y. y ∷ rest) same
 
-module _ (text : List ℕ) (tokens rest : List Token) (room : ℕ) (trees new : List Tree) (tree : Tree) (left : List Token) (so_far : Gathered text tokens rest room trees) (read : Reads neg_then neg_depth ends_neg neg_meaning (tree_verdict text) room rest tree left) (pushed : new ≡ trees ++ tree ∷ []) where
+module _ (text : List ℕ) (tokens rest : List Token) (room : ℕ) (trees new : List Tree) (tree : Tree) (left : List Token) (so_far : Gathered text tokens rest room trees)
+    (read : Reads neg_then neg_depth ends_neg neg_meaning (tree_verdict text) room rest tree left) (pushed : new ≡ trees ++ tree ∷ []) where
   same_pushed : (e : Environment) → map (tree_verdict text e) new ≡ map (neg_meaning e) (so_far.parts ++ read.reading ∷ [])
   same_pushed e =
-      ap (map (tree_verdict text e)) pushed ∙ map_pushed (tree_verdict text e) trees tree ∙ ap (λ l. l ++ tree_verdict text e tree ∷ []) (so_far.same e) ∙ ap (λ v. map (neg_meaning e) so_far.parts ++ v ∷ []) (read.same e) ∙ sym (map_pushed (neg_meaning e) so_far.parts read.reading)
+      ap (map (tree_verdict text e)) pushed ∙ map_pushed (tree_verdict text e) trees tree ∙ ap (λ l. l ++ tree_verdict text e tree ∷ []) (so_far.same e)
+      ∙ ap (λ v. map (neg_meaning e) so_far.parts ++ v ∷ []) (read.same e) ∙ sym (map_pushed (neg_meaning e) so_far.parts read.reading)
 
   whole_read : tokens ≡ chain so_far.parts (neg_then read.reading left)
   whole_read = so_far.whole ∙ ap (chain so_far.parts) read.whole
@@ -92,7 +95,8 @@ module _ (text : List ℕ) (tokens rest : List Token) (room : ℕ) (trees new : 
   ends_here (And ∷ k) h last = absurd (last refl)
   ends_here (t ∷ k) h last = absurd (cc)
 
-  pub all_read : (first left ≡ Some And → ⊥) → (tree : Tree) → ((e : Environment) → tree_verdict text e tree ≡ all_of (map (tree_verdict text e) new)) → Reads all_then all_depth ends_all all_meaning (tree_verdict text) room tokens tree left
+  pub all_read : (first left ≡ Some And → ⊥) → (tree : Tree) → ((e : Environment) → tree_verdict text e tree ≡ all_of (map (tree_verdict text e) new))
+      → Reads all_then all_depth ends_all all_meaning (tree_verdict text) room tokens tree left
   all_read last tree joined = record {
     reading = linked so_far.parts read.reading;
     whole = whole_read ∙ sym (linked_then so_far.parts read.reading left);
@@ -102,24 +106,39 @@ module _ (text : List ℕ) (tokens rest : List Token) (room : ℕ) (trees new : 
   }
 
 -- a part that stands alone
-pub only_read : (text : List ℕ) (tokens : List Token) (room : ℕ) (tree : Tree) (left : List Token) → Reads neg_then neg_depth ends_neg neg_meaning (tree_verdict text) room tokens tree left → (first left ≡ Some And → ⊥) → Reads all_then all_depth ends_all all_meaning (tree_verdict text) room tokens tree left
+pub only_read : (text : List ℕ) (tokens : List Token) (room : ℕ) (tree : Tree) (left : List Token)
+    → Reads neg_then neg_depth ends_neg neg_meaning (tree_verdict text) room tokens tree left → (first left ≡ Some And → ⊥)
+    → Reads all_then all_depth ends_all all_meaning (tree_verdict text) room tokens tree left
 only_read text tokens room tree left read last =
     all_read text tokens tokens room [] (tree ∷ []) tree left (nothing_yet text tokens room) read refl last tree (λ e. alone (tree_verdict text e tree))
 
-first_refused : (room : ℕ) (rest : List Token) (fault : Stop) → Refuses neg_then neg_depth ends_neg room rest fault → Refuses all_then all_depth ends_all room rest fault
-first_refused room rest fault refused (neg a) m h e = refused a m (all_ends_neg m h) e
-first_refused room rest fault refused (and a more) m h e =
-    more_leaves fault room (neg_depth a) (max (neg_depth a) (all_depth more)) (omega arith) (refused a (And ∷ all_then more m) refl e)
+-- behind the parts
+chain_front : (parts : List Neg) (m : List Token) → chain parts m ≡ chain parts [] ++ m
+chain_front [] m = refl
+chain_front (a ∷ parts) m =
+    ap (λ k. neg_then a (And ∷ k)) (chain_front parts m) ∙ neg_appended a (And ∷ chain parts []) m
 
-chain_refused : (room : ℕ) (parts : List Neg) (rest : List Token) (fault : Stop) → Refuses neg_then neg_depth ends_neg room rest fault → Refuses all_then all_depth ends_all room (chain parts rest) fault
-chain_refused room [] rest fault refused n m h e = first_refused room rest fault refused n m h e
-chain_refused room (a ∷ parts) rest fault refused (neg b) m h e =
-    absurd (no_and m (chain parts rest) h (sym (neg_same a b (And ∷ chain parts rest) m refl (all_ends_neg m h) e).1))
-chain_refused room (a ∷ parts) rest fault refused (and b more) m h e =
-    let split = neg_same a b (And ∷ chain parts rest) (And ∷ all_then more m) refl refl e in
-    let tail = split.1 in
-    more_leaves fault room (all_depth more) (max (neg_depth b) (all_depth more)) (omega arith) (chain_refused room parts rest fault refused more m h (cc))
+abbrev HoldsNeg : ℕ → All → List Token → Type 0
+HoldsNeg room = Holds neg_then neg_depth ends_neg room all_then all_depth ends_all room
 
-pub part_refused : (text : List ℕ) (tokens rest : List Token) (room : ℕ) (trees : List Tree) (fault : Stop) → Gathered text tokens rest room trees → Refuses neg_then neg_depth ends_neg room rest fault → Refuses all_then all_depth ends_all room tokens fault
-part_refused text tokens rest room trees fault so_far refused n m h e =
-    chain_refused room so_far.parts rest fault refused n m h (sym so_far.whole ∙ e)
+chain_holds : (room : ℕ) (parts : List Neg) (u : All) (m x : List Token) → ends_all m ≡ true → chain parts x ≡ all_then u m → HoldsNeg room u x
+chain_holds room [] (neg a) m x h e = record { part = a; behind = m; ended = all_ends_neg m h; whole = sym e; deep = λ l. l }
+chain_holds room [] (and a more) m x h e =
+    record { part = a; behind = And ∷ all_then more m; ended = refl; whole = sym e; deep = λ l. omega (arith, l) }
+chain_holds room (a ∷ parts) (neg b) m x h e =
+    absurd (no_and m (chain parts x) h (sym (neg_same a b (And ∷ chain parts x) m refl (all_ends_neg m h) e).1))
+chain_holds room (a ∷ parts) (and b more) m x h e =
+    let tail = (neg_same a b (And ∷ chain parts x) (And ∷ all_then more m) refl refl e).1 in
+    let later = chain_holds room parts more m x h (cc) in
+    record { part = later.part; behind = later.behind; ended = later.ended; whole = later.whole; deep = λ l. omega (arith, later.deep l) }
+
+pub part_refused : (text : List ℕ) (place : List Token → ℕ) (tokens rest : List Token) (room : ℕ) (trees : List Tree) (fault : Stop) → Gathered text tokens rest room trees
+    → Refuses neg_then neg_depth ends_neg place room rest fault → Refuses all_then all_depth ends_all place room tokens fault
+part_refused text place tokens rest room trees fault so_far refused =
+    lifted neg_then neg_depth ends_neg room all_then all_depth ends_all room place (chain so_far.parts []) rest tokens (so_far.whole ∙ chain_front so_far.parts rest) (record {
+      around = linked so_far.parts;
+      after = [];
+      put = λ n. linked_then so_far.parts n [] ∙ chain_front so_far.parts (neg_then n []) ∙ ap (λ k. chain so_far.parts [] ++ k) (sym (append-nil (neg_then n [])));
+      fits = λ n. linked_deep room so_far.parts n so_far.fits;
+      holds = λ u m x h e f. chain_holds room so_far.parts u m x h (chain_front so_far.parts x ∙ sym e);
+    }) fault refused

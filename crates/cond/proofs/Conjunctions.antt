@@ -1,5 +1,6 @@
 -- One part more.
-use Rattle.std.proofs.Common.{◌≡◌, map, Vec, Global, true, false, Ok, Err, refl, length-append, ℕ, ◌==◌, ◌+◌, ◌≤◌, List, [], ◌∷◌, ◌++◌, length, take, drop, length-drop, sym, ap, ◌∙◌, arith}
+use Rattle.std.proofs.Common.{◌≡◌, map, Vec, Global, true, false, Ok, Err, refl, length-append, ℕ, ◌==◌, ◌+◌, ◌≤◌, List, [], ◌∷◌, ◌++◌, length, take, drop}
+use Rattle.std.proofs.Common.{length-drop, sym, ap, ◌∙◌, arith}
 use Rattle.std.proofs.lemmas.Bool.Decides.{nat_tests}
 use Rattle.std.proofs.lemmas.List.{take_all, take-append-le, drop-append-le}
 use Rattle.cond.specs.Meaning.{Environment, Verdict, turned, test_meaning}
@@ -27,7 +28,8 @@ module _ (e : Environment) (more : List ℕ) (later : List Tree) (last : Part) (
 
   pub verdicts_more : (text : List ℕ) (trees : List Tree) (parts : List Part) → all_bytes parts ≡ length text → all_trees parts ≡ length trees → More text trees parts
   verdicts_more [] [] [] written grown =
-      ap (λ (of : List ℕ). part_verdict e of (take (trees_of last) later) last ∷ []) (take_all (bytes_of last) more (omega (arith, long))) ∙ ap (λ (of : List Tree). part_verdict e more of last ∷ []) (take_all (trees_of last) later (omega (arith, many)))
+      ap (λ (of : List ℕ). part_verdict e of (take (trees_of last) later) last ∷ []) (take_all (bytes_of last) more (omega (arith, long)))
+      ∙ ap (λ (of : List Tree). part_verdict e more of last ∷ []) (take_all (trees_of last) later (omega (arith, many)))
   verdicts_more (b ∷ text) trees [] written grown = absurd (omega (arith, written))
   verdicts_more [] (t ∷ trees) [] written grown = absurd (omega (arith, grown))
   verdicts_more text trees (part ∷ parts) written grown =
@@ -39,9 +41,13 @@ module _ (e : Environment) (more : List ℕ) (later : List Tree) (last : Part) (
       let own_trees = take-append-le (trees_of part) trees later trees_fit in
       let text_behind = drop-append-le (bytes_of part) text more text_fits in
       let trees_behind = drop-append-le (trees_of part) trees later trees_fit in
-      let here = ap (λ (of : List ℕ). part_verdict e of (take (trees_of part) (trees ++ later)) part) own_text ∙ ap (λ (of : List Tree). part_verdict e (take (bytes_of part) text) of part) own_trees in
-      let behind = ap (λ (of : List ℕ). verdicts e of (drop (trees_of part) (trees ++ later)) (parts ++ last ∷ [])) text_behind ∙ ap (λ (of : List Tree). verdicts e (drop (bytes_of part) text ++ more) of (parts ++ last ∷ [])) trees_behind ∙ verdicts_more (drop (bytes_of part) text) (drop (trees_of part) trees) parts text_left trees_left in
-      ap (λ (v : Verdict). v ∷ verdicts e (drop (bytes_of part) (text ++ more)) (drop (trees_of part) (trees ++ later)) (parts ++ last ∷ [])) here ∙ ap (λ (l : List Verdict). part_verdict e (take (bytes_of part) text) (take (trees_of part) trees) part ∷ l) behind
+      let here = ap (λ (of : List ℕ). part_verdict e of (take (trees_of part) (trees ++ later)) part) own_text
+      ∙ ap (λ (of : List Tree). part_verdict e (take (bytes_of part) text) of part) own_trees in
+      let behind = ap (λ (of : List ℕ). verdicts e of (drop (trees_of part) (trees ++ later)) (parts ++ last ∷ [])) text_behind
+      ∙ ap (λ (of : List Tree). verdicts e (drop (bytes_of part) text ++ more) of (parts ++ last ∷ [])) trees_behind
+      ∙ verdicts_more (drop (bytes_of part) text) (drop (trees_of part) trees) parts text_left trees_left in
+      ap (λ (v : Verdict). v ∷ verdicts e (drop (bytes_of part) (text ++ more)) (drop (trees_of part) (trees ++ later)) (parts ++ last ∷ [])) here
+      ∙ ap (λ (l : List Verdict). part_verdict e (take (bytes_of part) text) (take (trees_of part) trees) part ∷ l) behind
 
 -- behind these texts, trees and parts stand those of one part more
 pub record IsJoined (text more : List ℕ) (trees later : List Tree) (parts : List Part) (last : Part) (new_text : List ℕ) (new_trees : List Tree) (new_parts : List Part) : Type 0 where
@@ -52,11 +58,14 @@ pub record IsJoined (text more : List ℕ) (trees later : List Tree) (parts : Li
   pub many : trees_of last ≡ length later
 
 -- the same, of what the calls say
-pub joins : (trees later : List Tree) {text more : List ℕ} {parts : List Part} {last : Part} {new_text : List ℕ} {new_trees : List Tree} {new_parts : List Part} → new_text ≡ text ++ more → new_trees ≡ trees ++ later → new_parts ≡ parts ++ last ∷ [] → bytes_of last ≡ length more → trees_of last ≡ length later → IsJoined text more trees later parts last new_text new_trees new_parts
+pub joins : (trees later : List Tree) {text more : List ℕ} {parts : List Part} {last : Part} {new_text : List ℕ} {new_trees : List Tree} {new_parts : List Part}
+    → new_text ≡ text ++ more → new_trees ≡ trees ++ later → new_parts ≡ parts ++ last ∷ [] → bytes_of last ≡ length more → trees_of last ≡ length later
+    → IsJoined text more trees later parts last new_text new_trees new_parts
 joins trees later text_more trees_more parts_more long many =
     record { text_more = text_more; trees_more = trees_more; parts_more = parts_more; long = long; many = many }
 
-module _ {text more : List ℕ} {trees later : List Tree} {parts : List Part} {last : Part} {new_text : List ℕ} {new_trees : List Tree} {new_parts : List Part} (joined : IsJoined text more trees later parts last new_text new_trees new_parts) where
+module _ {text more : List ℕ} {trees later : List Tree} {parts : List Part} {last : Part} {new_text : List ℕ} {new_trees : List Tree} {new_parts : List Part}
+    (joined : IsJoined text more trees later parts last new_text new_trees new_parts) where
   pub written_more : all_bytes parts ≡ length text → all_bytes new_parts ≡ length new_text
   written_more written =
       ap all_bytes joined.parts_more ∙ all_bytes_more parts last ∙ omega (arith, written, joined.long, ap length joined.text_more, length-append text more)
@@ -65,9 +74,12 @@ module _ {text more : List ℕ} {trees later : List Tree} {parts : List Part} {l
   grown_more grown =
       ap all_trees joined.parts_more ∙ all_trees_more parts last ∙ omega (arith, grown, joined.many, ap length joined.trees_more, length-append trees later)
 
-  pub says_more : all_bytes parts ≡ length text → all_trees parts ≡ length trees → (e : Environment) (v : Verdict) → part_verdict e more later last ≡ v → verdicts e new_text new_trees new_parts ≡ verdicts e text trees parts ++ v ∷ []
+  pub says_more : all_bytes parts ≡ length text → all_trees parts ≡ length trees → (e : Environment) (v : Verdict) → part_verdict e more later last ≡ v
+      → verdicts e new_text new_trees new_parts ≡ verdicts e text trees parts ++ v ∷ []
   says_more written grown e v is =
-      ap (λ (of : List ℕ). verdicts e of new_trees new_parts) joined.text_more ∙ ap (λ (of : List Tree). verdicts e (text ++ more) of new_parts) joined.trees_more ∙ ap (verdicts e (text ++ more) (trees ++ later)) joined.parts_more ∙ verdicts_more e more later last joined.long joined.many text trees parts written grown ∙ ap (λ (v : Verdict). verdicts e text trees parts ++ v ∷ []) is
+      ap (λ (of : List ℕ). verdicts e of new_trees new_parts) joined.text_more ∙ ap (λ (of : List Tree). verdicts e (text ++ more) of new_parts) joined.trees_more
+      ∙ ap (verdicts e (text ++ more) (trees ++ later)) joined.parts_more ∙ verdicts_more e more later last joined.long joined.many text trees parts written grown
+      ∙ ap (λ (v : Verdict). verdicts e text trees parts ++ v ∷ []) is
 
 pub not_turned : (v : Verdict) → turned false v ≡ v
 not_turned (Ok b) = refl

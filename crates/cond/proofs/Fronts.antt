@@ -9,7 +9,8 @@ unfolding token_at
 at_end [] e = refl
 at_end (b ∷ rest) e = absurd (cc)
 
-by_byte : (b : ℕ) (rest : List ℕ) → (l d m q : Bool) → is_letter b ≡ l → is_digit b ≡ d → eqb b 45 ≡ m → is_quote b ≡ q → cond l (word_at (b ∷ rest)) (cond d (number_at (b ∷ rest)) (cond m (negative_at rest) (cond q (text_at b rest) (sign_at b rest)))) ≡ token_at (b ∷ rest)
+by_byte : (b : ℕ) (rest : List ℕ) → (l d m q : Bool) → is_letter b ≡ l → is_digit b ≡ d → eqb b 45 ≡ m → is_quote b ≡ q
+    → cond l (word_at (b ∷ rest)) (cond d (number_at (b ∷ rest)) (cond m (negative_at rest) (cond q (text_at b rest) (sign_at b rest)))) ≡ token_at (b ∷ rest)
 unfolding token_at
 by_byte b rest l d m q el ed em eq = cc
 

@@ -1,23 +1,26 @@
 -- What is read, and refused, of `not`, of brackets and of a test.
-use Rattle.std.proofs.Common.{◌≡◌, ℕ, ◌-◌, ◌<◌, true, false, List, [], ◌∷◌, sym, refl, ap, ◌∙◌, arith, Option, Some, None, Result, Ok, Err}
+use Rattle.std.proofs.Common.{◌≡◌, ℕ, ◌-◌, ◌<◌, true, false, List, [], ◌∷◌, ◌++◌, append-nil, sym, refl, ap, ◌∙◌, arith, subst, Some, Result, Ok, Err}
 use Rattle.std.specs.Prelude.{IfOk, IfErr}
 use Rattle.cond.specs.Seen.{ahead, text_of}
 use Rattle.cond.specs.declared.source.Source.{Source}
-use Rattle.cond.specs.Tokens.{Token, Not, Opening, Closing}
-use Rattle.cond.specs.Grammar.{Any, not, primary, brackets, test, Test, any_then, neg_then, primary_then, any_depth, neg_depth, primary_depth}
+use Rattle.cond.specs.Tokens.{Token, Not, Truth, Opening, Closing}
+use Rattle.cond.specs.Grammar.{Any, all, neg, Neg, not, primary, Primary, brackets, test, Test, alone, truth, test_then, any_then, neg_then, primary_then, any_depth, neg_depth, primary_depth}
 use Rattle.cond.specs.Meaning.{Environment, turned, any_meaning, neg_meaning, primary_meaning, test_meaning}
 use Rattle.cond.specs.Trees.{tree_verdict}
-use Rattle.cond.specs.Heads.{first, behind, test_head}
-use Rattle.cond.specs.Readings.{Leaves}
-use Rattle.cond.specs.Answers.{Fails}
-use Rattle.cond.specs.Readings.{ends_any, ends_neg, Reads, Refuses}
+use Rattle.cond.specs.Heads.{Head, first, behind, test_head}
+use Rattle.cond.specs.Answers.{Fails, at_place}
+use Rattle.cond.specs.Readings.{ends_any, ends_neg, Reads, GoesOn, Refuses}
 use Rattle.cond.specs.declared.stop.Stop.{Stop}
 use Rattle.cond.specs.declared.stop.Stop.TheVariants as stop
 use Rattle.cond.specs.declared.tree.Tree.{Tree}
+use Rattle.cond.proofs.Appended.{any_appended, any_front}
+use Rattle.cond.proofs.Ends.{any_ends, neg_ends}
+use Rattle.cond.proofs.Lifts.{Holds, lifted}
+use Rattle.cond.proofs.Reached.{Reached, left, same_first}
+use Rattle.cond.proofs.TestFronts.{test_reached, test_read_whole}
 use Rattle.cond.proofs.TestLaws.{no_test}
-use Rattle.cond.proofs.HeadLaws.{test_again, test_read_whole}
+use Rattle.cond.proofs.HeadLaws.{test_again}
 use Rattle.cond.proofs.Unambiguous.{any_same}
-use Rattle.cond.proofs.LeavesLaws.{nested_leaves}
 
 abbrev ReadsAny : List ℕ → ℕ → List Token → Tree → List Token → Type 0
 ReadsAny text = Reads any_then any_depth ends_any any_meaning (tree_verdict text)
@@ -28,25 +31,26 @@ ReadsNeg text = Reads neg_then neg_depth ends_neg neg_meaning (tree_verdict text
 abbrev ReadsPrimary : List ℕ → ℕ → List Token → Tree → List Token → Type 0
 ReadsPrimary text = Reads primary_then primary_depth ends_neg primary_meaning (tree_verdict text)
 
-abbrev RefusesAny : ℕ → List Token → Stop → Type 0
+abbrev RefusesAny : (List Token → ℕ) → ℕ → List Token → Stop → Type 0
 RefusesAny = Refuses any_then any_depth ends_any
 
-abbrev RefusesNeg : ℕ → List Token → Stop → Type 0
+abbrev RefusesNeg : (List Token → ℕ) → ℕ → List Token → Stop → Type 0
 RefusesNeg = Refuses neg_then neg_depth ends_neg
 
-abbrev RefusesPrimary : ℕ → List Token → Stop → Type 0
+abbrev RefusesPrimary : (List Token → ℕ) → ℕ → List Token → Stop → Type 0
 RefusesPrimary = Refuses primary_then primary_depth ends_neg
 
-abbrev rest_of : Option (Test × List Token) → List Token
-rest_of None = []
-rest_of (Some read) = read.1
+-- a part that has room everywhere
+abbrev plain : Primary
+plain = test (alone (truth true))
 
 pub begun : (t : Token) (tokens : List Token) → first tokens ≡ Some t → tokens ≡ t ∷ behind tokens
 begun t [] e = absurd (cc)
 begun t (x ∷ rest) e = let same : x ≡ t = cc in ap (λ y. y ∷ rest) same
 
-module _ (text : List ℕ) (room : ℕ) (tokens : List Token) (next : first tokens ≡ Some Not) where
-  pub not_read : (tree outer : Tree) (rest : List Token) → 0 < room → ReadsNeg text (room - 1) (behind tokens) tree rest → ((e : Environment) → tree_verdict text e outer ≡ turned true (tree_verdict text e tree)) → ReadsNeg text room tokens outer rest
+module _ (text : List ℕ) (place : List Token → ℕ) (room : ℕ) (tokens : List Token) (next : first tokens ≡ Some Not) where
+  pub not_read : (tree outer : Tree) (rest : List Token) → 0 < room → ReadsNeg text (room - 1) (behind tokens) tree rest
+      → ((e : Environment) → tree_verdict text e outer ≡ turned true (tree_verdict text e tree)) → ReadsNeg text room tokens outer rest
   not_read tree outer rest some inner means = record {
     reading = not inner.reading;
     whole = begun Not tokens next ∙ ap (λ m. Not ∷ m) inner.whole;
@@ -55,23 +59,37 @@ module _ (text : List ℕ) (room : ℕ) (tokens : List Token) (next : first toke
     same = λ e. means e ∙ ap (turned true) (inner.same e);
   }
 
-  pub not_refused : (fault : Stop) → 0 < room → RefusesNeg (room - 1) (behind tokens) fault → RefusesNeg room tokens fault
-  not_refused fault some inner (not n) m h e =
-      let split : Not ∷ behind tokens ≡ Not ∷ neg_then n m = sym (begun Not tokens next) ∙ e in
-      nested_leaves fault room (neg_depth n) some (inner n m h (cc))
-  not_refused fault some inner (primary (brackets a)) m h e =
-      let split : Not ∷ behind tokens ≡ Opening ∷ any_then a (Closing ∷ m) = sym (begun Not tokens next) ∙ e in
-      absurd (cc)
-  not_refused fault some inner (primary (test t)) m h e =
-      absurd (no_test t m (Not ∷ behind tokens) refl (sym e ∙ begun Not tokens next))
+  pub not_refused : (fault : Stop) → 0 < room → RefusesNeg place (room - 1) (behind tokens) fault → RefusesNeg place room tokens fault
+  not_refused fault some inner =
+      lifted neg_then neg_depth ends_neg (room - 1) neg_then neg_depth ends_neg room place (Not ∷ []) (behind tokens) tokens (begun Not tokens next) (record {
+        around = not;
+        after = [];
+        put = λ n. ap (λ k. Not ∷ k) (sym (append-nil (neg_then n [])));
+        fits = λ n d. omega (arith, some, d);
+        holds = λ u m x h e f. held u m x h e;
+      }) fault inner
+    where
+      held : (u : Neg) (m x : List Token) → ends_neg m ≡ true → neg_then u m ≡ Not ∷ x → Holds neg_then neg_depth ends_neg (room - 1) neg_then neg_depth ends_neg room u x
+      held (not n) m x h e = record { part = n; behind = m; ended = h; whole = cc; deep = λ l. omega (arith, some, l) }
+      held (primary (brackets a)) m x h e = absurd (cc)
+      held (primary (test t)) m x h e = absurd (no_test t m (Not ∷ x) refl e)
 
-  pub not_too_deep : (at : ℕ) → room ≡ 0 → RefusesNeg room tokens (stop.TooDeep at)
-  not_too_deep at none (not n) m h e = omega (arith, none)
-  not_too_deep at none (primary (brackets a)) m h e =
-      let split : Not ∷ behind tokens ≡ Opening ∷ any_then a (Closing ∷ m) = sym (begun Not tokens next) ∙ e in
-      absurd (cc)
-  not_too_deep at none (primary (test t)) m h e =
-      absurd (no_test t m (Not ∷ behind tokens) refl (sym e ∙ begun Not tokens next))
+  pub not_too_deep : (at : ℕ) → at ≡ place tokens → room ≡ 0 → RefusesNeg place room tokens (stop.TooDeep at)
+  not_too_deep at there none = record {
+    front = [];
+    rest = tokens;
+    whole = refl;
+    there = there;
+    begun = record { part = primary plain; more = Truth true ∷ []; whole = refl; deep = omega arith };
+    one = (not (primary plain), Not, Truth true ∷ [], refl, next);
+    others = deeper;
+  }
+    where
+      deeper : (u : Neg) → GoesOn neg_then ends_neg u [] (first tokens) → room < neg_depth u
+      deeper (not n) goes = omega (arith, none)
+      deeper (primary (brackets a)) goes = let here = ap first goes.whole ∙ goes.next ∙ next in absurd (cc)
+      deeper (primary (test t)) goes =
+          absurd (no_test t goes.behind (Not ∷ behind goes.more) refl (goes.whole ∙ begun Not goes.more (goes.next ∙ next)))
 
 pub plain_read : (text : List ℕ) (room : ℕ) (tokens : List Token) (tree : Tree) (rest : List Token) → ReadsPrimary text room tokens tree rest → ReadsNeg text room tokens tree rest
 plain_read text room tokens tree rest inner = record {
@@ -82,42 +100,69 @@ plain_read text room tokens tree rest inner = record {
   same = inner.same;
 }
 
-pub plain_refused : (room : ℕ) (tokens : List Token) (fault : Stop) → (first tokens ≡ Some Not → ⊥) → RefusesPrimary room tokens fault → RefusesNeg room tokens fault
-plain_refused room tokens fault other inner (not n) m h e = absurd (other (ap first e))
-plain_refused room tokens fault other inner (primary p) m h e = inner p m h e
+pub plain_refused : (place : List Token → ℕ) (room : ℕ) (tokens : List Token) (fault : Stop) → (first tokens ≡ Some Not → ⊥)
+    → RefusesPrimary place room tokens fault → RefusesNeg place room tokens fault
+plain_refused place room tokens fault other inner =
+    lifted primary_then primary_depth ends_neg room neg_then neg_depth ends_neg room place [] tokens tokens refl (record {
+      around = primary;
+      after = [];
+      put = λ p. sym (append-nil (primary_then p []));
+      fits = λ p d. d;
+      holds = held;
+    }) fault inner
+  where
+    held : (u : Neg) (m x : List Token) → ends_neg m ≡ true → neg_then u m ≡ x → first x ≡ first tokens
+        → Holds primary_then primary_depth ends_neg room neg_then neg_depth ends_neg room u x
+    held (not n) m x h e f = absurd (other (sym f ∙ sym (ap first e)))
+    held (primary p) m x h e f = record { part = p; behind = m; ended = h; whole = e; deep = λ l. l }
 
 -- the same of what the reader of a primary answers
-pub plain_read_if : (source : Source) (room : ℕ) (tokens : List Token) (answer : Result (Tree × ℕ) Stop) → IfOk answer (λ read. ReadsPrimary (text_of source) room tokens read.0 (ahead source read.1)) → IfOk answer (λ read. ReadsNeg (text_of source) room tokens read.0 (ahead source read.1))
+pub plain_read_if : (source : Source) (room : ℕ) (tokens : List Token) (answer : Result (Tree × ℕ) Stop)
+    → IfOk answer (λ read. ReadsPrimary (text_of source) room tokens read.0 (ahead source read.1))
+    → IfOk answer (λ read. ReadsNeg (text_of source) room tokens read.0 (ahead source read.1))
 plain_read_if source room tokens (Ok read) inner = plain_read (text_of source) room tokens read.0 (ahead source read.1) inner
 plain_read_if source room tokens (Err why) inner = tt
 
-pub plain_refused_if : (room : ℕ) (tokens : List Token) (answer : Result (Tree × ℕ) Stop) → (first tokens ≡ Some Not → ⊥) → IfErr answer (λ why. RefusesPrimary room tokens why) → IfErr answer (λ why. RefusesNeg room tokens why)
-plain_refused_if room tokens (Ok read) other inner = tt
-plain_refused_if room tokens (Err why) other inner = plain_refused room tokens why other inner
+pub plain_refused_if : (place : List Token → ℕ) (room : ℕ) (tokens : List Token) (answer : Result (Tree × ℕ) Stop) → (first tokens ≡ Some Not → ⊥)
+    → IfErr answer (λ why. RefusesPrimary place room tokens why) → IfErr answer (λ why. RefusesNeg place room tokens why)
+plain_refused_if place room tokens (Ok read) other inner = tt
+plain_refused_if place room tokens (Err why) other inner = plain_refused place room tokens why other inner
 
-module _ (text : List ℕ) (room : ℕ) (tokens : List Token) (next : first tokens ≡ Some Opening) where
-  pub brackets_too_deep : (at : ℕ) → room ≡ 0 → RefusesPrimary room tokens (stop.TooDeep at)
-  brackets_too_deep at none (brackets a) m h e = omega (arith, none)
-  brackets_too_deep at none (test t) m h e =
-      absurd (no_test t m (Opening ∷ behind tokens) refl (sym e ∙ begun Opening tokens next))
+module _ (text : List ℕ) (place : List Token → ℕ) (room : ℕ) (tokens : List Token) (next : first tokens ≡ Some Opening) where
+  pub brackets_too_deep : (at : ℕ) → at ≡ place tokens → room ≡ 0 → RefusesPrimary place room tokens (stop.TooDeep at)
+  brackets_too_deep at there none = record {
+    front = [];
+    rest = tokens;
+    whole = refl;
+    there = there;
+    begun = record { part = plain; more = Truth true ∷ []; whole = refl; deep = omega arith };
+    one = (brackets (all (neg (primary plain))), Opening, Truth true ∷ Closing ∷ [], refl, next);
+    others = deeper;
+  }
+    where
+      deeper : (u : Primary) → GoesOn primary_then ends_neg u [] (first tokens) → room < primary_depth u
+      deeper (brackets a) goes = omega (arith, none)
+      deeper (test t) goes =
+          absurd (no_test t goes.behind (Opening ∷ behind goes.more) refl (goes.whole ∙ begun Opening goes.more (goes.next ∙ next)))
 
-  pub brackets_refused : (fault : Stop) → 0 < room → RefusesAny (room - 1) (behind tokens) fault → RefusesPrimary room tokens fault
-  brackets_refused fault some inner (brackets a) m h e =
-      let split : Opening ∷ behind tokens ≡ Opening ∷ any_then a (Closing ∷ m) = sym (begun Opening tokens next) ∙ e in
-      nested_leaves fault room (any_depth a) some (inner a (Closing ∷ m) refl (cc))
-  brackets_refused fault some inner (test t) m h e =
-      absurd (no_test t m (Opening ∷ behind tokens) refl (sym e ∙ begun Opening tokens next))
+  pub brackets_refused : (fault : Stop) → 0 < room → RefusesAny place (room - 1) (behind tokens) fault → RefusesPrimary place room tokens fault
+  brackets_refused fault some inner =
+      lifted any_then any_depth ends_any (room - 1) primary_then primary_depth ends_neg room place (Opening ∷ []) (behind tokens) tokens (begun Opening tokens next) (record {
+        around = brackets;
+        after = Closing ∷ [];
+        put = λ a. ap (λ k. Opening ∷ k) (any_front a (Closing ∷ []));
+        fits = λ a d. omega (arith, some, d);
+        holds = λ u m x h e f. held u m x h e;
+      }) fault inner
+    where
+      held : (u : Primary) (m x : List Token) → ends_neg m ≡ true → primary_then u m ≡ Opening ∷ x
+          → Holds any_then any_depth ends_any (room - 1) primary_then primary_depth ends_neg room u x
+      held (brackets a) m x h e = record { part = a; behind = Closing ∷ m; ended = refl; whole = cc; deep = λ l. omega (arith, some, l) }
+      held (test t) m x h e = absurd (no_test t m (Opening ∷ x) refl e)
 
-  module _ (tree : Tree) (rest : List Token) (inner : ReadsAny text (room - 1) (behind tokens) tree rest) where
-    -- what stands behind the inner part of any reading in brackets
-    only : (a : Any) (m : List Token) → tokens ≡ Opening ∷ any_then a (Closing ∷ m) → rest ≡ Closing ∷ m
-    only a m e =
-        let split : Opening ∷ behind tokens ≡ Opening ∷ any_then a (Closing ∷ m) = sym (begun Opening tokens next) ∙ e in
-        let inside : behind tokens ≡ any_then a (Closing ∷ m) = cc in
-        (any_same inner.reading a rest (Closing ∷ m) inner.ended refl (sym inner.whole ∙ inside)).1
-
-    pub brackets_read : (left : List Token) → 0 < room → first rest ≡ Some Closing → left ≡ behind rest → ends_neg left ≡ true → ReadsPrimary text room tokens tree left
-    brackets_read left some closing after ended = record {
+  module _ (some : 0 < room) (tree : Tree) (rest : List Token) (inner : ReadsAny text (room - 1) (behind tokens) tree rest) where
+    pub brackets_read : (left : List Token) → first rest ≡ Some Closing → left ≡ behind rest → ends_neg left ≡ true → ReadsPrimary text room tokens tree left
+    brackets_read left closing after ended = record {
       reading = brackets inner.reading;
       whole = begun Opening tokens next ∙ ap (λ m. Opening ∷ m) (inner.whole ∙ ap (any_then inner.reading) (begun Closing rest closing ∙ ap (λ m. Closing ∷ m) (sym after)));
       ended = ended;
@@ -125,44 +170,131 @@ module _ (text : List ℕ) (room : ℕ) (tokens : List Token) (next : first toke
       same = inner.same;
     }
 
-    pub brackets_open : (at : ℕ) → (first rest ≡ Some Closing → ⊥) → RefusesPrimary room tokens (stop.Unexpected at)
-    brackets_open at other (brackets a) m h e = other (ap first (only a m e))
-    brackets_open at other (test t) m h e =
-        no_test t m (Opening ∷ behind tokens) refl (sym e ∙ begun Opening tokens next)
+    -- the inner part of whatever reads these tokens is the one that was read
+    only : (a : Any) (m x : List Token) → Opening ∷ any_then a (Closing ∷ m) ≡ Opening ∷ any_then inner.reading x → ends_any x ≡ true → x ≡ Closing ∷ m
+    only a m x e h =
+        let same : any_then inner.reading x ≡ any_then a (Closing ∷ m) = cc in
+        (any_same inner.reading a x (Closing ∷ m) h refl same).1
 
-    pub brackets_unended : (at : ℕ) (left : List Token) → left ≡ behind rest → ends_neg left ≡ false → RefusesPrimary room tokens (stop.Unexpected at)
-    brackets_unended at left after bad (brackets a) m h e =
-        let here : left ≡ m = after ∙ ap behind (only a m e) in
-        let same : ends_neg left ≡ ends_neg m = ap ends_neg here in
-        cc
-    brackets_unended at left after bad (test t) m h e =
-        no_test t m (Opening ∷ behind tokens) refl (sym e ∙ begun Opening tokens next)
+    pub brackets_open : (at : ℕ) → at ≡ place rest → (first rest ≡ Some Closing → ⊥) → RefusesPrimary place room tokens (stop.Unexpected at)
+    brackets_open at there other = record {
+      front = Opening ∷ any_then inner.reading [];
+      rest = rest;
+      whole = begun Opening tokens next ∙ ap (λ m. Opening ∷ m) (inner.whole ∙ any_front inner.reading rest);
+      there = there;
+      begun = record {
+        part = brackets inner.reading;
+        more = Closing ∷ [];
+        whole = ap (λ m. Opening ∷ m) (any_front inner.reading (Closing ∷ []));
+        deep = omega (arith, some, inner.deep);
+      };
+      one = tt;
+      others = none;
+    }
+      where
+        none : (u : Primary) → GoesOn primary_then ends_neg u (Opening ∷ any_then inner.reading []) (first rest) → ⊥
+        none (brackets a) goes =
+            let e = goes.whole ∙ ap (λ m. Opening ∷ m) (sym (any_front inner.reading goes.more)) in
+            other (sym goes.next ∙ ap first (only a goes.behind goes.more e (any_ends goes.more rest goes.next ∙ inner.ended)))
+        none (test t) goes = no_test t goes.behind (Opening ∷ any_then inner.reading [] ++ goes.more) refl goes.whole
 
-module _ (text : List ℕ) (room : ℕ) (tokens : List Token) where
-  pub leaf_read : (t : Test) (tree : Tree) (rest : List Token) → test_head tokens ≡ Some (t, rest) → ends_neg rest ≡ true → ((e : Environment) → tree_verdict text e tree ≡ test_meaning e t) → ReadsPrimary text room tokens tree rest
-  leaf_read t tree rest found ended means = record {
-    reading = test t;
-    whole = test_read_whole tokens t rest found;
-    ended = ended;
-    deep = omega arith;
-    same = means;
+    pub brackets_unended : (at : ℕ) (left : List Token) → at ≡ place left → first rest ≡ Some Closing → left ≡ behind rest → ends_neg left ≡ false
+        → RefusesPrimary place room tokens (stop.Unexpected at)
+    brackets_unended at left there closing after bad = record {
+      front = Opening ∷ any_then inner.reading (Closing ∷ []);
+      rest = left;
+      whole = begun Opening tokens next
+          ∙ ap (λ m. Opening ∷ m) (inner.whole ∙ ap (any_then inner.reading) (begun Closing rest closing ∙ ap (λ m. Closing ∷ m) (sym after))
+          ∙ any_appended inner.reading (Closing ∷ []) left);
+      there = there;
+      begun = record {
+        part = brackets inner.reading;
+        more = [];
+        whole = sym (append-nil (Opening ∷ any_then inner.reading (Closing ∷ [])));
+        deep = omega (arith, some, inner.deep);
+      };
+      one = tt;
+      others = none;
+    }
+      where
+        none : (u : Primary) → GoesOn primary_then ends_neg u (Opening ∷ any_then inner.reading (Closing ∷ [])) (first left) → ⊥
+        none (brackets a) goes =
+            let e = goes.whole ∙ ap (λ m. Opening ∷ m) (sym (any_appended inner.reading (Closing ∷ []) goes.more)) in
+            let same = only a goes.behind (Closing ∷ goes.more) e refl in
+            let here : goes.more ≡ goes.behind = cc in
+            let end : ends_neg left ≡ true = sym (neg_ends goes.more left goes.next) ∙ ap ends_neg here ∙ goes.ended in
+            cc
+        none (test t) goes =
+            no_test t goes.behind (Opening ∷ any_then inner.reading (Closing ∷ []) ++ goes.more) refl goes.whole
+
+pub leaf_read : (text : List ℕ) (room : ℕ) (tokens : List Token) (t : Test) (tree : Tree) (rest : List Token) → test_head tokens ≡ Ok (t, rest) → ends_neg rest ≡ true
+    → ((e : Environment) → tree_verdict text e tree ≡ test_meaning e t) → ReadsPrimary text room tokens tree rest
+leaf_read text room tokens t tree rest found ended means = record {
+  reading = test t;
+  whole = test_read_whole tokens t rest found;
+  ended = ended;
+  deep = omega arith;
+  same = means;
+}
+
+error_in : {A : Type 0} → Result A ℕ → ℕ
+error_in (Ok found) = 0
+error_in (Err at) = at
+
+module _ (place : List Token → ℕ) (room : ℕ) (tokens : List Token) (other : first tokens ≡ Some Opening → ⊥) where
+  -- brackets don't begin so
+  no_bracket : (front rest more : List Token) (a : Any) (m : List Token) → tokens ≡ front ++ rest → Opening ∷ any_then a (Closing ∷ m) ≡ front ++ more → first more ≡ first rest → ⊥
+  no_bracket front rest more a m whole e next =
+      other (ap first whole ∙ sym (same_first front more rest next) ∙ sym (ap first e))
+
+  unended_at : (at : ℕ) (t : Test) (rest : List Token) → at ≡ place rest → ends_neg rest ≡ false → Reached test_then [] test_head tokens (Ok (t, rest))
+      → RefusesPrimary place room tokens (stop.Unexpected at)
+  unended_at at t rest there bad read = record {
+    front = read.front;
+    rest = rest;
+    whole = read.whole;
+    there = there;
+    begun = record { part = test t; more = []; whole = read.told ∙ sym (append-nil read.front); deep = omega arith };
+    one = tt;
+    others = none;
   }
-
-  pub leaf_refused : (fault : Stop) → (first tokens ≡ Some Opening → ⊥) → Fails fault (test_head tokens) → RefusesPrimary room tokens fault
-  leaf_refused fault other fails (brackets a) m h e = absurd (other (ap first e))
-  leaf_refused fault other fails (test t) m h e =
-      none_left fault (test_head tokens) (t, m) (ap test_head e ∙ test_again t m h) fails
     where
-      none_left : (f : Stop) (head : Option (Test × List Token)) (read : Test × List Token) → head ≡ Some read → Fails f head → Leaves f room 0
-      none_left (stop.Unexpected at) head read some fails = cc
-      none_left (stop.TooDeep at) head read some fails = absurd fails
-      none_left stop.Memory head read some fails = tt
+      none : (u : Primary) → GoesOn primary_then ends_neg u read.front (first rest) → ⊥
+      none (brackets a) goes = no_bracket read.front rest goes.more a goes.behind read.whole goes.whole goes.next
+      none (test u) goes =
+          let one = read.again goes.more goes.next in
+          let two = sym (ap test_head goes.whole) ∙ test_again u goes.behind goes.ended in
+          let here : goes.more ≡ goes.behind = sym (ap left one) ∙ ap left two in
+          let end : ends_neg rest ≡ true = sym (neg_ends goes.more rest goes.next) ∙ ap ends_neg here ∙ goes.ended in
+          cc
 
-  pub leaf_unended : (at : ℕ) (t : Test) (rest : List Token) → (first tokens ≡ Some Opening → ⊥) → test_head tokens ≡ Some (t, rest) → ends_neg rest ≡ false → RefusesPrimary room tokens (stop.Unexpected at)
-  leaf_unended at t rest other found bad (brackets a) m h e = other (ap first e)
-  leaf_unended at t rest other found bad (test u) m h e =
-      let again : test_head tokens ≡ Some (u, m) = ap test_head e ∙ test_again u m h in
-      let one : rest_of (test_head tokens) ≡ rest = ap rest_of found in
-      let two : rest_of (test_head tokens) ≡ m = ap rest_of again in
-      let same : ends_neg rest ≡ ends_neg m = ap ends_neg (sym one ∙ two) in
-      cc
+  pub leaf_unended : (at : ℕ) (t : Test) (rest : List Token) → at ≡ place rest → test_head tokens ≡ Ok (t, rest) → ends_neg rest ≡ false
+      → RefusesPrimary place room tokens (stop.Unexpected at)
+  leaf_unended at t rest there found bad =
+      unended_at at t rest there bad (subst (λ (h : Head Test). Reached test_then [] test_head tokens h) (sym (test_reached tokens).1.is ∙ found) (test_reached tokens).1)
+
+  stopped_at : (at : ℕ) (h : Head Test) → Reached test_then [] test_head tokens h → at_place place h ≡ Err at → RefusesPrimary place room tokens (stop.Unexpected at)
+  unfolding error_in
+  stopped_at at (Ok found) read e = absurd (cc)
+  stopped_at at (Err rest) read e = record {
+    front = read.front;
+    rest = rest;
+    whole = read.whole;
+    there = sym (ap error_in e);
+    begun = record { part = test read.told.0; more = read.told.1; whole = read.told.2; deep = omega arith };
+    one = tt;
+    others = none;
+  }
+    where
+      none : (u : Primary) → GoesOn primary_then ends_neg u read.front (first rest) → ⊥
+      none (brackets a) goes = no_bracket read.front rest goes.more a goes.behind read.whole goes.whole goes.next
+      none (test u) goes =
+          let one = read.again goes.more goes.next in
+          let two = sym (ap test_head goes.whole) ∙ test_again u goes.behind goes.ended in
+          cc
+
+  pub leaf_refused : (fault : Stop) → Fails place fault (test_head tokens) → RefusesPrimary place room tokens fault
+  leaf_refused (stop.Unexpected at) fails =
+      stopped_at at (test_reached tokens).0 (test_reached tokens).1 (ap (at_place place) (sym (test_reached tokens).1.is) ∙ fails)
+  leaf_refused (stop.TooDeep at) fails = absurd fails
+  leaf_refused stop.Memory fails = tt

@@ -1,5 +1,6 @@
 -- What `parse` gives at the longest run of digits.
-use Rattle.std.proofs.Common.{◌≡◌, ℕ, suc, ◌+◌, ◌^◌, ◌<◌, ◌≤◌, Bool, true, false, ◌&&◌, cond, List, ◌∷◌, length, get_or, take, drop, sym, refl, ap, ◌∙◌, arith, subst, nat_lt, nat_le, Some, None, Ok, Err, Result, ℤ, pos, neg_ℤ}
+use Rattle.std.proofs.Common.{◌≡◌, ℕ, suc, ◌+◌, ◌^◌, ◌<◌, ◌≤◌, Bool, true, false, ◌&&◌, cond, List, ◌∷◌, length, get_or, take, drop, sym, refl, ap, ◌∙◌}
+use Rattle.std.proofs.Common.{arith, subst, nat_lt, nat_le, Some, None, Ok, Err, Result, ℤ, pos, neg_ℤ}
 use Rattle.std.specs.Int.{IsInRange, w64}
 use Rattle.std.specs.Result.{OkIff}
 use Rattle.std.specs.Prelude.{FitsSigned}
@@ -36,10 +37,13 @@ run_digits bs i l =
 number_ok : {E : Type 0} → (bs : List ℕ) (r : Result ℤ E) (z : ℤ) → ParsesSigned w64 10 (run is_digit bs) r → r ≡ Ok z → number_at bs ≡ Some (Number z, behind_run is_digit bs)
 unfolding number_at
 number_ok {E} bs r z h e =
-    let told : ((0 < length (run is_digit bs)) × (digits_value 10 (run is_digit bs) < 2 ^ 63)) × (z ≡ pos (digits_value 10 (run is_digit bs))) = subst (λ (r : Result ℤ E). OkIff r ((0 < length (run is_digit bs)) × (digits_value 10 (run is_digit bs) < 2 ^ 63)) (pos (digits_value 10 (run is_digit bs)))) e (parse_signed_digits own w64 (run is_digit bs) r h (run_digits bs)) in
+    let told : ((0 < length (run is_digit bs)) × (digits_value 10 (run is_digit bs) < 2 ^ 63)) × (z ≡ pos (digits_value 10 (run is_digit bs))) =
+    subst (λ (r : Result ℤ E). OkIff r ((0 < length (run is_digit bs)) × (digits_value 10 (run is_digit bs) < 2 ^ 63)) (pos (digits_value 10 (run is_digit bs)))) e
+    (parse_signed_digits own w64 (run is_digit bs) r h (run_digits bs)) in
     let some : nat_lt 0 (prefix_len is_digit bs) ≡ true = lt-ltb 0 (prefix_len is_digit bs) (omega (arith, told.0.0, length_run bs)) in
     let fits : nat_lt (digits_value 10 (run is_digit bs)) (2 ^ 63) ≡ true = lt-ltb _ _ told.0.1 in
-    ap (λ b. cond b (Some (Number (pos (digits_value 10 (run is_digit bs))), behind_run is_digit bs)) None) (ap (λ b. b && nat_lt (digits_value 10 (run is_digit bs)) (2 ^ 63)) some ∙ fits) ∙ ap (λ n. Some (Number n, behind_run is_digit bs)) (sym told.1)
+    ap (λ b. cond b (Some (Number (pos (digits_value 10 (run is_digit bs))), behind_run is_digit bs)) None)
+    (ap (λ b. b && nat_lt (digits_value 10 (run is_digit bs)) (2 ^ 63)) some ∙ fits) ∙ ap (λ n. Some (Number n, behind_run is_digit bs)) (sym told.1)
 
 number_err : {E : Type 0} → (bs : List ℕ) (r : Result ℤ E) (f : E) → ParsesSigned w64 10 (run is_digit bs) r → r ≡ Err f → number_at bs ≡ None
 unfolding number_at
@@ -48,21 +52,28 @@ number_err {E} bs r f h e =
   where
     told : ¬ ((0 < length (run is_digit bs)) × (digits_value 10 (run is_digit bs) < 2 ^ 63))
     told =
-        subst (λ (r : Result ℤ E). OkIff r ((0 < length (run is_digit bs)) × (digits_value 10 (run is_digit bs) < 2 ^ 63)) (pos (digits_value 10 (run is_digit bs)))) e (parse_signed_digits own w64 (run is_digit bs) r h (run_digits bs))
+        subst (λ (r : Result ℤ E). OkIff r ((0 < length (run is_digit bs)) × (digits_value 10 (run is_digit bs) < 2 ^ 63)) (pos (digits_value 10 (run is_digit bs)))) e
+        (parse_signed_digits own w64 (run is_digit bs) r h (run_digits bs))
 
-    by_test : (a b : Bool) → nat_lt 0 (prefix_len is_digit bs) ≡ a → nat_lt (digits_value 10 (run is_digit bs)) (2 ^ 63) ≡ b → cond {A = Front} (a && b) (Some (Number (pos (digits_value 10 (run is_digit bs))), behind_run is_digit bs)) None ≡ None
+    by_test : (a b : Bool) → nat_lt 0 (prefix_len is_digit bs) ≡ a → nat_lt (digits_value 10 (run is_digit bs)) (2 ^ 63) ≡ b
+        → cond {A = Front} (a && b) (Some (Number (pos (digits_value 10 (run is_digit bs))), behind_run is_digit bs)) None ≡ None
     by_test true true p q =
         absurd (told (omega (arith, length_run bs, ltb-true 0 (prefix_len is_digit bs) p), ltb-true _ _ q))
     by_test true false p q = refl
     by_test false b p q = refl
 
-negative_ok : {E : Type 0} → (bs : List ℕ) (r : Result ℤ E) (z : ℤ) → ParsesSigned w64 10 (45 ∷ run is_digit bs) r → r ≡ Ok z → negative_at bs ≡ Some (Number z, behind_run is_digit bs)
+negative_ok : {E : Type 0} → (bs : List ℕ) (r : Result ℤ E) (z : ℤ) → ParsesSigned w64 10 (45 ∷ run is_digit bs) r → r ≡ Ok z
+    → negative_at bs ≡ Some (Number z, behind_run is_digit bs)
 unfolding negative_at
 negative_ok {E} bs r z h e =
-    let told : (AreDigits (run is_digit bs) × (0 < length (run is_digit bs)) × (digits_value 10 (run is_digit bs) ≤ 2 ^ 63)) × (z ≡ neg_ℤ (pos (digits_value 10 (run is_digit bs)))) = subst (λ (r : Result ℤ E). OkIff r (AreDigits (run is_digit bs) × (0 < length (run is_digit bs)) × (digits_value 10 (run is_digit bs) ≤ 2 ^ 63)) (neg_ℤ (pos (digits_value 10 (run is_digit bs))))) e (parse_signed_minus own w64 (45 ∷ run is_digit bs) r h refl) in
+    let told : (AreDigits (run is_digit bs) × (0 < length (run is_digit bs)) × (digits_value 10 (run is_digit bs) ≤ 2 ^ 63)) × (z ≡ neg_ℤ
+    (pos (digits_value 10 (run is_digit bs)))) =
+    subst (λ (r : Result ℤ E). OkIff r (AreDigits (run is_digit bs) × (0 < length (run is_digit bs)) × (digits_value 10 (run is_digit bs) ≤ 2 ^ 63))
+    (neg_ℤ (pos (digits_value 10 (run is_digit bs))))) e (parse_signed_minus own w64 (45 ∷ run is_digit bs) r h refl) in
     let some : nat_lt 0 (prefix_len is_digit bs) ≡ true = lt-ltb 0 (prefix_len is_digit bs) (omega (arith, told.0.1, length_run bs)) in
     let fits : nat_le (digits_value 10 (run is_digit bs)) (2 ^ 63) ≡ true = le-leb _ _ told.0.2 in
-    ap (λ b. cond b (Some (Number (neg_ℤ (pos (digits_value 10 (run is_digit bs)))), behind_run is_digit bs)) None) (ap (λ b. b && nat_le (digits_value 10 (run is_digit bs)) (2 ^ 63)) some ∙ fits) ∙ ap (λ n. Some (Number n, behind_run is_digit bs)) (sym told.1)
+    ap (λ b. cond b (Some (Number (neg_ℤ (pos (digits_value 10 (run is_digit bs)))), behind_run is_digit bs)) None)
+    (ap (λ b. b && nat_le (digits_value 10 (run is_digit bs)) (2 ^ 63)) some ∙ fits) ∙ ap (λ n. Some (Number n, behind_run is_digit bs)) (sym told.1)
 
 negative_err : {E : Type 0} → (bs : List ℕ) (r : Result ℤ E) (f : E) → ParsesSigned w64 10 (45 ∷ run is_digit bs) r → r ≡ Err f → negative_at bs ≡ None
 unfolding negative_at
@@ -71,9 +82,11 @@ negative_err {E} bs r f h e =
   where
     told : ¬ (AreDigits (run is_digit bs) × (0 < length (run is_digit bs)) × (digits_value 10 (run is_digit bs) ≤ 2 ^ 63))
     told =
-        subst (λ (r : Result ℤ E). OkIff r (AreDigits (run is_digit bs) × (0 < length (run is_digit bs)) × (digits_value 10 (run is_digit bs) ≤ 2 ^ 63)) (neg_ℤ (pos (digits_value 10 (run is_digit bs))))) e (parse_signed_minus own w64 (45 ∷ run is_digit bs) r h refl)
+        subst (λ (r : Result ℤ E). OkIff r (AreDigits (run is_digit bs) × (0 < length (run is_digit bs)) × (digits_value 10 (run is_digit bs) ≤ 2 ^ 63))
+        (neg_ℤ (pos (digits_value 10 (run is_digit bs))))) e (parse_signed_minus own w64 (45 ∷ run is_digit bs) r h refl)
 
-    by_test : (a b : Bool) → nat_lt 0 (prefix_len is_digit bs) ≡ a → nat_le (digits_value 10 (run is_digit bs)) (2 ^ 63) ≡ b → cond {A = Front} (a && b) (Some (Number (neg_ℤ (pos (digits_value 10 (run is_digit bs)))), behind_run is_digit bs)) None ≡ None
+    by_test : (a b : Bool) → nat_lt 0 (prefix_len is_digit bs) ≡ a → nat_le (digits_value 10 (run is_digit bs)) (2 ^ 63) ≡ b
+        → cond {A = Front} (a && b) (Some (Number (neg_ℤ (pos (digits_value 10 (run is_digit bs)))), behind_run is_digit bs)) None ≡ None
     by_test true true p q =
         absurd (told (run_digits bs, omega (arith, length_run bs, ltb-true 0 (prefix_len is_digit bs) p), leb-true _ _ q))
     by_test true false p q = refl
@@ -81,7 +94,8 @@ negative_err {E} bs r f h e =
 
 kept : {E : Type 0} → (written : List ℕ) (r : Result ℤ E) (z : ℤ) → ParsesSigned w64 10 written r → r ≡ Ok z → to_z w64 (of_z w64 z) ≡ z
 kept {E} written r z h e =
-    let told : (IsNumeral 10 (without_leading_sign written) × FitsSigned w64 (signed_digits_value 10 written)) × (z ≡ signed_digits_value 10 written) = subst (λ (r : Result ℤ E). OkIff r (IsNumeral 10 (without_leading_sign written) × FitsSigned w64 (signed_digits_value 10 written)) (signed_digits_value 10 written)) e h in
+    let told : (IsNumeral 10 (without_leading_sign written) × FitsSigned w64 (signed_digits_value 10 written)) × (z ≡ signed_digits_value 10 written) =
+    subst (λ (r : Result ℤ E). OkIff r (IsNumeral 10 (without_leading_sign written) × FitsSigned w64 (signed_digits_value 10 written)) (signed_digits_value 10 written)) e h in
     to_z-of_z w64 z (subst (λ (n : ℤ). FitsSigned w64 n) (sym told.1) told.0.1)
 
 -- n digits of the bytes were read
@@ -107,7 +121,8 @@ module _ {E : Type 0} (bs written rest : List ℕ) (n : ℕ) (r : Result ℤ E) 
   dropped text minus =
       ap (λ k. drop k text) (one-add n) ∙ ap (λ l. drop (suc n) l) minus ∙ ap (λ k. drop k bs) counted
 
-  pub negative_read : (text : List ℕ) (z : ℤ) → text ≡ 45 ∷ bs → written ≡ take (1 + n) text → rest ≡ drop (1 + n) text → ParsesSigned w64 10 written r → r ≡ Ok z → Some (Number (to_z w64 (of_z w64 z)), rest) ≡ negative_at bs
+  pub negative_read : (text : List ℕ) (z : ℤ) → text ≡ 45 ∷ bs → written ≡ take (1 + n) text → rest ≡ drop (1 + n) text → ParsesSigned w64 10 written r → r ≡ Ok z
+      → Some (Number (to_z w64 (of_z w64 z)), rest) ≡ negative_at bs
   negative_read text z minus front back h e =
       let whole : written ≡ 45 ∷ run is_digit bs = front ∙ taken text minus in
       let left : rest ≡ behind_run is_digit bs = back ∙ dropped text minus in

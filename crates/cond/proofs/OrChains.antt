@@ -1,5 +1,5 @@
 -- A chain of parts that Or joins, gathered from left to right.
-use Rattle.std.proofs.Common.{◌≡◌, ℕ, ◌≤◌, max, true, false, List, [], ◌∷◌, ◌++◌, map, sym, refl, ap, ◌∙◌, arith, Some, Ok, Err}
+use Rattle.std.proofs.Common.{◌≡◌, ℕ, ◌≤◌, true, false, List, [], ◌∷◌, ◌++◌, append-nil, map, sym, refl, ap, ◌∙◌, arith, Some, Ok, Err}
 use Rattle.cond.specs.Tokens.{Token, Or, Closing}
 use Rattle.cond.specs.Grammar.{Any, all, or, All, any_then, all_then, any_depth, all_depth}
 use Rattle.cond.specs.Meaning.{Environment, Verdict, either, any_meaning, all_meaning}
@@ -9,7 +9,8 @@ use Rattle.cond.specs.Readings.{ends_any, ends_all, Reads, Refuses}
 use Rattle.cond.specs.declared.stop.Stop.{Stop}
 use Rattle.cond.specs.declared.tree.Tree.{Tree}
 use Rattle.cond.proofs.Unambiguous.{all_same, any_ends_all, no_or}
-use Rattle.cond.proofs.LeavesLaws.{more_leaves}
+use Rattle.cond.proofs.Appended.{all_appended}
+use Rattle.cond.proofs.Lifts.{Holds, lifted}
 
 -- the parts, each with the Or behind it, before the rest
 abbrev pub chain : List All → List Token → List Token
@@ -69,10 +70,12 @@ begun : (t : Token) (tokens : List Token) → first tokens ≡ Some t → tokens
 begun t [] e = absurd (cc)
 begun t (x ∷ rest) e = let same : x ≡ t = cc in ap (λ y. y ∷ rest) same
 
-module _ (text : List ℕ) (tokens rest : List Token) (room : ℕ) (trees new : List Tree) (tree : Tree) (left : List Token) (so_far : Gathered text tokens rest room trees) (read : Reads all_then all_depth ends_all all_meaning (tree_verdict text) room rest tree left) (pushed : new ≡ trees ++ tree ∷ []) where
+module _ (text : List ℕ) (tokens rest : List Token) (room : ℕ) (trees new : List Tree) (tree : Tree) (left : List Token) (so_far : Gathered text tokens rest room trees)
+    (read : Reads all_then all_depth ends_all all_meaning (tree_verdict text) room rest tree left) (pushed : new ≡ trees ++ tree ∷ []) where
   same_pushed : (e : Environment) → map (tree_verdict text e) new ≡ map (all_meaning e) (so_far.parts ++ read.reading ∷ [])
   same_pushed e =
-      ap (map (tree_verdict text e)) pushed ∙ map_pushed (tree_verdict text e) trees tree ∙ ap (λ l. l ++ tree_verdict text e tree ∷ []) (so_far.same e) ∙ ap (λ v. map (all_meaning e) so_far.parts ++ v ∷ []) (read.same e) ∙ sym (map_pushed (all_meaning e) so_far.parts read.reading)
+      ap (map (tree_verdict text e)) pushed ∙ map_pushed (tree_verdict text e) trees tree ∙ ap (λ l. l ++ tree_verdict text e tree ∷ []) (so_far.same e)
+      ∙ ap (λ v. map (all_meaning e) so_far.parts ++ v ∷ []) (read.same e) ∙ sym (map_pushed (all_meaning e) so_far.parts read.reading)
 
   whole_read : tokens ≡ chain so_far.parts (all_then read.reading left)
   whole_read = so_far.whole ∙ ap (chain so_far.parts) read.whole
@@ -91,7 +94,8 @@ module _ (text : List ℕ) (tokens rest : List Token) (room : ℕ) (trees new : 
   ends_here (Or ∷ k) h last = absurd (last refl)
   ends_here (t ∷ k) h last = absurd (cc)
 
-  pub all_read : (first left ≡ Some Or → ⊥) → (tree : Tree) → ((e : Environment) → tree_verdict text e tree ≡ any_of (map (tree_verdict text e) new)) → Reads any_then any_depth ends_any any_meaning (tree_verdict text) room tokens tree left
+  pub all_read : (first left ≡ Some Or → ⊥) → (tree : Tree) → ((e : Environment) → tree_verdict text e tree ≡ any_of (map (tree_verdict text e) new))
+      → Reads any_then any_depth ends_any any_meaning (tree_verdict text) room tokens tree left
   all_read last tree joined = record {
     reading = linked so_far.parts read.reading;
     whole = whole_read ∙ sym (linked_then so_far.parts read.reading left);
@@ -101,24 +105,39 @@ module _ (text : List ℕ) (tokens rest : List Token) (room : ℕ) (trees new : 
   }
 
 -- a part that stands alone
-pub only_read : (text : List ℕ) (tokens : List Token) (room : ℕ) (tree : Tree) (left : List Token) → Reads all_then all_depth ends_all all_meaning (tree_verdict text) room tokens tree left → (first left ≡ Some Or → ⊥) → Reads any_then any_depth ends_any any_meaning (tree_verdict text) room tokens tree left
+pub only_read : (text : List ℕ) (tokens : List Token) (room : ℕ) (tree : Tree) (left : List Token)
+    → Reads all_then all_depth ends_all all_meaning (tree_verdict text) room tokens tree left → (first left ≡ Some Or → ⊥)
+    → Reads any_then any_depth ends_any any_meaning (tree_verdict text) room tokens tree left
 only_read text tokens room tree left read last =
     all_read text tokens tokens room [] (tree ∷ []) tree left (nothing_yet text tokens room) read refl last tree (λ e. alone (tree_verdict text e tree))
 
-first_refused : (room : ℕ) (rest : List Token) (fault : Stop) → Refuses all_then all_depth ends_all room rest fault → Refuses any_then any_depth ends_any room rest fault
-first_refused room rest fault refused (all a) m h e = refused a m (any_ends_all m h) e
-first_refused room rest fault refused (or a more) m h e =
-    more_leaves fault room (all_depth a) (max (all_depth a) (any_depth more)) (omega arith) (refused a (Or ∷ any_then more m) refl e)
+-- behind the parts
+chain_front : (parts : List All) (m : List Token) → chain parts m ≡ chain parts [] ++ m
+chain_front [] m = refl
+chain_front (a ∷ parts) m =
+    ap (λ k. all_then a (Or ∷ k)) (chain_front parts m) ∙ all_appended a (Or ∷ chain parts []) m
 
-chain_refused : (room : ℕ) (parts : List All) (rest : List Token) (fault : Stop) → Refuses all_then all_depth ends_all room rest fault → Refuses any_then any_depth ends_any room (chain parts rest) fault
-chain_refused room [] rest fault refused n m h e = first_refused room rest fault refused n m h e
-chain_refused room (a ∷ parts) rest fault refused (all b) m h e =
-    absurd (no_or m (chain parts rest) h (sym (all_same a b (Or ∷ chain parts rest) m refl (any_ends_all m h) e).1))
-chain_refused room (a ∷ parts) rest fault refused (or b more) m h e =
-    let split = all_same a b (Or ∷ chain parts rest) (Or ∷ any_then more m) refl refl e in
-    let tail = split.1 in
-    more_leaves fault room (any_depth more) (max (all_depth b) (any_depth more)) (omega arith) (chain_refused room parts rest fault refused more m h (cc))
+abbrev HoldsAll : ℕ → Any → List Token → Type 0
+HoldsAll room = Holds all_then all_depth ends_all room any_then any_depth ends_any room
 
-pub part_refused : (text : List ℕ) (tokens rest : List Token) (room : ℕ) (trees : List Tree) (fault : Stop) → Gathered text tokens rest room trees → Refuses all_then all_depth ends_all room rest fault → Refuses any_then any_depth ends_any room tokens fault
-part_refused text tokens rest room trees fault so_far refused n m h e =
-    chain_refused room so_far.parts rest fault refused n m h (sym so_far.whole ∙ e)
+chain_holds : (room : ℕ) (parts : List All) (u : Any) (m x : List Token) → ends_any m ≡ true → chain parts x ≡ any_then u m → HoldsAll room u x
+chain_holds room [] (all a) m x h e = record { part = a; behind = m; ended = any_ends_all m h; whole = sym e; deep = λ l. l }
+chain_holds room [] (or a more) m x h e =
+    record { part = a; behind = Or ∷ any_then more m; ended = refl; whole = sym e; deep = λ l. omega (arith, l) }
+chain_holds room (a ∷ parts) (all b) m x h e =
+    absurd (no_or m (chain parts x) h (sym (all_same a b (Or ∷ chain parts x) m refl (any_ends_all m h) e).1))
+chain_holds room (a ∷ parts) (or b more) m x h e =
+    let tail = (all_same a b (Or ∷ chain parts x) (Or ∷ any_then more m) refl refl e).1 in
+    let later = chain_holds room parts more m x h (cc) in
+    record { part = later.part; behind = later.behind; ended = later.ended; whole = later.whole; deep = λ l. omega (arith, later.deep l) }
+
+pub part_refused : (text : List ℕ) (place : List Token → ℕ) (tokens rest : List Token) (room : ℕ) (trees : List Tree) (fault : Stop) → Gathered text tokens rest room trees
+    → Refuses all_then all_depth ends_all place room rest fault → Refuses any_then any_depth ends_any place room tokens fault
+part_refused text place tokens rest room trees fault so_far refused =
+    lifted all_then all_depth ends_all room any_then any_depth ends_any room place (chain so_far.parts []) rest tokens (so_far.whole ∙ chain_front so_far.parts rest) (record {
+      around = linked so_far.parts;
+      after = [];
+      put = λ n. linked_then so_far.parts n [] ∙ chain_front so_far.parts (all_then n []) ∙ ap (λ k. chain so_far.parts [] ++ k) (sym (append-nil (all_then n [])));
+      fits = λ n. linked_deep room so_far.parts n so_far.fits;
+      holds = λ u m x h e f. chain_holds room so_far.parts u m x h (chain_front so_far.parts x ∙ sym e);
+    }) fault refused

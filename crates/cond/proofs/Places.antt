@@ -1,5 +1,6 @@
 -- Where the word of a token stands in a text.
-use Rattle.std.proofs.Common.{◌≡◌, ℕ, suc, ◌+◌, ◌^◌, ◌≤◌, Bool, true, false, ◌&&◌, ◌||◌, cond, nat_lt, nat_le, bytes_eq, eqb, List, [], ◌∷◌, ◌++◌, length, take, drop, append_assoc, length-append, sym, refl, ap, ◌∙◌, arith, subst, Some, None, pos, neg_ℤ}
+use Rattle.std.proofs.Common.{◌≡◌, ℕ, suc, ◌+◌, ◌^◌, ◌≤◌, Bool, true, false, ◌&&◌, ◌||◌, cond, nat_lt, nat_le, bytes_eq, eqb, List, [], ◌∷◌, ◌++◌, length}
+use Rattle.std.proofs.Common.{take, drop, append_assoc, length-append, sym, refl, ap, ◌∙◌, arith, subst, Some, None, pos, neg_ℤ}
 use Rattle.std.specs.Prelude.{⊤, codes}
 use Rattle.std.specs.List.{prefix_len}
 use Rattle.std.specs.Str.Parse.{digits_value}
@@ -7,7 +8,8 @@ use Rattle.std.proofs.lemmas.List.{take-append-drop}
 use Rattle.std.proofs.lemmas.Str.{IsUtf8-from_is_utf8, is_utf8-from_IsUtf8}
 use Rattle.std.specs.Str.{IsUtf8, is_utf8}
 use Rattle.cond.specs.declared.span.Span.{Span}
-use Rattle.cond.specs.Tokens.{Token, Front, Name, Number, Text, Truth, Not, And, Or, Is, In, Groups, Host, Equal, Unequal, Dot, Opening, Closing, is_letter, is_digit, is_name_byte, is_quote, is_inside, run, behind_run, token_of_word, word_at, number_at, negative_at, ended_by, text_at, sign_at, token_at}
+use Rattle.cond.specs.Tokens.{Token, Front, Name, Number, Text, Truth, Not, And, Or, Is, In, Groups, Host, Equal, Unequal, Dot, Opening, Closing, is_letter, is_digit, is_name_byte, is_quote}
+use Rattle.cond.specs.Tokens.{is_inside, run, behind_run, token_of_word, word_at, number_at, negative_at, ended_by, text_at, sign_at, token_at}
 use Rattle.cond.specs.Seen.{StandsAt, word_length, bytes_at, piece}
 
 -- what is left of a text stands at its end
@@ -49,7 +51,14 @@ step bs false t other stands none later = later
 
 word_begins : (bs word : List ℕ) → take (length word) bs ≡ word → length word ≤ length bs → Begins bs (token_of_word word)
 word_begins bs word at short =
-    step bs (bytes_eq word (codes "not")) Not _ tt refl (step bs (bytes_eq word (codes "and")) And _ tt refl (step bs (bytes_eq word (codes "or")) Or _ tt refl (step bs (bytes_eq word (codes "is")) Is _ tt refl (step bs (bytes_eq word (codes "in")) In _ tt refl (step bs (bytes_eq word (codes "true") || bytes_eq word (codes "True")) (Truth true) _ tt refl (step bs (bytes_eq word (codes "false") || bytes_eq word (codes "False")) (Truth false) _ tt refl (step bs (bytes_eq word (codes "group_names")) Groups _ tt refl (step bs (bytes_eq word (codes "inventory_hostname")) Host (Name word) tt refl (at, short)))))))))
+    step bs (bytes_eq word (codes "not")) Not _ tt refl
+    (step bs (bytes_eq word (codes "and")) And _ tt refl
+    (step bs (bytes_eq word (codes "or")) Or _ tt refl
+    (step bs (bytes_eq word (codes "is")) Is _ tt refl
+    (step bs (bytes_eq word (codes "in")) In _ tt refl
+    (step bs (bytes_eq word (codes "true") || bytes_eq word (codes "True")) (Truth true) _ tt refl
+    (step bs (bytes_eq word (codes "false") || bytes_eq word (codes "False")) (Truth false) _ tt refl
+    (step bs (bytes_eq word (codes "group_names")) Groups _ tt refl (step bs (bytes_eq word (codes "inventory_hostname")) Host (Name word) tt refl (at, short)))))))))
 
 word : (bs : List ℕ) → Fronts bs (word_at bs)
 unfolding word_at
@@ -62,7 +71,8 @@ by_test bs false x y held other = other
 number : (bs : List ℕ) → Fronts bs (number_at bs)
 unfolding number_at
 number bs =
-    by_test bs (nat_lt 0 (prefix_len is_digit bs) && nat_lt (digits_value 10 (run is_digit bs)) (2 ^ 63)) (Some (Number (pos (digits_value 10 (run is_digit bs))), behind_run is_digit bs)) None (run_ends is_digit bs, (tt, omega arith)) tt
+    by_test bs (nat_lt 0 (prefix_len is_digit bs) && nat_lt (digits_value 10 (run is_digit bs)) (2 ^ 63))
+    (Some (Number (pos (digits_value 10 (run is_digit bs))), behind_run is_digit bs)) None (run_ends is_digit bs, (tt, omega arith)) tt
 
 -- behind a first byte
 more : (b : ℕ) (bs left : List ℕ) → Ends bs left → Ends (b ∷ bs) left
@@ -71,7 +81,8 @@ more b bs left ends = (b ∷ ends.0, ap (λ l. b ∷ l) ends.1)
 negative : (b : ℕ) (bs : List ℕ) → Fronts (b ∷ bs) (negative_at bs)
 unfolding negative_at
 negative b bs =
-    by_test (b ∷ bs) (nat_lt 0 (prefix_len is_digit bs) && nat_le (digits_value 10 (run is_digit bs)) (2 ^ 63)) (Some (Number (neg_ℤ (pos (digits_value 10 (run is_digit bs)))), behind_run is_digit bs)) None (more b bs _ (run_ends is_digit bs), (tt, omega arith)) tt
+    by_test (b ∷ bs) (nat_lt 0 (prefix_len is_digit bs) && nat_le (digits_value 10 (run is_digit bs)) (2 ^ 63))
+    (Some (Number (neg_ℤ (pos (digits_value 10 (run is_digit bs)))), behind_run is_digit bs)) None (more b bs _ (run_ends is_digit bs), (tt, omega arith)) tt
 
 ended : (bs : List ℕ) (wanted : ℕ) (token : Token) (left : List ℕ) → Ends bs left → Begins bs token → Fronts bs (ended_by wanted token left)
 ended bs wanted token [] ends begins = tt
@@ -93,7 +104,9 @@ sign b bs =
     let closing = cond (eqb b 41) (Some (Closing, bs)) None in
     let opening = cond (eqb b 40) (Some (Opening, bs)) closing in
     let dot = cond (eqb b 46) (Some (Dot, bs)) opening in
-    by_test all (eqb b 61) (ended_by 61 Equal bs) (cond (eqb b 33) (ended_by 61 Unequal bs) dot) (ended all 61 Equal bs ends (tt, omega arith)) (by_test all (eqb b 33) (ended_by 61 Unequal bs) dot (ended all 61 Unequal bs ends (tt, omega arith)) (whole Dot (tt, omega arith) opening (eqb b 46) (whole Opening (tt, omega arith) closing (eqb b 40) (whole Closing (tt, omega arith) None (eqb b 41) tt))))
+    by_test all (eqb b 61) (ended_by 61 Equal bs) (cond (eqb b 33) (ended_by 61 Unequal bs) dot) (ended all 61 Equal bs ends (tt, omega arith))
+    (by_test all (eqb b 33) (ended_by 61 Unequal bs) dot (ended all 61 Unequal bs ends (tt, omega arith))
+    (whole Dot (tt, omega arith) opening (eqb b 46) (whole Opening (tt, omega arith) closing (eqb b 40) (whole Closing (tt, omega arith) None (eqb b 41) tt))))
 
 token_fronts : (bs : List ℕ) → Fronts bs (token_at bs)
 unfolding token_at
@@ -103,7 +116,9 @@ token_fronts (b ∷ bs) =
     let quoted = cond (is_quote b) (text_at b bs) (sign_at b bs) in
     let minus = cond (eqb b 45) (negative_at bs) quoted in
     let digit = cond (is_digit b) (number_at all) minus in
-    by_test all (is_letter b) (word_at all) digit (word all) (by_test all (is_digit b) (number_at all) minus (number all) (by_test all (eqb b 45) (negative_at bs) quoted (negative b bs) (by_test all (is_quote b) (text_at b bs) (sign_at b bs) (text b bs) (sign b bs))))
+    by_test all (is_letter b) (word_at all) digit (word all)
+    (by_test all (is_digit b) (number_at all) minus (number all)
+    (by_test all (eqb b 45) (negative_at bs) quoted (negative b bs) (by_test all (is_quote b) (text_at b bs) (sign_at b bs) (text b bs) (sign b bs))))
 
 -- what a token that was cut off has to do with the bytes
 pub token_begins : (bs : List ℕ) (t : Token) (rest : List ℕ) → token_at bs ≡ Some (t, rest) → Ends bs rest × Begins bs t

@@ -1,8 +1,10 @@
 -- A token takes at least one byte.
-use Rattle.std.proofs.Common.{◌≡◌, ℕ, ◌+◌, ◌^◌, ◌<◌, ◌≤◌, Bool, true, false, ◌&&◌, ◌||◌, cond, nat_lt, nat_le, eqb, List, [], ◌∷◌, length, refl, ap, arith, Some, None, length-drop, pos, neg_ℤ}
+use Rattle.std.proofs.Common.{◌≡◌, ℕ, ◌+◌, ◌^◌, ◌<◌, ◌≤◌, Bool, true, false, ◌&&◌, ◌||◌, cond, nat_lt, nat_le, eqb, List, [], ◌∷◌, length, refl, ap, arith}
+use Rattle.std.proofs.Common.{Some, None, length-drop, pos, neg_ℤ}
 use Rattle.std.specs.List.{prefix_len}
 use Rattle.std.specs.Str.Parse.{digits_value}
-use Rattle.cond.specs.Tokens.{Token, Front, Number, Text, Equal, Unequal, Dot, Opening, Closing, is_letter, is_digit, is_name_byte, is_quote, is_inside, run, behind_run, word_at, number_at, negative_at, ended_by, text_at, sign_at, token_at}
+use Rattle.cond.specs.Tokens.{Token, Front, Number, Text, Equal, Unequal, Dot, Opening, Closing, is_letter, is_digit, is_name_byte, is_quote, is_inside, run, behind_run, word_at, number_at}
+use Rattle.cond.specs.Tokens.{negative_at, ended_by, text_at, sign_at, token_at}
 
 -- how much is left behind the token; nothing where there is none
 abbrev left_of : Front → ℕ
@@ -37,7 +39,9 @@ sign b bs =
     let closing = cond (eqb b 41) (Some (Closing, bs)) None in
     let opening = cond (eqb b 40) (Some (Opening, bs)) closing in
     let dot = cond (eqb b 46) (Some (Dot, bs)) opening in
-    by_test (eqb b 61) (ended_by 61 Equal bs) (cond (eqb b 33) (ended_by 61 Unequal bs) dot) n (λ _. ended 61 Equal bs n (omega arith)) (λ _. by_test (eqb b 33) (ended_by 61 Unequal bs) dot n (λ _. ended 61 Unequal bs n (omega arith)) (λ _. whole Dot opening (eqb b 46) (whole Opening closing (eqb b 40) (whole Closing None (eqb b 41) (none_left n)))))
+    by_test (eqb b 61) (ended_by 61 Equal bs) (cond (eqb b 33) (ended_by 61 Unequal bs) dot) n (λ _. ended 61 Equal bs n (omega arith))
+    (λ _. by_test (eqb b 33) (ended_by 61 Unequal bs) dot n (λ _. ended 61 Unequal bs n (omega arith))
+    (λ _. whole Dot opening (eqb b 46) (whole Opening closing (eqb b 40) (whole Closing None (eqb b 41) (none_left n)))))
 
 word : (b : ℕ) (bs : List ℕ) → is_letter b ≡ true → left_of (word_at (b ∷ bs)) ≤ length bs
 unfolding word_at
@@ -46,12 +50,14 @@ word b bs l = run_taken is_name_byte b bs (ap (λ x. x || is_digit b) l)
 number : (b : ℕ) (bs : List ℕ) → is_digit b ≡ true → left_of (number_at (b ∷ bs)) ≤ length bs
 unfolding number_at
 number b bs d =
-    by_test (nat_lt 0 (prefix_len is_digit (b ∷ bs)) && nat_lt (digits_value 10 (run is_digit (b ∷ bs))) (2 ^ 63)) (Some (Number (pos (digits_value 10 (run is_digit (b ∷ bs)))), behind_run is_digit (b ∷ bs))) None (length bs) (λ _. run_taken is_digit b bs d) (λ _. none_left (length bs))
+    by_test (nat_lt 0 (prefix_len is_digit (b ∷ bs)) && nat_lt (digits_value 10 (run is_digit (b ∷ bs))) (2 ^ 63))
+    (Some (Number (pos (digits_value 10 (run is_digit (b ∷ bs)))), behind_run is_digit (b ∷ bs))) None (length bs) (λ _. run_taken is_digit b bs d) (λ _. none_left (length bs))
 
 negative : (bs : List ℕ) → left_of (negative_at bs) ≤ length bs
 unfolding negative_at
 negative bs =
-    by_test (nat_lt 0 (prefix_len is_digit bs) && nat_le (digits_value 10 (run is_digit bs)) (2 ^ 63)) (Some (Number (neg_ℤ (pos (digits_value 10 (run is_digit bs)))), behind_run is_digit bs)) None (length bs) (λ _. left_le is_digit bs) (λ _. none_left (length bs))
+    by_test (nat_lt 0 (prefix_len is_digit bs) && nat_le (digits_value 10 (run is_digit bs)) (2 ^ 63))
+    (Some (Number (neg_ℤ (pos (digits_value 10 (run is_digit bs)))), behind_run is_digit bs)) None (length bs) (λ _. left_le is_digit bs) (λ _. none_left (length bs))
 
 text : (q : ℕ) (bs : List ℕ) → left_of (text_at q bs) ≤ length bs
 unfolding text_at
@@ -65,7 +71,9 @@ token_le b bs =
     let quoted = cond (is_quote b) (text_at b bs) (sign_at b bs) in
     let minus = cond (eqb b 45) (negative_at bs) quoted in
     let digit = cond (is_digit b) (number_at (b ∷ bs)) minus in
-    by_test (is_letter b) (word_at (b ∷ bs)) digit n (word b bs) (λ _. by_test (is_digit b) (number_at (b ∷ bs)) minus n (number b bs) (λ _. by_test (eqb b 45) (negative_at bs) quoted n (λ _. negative bs) (λ _. by_test (is_quote b) (text_at b bs) (sign_at b bs) n (λ _. text b bs) (λ _. sign b bs))))
+    by_test (is_letter b) (word_at (b ∷ bs)) digit n (word b bs)
+    (λ _. by_test (is_digit b) (number_at (b ∷ bs)) minus n (number b bs)
+    (λ _. by_test (eqb b 45) (negative_at bs) quoted n (λ _. negative bs) (λ _. by_test (is_quote b) (text_at b bs) (sign_at b bs) n (λ _. text b bs) (λ _. sign b bs))))
 
 nothing : (t : Token) (rest : List ℕ) → token_at [] ≡ Some (t, rest) → ⊥
 unfolding token_at

@@ -1,8 +1,8 @@
 -- The tokens that are left of a text.
-use Rattle.std.proofs.Common.{◌≡◌, ℕ, zero, suc, ◌+◌, List, [], ◌∷◌, drop, slice_get, refl, ap, ◌∙◌, arith, Some, None}
+use Rattle.std.proofs.Common.{◌≡◌, ℕ, zero, suc, ◌+◌, ◌-◌, List, [], ◌∷◌, drop, map, get_or, length, length-drop, slice_get, sym, refl, ap, ◌∙◌, arith, Some, None}
 use Rattle.cond.specs.Tokens.{Token}
 use Rattle.cond.specs.Heads.{first, behind}
-use Rattle.cond.specs.Seen.{kept, marks}
+use Rattle.cond.specs.Seen.{kept, marks, place_in}
 use Rattle.cond.specs.declared.token.Token as placed
 
 pub first_some : (text : List ℕ) (tokens : List placed.Token) (n : ℕ) (t : placed.Token) → Some t ≡ slice_get tokens n → Some (kept text t.mark) ≡ first (drop n (marks text tokens))
@@ -26,3 +26,29 @@ pub behind_at : (text : List ℕ) (tokens : List placed.Token) (n : ℕ) → dro
 behind_at text tokens n =
     let e : n + 1 ≡ suc n = omega arith in
     ap (λ k. drop k (marks text tokens)) e ∙ next (marks text tokens) n
+
+-- the place of the first token that is left, or of the end
+pub marks_length : (text : List ℕ) (tokens : List placed.Token) → length (marks text tokens) ≡ length tokens
+marks_length text [] = refl
+marks_length text (t ∷ tokens) = omega (arith, marks_length text tokens)
+
+later : (text : List ℕ) (x : placed.Token) (tokens : List placed.Token) (end n : ℕ)
+    → place_in tokens end (drop n (marks text tokens)) ≡ place_in (x ∷ tokens) end (drop n (marks text tokens))
+later text x tokens end n =
+    let e : length (x ∷ tokens) - length (drop n (marks text tokens)) ≡ suc (length tokens - length (drop n (marks text tokens))) =
+    omega (arith, marks_length text tokens, length-drop n (marks text tokens)) in
+    ap (λ i. get_or (map (λ (k : placed.Token). k.at) (x ∷ tokens)) i end) (sym e)
+
+pub place_some : (text : List ℕ) (tokens : List placed.Token) (end n : ℕ) (t : placed.Token) → Some t ≡ slice_get tokens n → t.at ≡ place_in tokens end (drop n (marks text tokens))
+place_some text [] end n t e = absurd (cc)
+place_some text (x ∷ tokens) end zero t e =
+    let same : t ≡ x = cc in
+    let here : length (x ∷ tokens) - length (marks text (x ∷ tokens)) ≡ 0 = omega (arith, marks_length text tokens) in
+    ap (λ (k : placed.Token). k.at) same ∙ sym (ap (λ i. get_or (map (λ (k : placed.Token). k.at) (x ∷ tokens)) i end) here)
+place_some text (x ∷ tokens) end (suc n) t e = place_some text tokens end n t e ∙ later text x tokens end n
+
+pub place_none : (text : List ℕ) (tokens : List placed.Token) (end n : ℕ) → None ≡ slice_get tokens n → end ≡ place_in tokens end (drop n (marks text tokens))
+place_none text [] end zero e = refl
+place_none text [] end (suc n) e = refl
+place_none text (x ∷ tokens) end zero e = absurd (cc)
+place_none text (x ∷ tokens) end (suc n) e = place_none text tokens end n e ∙ later text x tokens end n

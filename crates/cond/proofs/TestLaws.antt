@@ -2,7 +2,8 @@
 use Rattle.std.proofs.Common.{◌≡◌, ◌<◌, ◌≤◌, true, false, List, ◌∷◌, length, sym, refl, ap, ◌∙◌, arith}
 use Rattle.std.specs.Prelude.{codes}
 use Rattle.cond.specs.Tokens.{Token, Name, Not, Is, In, Groups, Equal, Unequal}
-use Rattle.cond.specs.Grammar.{state_word, Ref, whole, part, hostname, Operand, text, number, truth, ref, Test, stands, defined, equals, within, alone, ref_then, operand_then, not_then, sign_of, test_then}
+use Rattle.cond.specs.Grammar.{state_word, Ref, whole, part, hostname, Operand, text, number, truth, ref, Test, stands, defined, equals, within, alone, ref_then, operand_then, not_then, sign_of}
+use Rattle.cond.specs.Grammar.{test_then}
 use Rattle.cond.specs.Readings.{ends_neg}
 use Rattle.cond.proofs.Words.{state_same, no_state}
 use Rattle.cond.proofs.Operands.{is_apart, apart_at_end, operand_same, begins_none, no_operand}

@@ -1,6 +1,7 @@
 -- A text that is a condition, and the rules that a text may break.
-use Rattle.std.specs.Prelude.{◌≡◌, ℕ, ◌<◌, ◌≤◌, List, [], ◌∷◌, ◌++◌, length, ⊤}
-use Rattle.cond.specs.Tokens.{Token, FallsInto, openers}
+use Rattle.std.specs.Prelude.{◌≡◌, ℕ, ◌+◌, ◌<◌, ◌≤◌, None, List, [], ◌∷◌, ◌++◌, length, ⊤}
+use Rattle.cond.specs.Tokens.{Token, FallsInto, token_at}
+use Rattle.cond.specs.Fronts.{StartsWith, GoesOn, IsBegun, token_of}
 use Rattle.cond.specs.Grammar.{Any, tokens_of, any_depth}
 use Rattle.cond.specs.Meaning.{Environment, Verdict, meaning}
 use Rattle.cond.specs.Trees.{verdict_of}
@@ -42,21 +43,34 @@ abbrev pub IsAdded : List ℕ → (Environment → List Verdict) → (Environmen
 IsAdded text before after =
     (means : Environment → Verdict) × IsMeant text means × ((e : Environment) → after e ≡ before e ++ means e ∷ [])
 
--- The rule that the fault names is broken by a text that falls into these tokens, up to what is left.
-abbrev pub IsBroken : CondFault → List Token → List ℕ → Type 0
--- something is left that begins with no token
-IsBroken (fault.BadToken at) tokens left = 0 < length left
--- the tokens are no condition
-IsBroken (fault.Unexpected at) tokens left = (condition : Any) → tokens ≡ tokens_of condition → ⊥
--- there are more brackets and `not`s than may be nested, and as a condition they are nested deeper
-IsBroken (fault.TooDeep at) tokens left = (most_depth < openers tokens) × ((condition : Any) → tokens ≡ tokens_of condition → most_depth < any_depth condition)
-IsBroken (fault.TooLong at) tokens left = ⊥
--- want of memory names no rule
-IsBroken fault.Memory tokens left = ⊤
+-- What is left begins with no token.
+abbrev pub IsBad : List Token → List ℕ → Type 0
+IsBad front left = (0 < length left) × (token_at left ≡ None)
 
+-- No condition goes on with the token there, or ends where the text does.
+abbrev pub IsUnexpected : List Token → List ℕ → Type 0
+IsUnexpected front left =
+    (0 < length left → token_at left ≡ None → ⊥) × ((condition : Any) → GoesOn condition front (token_of (token_at left)) → ⊥)
+
+-- Some condition goes on with the token there, and each that does is nested too deep.
+abbrev pub IsTooDeep : List Token → List ℕ → Type 0
+IsTooDeep front left =
+    ((condition : Any) × GoesOn condition front (token_of (token_at left))) × ((condition : Any) → GoesOn condition front (token_of (token_at left)) → most_depth < any_depth condition)
+
+-- The tokens before the place are the beginning of a condition within the depth, and there the rule is broken.
+pub record BreaksAt (text : List ℕ) (at : ℕ) (Broken : List Token → List ℕ → Type 0) : Type 0 where
+  pub front : List Token
+  pub left : List ℕ
+  pub split : StartsWith text front left
+  pub place : at + length left ≡ length text
+  pub begun : IsBegun most_depth front
+  pub broken : Broken front left
+
+-- The fault names a rule that the text breaks, and the first place where it breaks any.
 abbrev pub Breaks : CondFault → List ℕ → Type 0
 Breaks (fault.TooLong at) text = (at ≡ most_bytes) × (most_bytes < length text)
-Breaks (fault.BadToken at) text = (tokens : List Token) × (left : List ℕ) × FallsInto text tokens left × IsBroken (fault.BadToken at) tokens left
-Breaks (fault.Unexpected at) text = (tokens : List Token) × (left : List ℕ) × FallsInto text tokens left × IsBroken (fault.Unexpected at) tokens left
-Breaks (fault.TooDeep at) text = (tokens : List Token) × (left : List ℕ) × FallsInto text tokens left × IsBroken (fault.TooDeep at) tokens left
+Breaks (fault.BadToken at) text = BreaksAt text at IsBad
+Breaks (fault.Unexpected at) text = BreaksAt text at IsUnexpected
+Breaks (fault.TooDeep at) text = BreaksAt text at IsTooDeep
+-- want of memory names no rule
 Breaks fault.Memory text = ⊤

@@ -1,5 +1,5 @@
 -- Which rule a fault names.
-use Rattle.std.specs.Prelude.{ℕ, Option, Some, None, List, ◌++◌, codes, decimal}
+use Rattle.std.specs.Prelude.{ℕ, Option, Some, None}
 use Rattle.cond.specs.declared.fault.CondFault.{CondFault}
 use Rattle.cond.specs.declared.fault.CondFault.TheVariants as fault
 
@@ -10,11 +10,3 @@ number_of (fault.Unexpected at) = Some 502
 number_of (fault.TooDeep at) = Some 503
 number_of (fault.TooLong at) = Some 504
 number_of fault.Memory = None
-
--- what a fault says of itself
-abbrev pub text_of : CondFault → List ℕ
-text_of (fault.BadToken at) = codes "no token at byte " ++ decimal at
-text_of (fault.Unexpected at) = codes "unexpected at byte " ++ decimal at
-text_of (fault.TooDeep at) = codes "nested too deep at byte " ++ decimal at
-text_of (fault.TooLong at) = codes "longer than 4096 bytes"
-text_of fault.Memory = codes "out of memory"

@@ -7,6 +7,7 @@ pub mod Faults
 pub mod Heads
 pub mod Answers
 pub mod Readings
+pub mod Fronts
 pub mod Conditions
 pub mod Conjunctions
 pub mod Worked

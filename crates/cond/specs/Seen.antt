@@ -1,5 +1,5 @@
 -- The tokens that the code keeps, as those of the definitions.
-use Rattle.std.specs.Prelude.{◌≡◌, ℕ, ◌+◌, Option, Some, None, List, [], length, map, take, drop, ⊤, if◌then◌else◌}
+use Rattle.std.specs.Prelude.{◌≡◌, ℕ, ◌+◌, ◌-◌, Option, Some, None, List, [], length, map, take, drop, get_or, ⊤, if◌then◌else◌}
 use Rattle.std.specs.Str.{is_utf8}
 use Rattle.std.specs.Borrow.{Bor}
 use Rattle.cond.specs.Tokens as token
@@ -85,3 +85,10 @@ text_of source = source.text.now
 -- the tokens that are left from one of them on
 abbrev pub ahead : Source → ℕ → List Token
 ahead source from = drop from (marks (text_of source) source.tokens.now)
+
+-- the place of the first of those tokens that are left, or of the end
+abbrev pub place_in : List placed.Token → ℕ → List Token → ℕ
+place_in tokens end rest = get_or (map (λ token. token.at) tokens) (length tokens - length rest) end
+
+abbrev pub place_of : Source → List Token → ℕ
+place_of source rest = place_in source.tokens.now source.end rest

@@ -1,5 +1,5 @@
 -- The tokens of a condition's text, in bytes.
-use Rattle.std.specs.Prelude.{◌≡◌, ℕ, ◌+◌, Bool, true, false, not, ◌&&◌, ◌||◌, ◌==◌, ◌^◌, nat_lt, nat_le, bytes_eq, codes, ℤ, pos, neg_ℤ, Option, Some, None, List, [], ◌∷◌, take, drop, if◌then◌else◌}
+use Rattle.std.specs.Prelude.{◌≡◌, ℕ, Bool, true, false, not, ◌&&◌, ◌||◌, ◌==◌, ◌^◌, nat_lt, nat_le, bytes_eq, codes, ℤ, pos, neg_ℤ, Option, Some, None, List, [], ◌∷◌, take, drop, if◌then◌else◌}
 use Rattle.std.specs.List.{prefix_len}
 use Rattle.std.specs.Str.Parse.{digits_value}
 
@@ -20,17 +20,6 @@ pub data Token : Type 0 where
   Dot : Token
   Opening : Token
   Closing : Token
-
--- an opening bracket or `not`
-abbrev pub is_opener : Token → Bool
-is_opener Opening = true
-is_opener Not = true
-is_opener token = false
-
--- how many brackets are opened and how many `not`s stand there
-abbrev pub openers : List Token → ℕ
-openers [] = 0
-openers (token ∷ rest) = (if is_opener token then 1 else 0) + openers rest
 
 -- a token, and the bytes behind it
 abbrev pub Front : Type 0

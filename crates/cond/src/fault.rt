@@ -3,20 +3,24 @@ ghost use Rattle.std.specs.Prelude.{◌≡◌};
 ghost use Rattle.cond.specs.Faults.{number_of};
 
 use std::alloc::{AllocError, AllocFailed};
-use std::error::Error;
-use std::fmt;
+use thiserror::Error;
 
 /// Why a text is no condition: the first rule that it breaks, and the place, in bytes from 0, where it does.
-#[derive(Clone, Copy, Debug, PartialEq, Eq)]
+#[derive(Clone, Copy, Debug, PartialEq, Eq, Error)]
 pub enum CondFault {
     /// No token stands there, or a text in quotes begins there and doesn't end.
+    #[error("no token at byte {at}")]
     BadToken { at: usize },
     /// The token there continues no condition, or the text ends too early.
+    #[error("unexpected at byte {at}")]
     Unexpected { at: usize },
     /// The bracket or `not` there is nested over 32 deep.
+    #[error("nested too deep at byte {at}")]
     TooDeep { at: usize },
     /// The text is longer than 4,096 bytes.
+    #[error("longer than 4096 bytes")]
     TooLong { at: usize },
+    #[error("out of memory")]
     Memory,
 }
 
@@ -34,25 +38,6 @@ impl CondFault {
         }
     }
 }
-
-impl fmt::Display for CondFault {
-    ghost use Rattle.std.specs.Prelude.{Some};
-    ghost use Rattle.cond.specs.Faults.{text_of};
-
-    ghost output = { λ fault. Some (text_of fault) };
-
-    fn fmt<W: fmt::Write>(&self, f: &mut fmt::Formatter<W>) -> fmt::Result {
-        match self {
-            CondFault::BadToken { at } => write!(f, "no token at byte {at}"),
-            CondFault::Unexpected { at } => write!(f, "unexpected at byte {at}"),
-            CondFault::TooDeep { at } => write!(f, "nested too deep at byte {at}"),
-            CondFault::TooLong { .. } => write!(f, "longer than 4096 bytes"),
-            CondFault::Memory => write!(f, "out of memory"),
-        }
-    }
-}
-
-impl Error for CondFault {}
 
 impl From<AllocError> for CondFault {
     ghost use Rattle.std.specs.Prelude.{◌≡◌};

@@ -6,11 +6,11 @@ ghost use Rattle.std.specs.Prelude.{◌≡◌, ℕ, List, ◌<◌, ◌++◌, ◌
 ghost use Rattle.cond.specs.Grammar as grammar;
 ghost use Rattle.cond.specs.Meaning.{Environment, any_meaning, all_meaning, neg_meaning, primary_meaning, test_meaning, turned};
 ghost use Rattle.cond.specs.Readings as readings;
-ghost use Rattle.cond.specs.Readings.{Crowds, Reads, Refuses};
+ghost use Rattle.cond.specs.Readings.{Reads, Refuses};
 ghost use Rattle.cond.specs.Heads as heads;
 ghost use Rattle.cond.specs.Heads.{first};
 ghost use Rattle.cond.specs.Tokens as token;
-ghost use Rattle.cond.specs.Seen.{ahead, text_of};
+ghost use Rattle.cond.specs.Seen.{ahead, place_of, text_of};
 ghost use Rattle.cond.specs.Trees.{tree_verdict, any_of, all_of, written};
 
 use crate::leaf::Test;
@@ -32,8 +32,7 @@ pub(crate) fn any(
 ) -> Result<(Tree, usize), Stop>
     ensures read { IfOk result (λ read. Reads grammar.any_then grammar.any_depth readings.ends_any any_meaning (tree_verdict (text_of source.now)) room (ahead source.now from) read.0 (ahead source.now read.1)) }
     ensures shorter { IfOk result (λ read. length (ahead source.now read.1) < length (ahead source.now from)) }
-    ensures refused { IfErr result (λ stop. Refuses grammar.any_then grammar.any_depth readings.ends_any room (ahead source.now from) stop) }
-    ensures deep { IfErr result (λ stop. Crowds stop room (ahead source.now from)) }
+    ensures refused { IfErr result (λ stop. Refuses grammar.any_then grammar.any_depth readings.ends_any (place_of source.now) room (ahead source.now from) stop) }
 {
     let (part, rest) = match all(alloc, source, from, room) {
         Ok(read) => read,
@@ -62,8 +61,7 @@ fn alternatives(
     requires next { heads.is_or (first (ahead source.now first_rest)) ≡ true }
     ensures read { IfOk result (λ read. Reads grammar.any_then grammar.any_depth readings.ends_any any_meaning (tree_verdict (text_of source.now)) room (ahead source.now from) read.0 (ahead source.now read.1)) }
     ensures shorter { IfOk result (λ read. length (ahead source.now read.1) < length (ahead source.now from)) }
-    ensures refused { IfErr result (λ stop. Refuses grammar.any_then grammar.any_depth readings.ends_any room (ahead source.now from) stop) }
-    ensures deep { IfErr result (λ stop. Crowds stop room (ahead source.now from)) }
+    ensures refused { IfErr result (λ stop. Refuses grammar.any_then grammar.any_depth readings.ends_any (place_of source.now) room (ahead source.now from) stop) }
 {
     let mut parts = Vec::with_capacity(alloc, 2)?;
     parts.push(first_part)?;
@@ -88,8 +86,7 @@ fn alternatives(
 fn all(alloc: Global, source: &Source<'_>, from: usize, room: usize) -> Result<(Tree, usize), Stop>
     ensures read { IfOk result (λ read. Reads grammar.all_then grammar.all_depth readings.ends_all all_meaning (tree_verdict (text_of source.now)) room (ahead source.now from) read.0 (ahead source.now read.1)) }
     ensures shorter { IfOk result (λ read. length (ahead source.now read.1) < length (ahead source.now from)) }
-    ensures refused { IfErr result (λ stop. Refuses grammar.all_then grammar.all_depth readings.ends_all room (ahead source.now from) stop) }
-    ensures deep { IfErr result (λ stop. Crowds stop room (ahead source.now from)) }
+    ensures refused { IfErr result (λ stop. Refuses grammar.all_then grammar.all_depth readings.ends_all (place_of source.now) room (ahead source.now from) stop) }
 {
     let (part, rest) = match neg(alloc, source, from, room) {
         Ok(read) => read,
@@ -118,8 +115,7 @@ fn conjuncts(
     requires next { heads.is_and (first (ahead source.now first_rest)) ≡ true }
     ensures read { IfOk result (λ read. Reads grammar.all_then grammar.all_depth readings.ends_all all_meaning (tree_verdict (text_of source.now)) room (ahead source.now from) read.0 (ahead source.now read.1)) }
     ensures shorter { IfOk result (λ read. length (ahead source.now read.1) < length (ahead source.now from)) }
-    ensures refused { IfErr result (λ stop. Refuses grammar.all_then grammar.all_depth readings.ends_all room (ahead source.now from) stop) }
-    ensures deep { IfErr result (λ stop. Crowds stop room (ahead source.now from)) }
+    ensures refused { IfErr result (λ stop. Refuses grammar.all_then grammar.all_depth readings.ends_all (place_of source.now) room (ahead source.now from) stop) }
 {
     let mut parts = Vec::with_capacity(alloc, 2)?;
     parts.push(first_part)?;
@@ -144,8 +140,7 @@ fn conjuncts(
 fn neg(alloc: Global, source: &Source<'_>, from: usize, room: usize) -> Result<(Tree, usize), Stop>
     ensures read { IfOk result (λ read. Reads grammar.neg_then grammar.neg_depth readings.ends_neg neg_meaning (tree_verdict (text_of source.now)) room (ahead source.now from) read.0 (ahead source.now read.1)) }
     ensures shorter { IfOk result (λ read. length (ahead source.now read.1) < length (ahead source.now from)) }
-    ensures refused { IfErr result (λ stop. Refuses grammar.neg_then grammar.neg_depth readings.ends_neg room (ahead source.now from) stop) }
-    ensures deep { IfErr result (λ stop. Crowds stop room (ahead source.now from)) }
+    ensures refused { IfErr result (λ stop. Refuses grammar.neg_then grammar.neg_depth readings.ends_neg (place_of source.now) room (ahead source.now from) stop) }
 {
     if is_not(source, from) {
         negation(alloc, source, from, room)
@@ -166,8 +161,7 @@ fn negation(
     requires { heads.is_not (first (ahead source.now from)) ≡ true }
     ensures read { IfOk result (λ read. Reads grammar.neg_then grammar.neg_depth readings.ends_neg neg_meaning (tree_verdict (text_of source.now)) room (ahead source.now from) read.0 (ahead source.now read.1)) }
     ensures shorter { IfOk result (λ read. length (ahead source.now read.1) < length (ahead source.now from)) }
-    ensures refused { IfErr result (λ stop. Refuses grammar.neg_then grammar.neg_depth readings.ends_neg room (ahead source.now from) stop) }
-    ensures deep { IfErr result (λ stop. Crowds stop room (ahead source.now from)) }
+    ensures refused { IfErr result (λ stop. Refuses grammar.neg_then grammar.neg_depth readings.ends_neg (place_of source.now) room (ahead source.now from) stop) }
 {
     if room == 0 {
         return Err(Stop::TooDeep {
@@ -191,8 +185,7 @@ fn primary(
 ) -> Result<(Tree, usize), Stop>
     ensures read { IfOk result (λ read. Reads grammar.primary_then grammar.primary_depth readings.ends_neg primary_meaning (tree_verdict (text_of source.now)) room (ahead source.now from) read.0 (ahead source.now read.1)) }
     ensures shorter { IfOk result (λ read. length (ahead source.now read.1) < length (ahead source.now from)) }
-    ensures refused { IfErr result (λ stop. Refuses grammar.primary_then grammar.primary_depth readings.ends_neg room (ahead source.now from) stop) }
-    ensures deep { IfErr result (λ stop. Crowds stop room (ahead source.now from)) }
+    ensures refused { IfErr result (λ stop. Refuses grammar.primary_then grammar.primary_depth readings.ends_neg (place_of source.now) room (ahead source.now from) stop) }
 {
     if is_opening(source, from) {
         bracketed(alloc, source, from, room)
@@ -213,8 +206,7 @@ fn bracketed(
     requires { first (ahead source.now from) ≡ Some token.Opening }
     ensures read { IfOk result (λ read. Reads grammar.primary_then grammar.primary_depth readings.ends_neg primary_meaning (tree_verdict (text_of source.now)) room (ahead source.now from) read.0 (ahead source.now read.1)) }
     ensures shorter { IfOk result (λ read. length (ahead source.now read.1) < length (ahead source.now from)) }
-    ensures refused { IfErr result (λ stop. Refuses grammar.primary_then grammar.primary_depth readings.ends_neg room (ahead source.now from) stop) }
-    ensures deep { IfErr result (λ stop. Crowds stop room (ahead source.now from)) }
+    ensures refused { IfErr result (λ stop. Refuses grammar.primary_then grammar.primary_depth readings.ends_neg (place_of source.now) room (ahead source.now from) stop) }
 {
     if room == 0 {
         return Err(Stop::TooDeep {
@@ -247,8 +239,7 @@ fn leaf(source: &Source<'_>, from: usize, room: usize) -> Result<(Tree, usize), 
     requires { first (ahead source.now from) ≡ Some token.Opening → ⊥ }
     ensures read { IfOk result (λ read. Reads grammar.primary_then grammar.primary_depth readings.ends_neg primary_meaning (tree_verdict (text_of source.now)) room (ahead source.now from) read.0 (ahead source.now read.1)) }
     ensures shorter { IfOk result (λ read. length (ahead source.now read.1) < length (ahead source.now from)) }
-    ensures refused { IfErr result (λ stop. Refuses grammar.primary_then grammar.primary_depth readings.ends_neg room (ahead source.now from) stop) }
-    ensures deep { IfErr result (λ stop. Crowds stop room (ahead source.now from)) }
+    ensures refused { IfErr result (λ stop. Refuses grammar.primary_then grammar.primary_depth readings.ends_neg (place_of source.now) room (ahead source.now from) stop) }
 {
     match test(source, from) {
         Ok((found, rest)) => {

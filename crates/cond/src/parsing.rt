@@ -1,6 +1,7 @@
 //! From a text to a condition.
 ghost use Rattle.std.specs.Prelude.{◌≡◌, ◌<◌, ◌≤◌, [], length, IfOk, IfErr, IfSome, Err};
-ghost use Rattle.cond.specs.Conditions.{most_bytes, most_depth, Writes, IsRead, IsMeant, IsParsed, IsBroken, Breaks};
+ghost use Rattle.cond.specs.Conditions.{most_bytes, most_depth, Writes, IsRead, IsMeant, IsParsed, Breaks};
+ghost use Rattle.cond.specs.Fronts.{FallsAt};
 ghost use Rattle.cond.specs.Grammar.{Any, any_depth, test_then};
 ghost use Rattle.cond.specs.Seen.{marks, ahead, text_of};
 ghost use Rattle.cond.specs.Trees.{tree_verdict, written};
@@ -63,9 +64,10 @@ pub(crate) fn parse_text(
 }
 
 fn tree_of(alloc: Global, text: &str, tokens: &[Token], left: Left<'_>) -> Result<Tree, CondFault>
+    requires { FallsAt text.now (length text.now) text.now tokens.now left.text.now left.at }
     ensures read { IfOk result (λ tree. IsRead (marks text.now tokens.now) (λ e. tree_verdict text.now e tree)) }
     ensures whole { IfOk result (λ _. left.entry.text.now ≡ []) }
-    ensures err { IfErr result (λ fault. IsBroken fault (marks text.now tokens.now) left.entry.text.now) }
+    ensures err { IfErr result (λ fault. Breaks fault text.now) }
 {
     let bad = !left.text.is_empty();
     let source = Source {

@@ -2,7 +2,7 @@
 ghost use Rattle.std.specs.Prelude.{◌≡◌};
 ghost use Rattle.cond.specs.Heads as heads;
 ghost use Rattle.cond.specs.Heads.{field_head, name_head, operand_head, asked_head, is_head, equals_head, in_head, within_head, tail_head, test_head};
-ghost use Rattle.cond.specs.Seen.{ahead, piece, text_of};
+ghost use Rattle.cond.specs.Seen.{ahead, piece, place_of, text_of};
 ghost use Rattle.cond.specs.Trees.{written, written_ref, written_operand};
 ghost use Rattle.cond.specs.Answers.{Gives, operand_read, test_read};
 
@@ -18,7 +18,7 @@ use crate::stop::Stop;
 #[inline(always)]
 #[tactic(auto, unfolding(crate::specs::Heads::test_head))]
 pub(crate) fn test(source: &Source<'_>, from: usize) -> Result<(Test, usize), Stop>
-    ensures { Gives (test_read source.now) result (test_head (ahead source.now from)) }
+    ensures { Gives (place_of source.now) (test_read source.now) result (test_head (ahead source.now from)) }
 {
     match operand(source, from) {
         Ok((subject, rest)) => tail(source, subject, rest),
@@ -29,7 +29,7 @@ pub(crate) fn test(source: &Source<'_>, from: usize) -> Result<(Test, usize), St
 #[inline(always)]
 #[tactic(auto, unfolding(crate::specs::Heads::tail_head))]
 fn tail(source: &Source<'_>, subject: Operand, from: usize) -> Result<(Test, usize), Stop>
-    ensures { Gives (test_read source.now) result (tail_head (written_operand (text_of source.now) subject) (ahead source.now from)) }
+    ensures { Gives (place_of source.now) (test_read source.now) result (tail_head (written_operand (text_of source.now) subject) (ahead source.now from)) }
 {
     match source.first(from) {
         Some(Mark::Is) => asked(source, subject, from, source.behind(from)),
@@ -49,7 +49,7 @@ fn asked(
     is: usize,
     behind: usize,
 ) -> Result<(Test, usize), Stop>
-    ensures { Gives (test_read source.now) result (is_head (written_operand (text_of source.now) subject) (ahead source.now behind)) }
+    ensures { Gives (place_of source.now) (test_read source.now) result (is_head (written_operand (text_of source.now) subject) (ahead source.now is) (ahead source.now behind)) }
 {
     match subject {
         Operand::Ref(of) => match source.first(behind) {
@@ -69,7 +69,7 @@ fn asked_word(
     contrary: bool,
     from: usize,
 ) -> Result<(Test, usize), Stop>
-    ensures { Gives (test_read source.now) result (asked_head (written_ref (text_of source.now) of) contrary (ahead source.now from)) }
+    ensures { Gives (place_of source.now) (test_read source.now) result (asked_head (written_ref (text_of source.now) of) contrary (ahead source.now from)) }
 {
     let Some(Mark::Name(span)) = source.first(from) else {
         return Err(Stop::Unexpected {
@@ -103,7 +103,7 @@ fn equality(
     contrary: bool,
     from: usize,
 ) -> Result<(Test, usize), Stop>
-    ensures { Gives (test_read source.now) result (equals_head (written_operand (text_of source.now) left) contrary (ahead source.now from)) }
+    ensures { Gives (place_of source.now) (test_read source.now) result (equals_head (written_operand (text_of source.now) left) contrary (ahead source.now from)) }
 {
     match operand(source, from) {
         Ok((right, rest)) => Ok((
@@ -127,7 +127,7 @@ fn membership(
     behind_subject: usize,
     from: usize,
 ) -> Result<(Test, usize), Stop>
-    ensures { Gives (test_read source.now) result (within_head (written_operand (text_of source.now) subject) contrary (ahead source.now from)) }
+    ensures { Gives (place_of source.now) (test_read source.now) result (within_head (written_operand (text_of source.now) subject) contrary (ahead source.now behind_subject) (ahead source.now from)) }
 {
     match subject {
         Operand::Text(group) => in_groups(source, group, contrary, from),
@@ -144,7 +144,7 @@ fn in_groups(
     contrary: bool,
     from: usize,
 ) -> Result<(Test, usize), Stop>
-    ensures { Gives (test_read source.now) result (in_head (piece (text_of source.now) group) contrary (ahead source.now from)) }
+    ensures { Gives (place_of source.now) (test_read source.now) result (in_head (piece (text_of source.now) group) contrary (ahead source.now from)) }
 {
     let Some(Mark::In) = source.first(from) else {
         return Err(Stop::Unexpected {
@@ -163,7 +163,7 @@ fn in_groups(
 #[inline(always)]
 #[tactic(auto, unfolding(crate::specs::Heads::operand_head))]
 fn operand(source: &Source<'_>, from: usize) -> Result<(Operand, usize), Stop>
-    ensures { Gives (operand_read source.now) result (operand_head (ahead source.now from)) }
+    ensures { Gives (place_of source.now) (operand_read source.now) result (operand_head (ahead source.now from)) }
 {
     let rest = source.behind(from);
     match source.first(from) {
@@ -182,7 +182,7 @@ fn operand(source: &Source<'_>, from: usize) -> Result<(Operand, usize), Stop>
 #[inline(always)]
 #[tactic(auto, unfolding(crate::specs::Heads::name_head))]
 fn named(source: &Source<'_>, name: Span, from: usize) -> Result<(Operand, usize), Stop>
-    ensures { Gives (operand_read source.now) result (name_head (piece (text_of source.now) name) (ahead source.now from)) }
+    ensures { Gives (place_of source.now) (operand_read source.now) result (name_head (piece (text_of source.now) name) (ahead source.now from)) }
 {
     match source.first(from) {
         Some(Mark::Dot) => field_of(source, name, source.behind(from)),
@@ -193,7 +193,7 @@ fn named(source: &Source<'_>, name: Span, from: usize) -> Result<(Operand, usize
 #[inline(never)]
 #[tactic(auto, unfolding(crate::specs::Heads::field_head))]
 fn field_of(source: &Source<'_>, name: Span, from: usize) -> Result<(Operand, usize), Stop>
-    ensures { Gives (operand_read source.now) result (field_head (piece (text_of source.now) name) (ahead source.now from)) }
+    ensures { Gives (place_of source.now) (operand_read source.now) result (field_head (piece (text_of source.now) name) (ahead source.now from)) }
 {
     let Some(Mark::Name(span)) = source.first(from) else {
         return Err(Stop::Unexpected {
@@ -216,7 +216,7 @@ fn field_of(source: &Source<'_>, name: Span, from: usize) -> Result<(Operand, us
 #[inline(always)]
 #[tactic(auto, unfolding(crate::specs::Heads::apart))]
 fn apart(source: &Source<'_>, operand: Operand, from: usize) -> Result<(Operand, usize), Stop>
-    ensures { Gives (operand_read source.now) result (heads.apart (written_operand (text_of source.now) operand) (ahead source.now from)) }
+    ensures { Gives (place_of source.now) (operand_read source.now) result (heads.apart (written_operand (text_of source.now) operand) (ahead source.now from)) }
 {
     match source.first(from) {
         Some(Mark::Dot) => Err(Stop::Unexpected {

@@ -1,7 +1,7 @@
 //! The tokens of a text, from one of them on.
 ghost use Rattle.std.specs.Prelude.{◌≡◌, option_map, slice_get};
 ghost use Rattle.cond.specs.Heads.{first, behind};
-ghost use Rattle.cond.specs.Seen.{kept, piece, ahead, text_of};
+ghost use Rattle.cond.specs.Seen.{kept, piece, ahead, place_of, text_of};
 
 use crate::mark::Mark;
 use crate::span::{Span, word_in};
@@ -44,7 +44,9 @@ impl Source<'_> {
     }
 
     /// The byte place of the first token, or of the end.
-    pub(crate) fn place(&self, from: usize) -> usize {
+    pub(crate) fn place(&self, from: usize) -> usize
+        ensures { result ≡ place_of self.now (ahead self.now from) }
+    {
         match self.get(from) {
             Some(token) => usize::from(token.at),
             None => self.end,

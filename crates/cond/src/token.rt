@@ -1,7 +1,6 @@
 //! The tokens of a condition's text, with their places.
 ghost use Rattle.std.specs.Prelude.{◌≤◌, IfOk, length};
-ghost use Rattle.cond.specs.Tokens.{FallsInto};
-ghost use Rattle.cond.specs.Seen.{marks};
+ghost use Rattle.cond.specs.Fronts.{FallsAt};
 
 use crate::front::{token_at, without_blanks};
 use crate::mark::{Mark, mark_at};
@@ -26,7 +25,7 @@ pub(crate) struct Left<'t> {
 /// those in `all`, whose memory they use.
 pub(crate) fn tokenize<'t>(all: &mut Vec<Token>, text: &'t str) -> Result<Left<'t>, AllocError>
     requires { length text.now ≤ 4096 }
-    ensures { IfOk result (λ left. FallsInto text.now (marks text.now all.new.items) left.text.now) }
+    ensures { IfOk result (λ left. FallsAt text.now (length text.now) text.now all.new.items left.text.now left.at) }
 {
     all.clear();
     // A token has a byte at least, so that there is room for all of them.

@@ -9,8 +9,10 @@ split_at-requires c =
 
 pub returns-in-Ok : goal.returns-in-Ok
 returns-in-Ok c =
-    negative_read c.args.behind.now c.split_at.result.0.now c.split_at.result.1.now c.digits.result c.parse.result c.digits.ensures.count c.args.text.now c.in-Ok.number c.requires c.split_at.ensures.front c.split_at.ensures.back c.parse.ensures.value.0 c.in-Ok.is
+    negative_read c.args.behind.now c.split_at.result.0.now c.split_at.result.1.now c.digits.result c.parse.result c.digits.ensures.count c.args.text.now c.in-Ok.number c.requires
+    c.split_at.ensures.front c.split_at.ensures.back c.parse.ensures.value.0 c.in-Ok.is
 
 pub returns-in-Err : goal.returns-in-Err
 returns-in-Err c =
-    sym (negative_unread c.args.behind.now c.split_at.result.0.now c.split_at.result.1.now c.digits.result c.parse.result c.digits.ensures.count c.args.text.now c.in-Err.field-0 c.requires c.split_at.ensures.front c.parse.ensures.value.0 c.in-Err.is)
+    sym (negative_unread c.args.behind.now c.split_at.result.0.now c.split_at.result.1.now c.digits.result c.parse.result c.digits.ensures.count c.args.text.now c.in-Err.field-0 c.requires
+    c.split_at.ensures.front c.parse.ensures.value.0 c.in-Err.is)

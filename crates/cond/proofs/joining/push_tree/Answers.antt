@@ -40,50 +40,62 @@ returns-in_ok-push_part-in-Denied-clause-ok c = λ e.
 pub returns-in_ok-push_part-in-Both-clause-written : goal.returns-in_ok-push_part-in-Both-clause-written
 returns-in_ok-push_part-in-Both-clause-written c =
     let none = nothing c.args.trees.now.items (ap (λ n. n == 0) (sym c.args.trees.now.ok.0) ∙ sym c.is_empty.ensures ∙ c.if-is_empty.true) in
-    let joined = joins c.args.trees.now.items c.in-Both.all.items c.in_ok-push_part-in-Both.ensures.text (ap (λ (l : List Tree). l ++ c.in-Both.all.items) (sym none)) c.in_ok-push_part-in-Both.ensures.parts refl (c.len-count.ensures ∙ omega (arith, c.in-Both.all.ok.0)) in
+    let joined = joins c.args.trees.now.items c.in-Both.all.items c.in_ok-push_part-in-Both.ensures.text
+    (ap (λ (l : List Tree). l ++ c.in-Both.all.items) (sym none)) c.in_ok-push_part-in-Both.ensures.parts refl (c.len-count.ensures ∙ omega (arith, c.in-Both.all.ok.0)) in
     written_more joined c.requires.written
 
 pub returns-in_ok-push_part-in-Both-clause-grown : goal.returns-in_ok-push_part-in-Both-clause-grown
 returns-in_ok-push_part-in-Both-clause-grown c =
     let none = nothing c.args.trees.now.items (ap (λ n. n == 0) (sym c.args.trees.now.ok.0) ∙ sym c.is_empty.ensures ∙ c.if-is_empty.true) in
-    let joined = joins c.args.trees.now.items c.in-Both.all.items c.in_ok-push_part-in-Both.ensures.text (ap (λ (l : List Tree). l ++ c.in-Both.all.items) (sym none)) c.in_ok-push_part-in-Both.ensures.parts refl (c.len-count.ensures ∙ omega (arith, c.in-Both.all.ok.0)) in
+    let joined = joins c.args.trees.now.items c.in-Both.all.items c.in_ok-push_part-in-Both.ensures.text
+    (ap (λ (l : List Tree). l ++ c.in-Both.all.items) (sym none)) c.in_ok-push_part-in-Both.ensures.parts refl (c.len-count.ensures ∙ omega (arith, c.in-Both.all.ok.0)) in
     grown_more joined c.requires.grown
 
 pub returns-in_ok-push_part-in-Both-clause-ok : goal.returns-in_ok-push_part-in-Both-clause-ok
 returns-in_ok-push_part-in-Both-clause-ok c = λ e.
     let none = nothing c.args.trees.now.items (ap (λ n. n == 0) (sym c.args.trees.now.ok.0) ∙ sym c.is_empty.ensures ∙ c.if-is_empty.true) in
     let says = sym (both_say c.args.more.now e c.in-Both.all) ∙ ap (tree_verdict c.args.more.now e) (sym c.in-Both.is) in
-    let joined = joins c.args.trees.now.items c.in-Both.all.items c.in_ok-push_part-in-Both.ensures.text (ap (λ (l : List Tree). l ++ c.in-Both.all.items) (sym none)) c.in_ok-push_part-in-Both.ensures.parts refl (c.len-count.ensures ∙ omega (arith, c.in-Both.all.ok.0)) in
+    let joined = joins c.args.trees.now.items c.in-Both.all.items c.in_ok-push_part-in-Both.ensures.text
+    (ap (λ (l : List Tree). l ++ c.in-Both.all.items) (sym none)) c.in_ok-push_part-in-Both.ensures.parts refl (c.len-count.ensures ∙ omega (arith, c.in-Both.all.ok.0)) in
     says_more joined c.requires.written c.requires.grown e (tree_verdict c.args.more.now e c.args.tree) says
 
 pub returns-in_ok-append-in-Both-clause-written : goal.returns-in_ok-append-in-Both-clause-written
 returns-in_ok-append-in-Both-clause-written c =
-    let joined = joins c.args.trees.now.items c.in-Both.all.items c.in_ok-push_part-in-Both-2.ensures.text (c.in_ok-append-in-Both.ensures.items ∙ ap (λ (l : List Tree). l ++ c.in-Both.all.items) c.reserve.ensures.items) c.in_ok-push_part-in-Both-2.ensures.parts refl (c.len-count.ensures ∙ omega (arith, c.in-Both.all.ok.0)) in
+    let joined = joins c.args.trees.now.items c.in-Both.all.items c.in_ok-push_part-in-Both-2.ensures.text
+    (c.in_ok-append-in-Both.ensures.items ∙ ap (λ (l : List Tree). l ++ c.in-Both.all.items) c.reserve.ensures.items) c.in_ok-push_part-in-Both-2.ensures.parts refl
+    (c.len-count.ensures ∙ omega (arith, c.in-Both.all.ok.0)) in
     written_more joined c.requires.written
 
 pub returns-in_ok-append-in-Both-clause-grown : goal.returns-in_ok-append-in-Both-clause-grown
 returns-in_ok-append-in-Both-clause-grown c =
-    let joined = joins c.args.trees.now.items c.in-Both.all.items c.in_ok-push_part-in-Both-2.ensures.text (c.in_ok-append-in-Both.ensures.items ∙ ap (λ (l : List Tree). l ++ c.in-Both.all.items) c.reserve.ensures.items) c.in_ok-push_part-in-Both-2.ensures.parts refl (c.len-count.ensures ∙ omega (arith, c.in-Both.all.ok.0)) in
+    let joined = joins c.args.trees.now.items c.in-Both.all.items c.in_ok-push_part-in-Both-2.ensures.text
+    (c.in_ok-append-in-Both.ensures.items ∙ ap (λ (l : List Tree). l ++ c.in-Both.all.items) c.reserve.ensures.items) c.in_ok-push_part-in-Both-2.ensures.parts refl
+    (c.len-count.ensures ∙ omega (arith, c.in-Both.all.ok.0)) in
     grown_more joined c.requires.grown
 
 pub returns-in_ok-append-in-Both-clause-ok : goal.returns-in_ok-append-in-Both-clause-ok
 returns-in_ok-append-in-Both-clause-ok c = λ e.
     let says = sym (both_say c.args.more.now e c.in-Both.all) ∙ ap (tree_verdict c.args.more.now e) (sym c.in-Both.is) in
-    let joined = joins c.args.trees.now.items c.in-Both.all.items c.in_ok-push_part-in-Both-2.ensures.text (c.in_ok-append-in-Both.ensures.items ∙ ap (λ (l : List Tree). l ++ c.in-Both.all.items) c.reserve.ensures.items) c.in_ok-push_part-in-Both-2.ensures.parts refl (c.len-count.ensures ∙ omega (arith, c.in-Both.all.ok.0)) in
+    let joined = joins c.args.trees.now.items c.in-Both.all.items c.in_ok-push_part-in-Both-2.ensures.text
+    (c.in_ok-append-in-Both.ensures.items ∙ ap (λ (l : List Tree). l ++ c.in-Both.all.items) c.reserve.ensures.items) c.in_ok-push_part-in-Both-2.ensures.parts refl
+    (c.len-count.ensures ∙ omega (arith, c.in-Both.all.ok.0)) in
     says_more joined c.requires.written c.requires.grown e (tree_verdict c.args.more.now e c.args.tree) says
 
 pub returns-in_ok-push_part-in_default-clause-written : goal.returns-in_ok-push_part-in_default-clause-written
 returns-in_ok-push_part-in_default-clause-written c =
-    let joined = joins c.args.trees.now.items (c.args.tree ∷ []) c.in_ok-push_part-in_default.ensures.text (c.push_reserved.ensures.items ∙ ap (λ (l : List Tree). l ++ c.args.tree ∷ []) c.reserve-in_default.ensures.items) c.in_ok-push_part-in_default.ensures.parts refl refl in
+    let joined = joins c.args.trees.now.items (c.args.tree ∷ []) c.in_ok-push_part-in_default.ensures.text
+    (c.push_reserved.ensures.items ∙ ap (λ (l : List Tree). l ++ c.args.tree ∷ []) c.reserve-in_default.ensures.items) c.in_ok-push_part-in_default.ensures.parts refl refl in
     written_more joined c.requires.written
 
 pub returns-in_ok-push_part-in_default-clause-grown : goal.returns-in_ok-push_part-in_default-clause-grown
 returns-in_ok-push_part-in_default-clause-grown c =
-    let joined = joins c.args.trees.now.items (c.args.tree ∷ []) c.in_ok-push_part-in_default.ensures.text (c.push_reserved.ensures.items ∙ ap (λ (l : List Tree). l ++ c.args.tree ∷ []) c.reserve-in_default.ensures.items) c.in_ok-push_part-in_default.ensures.parts refl refl in
+    let joined = joins c.args.trees.now.items (c.args.tree ∷ []) c.in_ok-push_part-in_default.ensures.text
+    (c.push_reserved.ensures.items ∙ ap (λ (l : List Tree). l ++ c.args.tree ∷ []) c.reserve-in_default.ensures.items) c.in_ok-push_part-in_default.ensures.parts refl refl in
     grown_more joined c.requires.grown
 
 pub returns-in_ok-push_part-in_default-clause-ok : goal.returns-in_ok-push_part-in_default-clause-ok
 returns-in_ok-push_part-in_default-clause-ok c = λ e.
     let says = only_one (tree_verdict c.args.more.now e c.args.tree) in
-    let joined = joins c.args.trees.now.items (c.args.tree ∷ []) c.in_ok-push_part-in_default.ensures.text (c.push_reserved.ensures.items ∙ ap (λ (l : List Tree). l ++ c.args.tree ∷ []) c.reserve-in_default.ensures.items) c.in_ok-push_part-in_default.ensures.parts refl refl in
+    let joined = joins c.args.trees.now.items (c.args.tree ∷ []) c.in_ok-push_part-in_default.ensures.text
+    (c.push_reserved.ensures.items ∙ ap (λ (l : List Tree). l ++ c.args.tree ∷ []) c.reserve-in_default.ensures.items) c.in_ok-push_part-in_default.ensures.parts refl refl in
     says_more joined c.requires.written c.requires.grown e (tree_verdict c.args.more.now e c.args.tree) says

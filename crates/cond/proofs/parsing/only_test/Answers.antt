@@ -2,7 +2,7 @@ use Rattle.std.proofs.Common.{not, ◌∙◌, ap}
 use Rattle.cond.specs.Grammar.{test_then}
 use Rattle.cond.specs.Seen.{ahead, text_of}
 use Rattle.cond.specs.Trees.{written}
-use Rattle.cond.proofs.HeadLaws.{test_read_whole}
+use Rattle.cond.proofs.TestFronts.{test_read_whole}
 use Rattle.cond.proofs.ParseLaws.{kept_none}
 use Rattle.cond.proofs.parsing.only_test.Goals as goal
 

@@ -1,0 +1,31 @@
+-- Conditions as far as a text has come, and the places of its tokens.
+use Rattle.std.specs.Prelude.{◌≡◌, ℕ, ◌+◌, ◌≤◌, Option, Some, None, List, [], ◌∷◌, ◌++◌, length}
+use Rattle.cond.specs.Tokens.{Token, Front, is_blank, behind_run, next_token}
+use Rattle.cond.specs.Grammar.{Any, tokens_of, any_depth}
+use Rattle.cond.specs.Heads.{first}
+use Rattle.cond.specs.Seen.{kept}
+use Rattle.cond.specs.declared.token.Token as placed
+
+-- The text begins with these tokens; this is left behind them and blanks.
+abbrev pub StartsWith : List ℕ → List Token → List ℕ → Type 0
+StartsWith bytes [] left = left ≡ behind_run is_blank bytes
+StartsWith bytes (token ∷ tokens) left = (rest : List ℕ) × (next_token bytes ≡ Some (token, rest)) × StartsWith rest tokens left
+
+-- the token that is cut off; none at the end, and where none begins
+abbrev pub token_of : Front → Option Token
+token_of None = None
+token_of (Some front) = Some front.0
+
+-- The condition begins with these tokens and then goes on with this one, or ends.
+abbrev pub GoesOn : Any → List Token → Option Token → Type 0
+GoesOn condition front next = (more : List Token) × (tokens_of condition ≡ front ++ more) × (first more ≡ next)
+
+-- A condition that is nested no deeper begins with these tokens.
+abbrev pub IsBegun : ℕ → List Token → Type 0
+IsBegun depth front = (condition : Any) × (more : List Token) × (tokens_of condition ≡ front ++ more) × (any_depth condition ≤ depth)
+
+-- The bytes, which end a text of this size, fall into these tokens, each at its place in the text, up to what is left.
+abbrev pub FallsAt : List ℕ → ℕ → List ℕ → List placed.Token → List ℕ → ℕ → Type 0
+FallsAt text size bytes [] left end = (next_token bytes ≡ None) × (left ≡ behind_run is_blank bytes) × (end + length left ≡ size)
+FallsAt text size bytes (token ∷ tokens) left end =
+    (rest : List ℕ) × (next_token bytes ≡ Some (kept text token.mark, rest)) × (token.at + length (behind_run is_blank bytes) ≡ size) × FallsAt text size rest tokens left end
