@@ -7,7 +7,7 @@ use Rattle.fleet_numbers.specs.NumberLists.{has_number}
 use Rattle.fleet_states.specs.Statuses.{changed, is_running, is_waiting, status_at}
 use Rattle.fleet_states.specs.declared.status.Status.{Status}
 use Rattle.fleet_states.specs.declared.status.Status.TheVariants.{Idle, Updated, Failed, Halted}
-use Rattle.fleet_states.proofs.CountLemmas.{count_agree_in, count_none_in}
+use Rattle.fleet_numbers.proofs.TestCounts.{count_agree_in, count_none_in}
 use Rattle.fleet_states.proofs.StatusLemmas.{length-changed, length-given, status_at-changed, status_at-given, status_at-given_past, status_at-past}
 use Rattle.batch_outcome.specs.Batches.{Fails, failed_count, halts_at, halt, is_failed_by, is_past, status_after, statuses_after}
 use Rattle.batch_outcome.specs.Laws.{AgreeOn, IsLeastHalt, HaltIsTheLeast, NoneFails, NoneWaitsAfter, OthersDecide, OthersStay, OwnFailuresDecide, UpdatedWhereNoneFails}

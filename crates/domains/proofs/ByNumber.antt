@@ -42,8 +42,8 @@ abbrev pub last_under : List Place → ℕ → ℕ
 last_under places group = last_where (is_above places group) (length places)
 
 -- the groups of a walk
-abbrev pub walked_groups : List (Subtree × ℕ) → List Subtree
-walked_groups walk = map (λ (walked : Subtree × ℕ). walked.0) walk
+abbrev pub groups_in_walk : List (Subtree × ℕ) → List Subtree
+groups_in_walk walk = map (λ (walked : Subtree × ℕ). walked.0) walk
 
 -- a row has its host and its group's number; in numbers, those of its host's name and of its group
 abbrev pub row_host : Host × ℕ → Host

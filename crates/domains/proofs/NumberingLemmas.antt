@@ -16,7 +16,7 @@ use Rattle.fleet_numbers.proofs.SortedNamesLemmas.{is_rising-sorted_names}
 use Rattle.domains.specs.Walks.{PlacedGroup, place_of, with_depth, IsWalkOf, rows_from}
 use Rattle.domains.specs.Hosts.{last_down, last_down_of, is_off}
 use Rattle.domains.specs.Numbered.{host_at, host_and_path, named_row, IsNumbering}
-use Rattle.domains.proofs.ByNumber.{names_to, walked_groups, row_host, row_name, number_name, numbered_row, HostsWithin, GroupsWithin, IsBelow, RowsBelow}
+use Rattle.domains.proofs.ByNumber.{names_to, groups_in_walk, row_host, row_name, number_name, numbered_row, HostsWithin, GroupsWithin, IsBelow, RowsBelow}
 use Rattle.domains.proofs.NumberLemmas.{map-same, groups_of, rows_numbered, rows_below, last_down-numbers}
 
 -- a walk tells of each place what it tells of its group
@@ -41,15 +41,15 @@ walk_names group depth inventory walk placed_groups w walked =
 
 -- the rows of a walk, by the numbers of their groups
 module _ (inventory : Inventory) (walk : List (Subtree × ℕ)) (w : IsWalkOf inventory 0 walk) where
-  pub walk_rows : map (numbered_row inventory.places) (rows_from 0 (walked_groups walk)) ≡ inventory.rows
+  pub walk_rows : map (numbered_row inventory.places) (rows_from 0 (groups_in_walk walk)) ≡ inventory.rows
   walk_rows =
-      let groups : walked_groups walk ≡ groups_of w.placed_groups =
-      ap walked_groups w.walked ∙ map-map (λ (v : Subtree × ℕ). v.0) (with_depth 0) w.placed_groups in
+      let groups : groups_in_walk walk ≡ groups_of w.placed_groups =
+      ap groups_in_walk w.walked ∙ map-map (λ (v : Subtree × ℕ). v.0) (with_depth 0) w.placed_groups in
       ap (λ (g : List Subtree). map (numbered_row inventory.places) (rows_from 0 g)) groups
       ∙ rows_numbered [] inventory.places w.placed_groups w.places
       ∙ sym w.rows
 
-  walk_length : length (walked_groups walk) ≡ length inventory.places
+  walk_length : length (groups_in_walk walk) ≡ length inventory.places
   walk_length =
       length-map walk (λ (v : Subtree × ℕ). v.0)
       ∙ ap length w.walked
@@ -57,14 +57,14 @@ module _ (inventory : Inventory) (walk : List (Subtree × ℕ)) (w : IsWalkOf in
       ∙ sym (length-map w.placed_groups place_of)
       ∙ sym (ap length w.places)
 
-  pub walk_rows_below : RowsBelow (length inventory.places) (rows_from 0 (walked_groups walk))
+  pub walk_rows_below : RowsBelow (length inventory.places) (rows_from 0 (groups_in_walk walk))
   walk_rows_below =
-      All-weaker (IsBelow (0 + length (walked_groups walk))) (IsBelow (length inventory.places))
-      (λ row l. omega (arith, l, walk_length)) (rows_from 0 (walked_groups walk)) (rows_below 0 (walked_groups walk))
+      All-weaker (IsBelow (0 + length (groups_in_walk walk))) (IsBelow (length inventory.places))
+      (λ row l. omega (arith, l, walk_length)) (rows_from 0 (groups_in_walk walk)) (rows_below 0 (groups_in_walk walk))
 
 -- everything that numbering a walk tells
 module _ (inventory : Inventory) (walk : List (Subtree × ℕ)) (rows : List (Host × ℕ)) (hosts : List Name) (numbers : List (ℕ × ℕ))
-    (w : IsWalkOf inventory 0 walk) (rows_are : rows ≡ rows_from 0 (walked_groups walk))
+    (w : IsWalkOf inventory 0 walk) (rows_are : rows ≡ rows_from 0 (groups_in_walk walk))
     (hosts_are : hosts ≡ sorted_names (map (λ (row : Host × ℕ). row.0.name) rows))
     (named : map (number_name hosts) numbers ≡ map row_name rows) (within : HostsWithin hosts numbers) where
   -- a row's host, and the path of its group
@@ -156,7 +156,7 @@ module _ {S R : Type 0} (group : S → Subtree) (depth : S → ℕ) (host : R �
   of_walk : {Y : Type 0} (f : Subtree × ℕ → Y) → map (λ s. f (group s, depth s)) placed_groups ≡ map f walk
   of_walk f = sym (map-map f (λ s. (group s, depth s)) placed_groups) ∙ ap (map f) walked
 
-  rows_are : map row_of listed ≡ rows_from 0 (walked_groups walk)
+  rows_are : map row_of listed ≡ rows_from 0 (groups_in_walk walk)
   rows_are = rows ∙ ap (rows_from 0) (of_walk (λ v. v.0))
 
   names_are : hosts ≡ sorted_names (map (λ (row : Host × ℕ). row.0.name) (map row_of listed))

@@ -10,7 +10,7 @@ use Rattle.inventory_model.specs.Places.{Place, Inventory}
 use Rattle.inventory_model.specs.Members.{holds}
 use Rattle.fleet_numbers.specs.NumberLists.{list_at}
 use Rattle.domains.specs.Hosts.{is_off}
-use Rattle.domains.specs.Starts.{place_at, nowhere, allowed_of, exceeds, down_count, is_over, StartsWithin, IsFirstOver}
+use Rattle.domains.specs.Starts.{place_at, nowhere, allowed_of, exceeds, hosts_off, starts_over, StartsWithin, IsFirstOver}
 use Rattle.domains.specs.Numbered.{host_at}
 use Rattle.domains.specs.FleetViews.{off_count}
 use Rattle.domains.specs.Search.{IsFirstOverGroup}
@@ -24,7 +24,7 @@ module _ {inventory : Inventory} {hosts : List Name} {limits : List (Option ℕ)
   is_down_member group host = holds inventory group host && is_off inventory host
 
   -- how many hosts of a group are off, by numbers and by names
-  pub down_at : (g : ℕ) → g < length inventory.places → off_count off (list_at members g) ≡ down_count inventory (group_name inventory.places g)
+  pub down_at : (g : ℕ) → g < length inventory.places → off_count off (list_at members g) ≡ hosts_off inventory (group_name inventory.places g)
   down_at g l =
       let is_down : ℕ → Bool = λ host. get_or off host false in
       ap (off_count off) (known.members_at g l)
@@ -42,7 +42,7 @@ module _ {inventory : Inventory} {hosts : List Name} {limits : List (Option ℕ)
 
   -- a group whose limit its hosts that are off do not exceed is not over it, by names
   not_over : (number : ℕ) → number < length inventory.places
-      → exceeds (get_or limits number None) (off_count off (list_at members number)) ≡ false → is_over inventory number ≡ false
+      → exceeds (get_or limits number None) (off_count off (list_at members number)) ≡ false → starts_over inventory number ≡ false
   not_over number l none =
       ap (exceeds (allowed_of inventory (place_at inventory.places number))) (sym (down_at number l))
       ∙ ap (λ (o : Option ℕ). exceeds o (off_count off (list_at members number))) (sym (known.limit_at number))
@@ -51,10 +51,10 @@ module _ {inventory : Inventory} {hosts : List Name} {limits : List (Option ℕ)
   pub starts_within : ((group : ℕ) → group < length members → exceeds (get_or limits group None) (off_count off (list_at members group)) ≡ false) → StartsWithin inventory
   starts_within none number = by_case (cases_lt number (length inventory.places))
     where
-      by_case : (number < length inventory.places) ⊎ (length inventory.places ≤ number) → is_over inventory number ≡ false
+      by_case : (number < length inventory.places) ⊎ (length inventory.places ≤ number) → starts_over inventory number ≡ false
       by_case (inl l) = not_over number l (none number (omega (arith, l, known.members_len)))
       by_case (inr l) =
-          ap (λ (p : Place). exceeds (allowed_of inventory p) (down_count inventory p.name)) (get_or_past inventory.places number nowhere l)
+          ap (λ (p : Place). exceeds (allowed_of inventory p) (hosts_off inventory p.name)) (get_or_past inventory.places number nowhere l)
 
   pub first_over : (group down limit : ℕ) → IsFirstOverGroup members limits off group down limit → IsFirstOver inventory (group_name inventory.places group) down limit
   first_over group down limit found =

@@ -13,8 +13,8 @@ nowhere = record { above = []; name = []; limit = None; variables = [] }
 abbrev pub place_at : List Place → ℕ → Place
 place_at places number = slice_index_or places number nowhere
 
-abbrev pub down_count : Inventory → Name → ℕ
-down_count inventory group =
+abbrev pub hosts_off : Inventory → Name → ℕ
+hosts_off inventory group =
     length (filter (λ host. holds inventory group host && is_off inventory host) (hosts_of inventory))
 
 abbrev pub exceeds : Option ℕ → ℕ → Bool
@@ -31,18 +31,18 @@ allowed_of inventory place =
     option_map (λ (limit : Limit). allowed limit (member_count inventory place.name)) place.limit
 
 -- the group has a limit, and more of its hosts are off
-abbrev pub is_over : Inventory → ℕ → Bool
-is_over inventory number =
-    exceeds (allowed_of inventory (place_at inventory.places number)) (down_count inventory (place_at inventory.places number).name)
+abbrev pub starts_over : Inventory → ℕ → Bool
+starts_over inventory number =
+    exceeds (allowed_of inventory (place_at inventory.places number)) (hosts_off inventory (place_at inventory.places number).name)
 
 abbrev pub StartsWithin : Inventory → Type 0
-StartsWithin inventory = (number : ℕ) → is_over inventory number ≡ false
+StartsWithin inventory = (number : ℕ) → starts_over inventory number ≡ false
 
 -- the first group in preorder that starts over its limit, with how many of its hosts are off
 pub record IsFirstOver (inventory : Inventory) (group : Name) (count limit : ℕ) : Type 0 where
   pub number : ℕ
   pub name : (place_at inventory.places number).name ≡ group
   pub limited : allowed_of inventory (place_at inventory.places number) ≡ Some limit
-  pub counted : count ≡ down_count inventory group
+  pub counted : count ≡ hosts_off inventory group
   pub over : limit < count
-  pub first : (earlier : ℕ) → earlier < number → is_over inventory earlier ≡ false
+  pub first : (earlier : ℕ) → earlier < number → starts_over inventory earlier ≡ false

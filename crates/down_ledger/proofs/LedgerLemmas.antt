@@ -10,7 +10,7 @@ use Rattle.std.proofs.lemmas.List.FromFn.{length-map-range_with_len, get_or-map-
 use Rattle.std.proofs.lemmas.List.Sums.{count_by-le-length, length-filter}
 use Rattle.std.proofs.lemmas.Bool.{both_ways, cases_lt, eqb-true, le-leb, le-ltb, lt-leb, lt-ltb, ltb-false, or_cases, or_left, or_right}
 use Rattle.std.specs.List.{range_with_len}
-use Rattle.fleet_numbers.specs.NumberLists.{has_number, list_at, IsRising}
+use Rattle.fleet_numbers.specs.NumberLists.{bit, has_number, list_at, IsRising}
 use Rattle.fleet_numbers.specs.Chains.{is_limited}
 use Rattle.domains.specs.FleetViews.{FleetView, IsSound}
 use Rattle.domains.specs.Starts.{exceeds}
@@ -18,9 +18,9 @@ use Rattle.fleet_states.specs.declared.status.Status.{Status}
 use Rattle.fleet_states.specs.declared.status.Status.TheVariants.{Idle}
 use Rattle.fleet_states.specs.Statuses.{are_distinct, down_count, is_down, status_at}
 use Rattle.fleet_states.specs.Groups.{FleetGroup, IsSafe, groups_of, is_over}
-use Rattle.fleet_states.proofs.CountLemmas.{bit, count_agree, count_change, count_some}
+use Rattle.fleet_numbers.proofs.TestCounts.{count_agree, count_change, count_some}
 use Rattle.fleet_states.proofs.GroupLemmas.{length-groups_of, get_or-groups_of}
-use Rattle.fleet_states.proofs.NumberLemmas.{distinct_rising, none_passes, number_at}
+use Rattle.fleet_numbers.proofs.NumberLemmas.{distinct_rising, none_passes, number_at}
 use Rattle.fleet_states.proofs.SafetyLemmas.{exceeds_less}
 use Rattle.down_ledger.specs.Ledgers.{LedgerView, is_marked, down_in, is_full, ledger_of, with_mark, HasRoom, IsFirstFull, IsWithinLimits}
 use Rattle.down_ledger.specs.Inside.{IsCounted, limited_count, limited_counts}

@@ -23,7 +23,7 @@ pub(crate) fn mark_down(alloc: Global, statuses: &[Status]) -> Result<Vec<bool>,
 }
 
 /// Whether the host is marked; a number past the end is not.
-pub(crate) fn is_marked(marks: &[bool], host: HostId) -> bool
+fn is_marked(marks: &[bool], host: HostId) -> bool
     ensures { result ≡ is_marked marks.now host.index }
 {
     match marks.get(host.index) {

@@ -3,7 +3,7 @@ ghost use Rattle.std.specs.Prelude.{◌≡◌, ℕ, ◌<◌, ◌≤◌, true, fa
 ghost use Rattle.fleet_states.specs.Groups.{IsSafe, groups_of};
 ghost use Rattle.down_ledger.specs.Ledgers.{is_marked, down_in, is_full, ledger_of, with_mark, HasRoom, IsFirstFull, IsWithinLimits};
 
-use crate::counting::{count_marked, is_marked, list_counts, mark_down};
+use crate::counting::{count_marked, list_counts, mark_down};
 use crate::share::{Full, Share};
 use domains::Fleet;
 use fleet_numbers::{lower_counts, raise_counts};
@@ -60,13 +60,6 @@ impl<'f> DownLedger<'f> {
         ensures within { IsWithinLimits self.now }
     {
         self.fleet
-    }
-
-    /// Whether the host is down; a number that no host has is not.
-    pub fn is_down(&self, host: HostId) -> bool
-        ensures { result ≡ is_marked self.now.down host.index }
-    {
-        is_marked(self.marks.as_slice(), host)
     }
 
     /// Takes a host down, unless a limited group that holds it is at its limit: then the outermost such group is told, and

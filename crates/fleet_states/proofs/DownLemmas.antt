@@ -2,11 +2,11 @@
 use Rattle.std.proofs.Common.{◌≡◌, ℕ, ◌+◌, ◌≤◌, ◌<◌, Bool, true, false, cond, List, length, set, sym, ap, ◌∙◌, refl, subst, arith, inl, inr, ◌⊎◌}
 use Rattle.std.specs.List.{count_by}
 use Rattle.std.proofs.lemmas.Bool.{both_ways, cases_eq, cases_lt}
-use Rattle.fleet_numbers.specs.NumberLists.{has_number}
+use Rattle.fleet_numbers.specs.NumberLists.{bit, has_number}
 use Rattle.fleet_states.specs.declared.status.Status.{Status}
 use Rattle.fleet_states.specs.declared.status.Status.TheVariants.{Idle, Running}
 use Rattle.fleet_states.specs.Statuses.{are_distinct, are_ready, changed, down_count, is_down, is_waiting, status_at}
-use Rattle.fleet_states.proofs.CountLemmas.{bit, count_add, count_agree, count_change, count_le}
+use Rattle.fleet_numbers.proofs.TestCounts.{count_add, count_agree, count_change, count_le}
 use Rattle.fleet_states.proofs.ReadyLemmas.{ready_waits}
 use Rattle.fleet_states.proofs.StatusLemmas.{status_at-changed, status_at-changed_idle, status_at-changed_past, status_at-past, status_at-set, status_at-set_other, waiting_not_down}
 
@@ -15,7 +15,9 @@ abbrev pub down_at : List Status → ℕ → ℕ
 down_at statuses host = bit (is_down (status_at statuses host))
 
 -- a member that changes moves the count of its group alone
-pub down_count-set : (statuses : List Status) (host : ℕ) (status : Status) (members : List ℕ) → host < length statuses → are_distinct members ≡ true → down_count (set statuses host status) members + cond (has_number host members) (bit (is_down (status_at statuses host))) 0 ≡ down_count statuses members + cond (has_number host members) (bit (is_down status)) 0
+pub down_count-set : (statuses : List Status) (host : ℕ) (status : Status) (members : List ℕ) → host < length statuses → are_distinct members ≡ true
+    → down_count (set statuses host status) members + cond (has_number host members) (bit (is_down (status_at statuses host))) 0
+    ≡ down_count statuses members + cond (has_number host members) (bit (is_down status)) 0
 down_count-set statuses host status members within distinct =
     count_change is_down_before is_down_after host same members distinct ∙ ap count_with (status_at-set statuses host status within)
   where

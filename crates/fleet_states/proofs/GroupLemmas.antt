@@ -7,7 +7,7 @@ use Rattle.fleet_numbers.proofs.RisingLemmas.{are_below-rising}
 use Rattle.domains.specs.FleetViews.{FleetView, IsSound}
 use Rattle.fleet_states.specs.Statuses.{are_distinct}
 use Rattle.fleet_states.specs.Groups.{AreGroups, FleetGroup, IsGroup, groups_of}
-use Rattle.fleet_states.proofs.NumberLemmas.{distinct_rising, rising_range}
+use Rattle.fleet_numbers.proofs.NumberLemmas.{distinct_rising, rising_range}
 
 abbrev pub group_of : FleetView → ℕ → FleetGroup
 group_of fleet group =

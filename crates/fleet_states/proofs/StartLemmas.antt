@@ -11,7 +11,7 @@ use Rattle.fleet_states.specs.declared.status.Status.TheVariants.{Idle}
 use Rattle.fleet_states.specs.Statuses.{down_count, is_down, is_running, status_at}
 use Rattle.fleet_states.specs.Groups.{FleetGroup, is_over}
 use Rattle.fleet_states.specs.Starts.{StartsAtRest, StartsSafe, start_status, start_statuses}
-use Rattle.fleet_states.proofs.CountLemmas.{count_agree}
+use Rattle.fleet_numbers.proofs.TestCounts.{count_agree}
 use Rattle.fleet_states.proofs.StatusLemmas.{status_at-past}
 use Rattle.fleet_states.proofs.GroupLemmas.{get_or-groups_of, length-groups_of}
 

@@ -10,7 +10,7 @@ use Rattle.fleet_states.specs.declared.status.Status.{Status}
 use Rattle.fleet_states.specs.declared.status.Status.TheVariants.{Idle, Waiting, Running, Updated, Failed, Halted, Off, Held}
 use Rattle.domains.specs.Ids.{host_numbers}
 use Rattle.fleet_states.specs.Statuses.{NobodyRuns, changed, is_down, is_running, is_waiting, status_at}
-use Rattle.fleet_states.proofs.NumberLemmas.{has_other, has_own}
+use Rattle.fleet_numbers.proofs.NumberLemmas.{has_other, has_own}
 use Rattle.fleet_states.proofs.HostLemmas.{length-host_numbers, number_of_host}
 
 pub waiting_not_down : (s : Status) → is_waiting s ≡ true → is_down s ≡ false
@@ -178,11 +178,16 @@ pub changed_none : (change : Status → Status) (statuses : List Status) → cha
 changed_none change statuses = given_none (λ host. change (status_at statuses host)) statuses
 
 -- one more host has changed
-pub changed_more : (hosts : List ℕ) (i : ℕ) → i < length hosts → (change : Status → Status) (statuses : List Status) (status : Status) → get_or hosts i 0 < length statuses → status ≡ change (status_at statuses (get_or hosts i 0)) → set (changed change (take i hosts) statuses) (get_or hosts i 0) status ≡ changed change (take (i + 1) hosts) statuses
+pub changed_more : (hosts : List ℕ) (i : ℕ) → i < length hosts → (change : Status → Status) (statuses : List Status) (status : Status)
+    → get_or hosts i 0 < length statuses → status ≡ change (status_at statuses (get_or hosts i 0))
+    → set (changed change (take i hosts) statuses) (get_or hosts i 0) status ≡ changed change (take (i + 1) hosts) statuses
 changed_more hosts i within change statuses status =
     given_more (λ host. change (status_at statuses host)) hosts i within statuses status
 
 -- the same of the hosts as the code reads them
-pub changed_more_host : (hosts : List HostId) (i : ℕ) (d : HostId) → i < length hosts → (change : Status → Status) (statuses : List Status) (status : Status) → (get_or hosts i d).index < length statuses → status ≡ change (status_at statuses (get_or hosts i d).index) → set (changed change (take i (host_numbers hosts)) statuses) (get_or hosts i d).index status ≡ changed change (take (i + 1) (host_numbers hosts)) statuses
+pub changed_more_host : (hosts : List HostId) (i : ℕ) (d : HostId) → i < length hosts → (change : Status → Status) (statuses : List Status) (status : Status)
+    → (get_or hosts i d).index < length statuses → status ≡ change (status_at statuses (get_or hosts i d).index)
+    → set (changed change (take i (host_numbers hosts)) statuses) (get_or hosts i d).index status
+    ≡ changed change (take (i + 1) (host_numbers hosts)) statuses
 changed_more_host hosts i d within change statuses status =
     given_more_host (λ host. change (status_at statuses host)) hosts i d within statuses status

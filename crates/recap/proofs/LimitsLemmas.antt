@@ -16,7 +16,7 @@ use Rattle.domains.specs.FleetViews.{FleetView, down_at_start, off_count}
 use Rattle.domains.specs.Fleets.{IsFleetOf}
 use Rattle.domains.specs.Hosts.{hosts_of, is_off}
 use Rattle.domains.specs.Numbered.{host_at}
-use Rattle.domains.specs.Starts.{place_at, nowhere, allowed_of, down_count, member_count}
+use Rattle.domains.specs.Starts.{place_at, nowhere, allowed_of, hosts_off, member_count}
 use Rattle.domains.proofs.WhereLemmas.{filtered_names, filter-filter}
 use Rattle.recap.specs.LimitsText.{LimitLine, line_text, table_text}
 use Rattle.recap.specs.LimitsTable.{line_of, limits_table, fleet_line, fleet_lines, fleet_table, lines_text}
@@ -108,7 +108,7 @@ module _ (inventory : Inventory) (fleet : FleetView) (of : IsFleetOf inventory f
   off-at host within =
       ap (λ off. slice_index_or off host false) of.off ∙ get_or-map (is_off inventory) fleet.hosts host [] false within
 
-  down-at : (group : ℕ) → group < length inventory.places → down_at_start fleet group ≡ down_count inventory (place_at inventory.places group).name
+  down-at : (group : ℕ) → group < length inventory.places → down_at_start fleet group ≡ hosts_off inventory (place_at inventory.places group).name
   unfolding holds_at is_off_at
   down-at group within =
       let name = (place_at inventory.places group).name in

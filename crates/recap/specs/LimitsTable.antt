@@ -4,7 +4,7 @@ use Rattle.std.specs.List.{filter_map, range_with_len}
 use Rattle.inventory_model.specs.Names.{Name}
 use Rattle.inventory_model.specs.Places.{Place, Inventory}
 use Rattle.domains.specs.Hosts.{hosts_of}
-use Rattle.domains.specs.Starts.{allowed_of, down_count, member_count}
+use Rattle.domains.specs.Starts.{allowed_of, hosts_off, member_count}
 use Rattle.domains.specs.FleetViews.{FleetView, down_at_start}
 use Rattle.fleet_numbers.specs.NumberLists.{list_at}
 use Rattle.recap.specs.LimitsText.{LimitLine, line_text, table_text}
@@ -16,7 +16,7 @@ limit_line group members down limit = record { group = group; members = members;
 -- the line of a group of the inventory, where it has a limit: the limit is how many hosts may be down
 abbrev pub line_of : Inventory → Place → Option LimitLine
 line_of inventory place =
-    option_map (limit_line place.name (member_count inventory place.name) (down_count inventory place.name)) (allowed_of inventory place)
+    option_map (limit_line place.name (member_count inventory place.name) (hosts_off inventory place.name)) (allowed_of inventory place)
 
 -- the same of a fleet, by the group's number
 abbrev pub fleet_line : FleetView → ℕ → Option LimitLine

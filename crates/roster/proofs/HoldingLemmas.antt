@@ -10,7 +10,7 @@ use Rattle.fleet_states.specs.declared.status.Status.TheVariants.{Held}
 use Rattle.fleet_states.specs.Statuses.{are_ready, changed, is_waiting, status_at}
 use Rattle.fleet_states.specs.Groups.{FleetGroup, Fits, is_full_for, no_group, is_stuck}
 use Rattle.fleet_states.proofs.HostLemmas.{length-host_numbers, number_of_host}
-use Rattle.fleet_states.proofs.NumberLemmas.{distinct_fresh, number_at}
+use Rattle.fleet_numbers.proofs.NumberLemmas.{distinct_fresh, number_at}
 use Rattle.fleet_states.proofs.ReadyLemmas.{ready_waits}
 use Rattle.fleet_states.proofs.StatusLemmas.{status_at-changed, waiting_within}
 use Rattle.roster.specs.Unfit.{IsFirstFull, IsFirstWithRoom}

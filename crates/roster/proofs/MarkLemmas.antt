@@ -6,7 +6,8 @@ use Rattle.fleet_states.specs.Statuses.{are_ready, changed, is_waiting, status_a
 use Rattle.fleet_states.proofs.ReadyLemmas.{are_ready_more}
 use Rattle.roster.specs.Unfit.{IsFirstUnready}
 
-pub first_unready : (statuses : List Status) (hosts : List ℕ) (i : ℕ) (host : ℕ) → i < length hosts → get_or hosts i 0 ≡ host → are_ready statuses (take i hosts) ≡ true → is_waiting (status_at (changed (λ _. Running) (take i hosts) statuses) host) ≡ false → IsFirstUnready statuses hosts host
+pub first_unready : (statuses : List Status) (hosts : List ℕ) (i : ℕ) (host : ℕ) → i < length hosts → get_or hosts i 0 ≡ host
+    → are_ready statuses (take i hosts) ≡ true → is_waiting (status_at (changed (λ _. Running) (take i hosts) statuses) host) ≡ false → IsFirstUnready statuses hosts host
 first_unready statuses hosts i host within names ready busy =
     record {
       place = i;

@@ -6,7 +6,7 @@ use Rattle.std.proofs.lemmas.List.Folds.{list_any_more}
 use Rattle.std.proofs.Math.Bool.{or-false}
 use Rattle.std.proofs.lemmas.Bool.{and_from, and_parts, both_ways, cases_lt, eqb-true, lt-ltb, ltb-true, or_cases, or_left, or_right}
 use Rattle.group_tree.specs.declared.ids.HostId.{HostId}
-use Rattle.fleet_numbers.specs.NumberLists.{has_number}
+use Rattle.fleet_numbers.specs.NumberLists.{bit, has_number}
 use Rattle.domains.specs.Ids.{host_numbers}
 use Rattle.domains.specs.FleetViews.{FleetView}
 use Rattle.domains.specs.Starts.{exceeds}
@@ -14,10 +14,10 @@ use Rattle.fleet_states.specs.declared.status.Status.{Status}
 use Rattle.fleet_states.specs.declared.status.Status.TheVariants.{Running, Waiting}
 use Rattle.fleet_states.specs.Statuses.{are_distinct, are_ready, changed, down_count, is_waiting, status_at}
 use Rattle.fleet_states.specs.Groups.{FleetGroup, Fits, IsSafe, group_at, is_full_for, members_among}
-use Rattle.fleet_states.proofs.CountLemmas.{bit, count_add, count_le}
+use Rattle.fleet_numbers.proofs.TestCounts.{count_add, count_le}
 use Rattle.fleet_states.proofs.DownLemmas.{down_count-opened}
 use Rattle.fleet_states.proofs.HostLemmas.{length-host_numbers, number_of_host}
-use Rattle.fleet_states.proofs.NumberLemmas.{distinct_fresh, has_other, has_own, number_at}
+use Rattle.fleet_numbers.proofs.NumberLemmas.{distinct_fresh, has_other, has_own, number_at}
 use Rattle.fleet_states.proofs.ReadyLemmas.{are_ready_more, given_back, ready_waits, waits_still}
 use Rattle.fleet_states.proofs.SafetyLemmas.{fits_from}
 use Rattle.roster.specs.Rosters.{HasChanged, NobodyRests, RosterView, seated_at}
@@ -106,7 +106,9 @@ module _ (old now new : RosterView) (hosts : List ℕ) (rest : NobodyRests old) 
   pub put_back : HasChanged old now hosts (λ _. Running) true → HasChanged now new hosts (λ _. Waiting) false → new ≡ old
   put_back there back =
       let statuses : new.statuses ≡ old.statuses = back.statuses ∙ ap (changed (λ _. Waiting) hosts) there.statuses ∙ given_back old.statuses hosts ready in
-      let seated : new.seated ≡ old.seated = ext_get_or false new.seated old.seated (back.len ∙ there.len) (λ k l. back.seats k ∙ ap (λ b. cond (has_number k hosts) false b) (there.seats k ∙ ap (λ b. cond (has_number k hosts) true b) (rest k)) ∙ either (has_number k hosts) ∙ sym (rest k)) in
+      let taken : (host : ℕ) → seated_at now.seated host ≡ cond (has_number host hosts) true false = λ k. there.seats k ∙ ap (λ b. cond (has_number k hosts) true b) (rest k) in
+      let returned : (host : ℕ) → seated_at new.seated host ≡ false = λ k. back.seats k ∙ ap (λ b. cond (has_number k hosts) false b) (taken k) ∙ either (has_number k hosts) in
+      let seated : new.seated ≡ old.seated = ext_get_or false new.seated old.seated (back.len ∙ there.len) (λ k l. returned k ∙ sym (rest k)) in
       let one : FleetView → RosterView = λ x. record { fleet = x; statuses = new.statuses; seated = new.seated } in
       let two : List Status → RosterView = λ x. record { fleet = old.fleet; statuses = x; seated = new.seated } in
       let three : List Bool → RosterView = λ x. record { fleet = old.fleet; statuses = old.statuses; seated = x } in

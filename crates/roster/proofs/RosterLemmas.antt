@@ -1,10 +1,11 @@
 -- What the roster keeps as one host changes, and as some hosts do.
-use Rattle.std.proofs.Common.{◌≡◌, ℕ, zero, suc, ◌+◌, ◌-◌, ◌≤◌, ◌<◌, Bool, true, false, ◌&&◌, ◌||◌, nat_lt, option_map, ◌∷◌, cond, is_some, Option, Some, None, IfSome, MatchOption, List, [], map, length, get_or, set, take, replicate, sym, ap, ◌∙◌, refl, subst, arith, inl, inr, ◌⊎◌}
+use Rattle.std.proofs.Common.{◌≡◌, ℕ, zero, suc, ◌+◌, ◌-◌, ◌≤◌, ◌<◌, Bool, true, false, ◌&&◌, ◌||◌, nat_lt, option_map, ◌∷◌, cond, is_some, Option}
+use Rattle.std.proofs.Common.{Some, None, IfSome, MatchOption, List, [], map, length, get_or, set, take, replicate, sym, ap, ◌∙◌, refl, subst, arith, inl, inr, ◌⊎◌}
 use Rattle.std.proofs.lemmas.List.{ext_get_or, get_or-set_same, get_or-set_other, get_or_default, get_or_past, get_or-map, get_or-replicate, length-replicate, length-set, length-map, map-set, set-get_or}
 use Rattle.std.proofs.lemmas.Bool.{both_ways, cases_eq, cases_lt, eq-eqb, le-ltb, lt-ltb, ne_eqb}
 use Rattle.group_tree.specs.declared.ids.GroupId.{GroupId}
 use Rattle.group_tree.specs.declared.ids.HostId.{HostId}
-use Rattle.fleet_numbers.specs.NumberLists.{has_number}
+use Rattle.fleet_numbers.specs.NumberLists.{bit, has_number}
 use Rattle.domains.specs.Ids.{host_numbers}
 use Rattle.domains.specs.FleetViews.{FleetView, IsSound}
 use Rattle.fleet_states.specs.declared.status.Status.{Status}
@@ -12,13 +13,13 @@ use Rattle.fleet_states.specs.Statuses.{are_distinct, changed, down_count, is_do
 use Rattle.std.specs.List.{count_by}
 use Rattle.fleet_numbers.proofs.RisingLemmas.{are_below-rising}
 use Rattle.fleet_states.specs.Groups.{FleetGroup, Fits, IsSafe, group_at, groups_of, is_full_for, is_over, no_group, room}
-use Rattle.fleet_states.proofs.CountLemmas.{bit, count_change, count_none}
+use Rattle.fleet_numbers.proofs.TestCounts.{count_change, count_none}
 use Rattle.roster.specs.Unfit.{IsFirstFull}
 use Rattle.fleet_states.proofs.GroupLemmas.{get_or-groups_of, group_of, length-groups_of}
 use Rattle.fleet_numbers.specs.NumberLists.{list_at}
 use Rattle.domains.specs.Starts.{exceeds}
 use Rattle.fleet_states.proofs.HostLemmas.{length-host_numbers, number_of_host}
-use Rattle.fleet_states.proofs.NumberLemmas.{distinct_rising, has_other, has_own, number_below}
+use Rattle.fleet_numbers.proofs.NumberLemmas.{distinct_rising, has_other, has_own, number_below}
 use Rattle.fleet_states.proofs.StatusLemmas.{changed_more_host, changed_none, status_at-set, status_at-set_other, waiting_not_down, waiting_within}
 use Rattle.down_ledger.specs.declared.share.Share.{Share}
 use Rattle.down_ledger.specs.Ledgers.{IsFirstFull as IsFirstFullLedger}
@@ -264,7 +265,11 @@ among_one host members distinct =
     let own : has_number host (host ∷ []) ≡ true = ap (λ b. b || false) (eq-eqb host host refl) in
     by_case (has_number host members) changed none own
   where
-    by_case : (b : Bool) → count_by (λ h. has_number h (host ∷ [])) members + cond b (bit false) 0 ≡ count_by (λ h. false) members + cond b (bit (has_number host (host ∷ []))) 0 → count_by (λ (h : ℕ). false) members ≡ 0 → has_number host (host ∷ []) ≡ true → count_by (λ h. has_number h (host ∷ [])) members ≡ bit b
+    alone : ℕ → Bool
+    alone h = has_number h (host ∷ [])
+
+    by_case : (b : Bool) → count_by alone members + cond b (bit false) 0 ≡ count_by (λ h. false) members + cond b (bit (alone host)) 0
+        → count_by (λ (h : ℕ). false) members ≡ 0 → alone host ≡ true → count_by alone members ≡ bit b
     by_case true changed none own = omega (arith, changed, none, ap bit own)
     by_case false changed none own = omega (arith, changed, none)
 

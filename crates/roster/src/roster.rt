@@ -66,16 +66,6 @@ impl<'f> Roster<'f> {
         status_of(self.statuses.as_slice(), host)
     }
 
-    /// Whether the host's share rests.
-    pub fn rests(&self, host: HostId) -> bool
-        ensures { result ≡ seated_at self.now.seated host.index }
-    {
-        match self.seats.get(host.index) {
-            Some(seat) => seat.is_some(),
-            None => false,
-        }
-    }
-
     /// The fleet; no group of it is over its limit.
     pub fn fleet(&self) -> &'f Fleet
         ensures fleet { result.now ≡ self.now.fleet }

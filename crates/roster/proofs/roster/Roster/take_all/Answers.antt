@@ -9,7 +9,7 @@ use Rattle.fleet_states.specs.declared.status.Status.TheVariants.{Running, Waiti
 use Rattle.fleet_states.specs.Statuses.{are_distinct, are_ready, changed, is_waiting, status_at}
 use Rattle.fleet_states.specs.Groups.{IsSafe, groups_of}
 use Rattle.fleet_states.proofs.HostLemmas.{length-host_numbers, number_of_host}
-use Rattle.fleet_states.proofs.NumberLemmas.{number_at}
+use Rattle.fleet_numbers.proofs.NumberLemmas.{number_at}
 use Rattle.fleet_states.proofs.ReadyLemmas.{ready_waits}
 use Rattle.fleet_states.proofs.StatusLemmas.{length-changed, waiting_within}
 use Rattle.roster.specs.Rosters.{HasChanged, RosterView, seated_at}
