@@ -35,7 +35,15 @@ module _ (p : ℕ → Bool) (ascii : (c : ℕ) → p c ≡ true → c < 128) (Ma
   abbrev CutBy : List ℕ → Option (ℕ × ℕ) → Type 0
   CutBy s o = (test : ℕ → Bool) → Matches test → FindsBy test s o
 
-  pub cut_once : (s : List ℕ) (o : Option (Bor (List ℕ) × Bor (List ℕ))) (d : Bor (List ℕ) × Bor (List ℕ)) → d.0.now ≡ s → d.1.now ≡ [] → MatchOption o (CutBy s None) (λ x. SplitsAroundMatch CutBy s x.0.now x.1.now) → ((unwrap_or o d).0.now ≡ before_first p s) × ((unwrap_or o d).1.now ≡ after_first p s)
+  -- a text is cut into two: what stands before the first byte that passes, and what stands behind it
+  abbrev Halves : Type 0
+  Halves = Bor (List ℕ) × Bor (List ℕ)
+
+  abbrev IsCut : List ℕ → Halves → Type 0
+  IsCut s halves = (halves.0.now ≡ before_first p s) × (halves.1.now ≡ after_first p s)
+
+  pub cut_once : (s : List ℕ) (o : Option Halves) (d : Halves) → d.0.now ≡ s → d.1.now ≡ []
+      → MatchOption o (CutBy s None) (λ x. SplitsAroundMatch CutBy s x.0.now x.1.now) → IsCut s (unwrap_or o d)
   cut_once s None d whole nothing none =
       let n = uncut s (none p by_test) in
       (whole ∙ sym (ap (λ k. take k s) n ∙ take_all (length s) s (omega arith)), nothing ∙ sym (drop_all (position_or_len p s + 1) s (omega (arith, n))))

@@ -7,7 +7,8 @@ use Rattle.std.proofs.lemmas.List.Elements.{All-from_get_or}
 use Rattle.std.proofs.lemmas.List.Sums.{prefix_len_passes}
 use Rattle.std.proofs.lemmas.List.{take_all, drop_all, nil_from_length}
 use Rattle.std.proofs.lemmas.List.Splits.{slice_split-cons_yes, slice_split-cons_no, slice_split_first, slice_split_none}
-use Rattle.host_patterns.specs.Patterns.{is_separator, is_blank, is_gap, is_filled, trimmed, parts_of, without_leading, without_trailing}
+use Rattle.word_parts.specs.Words.{is_blank}
+use Rattle.host_patterns.specs.Patterns.{is_separator, is_gap, is_filled, trimmed, parts_of, without_leading, without_trailing}
 use Rattle.host_patterns.proofs.EndLemmas.{without_leading-yes, without_leading-no, first_left, something_left}
 
 -- the pieces that are parts, trimmed

@@ -1,14 +1,11 @@
 -- What the parts of a pattern of hosts are, in bytes.
 use Rattle.std.specs.Prelude.{ℕ, ◌-◌, Bool, ◌||◌, ◌==◌, nat_lt, List, map, filter, length, take, drop}
 use Rattle.std.specs.List.{slice_split, prefix_len, suffix_len}
+use Rattle.word_parts.specs.Words.{is_blank}
 
 -- `:` or `,`, which stand between parts
 abbrev pub is_separator : ℕ → Bool
 is_separator byte = byte == 58 || byte == 44
-
--- space, tab, line feed or carriage return
-abbrev pub is_blank : ℕ → Bool
-is_blank byte = ((byte == 32 || byte == 9) || byte == 10) || byte == 13
 
 -- the bytes without those at their start, or at their end, that pass the test
 abbrev pub without_leading : (ℕ → Bool) → List ℕ → List ℕ

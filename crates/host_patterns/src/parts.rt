@@ -1,6 +1,7 @@
 //! From a pattern of hosts to its parts.
 ghost use Rattle.std.specs.Prelude.{◌≡◌, ◌<◌, [], ◌∷◌, length, IfNone, IfSome};
 ghost use Rattle.std.specs.List.{before_first, after_first};
+ghost use Rattle.word_parts.specs.Words as words;
 ghost use Rattle.host_patterns.specs.Patterns.{parts_of, without_leading, without_trailing};
 ghost use Rattle.host_patterns.specs.Patterns as spec;
 
@@ -38,7 +39,7 @@ fn cut_at_separator(text: &str) -> (&str, &str)
 }
 
 fn trim_end(piece: &str) -> &str
-    ensures { result.now ≡ without_trailing spec.is_blank piece.now }
+    ensures { result.now ≡ without_trailing words.is_blank piece.now }
 {
     piece.trim_end_matches(is_blank)
 }
@@ -56,7 +57,7 @@ fn is_separator(c: char) -> bool
 }
 
 fn is_blank(c: char) -> bool
-    ensures { result ≡ spec.is_blank c }
+    ensures { result ≡ words.is_blank c }
 {
-    matches!(c, ' ' | '\t' | '\n' | '\r')
+    c.is_ascii() && word_parts::is_blank(c as u8)
 }

@@ -5,9 +5,18 @@ use Rattle.std.specs.Str.{IsCharBoundary, IsUtf8}
 use Rattle.std.proofs.lemmas.Bool.{cases_lt}
 use Rattle.std.proofs.lemmas.Bool.Decides.{nat_tests}
 use Rattle.std.proofs.lemmas.List.{get_or_past}
-use Rattle.word_parts.specs.Words.{starts, is_opening}
+use Rattle.word_parts.specs.Words.{is_blank, is_digit, is_name_byte, starts, is_opening}
 use Rattle.std.proofs.lemmas.Str.{IsCharBoundary-start, IsCharBoundary-after_ascii}
 use Rattle.std.proofs.lemmas.List.Sums.{prefix_len_passes, prefix_len-le-length}
+
+pub blank_ascii : (byte : ℕ) → is_blank byte ≡ true → byte < 128
+blank_ascii byte e = grind (arith, nat_tests)
+
+pub digit_ascii : (byte : ℕ) → is_digit byte ≡ true → byte < 128
+digit_ascii byte e = grind (arith, nat_tests)
+
+pub name_ascii : (byte : ℕ) → is_name_byte byte ≡ true → byte < 128
+name_ascii byte e = grind (arith, nat_tests)
 
 pub run_ends : (test : ℕ → Bool) (ascii : (byte : ℕ) → test byte ≡ true → byte < 128) (bytes : List ℕ) → IsUtf8 bytes → IsCharBoundary bytes (prefix_len test bytes)
 run_ends test ascii bytes utf8 = by_length (prefix_len test bytes) refl

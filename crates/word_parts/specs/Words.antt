@@ -1,6 +1,6 @@
 -- What the parts of a word are, in bytes.
 use Rattle.std.specs.Prelude.{ℕ, suc, zero, Bool, true, false, not, ◌&&◌, ◌||◌, ◌==◌, nat_le, bytes_eq, codes, Option, Some, None, List, [], ◌∷◌, length, take, drop, slice_index, if◌then◌else◌}
-use Rattle.std.specs.List.{list_any, list_all, prefix_len, take_while}
+use Rattle.std.specs.List.{list_any, list_all, find, prefix_len, take_while}
 use Rattle.word_parts.specs.declared.field.Field.{Field}
 use Rattle.word_parts.specs.declared.field.Field.TheVariants.{Rc, Stdout, Stderr, Changed, Failed, Skipped}
 
@@ -9,6 +9,12 @@ pub data Ref : Type 0 where
   whole : List ℕ → Ref
   part : List ℕ → Field → Ref
   hostname : Ref
+
+-- the name before the dot
+abbrev pub name_of : Ref → List ℕ
+name_of (whole name) = name
+name_of (part name field) = name
+name_of hostname = codes "inventory_hostname"
 
 -- plain text, which has at least one byte; a hole; or an opening that begins no hole
 pub data Part : Type 0 where
@@ -32,9 +38,14 @@ abbrev pub is_name_byte : ℕ → Bool
 is_name_byte byte = is_letter byte || is_digit byte
 
 -- the words that name no variable
+abbrev pub reserved_words : List (List ℕ)
+reserved_words =
+    codes "not" ∷ codes "and" ∷ codes "or" ∷ codes "is" ∷ codes "in"
+    ∷ codes "true" ∷ codes "True" ∷ codes "false" ∷ codes "False"
+    ∷ codes "group_names" ∷ codes "inventory_hostname" ∷ []
+
 abbrev pub is_reserved : List ℕ → Bool
-is_reserved word =
-    list_any (bytes_eq word) (codes "not" ∷ codes "and" ∷ codes "or" ∷ codes "is" ∷ codes "in" ∷ codes "true" ∷ codes "false" ∷ codes "True" ∷ codes "False" ∷ codes "group_names" ∷ codes "inventory_hostname" ∷ [])
+is_reserved word = list_any (bytes_eq word) reserved_words
 
 -- a letter or `_`, then letters, digits and `_`
 abbrev pub is_word_of_letters : List ℕ → Bool
@@ -44,9 +55,20 @@ is_word_of_letters word = is_letter (slice_index word 0) && list_all is_name_byt
 unfoldable pub is_name : List ℕ → Bool
 is_name word = is_word_of_letters word && not (is_reserved word)
 
+abbrev pub field_word : Field → List ℕ
+field_word Rc = codes "rc"
+field_word Stdout = codes "stdout"
+field_word Stderr = codes "stderr"
+field_word Changed = codes "changed"
+field_word Failed = codes "failed"
+field_word Skipped = codes "skipped"
+
+abbrev pub all_fields : List Field
+all_fields = Rc ∷ Stdout ∷ Stderr ∷ Changed ∷ Failed ∷ Skipped ∷ []
+
+-- the field that the word names
 unfoldable pub field_named : List ℕ → Option Field
-field_named word =
-    if bytes_eq word (codes "rc") then Some Rc else (if bytes_eq word (codes "stdout") then Some Stdout else (if bytes_eq word (codes "stderr") then Some Stderr else (if bytes_eq word (codes "changed") then Some Changed else (if bytes_eq word (codes "failed") then Some Failed else (if bytes_eq word (codes "skipped") then Some Skipped else None)))))
+field_named word = find (λ field. bytes_eq word (field_word field)) all_fields
 
 abbrev pub without_blanks : List ℕ → List ℕ
 without_blanks bytes = drop (prefix_len is_blank bytes) bytes

@@ -4,9 +4,9 @@ ghost use Rattle.word_parts.specs.Words.{parts_of, plain_length, part_in, behind
 ghost use Rattle.word_parts.specs.Words as spec;
 ghost use Rattle.word_parts.specs.Seen.{said};
 
+use crate::bytes::starts_with_pair;
 use crate::hole::cut_hole;
 use crate::part::Part;
-use crate::runs::starts_with_pair;
 
 /// The first part of the word, and the rest of the word behind it; `None` where the word is empty. It takes no memory.
 /// To walk over all parts, go on with the rest, which is shorter each time.

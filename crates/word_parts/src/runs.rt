@@ -4,6 +4,8 @@ ghost use Rattle.std.specs.List.{prefix_len, take_while};
 ghost use Rattle.word_parts.specs.Words as spec;
 ghost use Rattle.word_parts.specs.Words.{word_in, behind_word, starts};
 
+use crate::bytes::{is_blank, is_name_byte, starts_with_pair};
+
 /// The longest run of letters, digits and `_` behind blanks, and what is behind it and the blanks after it.
 #[tactic(auto, unfolding(crate::specs::Words::behind_word))]
 pub(crate) fn cut_word(text: &str) -> (&str, &str)
@@ -14,7 +16,8 @@ pub(crate) fn cut_word(text: &str) -> (&str, &str)
     (word, without_blanks(rest))
 }
 
-fn without_blanks(text: &str) -> &str
+/// The text without the blanks at its start.
+pub fn without_blanks(text: &str) -> &str
     ensures { result.now ≡ spec.without_blanks text.now }
 {
     text.split_at(count_blanks(text.as_bytes())).1
@@ -72,31 +75,4 @@ fn starts_with(bytes: &[u8], first: u8) -> bool
     ensures { result ≡ (slice_index bytes.now 0 == first) }
 {
     bytes.len() > 0 && bytes[0] == first
-}
-
-/// Whether the bytes begin with these two.
-pub(crate) fn starts_with_pair(bytes: &[u8], first: u8, second: u8) -> bool
-    requires some { 0 < first }
-    requires second_some { 0 < second }
-    ensures { result ≡ starts first second bytes.now }
-{
-    bytes.len() > 1 && bytes[0] == first && bytes[1] == second
-}
-
-pub(crate) fn is_letter(byte: u8) -> bool
-    ensures { result ≡ spec.is_letter byte }
-{
-    matches!(byte, b'A'..=b'Z' | b'a'..=b'z' | b'_')
-}
-
-pub(crate) fn is_name_byte(byte: u8) -> bool
-    ensures { result ≡ spec.is_name_byte byte }
-{
-    is_letter(byte) || matches!(byte, b'0'..=b'9')
-}
-
-fn is_blank(byte: u8) -> bool
-    ensures { result ≡ spec.is_blank byte }
-{
-    matches!(byte, b' ' | b'\t' | b'\n' | b'\r')
 }

@@ -5,7 +5,7 @@ use Rattle.std.specs.Option.{option_or}
 use Rattle.std.specs.List.{flat_map}
 use Rattle.inventory_model.specs.Names.{Name}
 use Rattle.inventory_model.specs.Variables.{Scalar, Text, Int, Truth}
-use Rattle.word_parts.specs.Words.{Ref, whole, part, hostname, Part, plain, hole, braces, parts_of}
+use Rattle.word_parts.specs.Words.{Ref, name_of, Part, plain, hole, braces, parts_of}
 
 -- the value of each reference that has one
 abbrev pub Values : Type 0
@@ -27,12 +27,6 @@ abbrev pub part_text : Values → Part → List ℕ
 part_text values (plain text) = text
 part_text values (hole of) = printed_value (values of)
 part_text values braces = []
-
--- the name before the dot
-abbrev pub name_of : Ref → Name
-name_of (whole name) = name
-name_of (part name field) = name
-name_of hostname = codes "inventory_hostname"
 
 -- the name in a hole that has no value
 abbrev pub undefined_in : Values → Part → Option Name

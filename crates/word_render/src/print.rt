@@ -1,6 +1,7 @@
 //! The text of one part.
 ghost use Rattle.std.specs.Prelude.{◌≡◌, option_map};
 ghost use Rattle.group_tree.specs.Scalars as scalars;
+ghost use Rattle.word_parts.specs.Words.{name_of};
 ghost use Rattle.word_parts.specs.Seen as seen;
 ghost use Rattle.word_parts.specs.Seen.{ref_said};
 ghost use Rattle.word_render.specs.Renders as spec;
@@ -54,7 +55,7 @@ pub(crate) fn undefined_in<'w, V: Values>(values: &V, part: Part<'w>) -> Option<
 }
 
 fn name_of<'w>(of: Ref<'w>) -> &'w str
-    ensures { result.now ≡ spec.name_of (ref_said of.entry) }
+    ensures { result.now ≡ name_of (ref_said of.entry) }
 {
     match of {
         Ref::Whole(name) => name,

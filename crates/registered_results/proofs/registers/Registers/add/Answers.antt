@@ -22,6 +22,6 @@ returns-clause-added c =
     let new : Registers = record { names = c.insert.new.self } in
     let own = string_bytes c.in_ok-name.name in
     let added : Adds old new own = λ other.
-        hash_set_updates_text own old.names new.names true c.in_ok-insert.ensures.updates other
-        ∙ either (bytes_eq own other) (is_register old other) in
+    hash_set_updates_text own old.names new.names true c.in_ok-insert.ensures.updates other
+    ∙ either (bytes_eq own other) (is_register old other) in
     subst (Adds old new) is_name added
