@@ -11,7 +11,7 @@ use Rattle.inventory_model.specs.Subtrees as subtrees
 use Rattle.inventory_read.specs.Documents.{Listed, standing, under, with_below}
 use Rattle.inventory_read.specs.Values.{place_of, row_of, rows_of, hosts_in, limit_in, variables_in, inventory_from}
 
--- the group, and then these groups as keys_text ones below it
+-- the group, and then these groups as further ones below it
 abbrev pub reach : Subtree → List Listed → Inventory
 reach group more = beside (inventory_of group) (inventory_from (map (under group.name) more))
 
@@ -46,7 +46,7 @@ pub inventory-standing : (past_all : Bool) (groups : List Listed) → inventory_
 inventory-standing past_all groups = same_inventory _ _ _ _ (places-standing past_all groups) (rows-standing past_all groups)
 
 module _ (group child : Subtree) (listed more : List Listed) (is : inventory_of child ≡ inventory_from listed) where
-  -- what keys_text groups of the document give below the group
+  -- what further groups of the document give below the group
   abbrev places_below : List Listed → List Place
   places_below groups = map place_of (map (under group.name) groups)
 

@@ -6,7 +6,7 @@ use Rattle.std.proofs.lemmas.Grind.{flat_map-append}
 use Rattle.std.proofs.lemmas.List.{map-append}
 use Rattle.serde_json.specs.Data.{Data}
 use Rattle.inventory_model.specs.Names.{Name}
-use Rattle.inventory_read.specs.Documents.{Entry, Listed, below_body, groups_from, standing, under, with_below}
+use Rattle.inventory_read.specs.Documents.{Child, Listed, below_body, groups_from, standing, under, with_below}
 use Rattle.inventory_read.specs.Faults.{IsFirst}
 use Rattle.inventory_read.specs.Keys.{all_key}
 use Rattle.inventory_read.specs.Listings.{broken_from, broken_under, way_to}
@@ -58,11 +58,11 @@ broken_below_all past_all [] = refl
 broken_below_all past_all (group ∷ groups) = rw (placed_below_all past_all group, broken_below_all past_all groups) refl
 
 -- what children of `all` and all below them break
-abbrev pub broken_by_children : List Entry → List Breach
+abbrev pub broken_by_children : List Child → List Breach
 broken_by_children children = flat_map broken_in (map (under all_key) (flat_map groups_from children))
 
 -- the first child of some, and the others
-pub broken_by_first : (child : Entry) (children : List Entry) → broken_by_children (child ∷ children) ≡ broken_from (way_to child) child.name child.value ++ broken_by_children children
+pub broken_by_first : (child : Child) (children : List Child) → broken_by_children (child ∷ children) ≡ broken_from (way_to child) child.name child.value ++ broken_by_children children
 broken_by_first child children =
     let more = flat_map groups_from children in
     let below = with_below child.name child.value (below_body child.value) in
@@ -98,13 +98,13 @@ pass_below way name body groups more rest kept =
     rest ∙ broken_by_member way name body more ∙ ap (λ first. first ++ flat_map (broken_under way) more) kept
 
 -- the same of the children of `all`
-pub first_child : (fault : ReadFault) (own : List Breach) (child : Entry) (children more : List Entry) → own ≡ [] → broken_by_children children ≡ broken_by_children (child ∷ more)
+pub first_child : (fault : ReadFault) (own : List Breach) (child : Child) (children more : List Child) → own ≡ [] → broken_by_children children ≡ broken_by_children (child ∷ more)
     → IsFirst fault (broken_from (way_to child) child.name child.value) → IsFirst fault (own ++ broken_by_children children)
 first_child fault own child children more kept rest is =
     let front = IsFirst-front fault (broken_from (way_to child) child.name child.value) (broken_by_children more) is in
     rw (kept, rest, broken_by_first child more) front
 
-pub pass_child : (child : Entry) (children more : List Entry) → broken_by_children children ≡ broken_by_children (child ∷ more) → broken_from (way_to child) child.name child.value ≡ []
+pub pass_child : (child : Child) (children more : List Child) → broken_by_children children ≡ broken_by_children (child ∷ more) → broken_from (way_to child) child.name child.value ≡ []
     → broken_by_children children ≡ broken_by_children more
 pass_child child children more rest kept =
     rest ∙ broken_by_first child more ∙ ap (λ first. first ++ broken_by_children more) kept

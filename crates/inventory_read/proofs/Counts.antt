@@ -8,16 +8,17 @@ use Rattle.serde_json.specs.View.{members_view}
 use Rattle.serde_json.specs.declared.value.Value.{Value}
 use Rattle.inventory_model.specs.Names.{Name}
 use Rattle.inventory_model.specs.Bounds.{group_names, are_within_depth, depth_bound, groups_bound, rows_bound}
+use Rattle.json_shapes.specs.Breaches.{first_of, joined, unless}
+use Rattle.json_shapes.specs.Shapes.{entries}
+use Rattle.json_shapes.proofs.ListLaws.{entries_counted}
 use Rattle.inventory_read.specs.Documents as documents
-use Rattle.inventory_read.specs.Documents.{entries}
 use Rattle.inventory_read.specs.Listings.{Outline, outline_of, outline_at, listing_of, name_of, rows_at, most}
-use Rattle.inventory_read.specs.Rules.{Breach, TwicePlaced, TooDeep, TooMany, first_of, joined, unless}
+use Rattle.inventory_read.specs.Rules.{Breach, TwicePlaced, TooDeep, TooMany}
 use Rattle.inventory_read.specs.Values.{host_of, hosts_in, place_of, rows_of}
 use Rattle.inventory_read.specs.declared.listing.Listed.{Listed}
 
 pub length-hosts : (list : List (String Global × Value)) → length (map host_of (entries (members_view list))) ≡ length list
-length-hosts [] = refl
-length-hosts (entry ∷ list) = let rest = length-hosts list in omega arith
+length-hosts list = length-map (entries (members_view list)) host_of ∙ sym (entries_counted list)
 
 pub length-name_of : (groups : List Listed) (i : ℕ) → i < length groups → i < length (map name_of groups)
 length-name_of groups i within = simp length-map within

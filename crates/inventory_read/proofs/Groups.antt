@@ -9,11 +9,12 @@ use Rattle.serde_json.specs.Data.{Data, null, boolean, number, string, array, ob
 use Rattle.serde_json.specs.Find.{get_member}
 use Rattle.serde_json.specs.View.{view}
 use Rattle.inventory_model.specs.Names.{Name}
+use Rattle.json_shapes.specs.Shapes.{members_in}
 use Rattle.inventory_read.specs.Keys.{all_key, children_key}
 use Rattle.inventory_read.specs.Documents as documents
-use Rattle.inventory_read.specs.Documents.{members_in, part, standing, under, with_below, below_body, below_members, groups_in, groups_among, groups_from, entries_in, merged, groups_beside_all, groups_of}
-use Rattle.inventory_read.specs.Listings.{Outline, entry_of, outline_of, outline_at, most}
-use Rattle.inventory_read.specs.declared.listing.Entry.{Entry}
+use Rattle.inventory_read.specs.Documents.{part, standing, under, with_below, below_body, below_members, groups_in, groups_among, groups_from, merged, own_children, groups_beside_all, groups_of}
+use Rattle.inventory_read.specs.Listings.{Outline, child_of, outline_of, outline_at, most}
+use Rattle.inventory_read.specs.declared.listing.Child.{Child}
 use Rattle.inventory_read.specs.declared.listing.Listed.{Listed}
 
 groups_in-is : (value : Data) → groups_in value ≡ groups_among (members_in value)
@@ -76,14 +77,14 @@ listed_with_below before after group depth members whole pushed fits deep is e =
     ∙ ap (λ rest. map outline_of before ++ rest) (cons_same own below)
 
 -- a child of `all` and all below it, once they have been added
-pub listed_child : (before after : List Listed) (child : Entry) (rest : List documents.Listed) (whole : List Outline)
+pub listed_child : (before after : List Listed) (child : Child) (rest : List documents.Listed) (whole : List Outline)
     → map outline_of after ≡ map outline_of before ++ map (outline_at 2) (with_below child.name.now (view child.body.now) (below_body (view child.body.now)))
-    → map outline_of before ++ map (outline_at 2) (groups_from (entry_of child) ++ rest) ≡ whole → map outline_of after ++ map (outline_at 2) rest ≡ whole
+    → map outline_of before ++ map (outline_at 2) (groups_from (child_of child) ++ rest) ≡ whole → map outline_of after ++ map (outline_at 2) rest ≡ whole
 listed_child before after child rest whole listed e =
     let own = with_below child.name.now (view child.body.now) (below_body (view child.body.now)) in
     ap (λ first. first ++ map (outline_at 2) rest) (listed ∙ ap (λ added. map outline_of before ++ added) (sym (outline_at-standing 2 child.past_all own)))
-    ∙ append_assoc (map outline_of before) (map (outline_at 2) (groups_from (entry_of child))) (map (outline_at 2) rest)
-    ∙ ap (λ last. map outline_of before ++ last) (sym (map-append (outline_at 2) (groups_from (entry_of child)) rest))
+    ∙ append_assoc (map outline_of before) (map (outline_at 2) (groups_from (child_of child))) (map (outline_at 2) rest)
+    ∙ ap (λ last. map outline_of before ++ last) (sym (map-append (outline_at 2) (groups_from (child_of child)) rest))
     ∙ e
 
 -- `all` and all below it, once those below it have been listed
@@ -93,11 +94,11 @@ listed_all groups body below e =
     e ∙ ap (λ rest. record { name = all_key; body = body; depth = 1 } ∷ rest) (sym (outline_at-under 1 all_key below))
 
 -- `all` and its children, as the reader has them, are all groups of the document
-pub groups_of-is : (document all : Data) (children : List documents.Entry)
-    → children ≡ merged (entries_in (part children_key all)) (groups_beside_all document) → all ≡ part all_key document
+pub groups_of-is : (document all : Data) (children : List documents.Child)
+    → children ≡ merged (own_children all) (groups_beside_all document) → all ≡ part all_key document
     → with_below all_key all (flat_map groups_from children) ≡ groups_of document
 groups_of-is document all children listed body =
-    let children_in : Data → List documents.Entry =
-    λ value. merged (entries_in (part children_key value)) (groups_beside_all document) in
+    let children_in : Data → List documents.Child =
+    λ value. merged (own_children value) (groups_beside_all document) in
     ap (λ list. with_below all_key all (flat_map groups_from list)) listed
     ∙ ap (λ value. with_below all_key value (flat_map groups_from (children_in value))) body

@@ -1,4 +1,3 @@
-pub mod Percentages
 pub mod Depths
 pub mod Groups
 pub mod Merges

@@ -3,16 +3,13 @@ use Rattle.std.proofs.Common.{◌≡◌, ℕ, Option, Some, None, Result, Ok, Er
 use Rattle.std.specs.Bool.{⊤}
 use Rattle.std.specs.List.{flat_map}
 use Rattle.serde_json.specs.Data.{Data}
+use Rattle.json_shapes.specs.Breaches.{first_of}
+use Rattle.json_shapes.proofs.BreachLaws.{first_here}
 use Rattle.inventory_read.specs.Documents.{groups_of}
 use Rattle.inventory_read.specs.Faults.{IsFirst, IsRefusal, breach_of}
-use Rattle.inventory_read.specs.Rules.{Breach, placed, first_of, bad_top, broken_by_tree, broken_in, broken}
+use Rattle.inventory_read.specs.Rules.{Breach, placed, bad_top, broken_by_tree, broken_in, broken}
 use Rattle.inventory_read.specs.Values.{inventory_of}
 use Rattle.inventory_read.specs.declared.fault.ReadFault.{ReadFault}
-
--- the first of a part is the first of the whole, where nothing stands before the part
-pub first_here : (part rest : List Breach) (breach : Breach) → first_of part ≡ Some breach → first_of (part ++ rest) ≡ Some breach
-first_here [] rest breach e = cc
-first_here (first ∷ part) rest breach e = e
 
 -- breaches keep their order where their paths are made whole
 pub first_placed : (path : List ℕ) (breaches : List Breach) (breach : Breach) → first_of breaches ≡ Some breach → first_of (map (placed path) breaches) ≡ Some (placed path breach)

@@ -6,30 +6,8 @@ use Rattle.std.specs.Cmp.Lexicographic.{slice_cmp}
 use Rattle.serde_json.specs.Data.{Data, null, boolean, number, string, array, object, Members, no_members, member}
 use Rattle.serde_json.specs.Find.{get}
 use Rattle.inventory_model.specs.Names.{Name, same_name}
+use Rattle.json_shapes.specs.Shapes.{Entry, entries_in}
 use Rattle.inventory_read.specs.Keys.{all_key, children_key}
-
--- an entry of an object; `past_all` marks a group to which the way in the text doesn't lead through `all`: the top value lists it beside `all`
-pub record Entry : Type 0 where
-  pub name : Name
-  pub value : Data
-  pub past_all : Bool
-
--- the entries in the order of their names, which a document's objects keep; each name stands once
-abbrev pub entries : Members → List Entry
-entries no_members = []
-entries (member name value more) = record { name = name; value = value; past_all = false } ∷ entries more
-
--- the entries of an object, as they are kept; any other value has none
-abbrev pub members_in : Data → Members
-members_in (object members) = members
-members_in null = no_members
-members_in (boolean _) = no_members
-members_in (number _) = no_members
-members_in (string _) = no_members
-members_in (array _) = no_members
-
-abbrev pub entries_in : Data → List Entry
-entries_in value = entries (members_in value)
 
 -- the value under a key of an object, null where there is none
 abbrev pub part : Name → Data → Data
@@ -43,7 +21,7 @@ pub record Listed : Type 0 where
   pub body : Data
   pub past_all : Bool
 
--- the group one group keys_text down
+-- the group one group further down
 abbrev pub under : Name → Listed → Listed
 under outer group = record group { above = outer ∷ group.above }
 
@@ -77,38 +55,48 @@ abbrev mutual
   groups_among no_members = []
   groups_among (member name body more) = with_below name body (below_body body) ++ groups_among more
 
+-- a child of `all`; `past_all` marks one to which the way in the text doesn't lead through `all`: the top value lists it beside `all`
+pub record Child : Type 0 where
+  pub name : Name
+  pub value : Data
+  pub past_all : Bool
+
+-- what an entry lists, as a child of `all`
+abbrev pub as_child : Bool → Entry → Child
+as_child past_all entry = record { name = entry.name; value = entry.value; past_all = past_all }
+
 -- the same group, to which the way leads past `all`, or through it
 abbrev pub standing : Bool → Listed → Listed
 standing past_all group = record group { past_all = past_all }
 
--- a group of this name and body, and all below it, each marked as the entry is
-abbrev pub groups_from : Entry → List Listed
-groups_from group = map (standing group.past_all) (with_below group.name group.value (below_body group.value))
+-- a child of `all` and all below it, each marked as the child is
+abbrev pub groups_from : Child → List Listed
+groups_from child = map (standing child.past_all) (with_below child.name child.value (below_body child.value))
 
 -- the second name stands before the first
-abbrev pub comes_after : Entry → Entry → Bool
-comes_after entry other = is_lt (slice_cmp nat_cmp other.name entry.name)
+abbrev pub comes_after : Child → Child → Bool
+comes_after child other = is_lt (slice_cmp nat_cmp other.name child.name)
 
 -- two lists, each in the order of its names, as one; of two with one name the first list's comes first
-abbrev pub merged : List Entry → List Entry → List Entry
+abbrev pub merged : List Child → List Child → List Child
 merged [] others = others
-merged (entry ∷ own) others =
-    take (prefix_len (comes_after entry) others) others ++ entry ∷ merged own (drop (prefix_len (comes_after entry) others) others)
+merged (child ∷ own) others =
+    take (prefix_len (comes_after child) others) others ++ child ∷ merged own (drop (prefix_len (comes_after child) others) others)
 
 abbrev pub is_beside_all : Entry → Bool
 is_beside_all entry = not (same_name entry.name all_key)
 
-abbrev pub led_past_all : Entry → Entry
-led_past_all entry = record entry { past_all = true }
-
 -- the groups that the top value lists beside `all`
-abbrev pub groups_beside_all : Data → List Entry
-groups_beside_all document = map led_past_all (filter is_beside_all (entries_in document))
+abbrev pub groups_beside_all : Data → List Child
+groups_beside_all document = map (as_child true) (filter is_beside_all (entries_in document))
+
+-- the groups that the body of `all` lists
+abbrev pub own_children : Data → List Child
+own_children all = map (as_child false) (entries_in (part children_key all))
 
 -- the children of `all`: its own, and the groups beside it
-abbrev pub children_of_all : Data → List Entry
-children_of_all document =
-    merged (entries_in (part children_key (part all_key document))) (groups_beside_all document)
+abbrev pub children_of_all : Data → List Child
+children_of_all document = merged (own_children (part all_key document)) (groups_beside_all document)
 
 -- all groups of the document in preorder, `all` first; where it is missing it has no body
 abbrev pub groups_of : Data → List Listed

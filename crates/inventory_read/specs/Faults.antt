@@ -1,9 +1,10 @@
 -- Which rule a fault names.
 use Rattle.std.specs.Prelude.{◌≡◌, ℕ, Option, Some, None, Result, [], List, MatchResult, MatchOption, ⊤}
 use Rattle.std.specs.String.{string_bytes}
+use Rattle.json_shapes.specs.Breaches.{first_of}
 use Rattle.inventory_read.specs.Paths.{down_path, host_path, limit_path, part_path}
 use Rattle.inventory_read.specs.Rules as rules
-use Rattle.inventory_read.specs.Rules.{Breach, first_of}
+use Rattle.inventory_read.specs.Rules.{Breach}
 use Rattle.inventory_read.specs.declared.flaw.Flaw.{Flaw}
 use Rattle.inventory_read.specs.declared.flaw.Flaw.TheVariants as flaw
 use Rattle.inventory_read.specs.declared.fault.ReadFault.{ReadFault}

@@ -1,12 +1,10 @@
--- The keys that the format gives a meaning.
+-- The keys that the format gives a meaning, beside `hosts`.
 use Rattle.std.specs.Prelude.{List, [], ◌∷◌, codes}
 use Rattle.inventory_model.specs.Names.{Name}
+use Rattle.json_shapes.specs.Keys.{hosts_key}
 
 abbrev pub all_key : Name
 all_key = codes "all"
-
-abbrev pub hosts_key : Name
-hosts_key = codes "hosts"
 
 abbrev pub children_key : Name
 children_key = codes "children"

@@ -1,7 +1,6 @@
 pub mod Keys
 pub mod Documents
 pub mod Named
-pub mod Percentages
 pub mod Values
 pub mod Paths
 pub mod Rules

@@ -10,12 +10,12 @@ use Rattle.inventory_read.specs.Keys.{all_key}
 use Rattle.inventory_read.specs.Paths.{text_path, names_to}
 use Rattle.inventory_read.specs.Rules.{Breach, placed, broken_by_group}
 use Rattle.inventory_read.specs.Values.{hosts_in}
-use Rattle.inventory_read.specs.declared.listing.Entry.{Entry}
+use Rattle.inventory_read.specs.declared.listing.Child.{Child}
 use Rattle.inventory_read.specs.declared.listing.Listed.{Listed}
 
 -- what an entry of the reader's says
-abbrev pub entry_of : Entry → documents.Entry
-entry_of entry = record { name = entry.name.now; value = view entry.body.now; past_all = entry.past_all }
+abbrev pub child_of : Child → documents.Child
+child_of entry = record { name = entry.name.now; value = view entry.body.now; past_all = entry.past_all }
 
 -- what counts of a group in the reader's list; `usize` is never reached, since `serde_json` limits the nesting
 pub record Outline : Type 0 where
@@ -45,7 +45,7 @@ abbrev pub rows_at : Listed → List Host
 rows_at group = hosts_in (view group.body.now)
 
 -- the names on the way to a child of `all`
-abbrev pub way_to : documents.Entry → List Name
+abbrev pub way_to : documents.Child → List Name
 way_to child = (if child.past_all then [] else (all_key ∷ [])) ++ child.name ∷ []
 
 -- what a group breaks that is listed below another, to which the names above lead

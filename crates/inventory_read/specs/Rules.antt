@@ -1,13 +1,16 @@
 -- The rules of the format, and which of them a document breaks.
 use Rattle.std.specs.Prelude.{ℕ, ◌+◌, Bool, true, false, ◌&&◌, ◌||◌, Option, Some, None, List, [], ◌∷◌, ◌++◌, map, length, nat_le, is_some, if◌then◌else◌}
 use Rattle.std.specs.List.{flat_map}
-use Rattle.serde_json.specs.Data.{Data, null, boolean, number, string, array, object}
+use Rattle.serde_json.specs.Data.{Data}
 use Rattle.serde_json.specs.Find.{get}
 use Rattle.inventory_model.specs.Names.{Name, is_name, is_among, are_distinct}
 use Rattle.inventory_model.specs.Places.{Inventory}
 use Rattle.inventory_model.specs.Bounds.{depth_bound, groups_bound, rows_bound, group_names, are_within_depth}
-use Rattle.inventory_read.specs.Keys.{hosts_key, children_key, vars_key, max_down_key, down_key, body_keys}
-use Rattle.inventory_read.specs.Documents.{Entry, Listed, entries_in, part, groups_of}
+use Rattle.json_shapes.specs.Breaches.{unless, joined}
+use Rattle.json_shapes.specs.Keys.{hosts_key}
+use Rattle.json_shapes.specs.Shapes.{Entry, entries_in, is_object, is_null, is_truth}
+use Rattle.inventory_read.specs.Keys.{children_key, vars_key, max_down_key, down_key, body_keys}
+use Rattle.inventory_read.specs.Documents.{Listed, part, groups_of}
 use Rattle.inventory_read.specs.Paths.{down_path, host_path, limit_path, part_path, text_path_of}
 use Rattle.inventory_read.specs.Values.{limit_of, inventory_of}
 
@@ -23,10 +26,6 @@ pub data Breach : Type 0 where
   TooDeep : Breach
   TooMany : Breach
 
--- the breach, where the rule isn't kept
-abbrev pub unless : Bool → Breach → List Breach
-unless kept breach = if kept then [] else breach ∷ []
-
 -- a breach whose path begins at a group's body, in the whole text
 abbrev pub placed : List ℕ → Breach → Breach
 placed path NotJson = NotJson
@@ -38,38 +37,6 @@ placed path (BadName name) = BadName name
 placed path (TwicePlaced group) = TwicePlaced group
 placed path TooDeep = TooDeep
 placed path TooMany = TooMany
-
-abbrev pub first_of : List Breach → Option Breach
-first_of [] = None
-first_of (breach ∷ later) = Some breach
-
-abbrev pub is_object : Data → Bool
-is_object (object _) = true
-is_object null = false
-is_object (boolean _) = false
-is_object (number _) = false
-is_object (string _) = false
-is_object (array _) = false
-
-abbrev pub is_null : Data → Bool
-is_null null = true
-is_null (object _) = false
-is_null (boolean _) = false
-is_null (number _) = false
-is_null (string _) = false
-is_null (array _) = false
-
-abbrev pub is_truth : Data → Bool
-is_truth (boolean _) = true
-is_truth null = false
-is_truth (object _) = false
-is_truth (number _) = false
-is_truth (string _) = false
-is_truth (array _) = false
-
--- the breaches of several rules, one rule after another
-abbrev pub joined : List (List Breach) → List Breach
-joined parts = flat_map (λ part. part) parts
 
 -- where something is given, it passes the test
 abbrev pub is_none_or : (Data → Bool) → Option Data → Bool

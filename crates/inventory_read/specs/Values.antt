@@ -1,15 +1,17 @@
 -- What a document says of its groups: limits, variables, hosts, and so the inventory.
-use Rattle.std.specs.Prelude.{ℕ, Option, Some, None, List, map, option_map, option_and_then, nat_le, if◌then◌else◌}
+use Rattle.std.specs.Prelude.{Option, Some, None, List, map, option_map, option_and_then}
 use Rattle.std.specs.List.{filter_map, flat_map}
-use Rattle.serde_json.specs.Data.{Data, Num, null, boolean, number, string, array, object}
-use Rattle.serde_json.specs.Find.{get, as_u64, as_i64}
+use Rattle.serde_json.specs.Data.{Data, null, boolean, number, string, array, object}
+use Rattle.serde_json.specs.Find.{get, as_i64}
 use Rattle.inventory_model.specs.Limits.{Limit, Count, Percent}
 use Rattle.inventory_model.specs.Variables.{Scalar, Text, Int, Truth, Variable}
 use Rattle.inventory_model.specs.Places.{Place, Row, Inventory}
 use Rattle.inventory_model.specs.Subtrees.{Host}
-use Rattle.inventory_read.specs.Keys.{hosts_key, vars_key, max_down_key}
-use Rattle.inventory_read.specs.Percentages.{share_of}
-use Rattle.inventory_read.specs.Documents.{Entry, Listed, entries_in, part, groups_of}
+use Rattle.json_shapes.specs.Keys.{hosts_key}
+use Rattle.json_shapes.specs.Numerals.{whole_number, percentage_in}
+use Rattle.json_shapes.specs.Shapes.{Entry, entries_in}
+use Rattle.inventory_read.specs.Keys.{vars_key, max_down_key}
+use Rattle.inventory_read.specs.Documents.{Listed, part, groups_of}
 
 -- a text, a whole number or a truth value; any other value defines nothing
 abbrev pub scalar_of : Data → Option Scalar
@@ -26,14 +28,10 @@ variable_of entry = option_map (λ value. record { name = entry.name; value = va
 abbrev pub variables_of : List Entry → List Variable
 variables_of list = filter_map variable_of list
 
--- the whole number from 0 to 65,535 that a number is
-abbrev pub count_of : Num → Option ℕ
-count_of n = option_and_then (λ hosts. if nat_le hosts 65535 then Some hosts else None) (as_u64 n)
-
--- a limit is such a number, or a percentage as a text
+-- a limit is a whole number from 0 to 65,535, or a percentage as a text
 abbrev pub limit_of : Data → Option Limit
-limit_of (number n) = option_map Count (count_of n)
-limit_of (string text) = option_map Percent (share_of text)
+limit_of (number n) = option_map Count (whole_number 65535 (number n))
+limit_of (string text) = option_map Percent (percentage_in text)
 limit_of null = None
 limit_of (boolean _) = None
 limit_of (array _) = None

@@ -6,18 +6,20 @@ ghost use Rattle.inventory_model.specs.Names.{is_name};
 ghost use Rattle.inventory_model.specs.Subtrees as subtrees;
 ghost use Rattle.group_tree.specs.Limits as tree;
 ghost use Rattle.group_tree.specs.Scalars.{lent_variable};
+ghost use Rattle.json_shapes.specs.Shapes.{entries_in};
 ghost use Rattle.inventory_read.specs.Documents as documents;
 ghost use Rattle.inventory_read.specs.Keys.{all_key};
-ghost use Rattle.inventory_read.specs.Listings.{entry_of};
+ghost use Rattle.inventory_read.specs.Listings.{child_of};
 ghost use Rattle.inventory_read.specs.Named.{are_named, hosts_are_named};
 ghost use Rattle.inventory_read.specs.Values as values;
 
-use crate::entries::{entries_at, entries_of};
+use crate::entries::entries_at;
 use crate::keys::{ALL, CHILDREN, HOSTS, MAX_DOWN, VARS};
 use crate::limits::limit_of;
-use crate::listing::Entry;
+use crate::listing::Child;
 use crate::variables::variables_of;
 use group_tree::{Group, Limit, Scalar};
+use json_shapes::entries_of;
 use serde_json::{Map, Value};
 use std::alloc::{AllocError, Allocator, Global};
 
@@ -45,7 +47,7 @@ fn host_variables<'a>(
     scratch: Global,
     value: &'a Value,
 ) -> Result<Vec<(&'a str, Scalar<'a>)>, AllocError>
-    ensures { IfOk result (λ found. map lent_variable found.items ≡ values.variables_of (documents.entries_in (view value.now))) }
+    ensures { IfOk result (λ found. map lent_variable found.items ≡ values.variables_of (entries_in (view value.now))) }
 {
     match entries_of(value) {
         Some(object) => variables_of(scratch, object),
@@ -108,11 +110,11 @@ pub(crate) fn build_all<A: Allocator + Clone>(
     alloc: A,
     scratch: Global,
     all: &Value,
-    children: &[Entry<'_>],
+    children: &[Child<'_>],
 ) -> Result<Group<A>, AllocError>
-    requires { IsTrue (are_named (documents.with_below all_key (view all.now) (flat_map documents.groups_from (map entry_of children.now)))) }
+    requires { IsTrue (are_named (documents.with_below all_key (view all.now) (flat_map documents.groups_from (map child_of children.now)))) }
     ensures { IfOk result (λ group. subtrees.inventory_of group
-        ≡ values.inventory_from (documents.with_below all_key (view all.now) (flat_map documents.groups_from (map entry_of children.now)))) }
+        ≡ values.inventory_from (documents.with_below all_key (view all.now) (flat_map documents.groups_from (map child_of children.now)))) }
 {
     let mut group = own_group(alloc.clone()?, scratch, ALL, all)?;
     for child in children {

@@ -5,14 +5,14 @@ ghost use Rattle.serde_json.specs.View.{view};
 ghost use Rattle.inventory_read.specs.Documents as documents;
 ghost use Rattle.inventory_read.specs.Faults.{IsRefusal};
 ghost use Rattle.inventory_read.specs.Keys.{all_key};
-ghost use Rattle.inventory_read.specs.Listings.{broken_from, entry_of, way_to};
+ghost use Rattle.inventory_read.specs.Listings.{broken_from, child_of, way_to};
 ghost use Rattle.inventory_read.specs.Paths.{text_path};
 ghost use Rattle.inventory_read.specs.Rules.{placed, broken_by_group, broken_in};
 
 use crate::entries::entries_at;
 use crate::fault::ReadFault;
 use crate::keys::{ALL, CHILDREN};
-use crate::listing::Entry;
+use crate::listing::Child;
 use crate::path::fault_at;
 use crate::rules::check_group;
 use serde_json::Value;
@@ -52,8 +52,8 @@ fn check_from<'a>(
 }
 
 /// Puts in place of the names those that lead to this child of `all`.
-fn lead_to<'a>(names: &mut Vec<&'a str>, child: Entry<'a>) -> Result<(), AllocError>
-    ensures { OnOk result (map (λ name. name.now) names.new.items ≡ way_to (entry_of child.entry)) }
+fn lead_to<'a>(names: &mut Vec<&'a str>, child: Child<'a>) -> Result<(), AllocError>
+    ensures { OnOk result (map (λ name. name.now) names.new.items ≡ way_to (child_of child.entry)) }
 {
     names.clear();
     if !child.past_all {
@@ -67,9 +67,9 @@ fn lead_to<'a>(names: &mut Vec<&'a str>, child: Entry<'a>) -> Result<(), AllocEr
 pub(crate) fn check_groups<'a>(
     scratch: Global,
     all: &'a Value,
-    children: &[Entry<'a>],
+    children: &[Child<'a>],
 ) -> Result<(), ReadFault>
-    ensures { IsRefusal result (flat_map broken_in (documents.with_below all_key (view all.now) (flat_map documents.groups_from (map entry_of children.now)))) }
+    ensures { IsRefusal result (flat_map broken_in (documents.with_below all_key (view all.now) (flat_map documents.groups_from (map child_of children.now)))) }
 {
     let mut names = Vec::new(scratch);
     names.push(ALL)?;

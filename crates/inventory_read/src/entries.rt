@@ -1,20 +1,12 @@
-//! The parts of a JSON value that the format speaks of.
+//! The parts of a JSON value below a key.
 ghost use Rattle.std.specs.Prelude.{◌≡◌, ◌+◌, ◌≤◌, IfSome, MatchOption};
 ghost use Rattle.serde_json.specs.Data.{depth, members_depth, no_members};
 ghost use Rattle.serde_json.specs.View.{view, members_view};
-ghost use Rattle.inventory_read.specs.Documents.{members_in, part};
+ghost use Rattle.json_shapes.specs.Shapes.{members_in};
+ghost use Rattle.inventory_read.specs.Documents.{part};
 
+use json_shapes::entries_of;
 use serde_json::{Map, Value};
-
-/// The entries of a value that is an object.
-pub(crate) fn entries_of(value: &Value) -> Option<&Map<String, Value>>
-    ensures entries { MatchOption result (members_in (view value.now) ≡ no_members)
-        (λ object. members_view object.now.entries ≡ members_in (view value.now)) }
-    ensures shallower { IfSome result
-        (λ object. members_depth (members_view object.now.entries) + 1 ≤ depth (view value.now)) }
-{
-    value.as_object()
-}
 
 /// The entries of the object that stands under a key.
 pub(crate) fn entries_at<'a>(value: &'a Value, key: &str) -> Option<&'a Map<String, Value>>

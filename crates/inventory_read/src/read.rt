@@ -4,11 +4,12 @@ ghost use Rattle.std.specs.List.{flat_map};
 ghost use Rattle.serde_json.specs.Data.{null};
 ghost use Rattle.serde_json.specs.Read.{read};
 ghost use Rattle.serde_json.specs.View.{view};
+ghost use Rattle.json_shapes.specs.Texts.{IsNoJson};
 ghost use Rattle.inventory_read.specs.Documents as documents;
 ghost use Rattle.inventory_read.specs.Faults.{IsRefusal, IsFirst, breach_of};
 ghost use Rattle.inventory_read.specs.Keys.{all_key};
-ghost use Rattle.inventory_read.specs.Listings.{entry_of, outline_of, listing_of};
-ghost use Rattle.inventory_read.specs.Reads.{IsReadAs, IsTrueOf, IsNoJson};
+ghost use Rattle.inventory_read.specs.Listings.{child_of, outline_of, listing_of};
+ghost use Rattle.inventory_read.specs.Reads.{IsReadAs, IsTrueOf};
 ghost use Rattle.inventory_read.specs.Rules as rules;
 ghost use Rattle.inventory_read.specs.Values as values;
 
@@ -17,7 +18,7 @@ use crate::build::build_all;
 use crate::checking::check_groups;
 use crate::fault::ReadFault;
 use crate::keys::ALL;
-use crate::listing::{Entry, Listed, children_of_all, list_groups};
+use crate::listing::{Child, Listed, children_of_all, list_groups};
 use group_tree::Tree;
 use serde_json::Value;
 use std::alloc::{Allocator, Global};
@@ -59,10 +60,10 @@ fn check(
     scratch: Global,
     document: &Value,
     all: &Value,
-    children: &[Entry<'_>],
+    children: &[Child<'_>],
     groups: &[Listed<'_>],
 ) -> Result<(), ReadFault>
-    requires all { documents.with_below all_key (view all.now) (flat_map documents.groups_from (map entry_of children.now)) ≡ documents.groups_of (view document.now) }
+    requires all { documents.with_below all_key (view all.now) (flat_map documents.groups_from (map child_of children.now)) ≡ documents.groups_of (view document.now) }
     requires listed { map outline_of groups.now ≡ listing_of (documents.groups_of (view document.now)) }
     ensures { IsRefusal result (rules.broken (view document.now)) }
 {

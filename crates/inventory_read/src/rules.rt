@@ -4,17 +4,20 @@ ghost use Rattle.serde_json.specs.Data.{null};
 ghost use Rattle.serde_json.specs.Find.{get};
 ghost use Rattle.serde_json.specs.View.{view, members_view};
 ghost use Rattle.inventory_model.specs.Names.{is_among};
-ghost use Rattle.inventory_read.specs.Documents.{entries, entries_in, part};
+ghost use Rattle.json_shapes.specs.Keys.{hosts_key};
+ghost use Rattle.json_shapes.specs.Shapes.{entries_in};
+ghost use Rattle.inventory_read.specs.Documents.{part};
 ghost use Rattle.inventory_read.specs.Faults.{IsVerdict};
-ghost use Rattle.inventory_read.specs.Keys.{body_keys, vars_key, hosts_key};
+ghost use Rattle.inventory_read.specs.Keys.{body_keys, vars_key};
 ghost use Rattle.inventory_read.specs.Paths.{host_path};
 ghost use Rattle.inventory_read.specs.Rules as rules;
 
-use crate::entries::{entries_at, entries_of};
+use crate::entries::entries_at;
 use crate::flaw::Flaw;
 use crate::keys::{CHILDREN, DOWN, HOSTS, MAX_DOWN, VARS};
 use crate::limits::limit_of;
 use group_tree::is_name;
+use json_shapes::entries_of;
 use serde_json::{Map, Value};
 
 fn check_name<'a>(name: &'a str) -> Result<(), Flaw<'a>>
@@ -104,7 +107,7 @@ fn check_down<'a>(name: &'a str, variables: &'a Value) -> Result<(), Flaw<'a>>
 }
 
 fn check_host<'a>(name: &'a str, variables: &'a Value) -> Result<(), Flaw<'a>>
-    ensures { IsVerdict result (rules.broken_by_host (record { name = name.now; value = view variables.now; past_all = false })) }
+    ensures { IsVerdict result (rules.broken_by_host (record { name = name.now; value = view variables.now })) }
 {
     check_name(name)?;
     check_host_shape(name, variables)?;

@@ -1,4 +1,4 @@
-//! The parts of a JSON value, and numbers written as texts: what readers of documents share.
+//! The parts of a JSON value, numbers written as texts, and lists of broken rules: what readers of documents share.
 #![tactic(auto)]
 
 mod numerals;

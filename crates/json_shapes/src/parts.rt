@@ -1,6 +1,6 @@
 //! The parts of a JSON value.
-ghost use Rattle.std.specs.Prelude.{◌≡◌, option_map, map, MatchOption};
-ghost use Rattle.serde_json.specs.Data.{no_members};
+ghost use Rattle.std.specs.Prelude.{◌≡◌, ◌+◌, ◌≤◌, option_map, map, IfSome, MatchOption};
+ghost use Rattle.serde_json.specs.Data.{depth, members_depth, no_members};
 ghost use Rattle.serde_json.specs.View.{view, members_view};
 ghost use Rattle.json_shapes.specs.Shapes as spec;
 
@@ -9,8 +9,9 @@ use std::slice;
 
 /// The entries of a value that is an object.
 pub fn entries_of(value: &Value) -> Option<&Map<String, Value>>
-    ensures { MatchOption result (spec.members_in (view value.now) ≡ no_members)
+    ensures entries { MatchOption result (spec.members_in (view value.now) ≡ no_members)
         (λ object. members_view object.now.entries ≡ spec.members_in (view value.now)) }
+    ensures shallower { IfSome result (λ object. members_depth (members_view object.now.entries) + 1 ≤ depth (view value.now)) }
 {
     value.as_object()
 }

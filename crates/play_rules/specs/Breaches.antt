@@ -1,8 +1,8 @@
 -- The rules of a playbook, broken or still to be asked.
-use Rattle.std.specs.Prelude.{◌≡◌, ℕ, ◌≤◌, Bool, Option, Some, None, List, [], ◌∷◌, ◌++◌, length, map, if◌then◌else◌, ⊤, ◌⊎◌}
-use Rattle.std.specs.List.{flat_map}
+use Rattle.std.specs.Prelude.{ℕ, Bool, Option, Some, None, List, []}
 use Rattle.inventory_model.specs.Names.{Name, is_among}
 use Rattle.json_shapes.specs.Shapes.{Entry}
+pub use Rattle.json_shapes.specs.Breaches.{unless, joined, first_of}
 
 -- a step's place: the number of its play, where the file has several, and its number in the play, each from 1
 pub record Spot : Type 0 where
@@ -27,18 +27,6 @@ pub data Breach : Type 0 where
 pub data Check : Type 0 where
   Broken : Breach → Check
   Asked : Spot → Name → List ℕ → Check
-
--- the breach, where the rule isn't kept
-abbrev pub unless : Bool → Breach → List Breach
-unless kept breach = if kept then [] else breach ∷ []
-
--- the breaches of several rules, one rule after another
-abbrev pub joined : List (List Breach) → List Breach
-joined parts = flat_map (λ part. part) parts
-
-abbrev pub first_of : List Breach → Option Breach
-first_of [] = None
-first_of (breach ∷ later) = Some breach
 
 -- what something says, where it is given
 abbrev pub where_given : {T X : Type 0} → (T → List X) → Option T → List X

@@ -1,9 +1,7 @@
 -- The keys that a playbook may have.
 use Rattle.std.specs.Prelude.{List, [], ◌∷◌, codes}
 use Rattle.inventory_model.specs.Names.{Name}
-
-abbrev pub hosts_key : Name
-hosts_key = codes "hosts"
+pub use Rattle.json_shapes.specs.Keys.{hosts_key}
 
 abbrev pub serial_key : Name
 serial_key = codes "serial"

@@ -1,9 +1,9 @@
 -- The children that were checked break nothing, nor does what stands below them.
 use Rattle.std.proofs.Common.{◌≡◌, map, drop}
-use Rattle.inventory_read.specs.Listings.{entry_of}
+use Rattle.inventory_read.specs.Listings.{child_of}
 use Rattle.inventory_read.proofs.Checks.{broken_by_children}
 use Rattle.inventory_read.proofs.checking.check_groups.Given as goal
 
 abbrev pub invariant-loop-child : goal.invariant-loop-child
 invariant-loop-child l =
-    broken_by_children (map entry_of l.children) ≡ broken_by_children (map entry_of (drop l.child-index l.children))
+    broken_by_children (map child_of l.children) ≡ broken_by_children (map child_of (drop l.child-index l.children))

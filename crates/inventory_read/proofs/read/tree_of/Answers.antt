@@ -2,7 +2,7 @@ use Rattle.std.proofs.Common.{◌≡◌, [], map, sym, ap, ◌∙◌, subst}
 use Rattle.serde_json.specs.View.{view}
 use Rattle.inventory_model.specs.Places.{Inventory}
 use Rattle.inventory_model.specs.Subtrees as subtrees
-use Rattle.inventory_read.specs.Listings.{entry_of}
+use Rattle.inventory_read.specs.Listings.{child_of}
 use Rattle.inventory_read.specs.Named.{are_named}
 use Rattle.inventory_read.specs.Rules.{broken_by_tree}
 use Rattle.inventory_read.specs.Values as values
@@ -14,15 +14,15 @@ use Rattle.inventory_read.proofs.read.tree_of.Goals as goal
 pub build_all-requires : goal.build_all-requires
 build_all-requires g c =
     let document = view c.args.document.now in
-    let children = ap (map entry_of) c.as_slice-4.ensures.value ∙ c.in_ok-children.ensures in
-    let listed = groups_of-is document (view c.body_of_all-all.result.now) (map entry_of c.as_slice-4.result.now) children c.body_of_all-all.ensures in
+    let children = ap (map child_of) c.as_slice-4.ensures.value ∙ c.in_ok-children.ensures in
+    let listed = groups_of-is document (view c.body_of_all-all.result.now) (map child_of c.as_slice-4.result.now) children c.body_of_all-all.ensures in
     ap are_named listed ∙ unbroken-named document c.in_ok-check.ensures
 
 pub within_bounds-requires : goal.within_bounds-requires
 within_bounds-requires g c =
     let document = view c.args.document.now in
-    let children = ap (map entry_of) c.as_slice-4.ensures.value ∙ c.in_ok-children.ensures in
-    let listed = groups_of-is document (view c.body_of_all-all.result.now) (map entry_of c.as_slice-4.result.now) children c.body_of_all-all.ensures in
+    let children = ap (map child_of) c.as_slice-4.ensures.value ∙ c.in_ok-children.ensures in
+    let listed = groups_of-is document (view c.body_of_all-all.result.now) (map child_of c.as_slice-4.result.now) children c.body_of_all-all.ensures in
     let document_says : subtrees.inventory_of c.in_ok-root.root ≡ values.inventory_of document = c.in_ok-root.ensures ∙ ap values.inventory_from listed in
     let kept = subst (λ (inventory : Inventory). broken_by_tree inventory ≡ []) (sym document_says) (unbroken-tree document c.in_ok-check.ensures) in
     let root = subtrees.inventory_of c.in_ok-root.root in
