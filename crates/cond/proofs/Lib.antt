@@ -15,11 +15,13 @@ pub mod Sources
 pub mod Conjunctions
 pub mod HeadLaws
 pub mod Reached
+pub mod OperandFronts
 pub mod TestFronts
 pub mod Lifts
 pub mod OrChains
 pub mod AndChains
 pub mod NestLaws
+pub mod LeafLaws
 pub mod ParseLaws
 pub mod Breaches
 pub mod OnlyLaws

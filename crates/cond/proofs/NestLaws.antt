@@ -1,14 +1,13 @@
--- What is read, and refused, of `not`, of brackets and of a test.
-use Rattle.std.proofs.Common.{◌≡◌, ℕ, ◌-◌, ◌<◌, true, false, List, [], ◌∷◌, ◌++◌, append-nil, sym, refl, ap, ◌∙◌, arith, subst, Some, Result, Ok, Err}
+-- What is read, and refused, of `not` and of brackets.
+use Rattle.std.proofs.Common.{◌≡◌, ℕ, ◌-◌, ◌<◌, true, false, List, [], ◌∷◌, ◌++◌, append-nil, sym, refl, ap, ◌∙◌, arith, Some, Result, Ok, Err}
 use Rattle.std.specs.Prelude.{IfOk, IfErr}
 use Rattle.cond.specs.Seen.{ahead, text_of}
 use Rattle.cond.specs.declared.source.Source.{Source}
 use Rattle.cond.specs.Tokens.{Token, Not, Truth, Opening, Closing}
-use Rattle.cond.specs.Grammar.{Any, all, neg, Neg, not, primary, Primary, brackets, test, Test, alone, truth, test_then, any_then, neg_then, primary_then, any_depth, neg_depth, primary_depth}
-use Rattle.cond.specs.Meaning.{Environment, turned, any_meaning, neg_meaning, primary_meaning, test_meaning}
+use Rattle.cond.specs.Grammar.{Any, all, neg, Neg, not, primary, Primary, brackets, test, alone, truth, any_then, neg_then, primary_then, any_depth, neg_depth, primary_depth}
+use Rattle.cond.specs.Meaning.{Environment, turned, any_meaning, neg_meaning, primary_meaning}
 use Rattle.cond.specs.Trees.{tree_verdict}
-use Rattle.cond.specs.Heads.{Head, first, behind, test_head}
-use Rattle.cond.specs.Answers.{Fails, at_place}
+use Rattle.cond.specs.Heads.{first, behind}
 use Rattle.cond.specs.Readings.{ends_any, ends_neg, Reads, GoesOn, Refuses}
 use Rattle.cond.specs.declared.stop.Stop.{Stop}
 use Rattle.cond.specs.declared.stop.Stop.TheVariants as stop
@@ -16,10 +15,7 @@ use Rattle.cond.specs.declared.tree.Tree.{Tree}
 use Rattle.cond.proofs.Appended.{any_appended, any_front}
 use Rattle.cond.proofs.Ends.{any_ends, neg_ends}
 use Rattle.cond.proofs.Lifts.{Holds, lifted}
-use Rattle.cond.proofs.Reached.{Reached, left, same_first}
-use Rattle.cond.proofs.TestFronts.{test_reached, test_read_whole}
 use Rattle.cond.proofs.TestLaws.{no_test}
-use Rattle.cond.proofs.HeadLaws.{test_again}
 use Rattle.cond.proofs.Unambiguous.{any_same}
 
 abbrev ReadsAny : List ℕ → ℕ → List Token → Tree → List Token → Type 0
@@ -28,7 +24,7 @@ ReadsAny text = Reads any_then any_depth ends_any any_meaning (tree_verdict text
 abbrev ReadsNeg : List ℕ → ℕ → List Token → Tree → List Token → Type 0
 ReadsNeg text = Reads neg_then neg_depth ends_neg neg_meaning (tree_verdict text)
 
-abbrev ReadsPrimary : List ℕ → ℕ → List Token → Tree → List Token → Type 0
+abbrev pub ReadsPrimary : List ℕ → ℕ → List Token → Tree → List Token → Type 0
 ReadsPrimary text = Reads primary_then primary_depth ends_neg primary_meaning (tree_verdict text)
 
 abbrev RefusesAny : (List Token → ℕ) → ℕ → List Token → Stop → Type 0
@@ -37,7 +33,7 @@ RefusesAny = Refuses any_then any_depth ends_any
 abbrev RefusesNeg : (List Token → ℕ) → ℕ → List Token → Stop → Type 0
 RefusesNeg = Refuses neg_then neg_depth ends_neg
 
-abbrev RefusesPrimary : (List Token → ℕ) → ℕ → List Token → Stop → Type 0
+abbrev pub RefusesPrimary : (List Token → ℕ) → ℕ → List Token → Stop → Type 0
 RefusesPrimary = Refuses primary_then primary_depth ends_neg
 
 -- a part that has room everywhere
@@ -226,75 +222,3 @@ module _ (text : List ℕ) (place : List Token → ℕ) (room : ℕ) (tokens : L
             cc
         none (test t) goes =
             no_test t goes.behind (Opening ∷ any_then inner.reading (Closing ∷ []) ++ goes.more) refl goes.whole
-
-pub leaf_read : (text : List ℕ) (room : ℕ) (tokens : List Token) (t : Test) (tree : Tree) (rest : List Token) → test_head tokens ≡ Ok (t, rest) → ends_neg rest ≡ true
-    → ((e : Environment) → tree_verdict text e tree ≡ test_meaning e t) → ReadsPrimary text room tokens tree rest
-leaf_read text room tokens t tree rest found ended means = record {
-  reading = test t;
-  whole = test_read_whole tokens t rest found;
-  ended = ended;
-  deep = omega arith;
-  same = means;
-}
-
-error_in : {A : Type 0} → Result A ℕ → ℕ
-error_in (Ok found) = 0
-error_in (Err at) = at
-
-module _ (place : List Token → ℕ) (room : ℕ) (tokens : List Token) (other : first tokens ≡ Some Opening → ⊥) where
-  -- brackets don't begin so
-  no_bracket : (front rest more : List Token) (a : Any) (m : List Token) → tokens ≡ front ++ rest → Opening ∷ any_then a (Closing ∷ m) ≡ front ++ more → first more ≡ first rest → ⊥
-  no_bracket front rest more a m whole e next =
-      other (ap first whole ∙ sym (same_first front more rest next) ∙ sym (ap first e))
-
-  unended_at : (at : ℕ) (t : Test) (rest : List Token) → at ≡ place rest → ends_neg rest ≡ false → Reached test_then [] test_head tokens (Ok (t, rest))
-      → RefusesPrimary place room tokens (stop.Unexpected at)
-  unended_at at t rest there bad read = record {
-    front = read.front;
-    rest = rest;
-    whole = read.whole;
-    there = there;
-    begun = record { part = test t; more = []; whole = read.told ∙ sym (append-nil read.front); deep = omega arith };
-    one = tt;
-    others = none;
-  }
-    where
-      none : (u : Primary) → GoesOn primary_then ends_neg u read.front (first rest) → ⊥
-      none (brackets a) goes = no_bracket read.front rest goes.more a goes.behind read.whole goes.whole goes.next
-      none (test u) goes =
-          let one = read.again goes.more goes.next in
-          let two = sym (ap test_head goes.whole) ∙ test_again u goes.behind goes.ended in
-          let here : goes.more ≡ goes.behind = sym (ap left one) ∙ ap left two in
-          let end : ends_neg rest ≡ true = sym (neg_ends goes.more rest goes.next) ∙ ap ends_neg here ∙ goes.ended in
-          cc
-
-  pub leaf_unended : (at : ℕ) (t : Test) (rest : List Token) → at ≡ place rest → test_head tokens ≡ Ok (t, rest) → ends_neg rest ≡ false
-      → RefusesPrimary place room tokens (stop.Unexpected at)
-  leaf_unended at t rest there found bad =
-      unended_at at t rest there bad (subst (λ (h : Head Test). Reached test_then [] test_head tokens h) (sym (test_reached tokens).1.is ∙ found) (test_reached tokens).1)
-
-  stopped_at : (at : ℕ) (h : Head Test) → Reached test_then [] test_head tokens h → at_place place h ≡ Err at → RefusesPrimary place room tokens (stop.Unexpected at)
-  unfolding error_in
-  stopped_at at (Ok found) read e = absurd (cc)
-  stopped_at at (Err rest) read e = record {
-    front = read.front;
-    rest = rest;
-    whole = read.whole;
-    there = sym (ap error_in e);
-    begun = record { part = test read.told.0; more = read.told.1; whole = read.told.2; deep = omega arith };
-    one = tt;
-    others = none;
-  }
-    where
-      none : (u : Primary) → GoesOn primary_then ends_neg u read.front (first rest) → ⊥
-      none (brackets a) goes = no_bracket read.front rest goes.more a goes.behind read.whole goes.whole goes.next
-      none (test u) goes =
-          let one = read.again goes.more goes.next in
-          let two = sym (ap test_head goes.whole) ∙ test_again u goes.behind goes.ended in
-          cc
-
-  pub leaf_refused : (fault : Stop) → Fails place fault (test_head tokens) → RefusesPrimary place room tokens fault
-  leaf_refused (stop.Unexpected at) fails =
-      stopped_at at (test_reached tokens).0 (test_reached tokens).1 (ap (at_place place) (sym (test_reached tokens).1.is) ∙ fails)
-  leaf_refused (stop.TooDeep at) fails = absurd fails
-  leaf_refused stop.Memory fails = tt

@@ -1,7 +1,7 @@
 -- A text that is a condition, and the rules that a text may break.
 use Rattle.std.specs.Prelude.{◌≡◌, ℕ, ◌+◌, ◌<◌, ◌≤◌, None, List, [], ◌∷◌, ◌++◌, length, ⊤}
 use Rattle.cond.specs.Tokens.{Token, FallsInto, token_at}
-use Rattle.cond.specs.Fronts.{StartsWith, GoesOn, IsBegun, token_of}
+use Rattle.cond.specs.Fronts.{StartsWith, GoesOn, IsBegun, next_of}
 use Rattle.cond.specs.Grammar.{Any, tokens_of, any_depth}
 use Rattle.cond.specs.Meaning.{Environment, Verdict, meaning}
 use Rattle.cond.specs.Trees.{verdict_of}
@@ -47,15 +47,15 @@ IsAdded text before after =
 abbrev pub IsBad : List Token → List ℕ → Type 0
 IsBad front left = (0 < length left) × (token_at left ≡ None)
 
--- No condition goes on with the token there, or ends where the text does.
+-- A token begins there, or the text ends, and no condition goes on so.
 abbrev pub IsUnexpected : List Token → List ℕ → Type 0
 IsUnexpected front left =
-    (0 < length left → token_at left ≡ None → ⊥) × ((condition : Any) → GoesOn condition front (token_of (token_at left)) → ⊥)
+    (0 < length left → token_at left ≡ None → ⊥) × ((condition : Any) → GoesOn condition front (next_of left) → ⊥)
 
 -- Some condition goes on with the token there, and each that does is nested too deep.
 abbrev pub IsTooDeep : List Token → List ℕ → Type 0
 IsTooDeep front left =
-    ((condition : Any) × GoesOn condition front (token_of (token_at left))) × ((condition : Any) → GoesOn condition front (token_of (token_at left)) → most_depth < any_depth condition)
+    ((condition : Any) × GoesOn condition front (next_of left)) × ((condition : Any) → GoesOn condition front (next_of left) → most_depth < any_depth condition)
 
 -- The tokens before the place are the beginning of a condition within the depth, and there the rule is broken.
 pub record BreaksAt (text : List ℕ) (at : ℕ) (Broken : List Token → List ℕ → Type 0) : Type 0 where

@@ -1,6 +1,6 @@
 -- Conditions as far as a text has come, and the places of its tokens.
 use Rattle.std.specs.Prelude.{◌≡◌, ℕ, ◌+◌, ◌≤◌, Option, Some, None, List, [], ◌∷◌, ◌++◌, length}
-use Rattle.cond.specs.Tokens.{Token, Front, is_blank, behind_run, next_token}
+use Rattle.cond.specs.Tokens.{Token, Front, is_blank, behind_run, token_at, next_token}
 use Rattle.cond.specs.Grammar.{Any, tokens_of, any_depth}
 use Rattle.cond.specs.Heads.{first}
 use Rattle.cond.specs.Seen.{kept}
@@ -15,6 +15,10 @@ StartsWith bytes (token ∷ tokens) left = (rest : List ℕ) × (next_token byte
 abbrev pub token_of : Front → Option Token
 token_of None = None
 token_of (Some front) = Some front.0
+
+-- the token that the bytes begin with
+abbrev pub next_of : List ℕ → Option Token
+next_of left = token_of (token_at left)
 
 -- The condition begins with these tokens and then goes on with this one, or ends.
 abbrev pub GoesOn : Any → List Token → Option Token → Type 0

@@ -127,7 +127,8 @@ fn membership(
     behind_subject: usize,
     from: usize,
 ) -> Result<(Test, usize), Stop>
-    ensures { Gives (place_of source.now) (test_read source.now) result (within_head (written_operand (text_of source.now) subject) contrary (ahead source.now behind_subject) (ahead source.now from)) }
+    ensures { Gives (place_of source.now) (test_read source.now) result
+        (within_head (written_operand (text_of source.now) subject) contrary (ahead source.now behind_subject) (ahead source.now from)) }
 {
     match subject {
         Operand::Text(group) => in_groups(source, group, contrary, from),

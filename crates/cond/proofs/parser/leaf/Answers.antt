@@ -3,7 +3,7 @@ use Rattle.cond.specs.Seen.{ahead, place_of, text_of}
 use Rattle.cond.specs.Trees.{written}
 use Rattle.cond.proofs.TestLaws.{test_longer}
 use Rattle.cond.proofs.TestFronts.{test_read_whole}
-use Rattle.cond.proofs.NestLaws.{leaf_read, leaf_refused, leaf_unended}
+use Rattle.cond.proofs.LeafLaws.{leaf_read, leaf_refused, leaf_unended}
 use Rattle.cond.proofs.parser.leaf.Goals as goal
 
 pub returns-then-ends-clause-read : goal.returns-then-ends-clause-read
