@@ -1,9 +1,9 @@
 -- The tokens of a test tell it again, whatever stands behind it.
 use Rattle.std.proofs.Common.{◌≡◌, ℕ, true, false, List, [], ◌∷◌, refl, ap, ◌∙◌, Ok}
 use Rattle.cond.specs.Tokens.{Token, Name, Or, And, Dot, Closing}
-use Rattle.cond.specs.Grammar.{whole, part, hostname, Operand, text, number, truth, ref, Test, stands, defined, equals, within, alone, field_word, operand_then, test_then}
-use Rattle.cond.specs.declared.fields.Field.{Field}
-use Rattle.cond.specs.declared.fields.Field.TheVariants as field
+use Rattle.cond.specs.Grammar.{whole, part, hostname, Operand, text, number, truth, ref, Test, stands, defined, equals, within, alone, field_word, field_named, operand_then, test_then}
+use Rattle.word_parts.specs.declared.field.Field.{Field}
+use Rattle.word_parts.specs.declared.field.Field.TheVariants as field
 use Rattle.cond.specs.declared.states.State.TheVariants as state
 use Rattle.cond.specs.Heads.{apart, field_head, name_head, operand_head, asked_head, right_by, equals_head, in_head, tail_head, subject_by, test_head}
 use Rattle.cond.specs.Readings.{ends_neg}
@@ -23,7 +23,7 @@ name_same x (Dot ∷ rest) h = absurd (cc)
 name_same x (token ∷ rest) h = refl
 
 part_same : (x : List ℕ) (f : Field) (m : List Token) → is_apart m ≡ true → name_head x (Dot ∷ Name (field_word f) ∷ m) ≡ Ok (ref (part x f), m)
-unfolding name_head field_head
+unfolding name_head field_head field_named
 part_same x field.Rc m h = apart_same (ref (part x field.Rc)) m h
 part_same x field.Stdout m h = apart_same (ref (part x field.Stdout)) m h
 part_same x field.Stderr m h = apart_same (ref (part x field.Stderr)) m h

@@ -1,4 +1,5 @@
 pub mod Runs
+pub mod ReservedWords
 pub mod Numerals
 pub mod Fronts
 pub mod Words

@@ -1,36 +1,13 @@
 -- A text may be cut where a run of bytes of ASCII ends.
-use Rattle.std.proofs.Common.{◌≡◌, ℕ, zero, suc, ◌+◌, ◌<◌, ◌≤◌, Bool, true, false, List, [], ◌∷◌, length, get_or, sym, refl, ap, arith, subst, nat_eq, cond, Some}
-use Rattle.std.proofs.Common.{None, slice_get, ⊎_elim}
+use Rattle.std.proofs.Common.{◌≡◌, ℕ, ◌+◌, ◌<◌, ◌≤◌, Bool, true, false, List, [], ◌∷◌, length, get_or, sym, refl, ap, arith, subst, nat_eq, cond, Some, None, slice_get, ⊎_elim}
 use Rattle.std.specs.List.{prefix_len}
 use Rattle.std.specs.Str.{IsUtf8, IsCharBoundary}
-use Rattle.std.proofs.lemmas.Str.{IsCharBoundary-start, IsCharBoundary-end, IsCharBoundary-after_ascii, IsCharBoundary-before_ascii, IsCharBoundary-from_rest}
-use Rattle.std.proofs.lemmas.List.Sums.{prefix_len_passes, prefix_len_stops, prefix_len-le-length}
+use Rattle.std.proofs.lemmas.Str.{IsCharBoundary-end, IsCharBoundary-after_ascii, IsCharBoundary-before_ascii, IsCharBoundary-from_rest}
+use Rattle.std.proofs.lemmas.List.Sums.{prefix_len_stops, prefix_len-le-length}
 use Rattle.std.proofs.lemmas.Bool.Decides.{nat_tests}
 use Rattle.std.proofs.lemmas.Bool.{cases_lt, eqb-true}
-use Rattle.cond.specs.Tokens.{Token, is_blank, is_digit, is_name_byte, is_inside, ended_by}
-
-pub run_ends : (p : ℕ → Bool) → ((b : ℕ) → p b ≡ true → b < 128) → (bs : List ℕ) → IsUtf8 bs → IsCharBoundary bs (prefix_len p bs)
-run_ends p ascii bs u = by_length (prefix_len p bs) refl
-  where
-    by_length : (n : ℕ) → prefix_len p bs ≡ n → IsCharBoundary bs (prefix_len p bs)
-    by_length zero e = subst (λ (n : ℕ). IsCharBoundary bs n) (sym e) (IsCharBoundary-start bs u)
-    by_length (suc n) e =
-        let within : n < length bs = omega (arith, e, prefix_len-le-length p bs) in
-        let small : get_or bs n 0 < 128 = ascii (get_or bs n 0) (prefix_len_passes p bs n 0 (omega (arith, e))) in
-        let same : n + 1 ≡ prefix_len p bs = omega (arith, e) in
-        subst (λ (k : ℕ). IsCharBoundary bs k) same (IsCharBoundary-after_ascii bs n u within small)
-
-blank_ascii : (b : ℕ) → is_blank b ≡ true → b < 128
-blank_ascii b e = grind (arith, nat_tests)
-
-digit_ascii : (b : ℕ) → is_digit b ≡ true → b < 128
-digit_ascii b e = grind (arith, nat_tests)
-
-name_ascii : (b : ℕ) → is_name_byte b ≡ true → b < 128
-name_ascii b e = grind (arith, nat_tests)
-
-pub blanks_end : (bs : List ℕ) → IsUtf8 bs → IsCharBoundary bs (prefix_len is_blank bs)
-blanks_end = run_ends is_blank blank_ascii
+use Rattle.word_parts.proofs.Boundaries.{run_ends, digit_ascii, name_ascii}
+use Rattle.cond.specs.Tokens.{Token, is_digit, is_name_byte, is_inside, ended_by}
 
 pub digits_end : (bs : List ℕ) → IsUtf8 bs → IsCharBoundary bs (prefix_len is_digit bs)
 digits_end = run_ends is_digit digit_ascii

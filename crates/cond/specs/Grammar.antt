@@ -1,18 +1,10 @@
 -- The grammar of conditions: a derivation for each rule, and the tokens that it stands for.
 use Rattle.std.specs.Prelude.{ℕ, suc, max, Bool, true, false, bytes_eq, codes, ℤ, Option, Some, None, List, [], ◌∷◌, if◌then◌else◌}
 use Rattle.cond.specs.Tokens.{Token, Name, Number, Text, Truth, Not, And, Or, Is, In, Groups, Host, Equal, Unequal, Dot, Opening, Closing}
-use Rattle.cond.specs.declared.fields.Field.{Field}
-use Rattle.cond.specs.declared.fields.Field.TheVariants.{Rc, Stdout, Stderr, Changed, Failed, Skipped}
+pub use Rattle.word_parts.specs.Words.{Ref, whole, part, hostname, field_word}
+unfoldable pub use Rattle.word_parts.specs.Words.{field_named}
 use Rattle.cond.specs.declared.states.State.{State}
 use Rattle.cond.specs.declared.states.State.TheVariants as state
-
-abbrev pub field_word : Field → List ℕ
-field_word Rc = codes "rc"
-field_word Stdout = codes "stdout"
-field_word Stderr = codes "stderr"
-field_word Changed = codes "changed"
-field_word Failed = codes "failed"
-field_word Skipped = codes "skipped"
 
 abbrev pub state_word : State → List ℕ
 state_word state.Changed = codes "changed"
@@ -20,20 +12,12 @@ state_word state.Failed = codes "failed"
 state_word state.Skipped = codes "skipped"
 state_word state.Succeeded = codes "succeeded"
 
--- what the words name
-abbrev pub field_named : List ℕ → Option Field
-field_named word =
-    if bytes_eq word (codes "rc") then Some Rc else (if bytes_eq word (codes "stdout") then Some Stdout else (if bytes_eq word (codes "stderr") then Some Stderr else (if bytes_eq word (codes "changed") then Some Changed else (if bytes_eq word (codes "failed") then Some Failed else (if bytes_eq word (codes "skipped") then Some Skipped else None)))))
-
+-- what the word names
 abbrev pub state_named : List ℕ → Option State
 state_named word =
     if bytes_eq word (codes "changed") then Some state.Changed else (if bytes_eq word (codes "failed") then Some state.Failed else (if bytes_eq word (codes "skipped") then Some state.Skipped else (if bytes_eq word (codes "succeeded") then Some state.Succeeded else None)))
 
--- ref = name | name "." field | "inventory_hostname"
-pub data Ref : Type 0 where
-  whole : List ℕ → Ref
-  part : List ℕ → Field → Ref
-  hostname : Ref
+-- ref = name | name "." field | "inventory_hostname", as in words
 
 -- operand = text | number | "true" | "True" | "false" | "False" | ref
 pub data Operand : Type 0 where

@@ -1,17 +1,14 @@
 -- What a condition means on a host: true, false, or undefined with a name.
-use Rattle.std.specs.Prelude.{ℕ, Bool, true, false, ◌&&◌, nat_lt, nat_eq, bytes_eq, codes, ℤ, pos, Option, Some, None, Result, Ok, Err, List, [], ◌∷◌, length}
+use Rattle.std.specs.Prelude.{ℕ, Bool, true, false, ◌&&◌, nat_lt, nat_eq, bytes_eq, codes, pos, Option, Some, None, option_map, Result, Ok, Err, List, [], ◌∷◌, length}
 use Rattle.std.specs.Prelude as std
 use Rattle.std.specs.Ordering.{int_eq}
+use Rattle.inventory_model.specs.Variables.{Scalar, Text, Int, Truth}
+use Rattle.word_parts.specs.Words.{name_of}
 use Rattle.cond.specs.Grammar.{Ref, whole, part, hostname, Operand, text, number, truth, ref, Test, stands, defined, equals, within, alone, Any, all, or, All, neg, and, Neg, not, primary, Primary, brackets, test}
-use Rattle.cond.specs.declared.fields.Field.{Field}
-use Rattle.cond.specs.declared.fields.Field.TheVariants as field
+use Rattle.word_parts.specs.declared.field.Field.{Field}
+use Rattle.word_parts.specs.declared.field.Field.TheVariants as field
 use Rattle.cond.specs.declared.states.State.{State}
 use Rattle.cond.specs.declared.states.State.TheVariants as state
-
-pub data Scalar : Type 0 where
-  Text : List ℕ → Scalar
-  Int : ℤ → Scalar
-  Truth : Bool → Scalar
 
 -- what a name may have: a registered result, as a whole, or a scalar
 pub data Value : Type 0 where
@@ -37,14 +34,14 @@ abbrev pub named : List ℕ → Option Value → Found
 named name (Some value) = Ok value
 named name None = Err name
 
-abbrev pub field_of : List ℕ → Option Scalar → Found
-field_of name (Some scalar) = Ok (Plain scalar)
-field_of name None = Err name
+-- what a host has for a reference
+abbrev pub value_at : Environment → Ref → Option Value
+value_at e (whole name) = e.value name
+value_at e (part name field) = option_map Plain (e.field name field)
+value_at e hostname = Some (Plain (Text e.host))
 
 abbrev pub ref_value : Environment → Ref → Found
-ref_value e (whole name) = named name (e.value name)
-ref_value e (part name field) = field_of name (e.field name field)
-ref_value e hostname = Ok (Plain (Text e.host))
+ref_value e of = named (name_of of) (value_at e of)
 
 abbrev pub operand_value : Environment → Operand → Found
 operand_value e (text bytes) = Ok (Plain (Text bytes))

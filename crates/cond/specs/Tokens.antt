@@ -2,6 +2,7 @@
 use Rattle.std.specs.Prelude.{◌≡◌, ℕ, Bool, true, false, not, ◌&&◌, ◌||◌, ◌==◌, ◌^◌, nat_lt, nat_le, bytes_eq, codes, ℤ, pos, neg_ℤ, Option, Some, None, List, [], ◌∷◌, take, drop, if◌then◌else◌}
 use Rattle.std.specs.List.{prefix_len}
 use Rattle.std.specs.Str.Parse.{digits_value}
+pub use Rattle.word_parts.specs.Words.{is_blank, is_letter, is_digit, is_name_byte}
 
 pub data Token : Type 0 where
   Name : List ℕ → Token
@@ -24,21 +25,6 @@ pub data Token : Type 0 where
 -- a token, and the bytes behind it
 abbrev pub Front : Type 0
 Front = Option (Token × List ℕ)
-
--- space, tab, line feed or carriage return
-abbrev pub is_blank : ℕ → Bool
-is_blank byte = ((byte == 32 || byte == 9) || byte == 10) || byte == 13
-
--- a letter of ASCII or `_`
-abbrev pub is_letter : ℕ → Bool
-is_letter byte =
-    ((nat_le 65 byte && nat_le byte 90) || (nat_le 97 byte && nat_le byte 122)) || byte == 95
-
-abbrev pub is_digit : ℕ → Bool
-is_digit byte = nat_le 48 byte && nat_le byte 57
-
-abbrev pub is_name_byte : ℕ → Bool
-is_name_byte byte = is_letter byte || is_digit byte
 
 abbrev pub is_quote : ℕ → Bool
 is_quote byte = byte == 39 || byte == 34

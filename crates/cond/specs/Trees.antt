@@ -1,10 +1,9 @@
 -- What trees, parts and whole conditions say.
 use Rattle.std.specs.Prelude.{ℕ, ◌+◌, Bool, true, false, Result, Ok, Err, List, [], ◌∷◌, map, take, drop, string_bytes, box_value}
+use Rattle.group_tree.specs.Scalars.{lent_scalar}
 use Rattle.cond.specs.Grammar as grammar
 use Rattle.cond.specs.Meaning.{Environment, Verdict, either, both, turned, test_meaning}
 use Rattle.cond.specs.Meaning as meaning
-use Rattle.cond.specs.declared.environment.Scalar.{Scalar}
-use Rattle.cond.specs.declared.environment.Scalar.TheVariants as scalar
 use Rattle.cond.specs.declared.environment.Value.{Value}
 use Rattle.cond.specs.declared.environment.Value.TheVariants as value
 use Rattle.cond.specs.declared.environment.Undefined.{Undefined}
@@ -23,14 +22,9 @@ use Rattle.cond.specs.declared.condition.Part.TheVariants as part
 use Rattle.cond.specs.declared.condition.Cond.{Cond}
 use Rattle.cond.specs.Seen.{piece}
 
-abbrev pub said : Scalar → meaning.Scalar
-said (scalar.Text text) = meaning.Text text.now
-said (scalar.Int number) = meaning.Int number
-said (scalar.Truth truth) = meaning.Truth truth
-
 abbrev pub had : Value → meaning.Value
 had value.Registered = meaning.Registered
-had (value.Plain scalar) = meaning.Plain (said scalar)
+had (value.Plain scalar) = meaning.Plain (lent_scalar scalar)
 
 -- what stands at the places in a text
 abbrev pub written_ref : List ℕ → Ref → grammar.Ref

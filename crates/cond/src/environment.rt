@@ -1,17 +1,11 @@
 //! What a condition asks of a host.
 ghost use Rattle.std.specs.Prelude.{◌≡◌, option_map};
+ghost use Rattle.group_tree.specs.Scalars.{lent_scalar};
 ghost use Rattle.cond.specs.Meaning.{Environment};
-ghost use Rattle.cond.specs.Trees.{said, had};
+ghost use Rattle.cond.specs.Trees.{had};
 
-use crate::fields::Field;
-
-/// A text, a whole number or a truth value, lent.
-#[derive(Clone, Copy, Debug, PartialEq, Eq)]
-pub enum Scalar<'e> {
-    Text(&'e str),
-    Int(i64),
-    Truth(bool),
-}
+use group_tree::Scalar;
+use word_parts::Field;
 
 /// What a name has: a registered result, as a whole, or a variable's scalar.
 #[derive(Clone, Copy, Debug, PartialEq, Eq)]
@@ -36,7 +30,7 @@ pub trait Env {
 
     /// A field of the result that is registered under the name; `None` where none is, or where it has no return code.
     fn field(&self, name: &str, field: Field) -> Option<Scalar<'_>>
-        ensures { option_map said result ≡ (environment self.now).field name.now field };
+        ensures { option_map lent_scalar result ≡ (environment self.now).field name.now field };
 
     /// Whether the group of this name holds the host.
     fn in_group(&self, group: &str) -> bool

@@ -1,16 +1,18 @@
 //! What a condition means on a host.
-ghost use Rattle.std.specs.Prelude.{◌≡◌, Ok};
+ghost use Rattle.std.specs.Prelude.{◌≡◌, Ok, option_map};
+ghost use Rattle.group_tree.specs.Scalars.{lent_scalar};
 ghost use Rattle.cond.specs.Meaning as meaning;
 ghost use Rattle.cond.specs.Meaning.{ref_value, operand_value, value_holds, same_value, state_holds, is_within, test_meaning, contrary_if};
-ghost use Rattle.cond.specs.Trees.{said, had, told, found, written, written_ref, written_operand, tree_verdict, part_verdict, verdict_of};
+ghost use Rattle.cond.specs.Trees.{had, told, found, written, written_ref, written_operand, tree_verdict, part_verdict, verdict_of};
 
 use crate::condition::{Cond, Part};
-use crate::environment::{Env, Scalar, Undefined, Value};
-use crate::fields::Field;
+use crate::environment::{Env, Undefined, Value};
 use crate::leaf::{Operand, Ref, Test};
 use crate::span::{split, word_in};
 use crate::states::State;
 use crate::tree::Tree;
+use group_tree::Scalar;
+use word_parts::Field;
 
 /// Whether the condition holds on the host, or the first name without a value that has to be looked up. `or` and `and`
 /// go from left to right and end as soon as they are decided. It takes no memory.
@@ -158,7 +160,7 @@ fn value_of<'c: 'v, 'v, E: Env>(
     match operand {
         Operand::Text(word) => Ok(Value::Plain(Scalar::Text(word_in(text, word)))),
         Operand::Int(number) => Ok(Value::Plain(Scalar::Int(number))),
-        Operand::Truth(truth) => Ok(Value::Plain(Scalar::Truth(truth))),
+        Operand::Truth(truth) => Ok(Value::Plain(Scalar::Bool(truth))),
         Operand::Ref(of) => value_of_ref(text, of, env),
     }
 }
@@ -188,7 +190,7 @@ fn field_named<'c: 'v, 'v, E: Env>(
     field: Field,
     env: &'v E,
 ) -> Result<Value<'v>, Undefined<'c>>
-    ensures { found result ≡ meaning.field_of name.now ((E.environment env.now).field name.now field) }
+    ensures { found result ≡ meaning.named name.now (option_map meaning.Plain ((E.environment env.now).field name.now field)) }
 {
     match env.field(name, field) {
         Some(scalar) => Ok(Value::Plain(scalar)),
@@ -207,12 +209,12 @@ fn holds(value: Value<'_>) -> bool
 }
 
 fn scalar_holds(scalar: Scalar<'_>) -> bool
-    ensures { result ≡ meaning.scalar_holds (said scalar.entry) }
+    ensures { result ≡ meaning.scalar_holds (lent_scalar scalar.entry) }
 {
     match scalar {
         Scalar::Text(text) => !text.is_empty(),
         Scalar::Int(number) => number != 0,
-        Scalar::Truth(truth) => truth,
+        Scalar::Bool(truth) => truth,
     }
 }
 
@@ -227,12 +229,12 @@ fn same(left: Value<'_>, right: Value<'_>) -> bool
 }
 
 fn same_scalar(left: Scalar<'_>, right: Scalar<'_>) -> bool
-    ensures { result ≡ meaning.same_scalar (said left.entry) (said right.entry) }
+    ensures { result ≡ meaning.same_scalar (lent_scalar left.entry) (lent_scalar right.entry) }
 {
     match (left, right) {
         (Scalar::Text(left), Scalar::Text(right)) => left == right,
         (Scalar::Int(left), Scalar::Int(right)) => left == right,
-        (Scalar::Truth(left), Scalar::Truth(right)) => left == right,
+        (Scalar::Bool(left), Scalar::Bool(right)) => left == right,
         _ => false,
     }
 }

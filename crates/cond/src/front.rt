@@ -6,22 +6,7 @@ ghost use Rattle.cond.specs.Tokens.{run, behind_run, token_of_word};
 ghost use Rattle.cond.specs.Seen.{seen, cut};
 
 use crate::kind::Kind;
-
-/// The text without the blanks at its start.
-pub(crate) fn without_blanks(text: &str) -> &str
-    ensures { result.now ≡ behind_run spec.is_blank text.now }
-{
-    text.split_at(blanks(text)).1
-}
-
-fn blanks(text: &str) -> usize
-    ensures { result ≡ prefix_len spec.is_blank text.now }
-{
-    text.as_bytes()
-        .iter()
-        .take_while(|byte| is_blank(**byte))
-        .count()
-}
+use word_parts::{is_digit, is_letter, is_name_byte};
 
 /// The token that the text begins with, and what is behind it; the first byte tells its form.
 pub(crate) fn token_at(text: &str) -> Option<(Kind<'_>, &str)>
@@ -157,30 +142,6 @@ fn sign_at(first: u8, behind: &str) -> Option<(Kind<'_>, &str)>
         b')' => Some((Kind::Closing, behind)),
         _ => None,
     }
-}
-
-fn is_blank(byte: u8) -> bool
-    ensures { result ≡ spec.is_blank byte }
-{
-    matches!(byte, b' ' | b'\t' | b'\n' | b'\r')
-}
-
-fn is_letter(byte: u8) -> bool
-    ensures { result ≡ spec.is_letter byte }
-{
-    matches!(byte, b'A'..=b'Z' | b'a'..=b'z' | b'_')
-}
-
-fn is_digit(byte: u8) -> bool
-    ensures { result ≡ spec.is_digit byte }
-{
-    matches!(byte, b'0'..=b'9')
-}
-
-fn is_name_byte(byte: u8) -> bool
-    ensures { result ≡ spec.is_name_byte byte }
-{
-    is_letter(byte) || is_digit(byte)
 }
 
 fn is_quote(byte: u8) -> bool

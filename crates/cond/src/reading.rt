@@ -6,13 +6,13 @@ ghost use Rattle.cond.specs.Seen.{ahead, piece, place_of, text_of};
 ghost use Rattle.cond.specs.Trees.{written, written_ref, written_operand};
 ghost use Rattle.cond.specs.Answers.{Gives, operand_read, test_read};
 
-use crate::fields::Field;
 use crate::leaf::{Operand, Ref, Test};
 use crate::mark::Mark;
 use crate::source::Source;
 use crate::span::Span;
 use crate::states::State;
 use crate::stop::Stop;
+use word_parts::Field;
 
 /// The test that the tokens begin with, and what is behind it.
 #[inline(always)]

@@ -8,10 +8,8 @@ use Rattle.registered_results.specs.declared.registers.Registers.{Registers}
 use Rattle.registered_results.specs.Results.{Row, has_place, result_of, shared_number}
 use Rattle.variable_layers.specs.Layers.{HostView}
 use Rattle.variable_layers.specs.Shown.{shown}
-use Rattle.word_parts.specs.Words.{Ref, whole, part, hostname}
 use Rattle.word_parts.specs.declared.field.Field.{Field}
 use Rattle.word_parts.specs.declared.field.Field.TheVariants.{Rc, Stdout, Stderr, Changed, Failed, Skipped}
-use Rattle.word_render.specs.Renders.{Values}
 use Rattle.host_vars.specs.declared.vars.Vars.{Vars}
 
 -- the host's name, the groups that hold it, and its variables
@@ -39,22 +37,16 @@ field_in_row row Changed = Some (Truth row.changed)
 field_in_row row Failed = Some (Truth row.failed)
 field_in_row row Skipped = Some (Truth row.skipped)
 
-abbrev pub field_in : Vars → Name → Field → Option Scalar
-field_in vars name field = option_and_then (λ row. field_in_row row field) (result_in vars name)
+-- what is known of a host: its name, groups and variables, and the results that are registered
+pub record Known : Type 0 where
+  pub variables : HostView
+  pub results : Name → Option Row
 
--- a variable, where no result is registered under its name
-abbrev pub unless_result : Option Row → Option Scalar → Option Scalar
-unless_result (Some row) variable = None
-unless_result None variable = variable
+abbrev pub known_of : Vars → Known
+known_of vars = record { variables = variables_of vars; results = result_in vars }
 
-abbrev pub plain_in : Vars → Name → Option Scalar
-plain_in vars name = unless_result (result_in vars name) ((variables_of vars).variable name)
-
--- what the holes of a word stand for; a registered result as a whole has no text
-abbrev pub values_of : Vars → Values
-values_of vars (whole name) = plain_in vars name
-values_of vars (part name field) = field_in vars name field
-values_of vars hostname = Some (Text (variables_of vars).name)
+abbrev pub field_known : Known → Name → Field → Option Scalar
+field_known known name field = option_and_then (λ row. field_in_row row field) (known.results name)
 
 -- the two have the same name, groups, variables and results
 pub record IsSameHost (one other : Vars) : Type 0 where

@@ -1,24 +1,29 @@
 //! Words rendered for a host.
 ghost use Rattle.std.specs.Prelude.{IfOk, IfErr, string_bytes};
 ghost use Rattle.word_render.specs.Faults.{IsRendering, IsFaultOf};
-ghost use Rattle.host_vars.specs.HostVars.{values_of};
+ghost use Rattle.host_vars.specs.Conditions.{values_of};
 
 use crate::vars::Vars;
+use cond::{Env, Value};
 use group_tree::Scalar;
 use std::alloc::Allocator;
 use word_parts::Ref;
 use word_render::{RenderFault, Values, render};
 
 impl Values for Vars {
-    ghost use Rattle.host_vars.specs.HostVars.{values_of};
+    ghost use Rattle.host_vars.specs.Conditions.{values_of};
 
     ghost values = { values_of };
 
     fn value(&self, of: Ref<'_>) -> Option<Scalar<'_>> {
         match of {
-            Ref::Whole(name) => self.plain(name),
-            Ref::Field(name, field) => self.field_of(name, field),
-            Ref::Hostname => Some(Scalar::Text(self.variables.name())),
+            Ref::Whole(name) => match Env::value(self, name) {
+                Some(Value::Plain(scalar)) => Some(scalar),
+                Some(Value::Registered) => None,
+                None => None,
+            },
+            Ref::Field(name, field) => self.field(name, field),
+            Ref::Hostname => Some(Scalar::Text(self.host())),
         }
     }
 }

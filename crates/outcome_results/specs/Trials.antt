@@ -3,10 +3,7 @@ use Rattle.std.specs.Prelude.{ℕ, Option, option_map, List}
 use Rattle.std.specs.Borrow.{Bor}
 use Rattle.inventory_model.specs.Names.{Name}
 use Rattle.registered_results.specs.Results.{Row}
-use Rattle.cond.specs.Meaning.{Environment, Scalar}
-use Rattle.cond.specs.declared.fields.Field.{Field}
-use Rattle.host_vars.specs.HostVars.{field_in_row}
-use Rattle.host_vars.specs.Conditions.{said_of, word_field}
+use Rattle.cond.specs.Meaning.{Environment}
 use Rattle.outcome_results.specs.Hosts.{known_of, with_result, environment_in}
 use Rattle.outcome_results.specs.Endings.{ending_of, table_row}
 use Rattle.outcome_results.specs.declared.trial.Trial.{Trial}
@@ -16,9 +13,6 @@ name_of trial = option_map (λ (name : Bor (List ℕ)). name.now) trial.name
 
 abbrev pub row_of_trial : Trial → Row
 row_of_trial trial = table_row (ending_of trial.outcome.now)
-
-abbrev pub own_field : Row → Field → Option Scalar
-own_field row field = option_map said_of (field_in_row row (word_field field))
 
 -- the row stands under the name, where there is one
 abbrev pub environment_of_trial : Trial → Environment

@@ -1,8 +1,9 @@
 //! A host while the conditions of a step judge it: the row of the table stands under the step's name.
 ghost use Rattle.std.specs.Prelude.{◌≡◌, option_map};
-ghost use Rattle.cond.specs.Trees.{said};
+ghost use Rattle.group_tree.specs.Scalars.{lent_scalar};
+ghost use Rattle.host_vars.specs.HostVars.{field_in_row};
 ghost use Rattle.outcome_results.specs.Hosts.{is_called};
-ghost use Rattle.outcome_results.specs.Trials.{name_of, row_of_trial, own_field};
+ghost use Rattle.outcome_results.specs.Trials.{name_of, row_of_trial};
 
 use crate::outcome::Outcome;
 use cond::{Env, Field, Scalar, Value};
@@ -28,7 +29,7 @@ impl Trial<'_> {
     }
 
     fn own_field(&self, field: Field) -> Option<Scalar<'_>>
-        ensures { option_map said result ≡ own_field (row_of_trial self.now) field }
+        ensures { option_map lent_scalar result ≡ field_in_row (row_of_trial self.now) field }
     {
         match field {
             Field::Rc => match self.outcome.rc() {
@@ -37,9 +38,9 @@ impl Trial<'_> {
             },
             Field::Stdout => Some(Scalar::Text(self.outcome.stdout())),
             Field::Stderr => Some(Scalar::Text(self.outcome.stderr())),
-            Field::Changed => Some(Scalar::Truth(self.outcome.has_changed())),
-            Field::Failed => Some(Scalar::Truth(self.outcome.has_failed())),
-            Field::Skipped => Some(Scalar::Truth(self.outcome.is_skipped())),
+            Field::Changed => Some(Scalar::Bool(self.outcome.has_changed())),
+            Field::Failed => Some(Scalar::Bool(self.outcome.has_failed())),
+            Field::Skipped => Some(Scalar::Bool(self.outcome.is_skipped())),
         }
     }
 }
