@@ -5,8 +5,11 @@ use Rattle.domains.specs.declared.rows.HostRow.{HostRow}
 use Rattle.domains.specs.declared.walk.WalkedGroup.{WalkedGroup}
 
 -- the groups, with how many groups stand above each
+abbrev pub walked_group : {A : Type 0} → WalkedGroup A → Subtree × ℕ
+walked_group walked = (walked.group.now, walked.depth)
+
 abbrev pub walked_groups : {A : Type 0} → List (WalkedGroup A) → List (Subtree × ℕ)
-walked_groups {A} groups = map (λ (walked : WalkedGroup A). (walked.group.now, walked.depth)) groups
+walked_groups groups = map walked_group groups
 
 -- the hosts, with the number of the group that lists each
 abbrev pub host_rows : {A : Type 0} → List (HostRow A) → List (Host × ℕ)

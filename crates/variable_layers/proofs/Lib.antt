@@ -4,5 +4,6 @@ pub mod OrderLemmas
 pub mod LayerLemmas
 pub mod OwnLemmas
 pub mod HostLemmas
+pub mod LentLemmas
 pub mod RowLemmas
 pub mod AllLemmas

@@ -1,5 +1,5 @@
 -- Numbers of groups sorted by how many groups stand above and by name.
-use Rattle.std.proofs.Common.{◌≡◌, ℕ, zero, suc, ◌+◌, ◌<◌, false, All, List, [], ◌∷◌, ◌++◌, length, get_or, map, Bor, IsPermutation, sym, ap, ◌∙◌, refl, subst, arith}
+use Rattle.std.proofs.Common.{◌≡◌, ℕ, ◌+◌, ◌<◌, false, All, List, [], ◌∷◌, ◌++◌, length, get_or, map, Bor, IsPermutation, sym, ap, ◌∙◌, refl, subst, arith}
 use Rattle.std.specs.List.{range_with_len}
 use Rattle.std.specs.List.Sorted.{IsSortedBy}
 use Rattle.std.specs.Ordering.{nat_cmp, is_lt, ordering_then}
@@ -9,37 +9,43 @@ use Rattle.std.specs.Cmp.Lexicographic.{slice_cmp}
 use Rattle.std.proofs.lemmas.List.{get_or-map, get_or_default, length-map, map-append}
 use Rattle.std.proofs.lemmas.List.Sorted.{IsPermutation-map, All-permutation}
 use Rattle.fleet_numbers.proofs.DealLemmas.{in_range}
+use Rattle.fleet_numbers.proofs.RisingLemmas.{range_on}
 use Rattle.inventory_model.specs.Names.{Name}
 use Rattle.inventory_model.specs.Subtrees.{Subtree}
-use Rattle.variable_layers.specs.Walked.{no_group, walked_at, walked_cmp, IsInOrder}
+use Rattle.variable_layers.specs.Walked.{no_subtree, walked_at, walked_cmp, IsInOrder}
 
 -- how many groups stand above, the name, and the number
 abbrev pub Key : Type 0
 Key = ℕ × Bor (List ℕ) × ℕ
 
+abbrev pub number_of : Key → ℕ
+number_of key = key.2
+
+-- the key says how many groups stand above the group of its number, and this group's name
+abbrev pub HasDepth : List (Subtree × ℕ) → Key → Type 0
+HasDepth walk key = key.0 ≡ (walked_at walk key.2).1
+
+abbrev pub HasName : List (Subtree × ℕ) → Key → Type 0
+HasName walk key = key.1.now ≡ (walked_at walk key.2).0.name
+
+-- by the first two parts of a key
+abbrev pair_cmp : ℕ → ℕ → Name → Name → Ordering
+pair_cmp depth other name named = ordering_then (nat_cmp depth other) (slice_cmp nat_cmp name named)
+
+abbrev key_cmp : Key → Key → Ordering
+key_cmp x y = ordering_then (pair_cmp x.0 y.0 x.1.now y.1.now) (nat_cmp x.2 y.2)
+
 abbrev no_key : Key
 no_key = (0, record { ref_ptr = (0, 0); now = [] }, 0)
 
-range_more : (a n : ℕ) → range_with_len a (suc n) ≡ range_with_len a n ++ (a + n) ∷ []
-range_more a zero = ap (λ (k : ℕ). k ∷ []) (at a)
-  where
-    at : (k : ℕ) → k ≡ k + 0
-    at k = omega arith
-range_more a (suc n) =
-    ap (λ (l : List ℕ). a ∷ l) (range_more (a + 1) n) ∙ ap (λ (k : ℕ). a ∷ (range_with_len (a + 1) n ++ k ∷ [])) (at a n)
-  where
-    at : (k m : ℕ) → (k + 1) + m ≡ k + suc m
-    at k m = omega arith
-
-pub numbers_more : (keys new : List Key) (key : Key) (number : ℕ) → map (λ (key : Key). key.2) keys ≡ range_with_len 0 number → new ≡ keys ++ key ∷ [] → key.2 ≡ number → map (λ (key : Key). key.2) new ≡ range_with_len 0 (number + 1)
+pub numbers_more : (keys new : List Key) (key : Key) (number : ℕ) → map number_of keys ≡ range_with_len 0 number → new ≡ keys ++ key ∷ []
+    → key.2 ≡ number → map number_of new ≡ range_with_len 0 (number + 1)
 numbers_more keys new key number are more is =
-    ap (map (λ (key : Key). key.2)) more ∙ map-append (λ (key : Key). key.2) keys (key ∷ []) ∙ ap (λ (l : List ℕ). l ++ key.2 ∷ []) are ∙ ap (λ (k : ℕ). range_with_len 0 number ++ k ∷ []) (is ∙ from_zero number) ∙ sym (range_more 0 number) ∙ ap (range_with_len 0) (next number)
-  where
-    from_zero : (k : ℕ) → k ≡ 0 + k
-    from_zero k = omega arith
-
-    next : (k : ℕ) → suc k ≡ k + 1
-    next k = omega arith
+    ap (map number_of) more
+    ∙ map-append number_of keys (key ∷ [])
+    ∙ ap (λ (l : List ℕ). l ++ key.2 ∷ []) are
+    ∙ ap (λ (k : ℕ). range_with_len 0 number ++ k ∷ []) is
+    ∙ sym (range_on 0 number number (omega arith))
 
 pub all_below : (count : ℕ) (order numbers : List ℕ) → IsPermutation (range_with_len 0 count) order → numbers ≡ order → All (λ number. number < count) numbers
 all_below count order numbers moved is k d l =
@@ -50,7 +56,7 @@ all_below count order numbers moved is k d l =
 
 -- the group of a number, where it is known
 pub walked_there : {X : Type 0} (view : X → Subtree × ℕ) (groups : List X) (i : ℕ) (group : X) → i < length groups → group ≡ get_or groups i group → walked_at (map view groups) i ≡ view group
-walked_there view groups i group within is = get_or-map view groups i group (no_group, 0) within ∙ sym (ap view is)
+walked_there view groups i group within is = get_or-map view groups i group (no_subtree, 0) within ∙ sym (ap view is)
 
 -- a lesser first part makes a pair less
 front_lt : (a b : Ordering) → is_lt (ordering_then a b) ≡ false → is_lt a ≡ false
@@ -58,21 +64,34 @@ front_lt Less b e = e
 front_lt Equal b e = refl
 front_lt Greater b e = refl
 
-module _ (walk : List (Subtree × ℕ)) (count : ℕ) (keys sorted : List Key) (order : List ℕ) (numbers : map (λ (key : Key). key.2) keys ≡ range_with_len 0 count) (moved : IsPermutation keys sorted) (is : order ≡ map (λ (key : Key). key.2) sorted) where
+module _ (walk : List (Subtree × ℕ)) (count : ℕ) (keys sorted : List Key) (order : List ℕ) (numbers : map number_of keys ≡ range_with_len 0 count)
+    (moved : IsPermutation keys sorted) (is : order ≡ map number_of sorted) where
   pub each_once : IsPermutation (range_with_len 0 count) order
   each_once =
-      subst (λ (l : List ℕ). IsPermutation l order) numbers (subst (λ (l : List ℕ). IsPermutation (map (λ (key : Key). key.2) keys) l) (sym is) (IsPermutation-map (λ (key : Key). key.2) keys sorted moved))
+      let same : IsPermutation (map number_of keys) order = subst (IsPermutation (map number_of keys)) (sym is) (IsPermutation-map number_of keys sorted moved) in
+      subst (λ (l : List ℕ). IsPermutation l order) numbers same
 
-  pub in_order : All (λ (key : Key). key.0 ≡ (walked_at walk key.2).1) keys → All (λ (key : Key). key.1.now ≡ (walked_at walk key.2).0.name) keys → IsSortedBy (λ (x y : Key). is_lt (ordering_then (ordering_then (nat_cmp x.0 y.0) (slice_cmp nat_cmp x.1.now y.1.now)) (nat_cmp x.2 y.2))) sorted → IsInOrder walk order
+  pub in_order : All (HasDepth walk) keys → All (HasName walk) keys → IsSortedBy (λ (x y : Key). is_lt (key_cmp x y)) sorted → IsInOrder walk order
   in_order depths names up k d low more =
-      let long : length order ≡ length sorted = ap length is ∙ length-map sorted (λ (key : Key). key.2) in
-      let here : get_or order k d ≡ (get_or sorted k no_key).2 = ap (λ (l : List ℕ). get_or l k d) is ∙ get_or-map (λ (key : Key). key.2) sorted k no_key d (omega arith) in
-      let next : get_or order (k + 1) d ≡ (get_or sorted (k + 1) no_key).2 = ap (λ (l : List ℕ). get_or l (k + 1) d) is ∙ get_or-map (λ (key : Key). key.2) sorted (k + 1) no_key d (omega arith) in
-      let all_depths = All-permutation (λ (key : Key). key.0 ≡ (walked_at walk key.2).1) keys sorted moved depths in
-      let all_names = All-permutation (λ (key : Key). key.1.now ≡ (walked_at walk key.2).0.name) keys sorted moved names in
-      let sorted_here = front_lt (ordering_then (nat_cmp (get_or sorted (k + 1) no_key).0 (get_or sorted k no_key).0) (slice_cmp nat_cmp (get_or sorted (k + 1) no_key).1.now (get_or sorted k no_key).1.now)) (nat_cmp (get_or sorted (k + 1) no_key).2 (get_or sorted k no_key).2) (up k no_key low (omega arith)) in
-      same_test (get_or order (k + 1) d) (get_or order k d) (get_or sorted (k + 1) no_key) (get_or sorted k no_key) next here (all_depths (k + 1) no_key (omega arith)) (all_depths k no_key (omega arith)) (all_names (k + 1) no_key (omega arith)) (all_names k no_key (omega arith)) sorted_here
+      let long : length order ≡ length sorted = ap length is ∙ length-map sorted number_of in
+      let own : Key = get_or sorted k no_key in
+      let after : Key = get_or sorted (k + 1) no_key in
+      let at : (i : ℕ) → i < length sorted → get_or order i d ≡ (get_or sorted i no_key).2 = λ i l. ap (λ (l : List ℕ). get_or l i d) is ∙ get_or-map number_of sorted i no_key d l in
+      let all_depths = All-permutation (HasDepth walk) keys sorted moved depths in
+      let all_names = All-permutation (HasName walk) keys sorted moved names in
+      let sorted_here = front_lt (pair_cmp after.0 own.0 after.1.now own.1.now) (nat_cmp after.2 own.2) (up k no_key low (omega arith)) in
+      same_test (get_or order (k + 1) d) (get_or order k d) after own (at (k + 1) (omega arith)) (at k (omega arith))
+      (all_depths (k + 1) no_key (omega arith)) (all_depths k no_key (omega arith)) (all_names (k + 1) no_key (omega arith)) (all_names k no_key (omega arith)) sorted_here
     where
-      same_test : (n m : ℕ) (x y : Key) → n ≡ x.2 → m ≡ y.2 → x.0 ≡ (walked_at walk x.2).1 → y.0 ≡ (walked_at walk y.2).1 → x.1.now ≡ (walked_at walk x.2).0.name → y.1.now ≡ (walked_at walk y.2).0.name → is_lt (ordering_then (nat_cmp x.0 y.0) (slice_cmp nat_cmp x.1.now y.1.now)) ≡ false → is_lt (walked_cmp walk n m) ≡ false
+      same_test : (n m : ℕ) (x y : Key) → n ≡ x.2 → m ≡ y.2 → HasDepth walk x → HasDepth walk y → HasName walk x → HasName walk y
+          → is_lt (pair_cmp x.0 y.0 x.1.now y.1.now) ≡ false → is_lt (walked_cmp walk n m) ≡ false
       same_test n m x y e f dx dy nx ny less =
-          ap (λ (i : ℕ). is_lt (walked_cmp walk i m)) e ∙ ap (λ (i : ℕ). is_lt (walked_cmp walk x.2 i)) f ∙ sym (ap (λ (i : ℕ). is_lt (ordering_then (nat_cmp i y.0) (slice_cmp nat_cmp x.1.now y.1.now))) dx ∙ ap (λ (i : ℕ). is_lt (ordering_then (nat_cmp (walked_at walk x.2).1 i) (slice_cmp nat_cmp x.1.now y.1.now))) dy ∙ ap (λ (i : Name). is_lt (ordering_then (nat_cmp (walked_at walk x.2).1 (walked_at walk y.2).1) (slice_cmp nat_cmp i y.1.now))) nx ∙ ap (λ (i : Name). is_lt (ordering_then (nat_cmp (walked_at walk x.2).1 (walked_at walk y.2).1) (slice_cmp nat_cmp (walked_at walk x.2).0.name i))) ny) ∙ less
+          let here : Subtree × ℕ = walked_at walk x.2 in
+          let there : Subtree × ℕ = walked_at walk y.2 in
+          ap (λ (i : ℕ). is_lt (walked_cmp walk i m)) e
+          ∙ ap (λ (i : ℕ). is_lt (walked_cmp walk x.2 i)) f
+          ∙ sym (ap (λ (i : ℕ). is_lt (pair_cmp i y.0 x.1.now y.1.now)) dx
+          ∙ ap (λ (i : ℕ). is_lt (pair_cmp here.1 i x.1.now y.1.now)) dy
+          ∙ ap (λ (i : Name). is_lt (pair_cmp here.1 there.1 i y.1.now)) nx
+          ∙ ap (λ (i : Name). is_lt (pair_cmp here.1 there.1 here.0.name i)) ny)
+          ∙ less

@@ -12,9 +12,16 @@ abbrev variables : Host → List Variable
 variables host = host.variables
 
 module _ (name : Name) (hosts : List Host) (i : ℕ) (host : Host) (within : i < length hosts) (is : host ≡ get_or hosts i host) where
+  abbrev is_own : Host → Bool
+  is_own host = same_name name host.name
+
+  abbrev before : List Host
+  before = filter is_own (take i hosts)
+
   next : (test : Bool) → same_name name host.name ≡ test → own_in name (take (i + 1) hosts) ≡ own_in name (take i hosts) ++ flat_map variables (cond test (host ∷ []) [])
   next test e =
-      ap (flat_map variables) (filter_more (λ (host : Host). same_name name host.name) hosts i host within ∙ ap (λ (h : Host). filter (λ (host : Host). same_name name host.name) (take i hosts) ++ cond (same_name name h.name) (h ∷ []) []) (sym is) ∙ ap (λ (b : Bool). filter (λ (host : Host). same_name name host.name) (take i hosts) ++ cond b (host ∷ []) []) e) ∙ flat_map-append variables (filter (λ (host : Host). same_name name host.name) (take i hosts)) (cond test (host ∷ []) [])
+      let one = filter_more is_own hosts i host within ∙ ap (λ (h : Host). before ++ cond (is_own h) (h ∷ []) []) (sym is) in
+      ap (flat_map variables) (one ∙ ap (λ (b : Bool). before ++ cond b (host ∷ []) []) e) ∙ flat_map-append variables before (cond test (host ∷ []) [])
 
   pub own_here : same_name name host.name ≡ true → own_in name (take (i + 1) hosts) ≡ own_in name (take i hosts) ++ host.variables
   own_here e =

@@ -136,7 +136,11 @@ module _ {X : Type 0} (view : X → Variable) (name : Name) where
     module _ (x : X) (k : ℕ) (last : k + 1 ≡ length (take i xs)) (is : x ≡ get_or (take i xs) k x) where
       last_of_front : values xs ≡ option_or (cond (named x) (Some (view x).value) None) (values (take k (take i xs)))
       last_of_front =
-          front ∙ ap values (sym (take_all (k + 1) (take i xs) (omega arith)) ∙ take_more (take i xs) k x (omega arith)) ∙ ap (λ (y : X). values (take k (take i xs) ++ y ∷ [])) (sym is) ∙ ap (value_of name) (map-append view (take k (take i xs)) (x ∷ [])) ∙ value_of-append name (map view (take k (take i xs))) (view x ∷ [])
+          front
+          ∙ ap values (sym (take_all (k + 1) (take i xs) (omega arith)) ∙ take_more (take i xs) k x (omega arith))
+          ∙ ap (λ (y : X). values (take k (take i xs) ++ y ∷ [])) (sym is)
+          ∙ ap (value_of name) (map-append view (take k (take i xs)) (x ∷ []))
+          ∙ value_of-append name (map view (take k (take i xs))) (view x ∷ [])
 
       pub last_named : named x ≡ true → values xs ≡ Some (view x).value
       last_named e =

@@ -1,25 +1,18 @@
 -- Groups of a walk, and the order in which their variables are laid over one another, by their numbers.
-use Rattle.std.specs.Prelude.{ℕ, None, List, [], map, slice_index_or}
+use Rattle.std.specs.Prelude.{ℕ, None, List, [], slice_index_or}
 use Rattle.std.specs.List.Sorted.{IsSortedBy}
 use Rattle.std.specs.Ordering.{nat_cmp, ordering_then, is_lt}
 use Rattle.std.specs.Cmp.Lexicographic.{slice_cmp}
 use Rattle.std.specs.declared.cmp.Ordering.{Ordering}
 use Rattle.inventory_model.specs.Subtrees.{Subtree}
-use Rattle.variable_layers.specs.declared.walk.WalkedGroup.{WalkedGroup}
 
-abbrev pub walked_group : {A : Type 0} → WalkedGroup A → Subtree × ℕ
-walked_group walked = (walked.group.now, walked.depth)
-
-abbrev pub walked_groups : {A : Type 0} → List (WalkedGroup A) → List (Subtree × ℕ)
-walked_groups groups = map walked_group groups
-
-abbrev pub no_group : Subtree
-no_group =
+abbrev pub no_subtree : Subtree
+no_subtree =
     record { name = []; limit = None; variables = []; hosts = []; below = record { places = []; rows = [] } }
 
 -- the group of a number, and one without a name past the end
 abbrev pub walked_at : List (Subtree × ℕ) → ℕ → Subtree × ℕ
-walked_at walk number = slice_index_or walk number (no_group, 0)
+walked_at walk number = slice_index_or walk number (no_subtree, 0)
 
 -- by how many groups stand above, then by the name
 abbrev pub walked_cmp : List (Subtree × ℕ) → ℕ → ℕ → Ordering

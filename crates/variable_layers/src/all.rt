@@ -15,12 +15,11 @@ use crate::host::HostVariables;
 use crate::layer::{Layer, list_all_layers};
 use crate::order::list_order;
 use crate::own::table_of_rows;
-use crate::rows::{list_rows, number_rows};
+use crate::rows::number_rows;
 use crate::sharing::{LastHosts, layers_at};
-use crate::walk::list_walk;
-use domains::Fleet;
+use domains::{Fleet, HostRow, list_rows, list_walk};
 use fleet_numbers::{NumberLists, list_members};
-use group_tree::{Host, HostId, Tree};
+use group_tree::{HostId, Tree};
 use std::alloc::{AllocError, Allocator, Global};
 use std::sync::Arc;
 
@@ -29,7 +28,7 @@ use std::sync::Arc;
 struct Shared<'s, A: Allocator> {
     layers: &'s [Arc<Layer>],
     holders: &'s NumberLists,
-    rows: &'s [&'s Host<A>],
+    rows: &'s [HostRow<'s, A>],
     own: &'s NumberLists,
 }
 

@@ -1,14 +1,14 @@
 //! Groups that hold a host, with their variables.
 ghost use Rattle.std.specs.Prelude.{◌≡◌, ◌<◌, All, IfOk, filter, map, length};
 ghost use Rattle.fleet_numbers.specs.NumberLists.{has_number, list_at};
-ghost use Rattle.variable_layers.specs.Walked.{walked_groups, walked_at};
+ghost use Rattle.domains.specs.Walked.{walked_groups};
+ghost use Rattle.variable_layers.specs.Walked.{walked_at};
 ghost use Rattle.variable_layers.specs.Tables.{layer_at, layer_views, layer_view, group_layer};
 ghost use Rattle.std.specs.Arc.{arc_value};
 
 use crate::entry::add_entries;
 use crate::table::Table;
-use crate::walk::WalkedGroup;
-use domains::Fleet;
+use domains::{Fleet, WalkedGroup};
 use group_tree::{Group, GroupId, HostId};
 use std::alloc::{AllocError, Allocator, Global};
 use std::sync::Arc;

@@ -9,8 +9,7 @@ use crate::host::HostVariables;
 use crate::layer::list_layers;
 use crate::order::list_order;
 use crate::own::own_table;
-use crate::walk::list_walk;
-use domains::Fleet;
+use domains::{Fleet, list_walk};
 use group_tree::{HostId, Tree};
 use std::alloc::{AllocError, Allocator, Global};
 

@@ -12,7 +12,6 @@ mod own;
 mod rows;
 mod sharing;
 mod table;
-mod walk;
 
 pub use all::all_layered_variables;
 pub use host::HostVariables;

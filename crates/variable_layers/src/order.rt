@@ -1,9 +1,10 @@
 //! The groups of a walk in the order in which their variables are laid over one another.
 ghost use Rattle.std.specs.Prelude.{◌≡◌, ℕ, List, ◌<◌, IfOk, IsPermutation, All, length, map};
 ghost use Rattle.std.specs.List.{range_with_len};
-ghost use Rattle.variable_layers.specs.Walked.{walked_groups, walked_at, IsInOrder};
+ghost use Rattle.domains.specs.Walked.{walked_groups};
+ghost use Rattle.variable_layers.specs.Walked.{walked_at, IsInOrder};
 
-use crate::walk::WalkedGroup;
+use domains::WalkedGroup;
 use std::alloc::{AllocError, Allocator, Global};
 
 /// Of each group how many stand above it, its name and its number.

@@ -2,14 +2,14 @@
 ghost use Rattle.std.specs.Prelude.{◌≡◌, ◌<◌, ◌++◌, OnOk, IfOk, All, length};
 ghost use Rattle.inventory_model.specs.Names.{Name};
 ghost use Rattle.inventory_model.specs.Variables.{value_of};
-ghost use Rattle.variable_layers.specs.Walked.{walked_groups};
+ghost use Rattle.domains.specs.Walked.{walked_groups};
 ghost use Rattle.variable_layers.specs.Entries.{entry_variables};
 ghost use Rattle.variable_layers.specs.Tables.{value_in};
 ghost use Rattle.variable_layers.specs.Own.{own_in, own_below, hosts_shown, variables_at};
 
 use crate::entry::{Entry, add_entries};
 use crate::table::Table;
-use crate::walk::WalkedGroup;
+use domains::{HostRow, WalkedGroup};
 use group_tree::Host;
 use std::alloc::{AllocError, Allocator, Global};
 
@@ -51,7 +51,7 @@ pub(crate) fn own_table<A: Allocator>(
 /// The variables of the rows at these places, of which the later count.
 pub(crate) fn table_of_rows<A: Allocator>(
     alloc: Global,
-    rows: &[&Host<A>],
+    rows: &[HostRow<'_, A>],
     places: &[usize],
 ) -> Result<Table, AllocError>
     requires { All (λ place. place < length rows.now) places.now }
@@ -60,7 +60,7 @@ pub(crate) fn table_of_rows<A: Allocator>(
 {
     let mut entries = Vec::new(alloc);
     for place in places {
-        let host = rows[*place];
+        let host = rows[*place].host;
         add_entries(alloc, host.variables(), &mut entries)?;
     }
     Table::of(entries)

@@ -1,6 +1,7 @@
 use Rattle.std.proofs.Common.{◌≡◌, map, take}
 use Rattle.variable_layers.specs.Tables.{group_layer, layer_views}
-use Rattle.variable_layers.specs.Walked.{walked_groups, walked_at}
+use Rattle.domains.specs.Walked.{walked_groups}
+use Rattle.variable_layers.specs.Walked.{walked_at}
 use Rattle.variable_layers.proofs.layer.list_all_layers.Given as goal
 
 abbrev pub invariant-loop-number : goal.invariant-loop-number

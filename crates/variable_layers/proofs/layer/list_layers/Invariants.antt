@@ -1,7 +1,8 @@
 use Rattle.std.proofs.Common.{◌≡◌, filter, map, take}
 use Rattle.fleet_numbers.specs.NumberLists.{has_number, list_at}
 use Rattle.variable_layers.specs.Tables.{group_layer, layer_views}
-use Rattle.variable_layers.specs.Walked.{walked_groups, walked_at}
+use Rattle.domains.specs.Walked.{walked_groups}
+use Rattle.variable_layers.specs.Walked.{walked_at}
 use Rattle.variable_layers.proofs.layer.list_layers.Given as goal
 
 abbrev pub invariant-loop-number : goal.invariant-loop-number

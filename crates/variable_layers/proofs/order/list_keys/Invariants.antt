@@ -1,6 +1,7 @@
 use Rattle.std.proofs.Common.{◌≡◌, All, map}
 use Rattle.std.specs.List.{range_with_len}
-use Rattle.variable_layers.specs.Walked.{walked_groups, walked_at}
+use Rattle.domains.specs.Walked.{walked_groups}
+use Rattle.variable_layers.specs.Walked.{walked_at}
 use Rattle.variable_layers.proofs.OrderLemmas.{Key}
 use Rattle.variable_layers.proofs.order.list_keys.Given as goal
 

@@ -1,7 +1,7 @@
 use Rattle.std.proofs.Common.{◌≡◌, take}
 use Rattle.variable_layers.specs.Entries.{entry_variables}
 use Rattle.variable_layers.specs.Own.{own_below}
-use Rattle.variable_layers.specs.Walked.{walked_groups}
+use Rattle.domains.specs.Walked.{walked_groups}
 use Rattle.variable_layers.proofs.own.own_table.Given as goal
 
 abbrev pub invariant-loop-walked : goal.invariant-loop-walked
