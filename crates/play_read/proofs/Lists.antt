@@ -17,15 +17,6 @@ all_zip_more {C = C} R f before taken ys now x y further grown each is =
     let images = ap (map f) further ∙ map-append f before (x ∷ []) in
     subst (λ xs. AllZip R xs now) (sym images) (subst (λ (zs : List C). AllZip R (map f before ++ f x ∷ []) zs) (sym grown) (all_zip_append R (map f before) (f x ∷ []) ys (y ∷ []) each (is, tt)))
 
--- nothing stands in lists that are nothing together
-pub no_first : {A : Type 0} (xs ys : List A) → xs ++ ys ≡ [] → xs ≡ []
-no_first [] ys none = refl
-no_first (x ∷ xs) ys none = absurd (cc)
-
-pub no_second : {A : Type 0} (xs ys : List A) → xs ++ ys ≡ [] → ys ≡ []
-no_second [] ys none = none
-no_second (x ∷ xs) ys none = absurd (cc)
-
 pub filter_map_short : {A B : Type 0} (f : A → Option B) (xs : List A) → length (filter_map f xs) ≤ length xs
 filter_map_short f [] = omega arith
 filter_map_short {B = B} f (x ∷ xs) = by_case (f x) (filter_map_short f xs)

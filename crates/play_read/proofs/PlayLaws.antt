@@ -1,19 +1,16 @@
 -- What a play whose settings break no rule keeps.
-use Rattle.std.proofs.Common.{◌≡◌, ◌+◌, ◌≤◌, Bool, true, false, nat_lt, nat_le, Option, Some, None, [], ◌∷◌, length, refl, arith}
+use Rattle.std.proofs.Common.{◌≡◌, ◌+◌, ◌≤◌, true, nat_lt, nat_le, Option, Some, None, [], ◌∷◌, length, arith}
 use Rattle.std.proofs.lemmas.Bool.{and_parts, leb-true, ltb-true}
 use Rattle.serde_json.specs.Data.{Data}
 use Rattle.serde_json.specs.Find.{get}
 use Rattle.json_shapes.specs.Shapes.{listed, is_object}
-use Rattle.play_rules.specs.Breaches.{Breach, BadShape, BadSerial, TooManySteps, unless, joined}
+use Rattle.json_shapes.proofs.BreachLaws.{kept, no_first, no_second}
+use Rattle.play_rules.specs.Breaches.{BadShape, BadSerial, TooManySteps, unless, joined}
 use Rattle.play_rules.specs.Keys.{hosts_key, serial_key, max_fail_key, on_blocked_key, play_keys}
 use Rattle.play_rules.specs.Plays.{tasks_in, handlers_in, bad_tasks, bad_handlers, too_many_steps, bad_settings}
 use Rattle.play_rules.specs.Settings.{size_of, are_few, bad_hosts, bad_serial, bad_percent, bad_mode, sizes_in}
 use Rattle.play_rules.specs.Steps.{unknown_key}
-use Rattle.play_read.proofs.Lists.{no_first, no_second, filter_map_short}
-
-kept : (test : Bool) (breach : Breach) → unless test breach ≡ [] → test ≡ true
-kept true breach none = refl
-kept false breach none = cc
+use Rattle.play_read.proofs.Lists.{filter_map_short}
 
 few_given : (serial : Option Data) → bad_serial serial ≡ [] → length (sizes_in serial) ≤ 64
 few_given None none = omega arith

@@ -1,8 +1,9 @@
 -- What reading a playbook promises.
-use Rattle.std.specs.Prelude.{◌≡◌, ℕ, ◌⊎◌, ◌++◌, Some, None, List, length, string_bytes, IsUtf8, ⊤, MatchOption}
+use Rattle.std.specs.Prelude.{◌≡◌, ℕ, ◌++◌, Some, List, length, string_bytes, IsUtf8, ⊤, MatchOption}
 use Rattle.std.specs.List.{AllZip}
 use Rattle.serde_json.specs.Data.{Data}
 use Rattle.serde_json.specs.Read.{read}
+use Rattle.json_shapes.specs.Texts.{BreaksFirst}
 use Rattle.play_model.specs.declared.play.Play.{Play}
 use Rattle.play_model.specs.declared.step.Step.{Step}
 use Rattle.play_rules.specs.Breaches.{NotJson}
@@ -35,15 +36,10 @@ pub record IsReadAs (most : ℕ) (text : List ℕ) (plays : List Play) : Type 0 
   pub keeps_all : AllKept (checks most document)
   pub says : AllZip IsPlay (plays_of document) plays
 
--- 701: the text is no UTF-8 or no JSON
-abbrev pub IsNoJson : List ℕ → Type 0
-IsNoJson text = IsUtf8 text → read text ≡ None
-
--- the first check of the text that is not kept
-abbrev pub BreaksFirst : ℕ → List ℕ → Named → Type 0
-BreaksFirst most text named =
-    ((named ≡ rule NotJson) × IsNoJson text) ⊎ ((document : Data) × IsUtf8 text × (read text ≡ Some document) × IsFirst named (checks most document))
+-- it names the first check of the document that is not kept
+abbrev pub IsFirstOf : ℕ → Data → Named → Type 0
+IsFirstOf most document named = IsFirst named (checks most document)
 
 -- the fault names the first check of the text that is not kept, or want of memory
 abbrev pub IsTrueOf : ℕ → List ℕ → PlayFault → Type 0
-IsTrueOf most text fault = MatchOption (named_of fault) ⊤ (BreaksFirst most text)
+IsTrueOf most text fault = MatchOption (named_of fault) ⊤ (BreaksFirst (rule NotJson) (IsFirstOf most) text)
