@@ -21,11 +21,8 @@ pub use fault::{StepFault, WorkFault};
 pub use front::Front;
 pub use making::pool;
 pub use running::run_step;
-pub use script_runner::Script;
+pub use script_runner::{Script, batches_end_by_their_script};
 pub use ticket::Ticket;
 pub use ticket_line::{each_ticket_once, none_is_made_up, numbers_agree};
 pub use worker_end::{WorkerEnd, serve};
 pub use working::work;
-
-#[cfg(test)]
-mod tests;
