@@ -29,8 +29,7 @@ struct Paced {
 
 impl Runner for Paced {
     ghost use Rattle.std.specs.Prelude.{◌≡◌, refl};
-    ghost use Rattle.script_runner.specs.Lines.{told_by};
-    ghost use Rattle.script_runner.specs.Same.{same_relation};
+    ghost use Rattle.fork_pool.specs.ScriptLines.{same_relation, told_by};
 
     ghost may = { λ paced work ending. ending ≡ told_by paced.script work.host work.step };
 

@@ -1,6 +1,6 @@
 use Rattle.std.proofs.Common.{◌≡◌, take}
-use Rattle.script_runner.specs.Scripts.{lines_of}
-use Rattle.script_runner.proofs.script.are_same.Given as goal
+use Rattle.fork_pool.specs.ScriptRows.{lines_of}
+use Rattle.fork_pool.proofs.script.are_same.Given as goal
 
 abbrev pub invariant-loop-place : goal.invariant-loop-place
 invariant-loop-place l =

@@ -1,9 +1,9 @@
 use Rattle.std.proofs.Common.{List, sym, ap, ◌∙◌, subst}
 use Rattle.roll_logs.specs.Rolls.{is_of_program}
-use Rattle.script_runner.specs.declared.row.Row.{Row}
-use Rattle.script_runner.specs.Scripts.{AreRun, lines_of}
-use Rattle.script_runner.proofs.RowLemmas.{if_ok, told_run}
-use Rattle.script_runner.proofs.running.ScriptRunner.run.Goals as goal
+use Rattle.fork_pool.specs.declared.script.row.Row.{Row}
+use Rattle.fork_pool.specs.ScriptRows.{AreRun, lines_of}
+use Rattle.fork_pool.proofs.RowLemmas.{if_ok, told_run}
+use Rattle.fork_pool.proofs.script.running.ScriptRunner.run.Goals as goal
 
 pub returns-clause-program : goal.returns-clause-program
 returns-clause-program g c =

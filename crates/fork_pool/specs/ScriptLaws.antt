@@ -4,7 +4,7 @@ use Rattle.roll_logs.specs.States.{ended}
 use Rattle.roll_logs.specs.Columns.{EndsByColumns, Tells}
 use Rattle.roll_kernel.specs.Views.{roll_of, state_of}
 use Rattle.roll_core.specs.Boards.{BoardView}
-use Rattle.script_runner.specs.Lines.{Line, told_by}
+use Rattle.fork_pool.specs.ScriptLines.{Line, told_by}
 
 -- the log of the board tells what the script says, and a batch of it ends as its hosts do by themselves on that, at any number of forks and
 -- in any order of reports; of steps that are settled without a program the script need not say anything

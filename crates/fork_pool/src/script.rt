@@ -2,10 +2,15 @@
 ghost use Rattle.std.specs.Prelude.{◌≡◌, ◌++◌, ◌∷◌, [], true, Decides, OnErr, OnOk};
 ghost use Rattle.outcome_results.specs.Endings.{ending_of};
 ghost use Rattle.roll_logs.specs.Rolls.{is_of_program};
-ghost use Rattle.script_runner.specs.Scripts.{lines_of};
+ghost use Rattle.fork_pool.specs.ScriptRows.{lines_of};
 
-use crate::row::Row;
+mod laws;
+mod row;
+mod running;
+
+use crate::script::row::Row;
 use group_tree::HostId;
+pub use laws::batches_end_by_their_script;
 use outcome_results::Outcome;
 use std::alloc::{AllocError, Global};
 use std::marker::Model;
@@ -14,16 +19,16 @@ use std::marker::Model;
 /// nothing.
 #[derive(Drop)]
 pub struct Script {
-    pub(crate) rows: Vec<Row>,
+    rows: Vec<Row>,
 }
 
 impl Model for Script {
     ghost use Rattle.std.specs.Prelude.{List};
-    ghost use Rattle.script_runner.specs.Lines.{Line};
+    ghost use Rattle.fork_pool.specs.ScriptLines.{Line};
 
     ghost Value = { List Line };
 
-    ghost use Rattle.script_runner.specs.Scripts.{AreRun, lines_of};
+    ghost use Rattle.fork_pool.specs.ScriptRows.{AreRun, lines_of};
 
     ghost view = { λ s. lines_of s.rows.items };
 
@@ -56,7 +61,7 @@ impl Script {
 }
 
 /// Whether two tables say the same, row by row.
-pub(crate) fn are_same(rows: &[Row], others: &[Row]) -> bool
+fn are_same(rows: &[Row], others: &[Row]) -> bool
     ensures { Decides result (lines_of rows.now ≡ lines_of others.now) }
 {
     if rows.len() != others.len() {

@@ -1,9 +1,9 @@
 use Rattle.std.proofs.Common.{◌<◌, ◌++◌, ◌∷◌, [], List, length, get_or, take, sym, ap, ◌∙◌, arith}
 use Rattle.std.proofs.lemmas.List.{length-map, take_more}
-use Rattle.script_runner.specs.Lines.{Line}
-use Rattle.script_runner.specs.Scripts.{line_of, lines_of}
-use Rattle.script_runner.proofs.RowLemmas.{line_at}
-use Rattle.script_runner.proofs.script.are_same.Goals as goal
+use Rattle.fork_pool.specs.ScriptLines.{Line}
+use Rattle.fork_pool.specs.ScriptRows.{line_of, lines_of}
+use Rattle.fork_pool.proofs.RowLemmas.{line_at}
+use Rattle.fork_pool.proofs.script.are_same.Goals as goal
 
 pub returns-then-not-is_same : goal.returns-then-not-is_same
 returns-then-not-is_same c =

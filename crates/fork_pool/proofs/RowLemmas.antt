@@ -4,9 +4,9 @@ use Rattle.std.specs.Prelude.{Result, Ok, Err, IfOk, if◌then◌else◌}
 use Rattle.std.specs.List.{list_all}
 use Rattle.std.proofs.lemmas.Bool.{and_parts}
 use Rattle.roll_logs.specs.Rolls.{is_of_program}
-use Rattle.script_runner.specs.declared.row.Row.{Row}
-use Rattle.script_runner.specs.Lines.{Line, told_by}
-use Rattle.script_runner.specs.Scripts.{AreRun, is_run, line_of, lines_of}
+use Rattle.fork_pool.specs.declared.script.row.Row.{Row}
+use Rattle.fork_pool.specs.ScriptLines.{Line, told_by}
+use Rattle.fork_pool.specs.ScriptRows.{AreRun, is_run, line_of, lines_of}
 
 -- what follows from what is said of an answer
 pub if_ok : {V E : Type 0} {P Q : V → Type 0} (answer : Result V E) → ((value : V) → P value → Q value) → IfOk answer P → IfOk answer Q

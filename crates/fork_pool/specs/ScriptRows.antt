@@ -3,8 +3,8 @@ use Rattle.std.specs.Prelude.{◌≡◌, Bool, true, List, map}
 use Rattle.std.specs.List.{list_all}
 use Rattle.outcome_results.specs.Endings.{ending_of}
 use Rattle.roll_logs.specs.Rolls.{is_of_program}
-use Rattle.script_runner.specs.declared.row.Row.{Row}
-use Rattle.script_runner.specs.Lines.{Line}
+use Rattle.fork_pool.specs.declared.script.row.Row.{Row}
+use Rattle.fork_pool.specs.ScriptLines.{Line}
 
 abbrev pub line_of : Row → Line
 line_of row = record { host = row.host.index; step = row.step; ending = ending_of row.outcome }

@@ -1,5 +1,5 @@
 //! What holds of every roll over a script.
-ghost use Rattle.script_runner.specs.Laws.{IsByItsScript};
+ghost use Rattle.fork_pool.specs.ScriptLaws.{IsByItsScript};
 
 use crate::script::Script;
 use roll_core::Board;

@@ -1,7 +1,7 @@
 use Rattle.std.proofs.Common.{◌≡◌, drop}
-use Rattle.script_runner.specs.Lines.{told_by}
-use Rattle.script_runner.specs.Scripts.{lines_of}
-use Rattle.script_runner.proofs.running.outcome_of.Given as goal
+use Rattle.fork_pool.specs.ScriptLines.{told_by}
+use Rattle.fork_pool.specs.ScriptRows.{lines_of}
+use Rattle.fork_pool.proofs.script.running.outcome_of.Given as goal
 
 abbrev pub invariant-loop-row : goal.invariant-loop-row
 invariant-loop-row l =

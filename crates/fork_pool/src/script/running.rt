@@ -1,10 +1,10 @@
 //! A script as a runner.
 ghost use Rattle.std.specs.Prelude.{◌≡◌, IfOk, None, Some, map};
 ghost use Rattle.outcome_results.specs.Endings.{ending_of};
-ghost use Rattle.script_runner.specs.Lines.{told_by};
-ghost use Rattle.script_runner.specs.Scripts.{lines_of};
+ghost use Rattle.fork_pool.specs.ScriptLines.{told_by};
+ghost use Rattle.fork_pool.specs.ScriptRows.{lines_of};
 
-use crate::row::Row;
+use crate::script::row::Row;
 use crate::script::{Script, are_same};
 use group_tree::HostId;
 use outcome_results::Outcome;
@@ -16,8 +16,7 @@ use std::thread::Threads;
 
 impl Runner for Script {
     ghost use Rattle.std.specs.Prelude.{◌≡◌, refl};
-    ghost use Rattle.script_runner.specs.Lines.{told_by};
-    ghost use Rattle.script_runner.specs.Same.{same_relation};
+    ghost use Rattle.fork_pool.specs.ScriptLines.{same_relation, told_by};
 
     ghost may = { λ script work ending. ending ≡ told_by script work.host work.step };
 

@@ -1,7 +1,7 @@
 use Rattle.roll_logs.proofs.ColumnFronts.{ends_by_columns}
 use Rattle.roll_kernel.specs.Views.{roll_of}
-use Rattle.script_runner.specs.Lines.{told_by}
-use Rattle.script_runner.proofs.laws.batches_end_by_their_script.Goals as goal
+use Rattle.fork_pool.specs.ScriptLines.{told_by}
+use Rattle.fork_pool.proofs.script.laws.batches_end_by_their_script.Goals as goal
 
 pub returns : goal.returns
 returns g c =
