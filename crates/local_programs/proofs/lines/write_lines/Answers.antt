@@ -1,7 +1,7 @@
 use Rattle.std.proofs.Common.{arith, refl}
 use Rattle.bounded_io.proofs.Pieces.{writes_each}
 use Rattle.local_programs.specs.Lines.{byte_text}
-use Rattle.local_programs.proofs.lines.write_each.Goals as goal
+use Rattle.local_programs.proofs.lines.write_lines.Goals as goal
 
 pub loop-byte-preserved : goal.loop-byte-preserved
 loop-byte-preserved g c =

@@ -1,7 +1,7 @@
 use Rattle.std.proofs.Common.{flat_map, take}
 use Rattle.bounded_io.specs.Writing.{Writes}
 use Rattle.local_programs.specs.Lines.{byte_text}
-use Rattle.local_programs.proofs.lines.write_each.Given as goal
+use Rattle.local_programs.proofs.lines.write_lines.Given as goal
 
 abbrev pub invariant-loop-byte : goal.invariant-loop-byte
 invariant-loop-byte g l =
