@@ -4,9 +4,9 @@
 #
 # `rt run` in crates/rollout takes one crate after the other, and most crates keep fewer than two processors at work. `rt ci` has several crates at work, those
 # first behind which the longest way of others waits, and up to four processors at one where no other can begin. (`rt all check --jobs 4` has several at work
-# too, but one processor a crate, and that long way is what the build takes.) So `rt ci` is called in a copy of those crates alone, without their edits; the
-# two that have tests of their own are proved with them too. What it proves is kept beside the kit, by the sums of all that was read: a later `make` and
-# the gate prove only what changed. `rt check` takes nothing from it, and begins by itself.
+# too, but one processor a crate, and that long way is what the build takes.) So `rt ci` is called in a copy of those crates alone, without their edits; none
+# of them has tests of its own. What it proves is kept beside the kit, by the sums of all that was read: a later `make` and the gate prove only what
+# changed. `rt check` takes nothing from it, and begins by itself.
 . "$(dirname "$0")/crates.sh"
 
 program=crates/rollout/out/rollout

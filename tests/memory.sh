@@ -375,11 +375,11 @@ while read -r crate name; do
     [ "$number" -gt 1 ] || fail "$crate $name asks for no memory"
     echo "$crate $name: $((number - 1)) allocations refused in turn"
 done <<'TESTS'
-roll_core_tests memory::a_batch_comes_to_its_end_whatever_is_refused
-host_track_tests joined::a_part_that_is_refused_leaves_the_others
-host_track_tests memory::a_step_that_was_refused_memory_is_taken_again
-ticket_line tests::each_ticket_is_taken_once
-ticket_line tests::gathered::what_was_put_is_what_all_took
-fork_pool tests::memory::a_roll_ends_or_memory_is_wanting
+core_tests refused::a_batch_comes_to_its_end_whatever_is_refused
+core_tests joined::a_part_that_is_refused_leaves_the_others
+core_tests taken_again::a_step_that_was_refused_memory_is_taken_again
+pool_tests tickets::each_ticket_is_taken_once
+pool_tests gathered::what_was_put_is_what_all_took
+pool_tests memory::a_roll_ends_or_memory_is_wanting
 TESTS
 finish

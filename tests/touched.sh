@@ -79,7 +79,7 @@ fi
 
 scripts='cli inventories playbooks broken memory programs noted rehearsal drawn readme house'
 case " $names " in *' roll_core '* | *' ticket_line '*) scripts="$scripts once" ;; esac
-case " $names " in *' fork_pool '*) scripts="$scripts workers" ;; esac
+case " $names " in *' pool_tests '*) scripts="$scripts workers" ;; esac
 sh tests/gate.sh $scripts >"$work/scripts" 2>&1
 counts=$(tail -n 1 "$work/scripts" | sed -n 's/^\([0-9]*\) passed, \([0-9]*\) failed$/\1 \2/p')
 set -- ${counts:-0 1}

@@ -1,13 +1,13 @@
 #!/bin/sh
 # The workers of a step, many times over: programs that have to run at once do, rows are the same at every number of forks and pace, and
 # each thread refused in turn is want of memory. Each time the test ends within ten seconds, and each thread that it started has ended.
-# It needs a C compiler and crates/fork_pool/out/fork_pool_tests, which rt ci (or rt test) leaves. Where that isn't there all is passed over, but where ALL_BUILT
+# It needs a C compiler and crates/pool_tests/out/pool_tests_tests, which rt ci (or rt test) leaves. Where that isn't there all is passed over, but where ALL_BUILT
 # is set.
 . "$(dirname "$0")/common.sh"
 
-tests=$top/crates/fork_pool/out/fork_pool_tests
+tests=$top/crates/pool_tests/out/pool_tests_tests
 if [ ! -x "$tests" ]; then
-    [ -z "${ALL_BUILT:-}" ] && echo "fork_pool isn't built: passed over" && pass || fail "$tests isn't built"
+    [ -z "${ALL_BUILT:-}" ] && echo "pool_tests isn't built: passed over" && pass || fail "$tests isn't built"
     finish
     exit
 fi
@@ -104,14 +104,14 @@ often() {
     echo "$2: $1 times"
 }
 
-often 200 tests::gate::gate_two_at_once
+often 200 gate::gate_two_at_once
 # at forks 1, 2, 5 and 64, each step on a pool of its own and all on one
-often 1000 tests::rows::forks_make_no_difference
-often 100 tests::paced::the_pace_makes_no_difference
-often 1000 tests::by_hand::want_of_memory_stops_a_step
+often 1000 rows::forks_make_no_difference
+often 100 paced::the_pace_makes_no_difference
+often 1000 by_hand::want_of_memory_stops_a_step
 
 # each thread refused in turn
-for name in tests::gate::a_step_ends_or_a_worker_is_wanting tests::memory::a_roll_ends_or_memory_is_wanting; do
+for name in gate::a_step_ends_or_a_worker_is_wanting memory::a_roll_ends_or_memory_is_wanting; do
     number=1
     while
         tried "$name" "$number"

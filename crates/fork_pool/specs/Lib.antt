@@ -3,3 +3,6 @@ pub mod Pools
 pub mod Replies
 pub mod Steps
 pub mod Inside
+pub mod ScriptLines
+pub mod ScriptRows
+pub mod ScriptLaws

@@ -1,5 +1,5 @@
 //! The workers of a step: they run the programs that a board hands out, as many at once as it has forks, while the board stays with one
-//! thread.
+//! thread. And a runner that runs nothing, whose programs end as a table says.
 #![tactic(auto)]
 
 mod boards;
@@ -11,6 +11,7 @@ mod notes;
 mod owed;
 mod reply;
 mod running;
+mod script;
 mod step;
 mod ticket;
 mod worker_end;
@@ -21,11 +22,8 @@ pub use fault::{StepFault, WorkFault};
 pub use front::Front;
 pub use making::pool;
 pub use running::run_step;
-pub use script_runner::Script;
+pub use script::{Script, batches_end_by_their_script};
 pub use ticket::Ticket;
 pub use ticket_line::{each_ticket_once, none_is_made_up, numbers_agree};
 pub use worker_end::{WorkerEnd, serve};
 pub use working::work;
-
-#[cfg(test)]
-mod tests;

@@ -102,7 +102,7 @@ fn with_workers<
 }
 
 /// A step on a board that lives as long as the pool.
-pub(crate) fn step_alone<'f, R: Runner, L: Ledger, H: Wait>(
+fn step_alone<'f, R: Runner, L: Ledger, H: Wait>(
     rt: &H,
     alloc: Global,
     front: &mut Front<'f, R>,

@@ -1,5 +1,5 @@
 //! The end of a pool that works.
-ghost use Rattle.std.specs.Prelude.{◌≡◌, ◌≤◌, length};
+ghost use Rattle.std.specs.Prelude.{◌≡◌, ◌≤◌, suc, length, MatchBool};
 
 use crate::owed::Taker;
 use crate::reply::Reply;
@@ -20,6 +20,25 @@ pub struct WorkerEnd<'f, R: Runner> {
 }
 
 impl<'f, R: Runner> WorkerEnd<'f, R> {
+    /// Runs the program of the next ticket, for which it waits, and replies. The reply is dropped where nobody is left to receive it. False
+    /// is told where no ticket can come any more.
+    pub fn serve_one<H: Threads + Wait + Processes<Started = SystemProcess> + Sync>(
+        &mut self,
+        rt: &H,
+        alloc: Global,
+        runner: &'f R,
+    ) -> bool
+        ensures count { MatchBool result (length self.new.taker.tickets.taken ≡ suc (length self.old.taker.tickets.taken)) (self.new.taker.tickets.taken ≡ self.old.taker.tickets.taken) }
+        ensures place { self.new.taker.place ≡ self.old.taker.place }
+        ensures line { self.new.taker.tickets.line ≡ self.old.taker.tickets.line }
+    {
+        let Some(owed) = self.taker.take(rt) else {
+            return false;
+        };
+        owed.answer(rt, alloc, runner, &self.replies);
+        true
+    }
+
     /// Runs the programs of tickets until none can come. Each ticket is answered once; the reply is dropped where nobody is left to
     /// receive it. Answers how many tickets this end has taken.
     pub fn serve<H: Threads + Wait + Processes<Started = SystemProcess> + Sync>(
@@ -34,10 +53,9 @@ impl<'f, R: Runner> WorkerEnd<'f, R> {
         ensures line { self.new.taker.tickets.line ≡ self.old.taker.tickets.line }
     {
         for _ in rt.forever() {
-            let Some(owed) = self.taker.take(rt) else {
+            if !self.serve_one(rt, alloc, runner) {
                 break;
-            };
-            owed.answer(rt, alloc, runner, &self.replies);
+            }
         }
         self.taker.taken()
     }

@@ -60,7 +60,7 @@ fn write_byte<W: Write>(text: &mut TextWriter<'_, W>, host: &str, end: &str, byt
 }
 
 #[tactic(auto, using(bounded_io::proofs::Pieces::pieces_of_text))]
-fn write_each<W: Write>(text: &mut TextWriter<'_, W>, host: &str, end: &str, bytes: &[u8])
+fn write_lines<W: Write>(text: &mut TextWriter<'_, W>, host: &str, end: &str, bytes: &[u8])
     ensures { Writes W.contents text.old text.new (flat_map (spec.byte_text host.now end.now) bytes.now) }
 {
     for byte in bytes {
@@ -77,7 +77,7 @@ fn write_output<W: Write>(text: &mut TextWriter<'_, W>, host: &str, end: &str, b
         return;
     }
     write_front(text, host, end);
-    write_each(text, host, end, bytes);
+    write_lines(text, host, end, bytes);
     text.write_str("\n");
 }
 

@@ -5,7 +5,7 @@ use domains::Fleet;
 use fleet_states::Status;
 use group_tree::HostId;
 use play_model::Play;
-use roll_run::Watch;
+use roll_core::Watch;
 use std::alloc::Global;
 use std::sync::Wait;
 

@@ -66,7 +66,8 @@ module _ (may : Work → Ending → Type 0) where
         }
 
     -- by an answer: such an event, or none where it is a refusal
-    pub kept_either : {V E : Type 0} (answer : Result V E) (event : Event) (new : KernelView) → MayTell may (roll_of kernel) (state_of kernel) event → is_report event ≡ false → OnOk answer (new ≡ kernels.with_event kernel event) → OnErr answer (new ≡ kernel)
+    pub kept_either : {V E : Type 0} (answer : Result V E) (event : Event) (new : KernelView) → MayTell may (roll_of kernel) (state_of kernel) event → is_report event ≡ false
+        → OnOk answer (new ≡ kernels.with_event kernel event) → OnErr answer (new ≡ kernel)
         → IsKept may new tallies total parts rest_parts rest_amount joined
     kept_either (Ok value) event new tells quiet grown same =
         subst (λ (k : KernelView). IsKept may k tallies total parts rest_parts rest_amount joined) (sym grown) (kept_quiet event tells quiet)
@@ -74,7 +75,8 @@ module _ (may : Work → Ending → Type 0) where
         subst (λ (k : KernelView). IsKept may k tallies total parts rest_parts rest_amount joined) (sym same) kept
 
     -- by a report that a tally has counted
-    pub kept_report : (event : Event) (now_total now_parts now_amount : ℕ) → MayTell may (roll_of kernel) (state_of kernel) event → is_report event ≡ true → now_total ≡ suc total → now_parts ≡ rest_parts → now_amount ≡ rest_amount → rest_parts < parts → length (kernel.log ++ event ∷ []) < 9223372036854775808
+    pub kept_report : (event : Event) (now_total now_parts now_amount : ℕ) → MayTell may (roll_of kernel) (state_of kernel) event → is_report event ≡ true
+        → now_total ≡ suc total → now_parts ≡ rest_parts → now_amount ≡ rest_amount → rest_parts < parts → length (kernel.log ++ event ∷ []) < 9223372036854775808
         → IsKept may (kernels.with_event kernel event) tallies now_total parts now_parts now_amount joined
     kept_report event now_total now_parts now_amount tells counts more same_parts same_amount apart short =
         let one_more : reports_in (kernel.log ++ event ∷ []) ≡ reports_in kernel.log + 1 = reports_more kernel.log event ∙ ap (λ b. reports_in kernel.log + cond b 1 0) counts in

@@ -9,6 +9,7 @@ mod fault;
 mod go;
 mod runner;
 mod tally;
+mod watch;
 
 pub use board::Board;
 pub use claimed::Claimed;
@@ -21,3 +22,4 @@ pub use roll_kernel::{
 };
 pub use runner::Runner;
 pub use tally::Tally;
+pub use watch::{Unwatched, Watch};

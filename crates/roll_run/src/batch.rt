@@ -6,10 +6,9 @@ ghost use Rattle.roll_kernel.specs.Views.{state_of};
 ghost use Rattle.roll_run.specs.Inside.{HasBroken, HasPassedStep, HasRun, HasWorked, IsWorkedOff};
 ghost use Rattle.roll_run.specs.Runs.{IsFaultIn};
 
-use crate::watch::Watch;
 use fork_pool::{Front, StepFault};
 use group_tree::HostId;
-use roll_core::{Board, Next, Runner};
+use roll_core::{Board, Next, Runner, Watch};
 use std::alloc::Global;
 use std::sync::Wait;
 use std::sync::ledger::Ledger;

@@ -13,7 +13,6 @@ mod plays;
 mod pool;
 mod run;
 mod turns;
-mod watch;
 
 pub use fault::{RunFault, RunsFault};
 pub use fork_pool::StepFault;
@@ -21,5 +20,5 @@ pub use laws::{memory_alone_is_wanting_at_boundaries, runs_are_courses};
 pub use play::run_play;
 pub use play_course::{Boundary, End};
 pub use pool::run_plays;
+pub use roll_core::{Unwatched, Watch};
 pub use run::Run;
-pub use watch::{Unwatched, Watch};

@@ -9,11 +9,10 @@ ghost use Rattle.roll_run.specs.Inside.{HasGone, HasTurned, IsBetween, IsNoted, 
 use crate::batch::run_batch;
 use crate::boundary::come_to_boundary;
 use crate::close::close_batch;
-use crate::watch::Watch;
 use domain_counts::Domains;
 use fork_pool::{Front, StepFault};
 use play_course::{Boundary, End};
-use roll_core::{Board, Runner};
+use roll_core::{Board, Runner, Watch};
 use std::alloc::{Allocator, Global};
 use std::sync::Wait;
 use std::sync::ledger::Ledger;

@@ -1,6 +1,10 @@
-//! Groups and fleets for the tests of other crates.
+//! Groups, fleets, plays and boards for the tests of other crates.
 #![tactic(auto)]
 
+mod again;
 mod groups;
+mod setting;
 
-pub use groups::{fleet_of, group, with};
+pub use again::{fleet_again, play_again, vars_again};
+pub use groups::{fleet_of, group, limited_again, two_racks, with};
+pub use setting::{Setting, board_of, set_up};

@@ -14,6 +14,3 @@ pub use making::line;
 pub use put_end::PutEnd;
 pub use take_end::TakeEnd;
 pub use taken::Taken;
-
-#[cfg(test)]
-mod tests;

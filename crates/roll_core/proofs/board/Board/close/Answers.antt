@@ -12,8 +12,10 @@ use Rattle.roll_core.proofs.board.Board.close.Goals as goal
 
 pub invariant_of-self : goal.invariant_of-self
 invariant_of-self g c =
-    let kept = kept_quiet (g.R.Runner.may c.self.inside.runner.now) c.self.inside.kernel c.self.inside.tallies c.self.inside.reports.total g.L.Ledger.parts c.self.inside.rest.parts c.self.inside.rest.amount c.self.inside.joined c.self.invariant closed tt refl in
-    subst (λ (k : KernelView). IsKept (g.R.Runner.may c.self.inside.runner.now) k c.self.inside.tallies c.self.inside.reports.total g.L.Ledger.parts c.self.inside.rest.parts c.self.inside.rest.amount c.self.inside.joined) (sym c.close.ensures.event) kept
+    let old = c.self.inside in
+    let may = g.R.Runner.may old.runner.now in
+    let kept = kept_quiet may old.kernel old.tallies old.reports.total g.L.Ledger.parts old.rest.parts old.rest.amount old.joined c.self.invariant closed tt refl in
+    subst (λ (k : KernelView). IsKept may k old.tallies old.reports.total g.L.Ledger.parts old.rest.parts old.rest.amount old.joined) (sym c.close.ensures.event) kept
 
 pub returns-clause-statuses : goal.returns-clause-statuses
 returns-clause-statuses g c =

@@ -21,7 +21,9 @@ invariant_of-self-2 g c =
     let told = tells may (roll_of old.kernel) (state_of old.kernel) completion c.in-Ok.ensures.allowed mine in
     let counted = c.count_one.ensures in
     let now = c.count_one.new in
-    let kept = kept_report may old.kernel old.tallies old.reports.total g.L.Ledger.parts old.rest.parts old.rest.amount old.joined c.self.invariant (event_in completion) now.reports.total now.rest.parts now.rest.amount told refl counted.total counted.parts counted.amount counted.apart (subst (λ (k : KernelView). length k.log < 9223372036854775808) c.in-Ok.ensures.ok c.in-Ok.ensures.few) in
+    let few = subst (λ (k : KernelView). length k.log < 9223372036854775808) c.in-Ok.ensures.ok c.in-Ok.ensures.few in
+    let by_report = kept_report may old.kernel old.tallies old.reports.total g.L.Ledger.parts old.rest.parts old.rest.amount old.joined c.self.invariant in
+    let kept = by_report (event_in completion) now.reports.total now.rest.parts now.rest.amount told refl counted.total counted.parts counted.amount counted.apart few in
     subst (λ (k : KernelView). IsKept may k old.tallies now.reports.total g.L.Ledger.parts now.rest.parts now.rest.amount old.joined) (sym c.in-Ok.ensures.ok) kept
 
 pub returns-in-Err-clause-err : goal.returns-in-Err-clause-err

@@ -1,0 +1,64 @@
+//! Each law of plans, of their texts, of the courses of plays, of batches and of legal logs, called once: a law has no body, and can be called wherever
+//! its statement is wanted.
+use std::test::Fail;
+
+#[test]
+fn laws_are_called(_rt: HostRuntime) -> Result<(), Fail> {
+    batch_plan::bounds_hold();
+    batch_plan::a_blocked_group_has_no_plan();
+    batch_plan::one_answer();
+    batch_plan::an_answer_exists();
+    batch_plan::the_first_batch_may_be_opened();
+    batch_plan::no_host_stands_in_two_batches();
+    batch_plan::held_hosts_may_be_set_aside();
+    batch_plan::a_plan_holds_nobody_back();
+    batch_plan::an_updated_batch_leaves_one_less();
+    batch_plan::counts_follow_a_change();
+    domains::one_fleet();
+    planning::one_inventory();
+    planning::one_plan_text();
+    play_course::a_play_has_one_course();
+    play_course::plays_have_one_course();
+    play_course::a_play_goes_one_way();
+    play_course::nothing_follows_the_end();
+    play_course::a_play_comes_to_its_next_boundary();
+    play_course::a_play_went_on_before_its_last_boundary();
+    play_course::no_host_is_opened_twice();
+    play_course::failures_of_other_hosts_decide_nothing();
+    play_course::a_play_without_failure_takes_as_many_batches_as_its_first_plan();
+    batch_outcome::a_halt_is_the_least();
+    batch_outcome::hosts_of_other_batches_stay();
+    batch_outcome::hosts_of_the_batch_end_alike();
+    batch_outcome::own_failures_decide();
+    batch_outcome::no_host_of_a_batch_waits_after_it();
+    batch_outcome::a_batch_without_failure_is_updated();
+    roll_logs::legal_logs_are_safe();
+    roll_logs::legal_logs_rest_between_batches();
+    roll_logs::forks_bound_the_claims();
+    roll_logs::rows_are_few();
+    roll_logs::no_host_is_claimed_twice_for_a_step();
+    roll_logs::no_host_reports_a_step_twice();
+    roll_logs::reports_follow_claims();
+    roll_logs::events_leave_other_hosts();
+    roll_logs::rows_last();
+    roll_logs::hosts_are_failed_from_the_failing_row_on();
+    roll_logs::batches_are_on_track();
+    roll_logs::open_batches_go_on();
+    roll_logs::dead_batches_end();
+    roll_logs::logs_have_columns();
+    roll_logs::batches_end_by_columns();
+    roll_logs::one_event_more();
+    roll_logs::legal_logs_grow();
+    roll_logs::beginnings_are_legal();
+    roll_logs::beginnings_tell();
+    roll_logs::work_stays_within_its_step();
+    roll_logs::batches_stay_theirs();
+    roll_logs::boundaries_are_bare();
+    roll_logs::nobody_is_out_off_a_step();
+    roll_logs::no_host_is_opened_twice();
+    roll_logs::hosts_of_no_batch_have_no_rows();
+    roll_logs::hosts_behind_their_batch_stay();
+    roll_core::what_was_handed_out_is_out();
+    roll_core::work_on_others_leaves_a_claim_out();
+    Ok(())
+}

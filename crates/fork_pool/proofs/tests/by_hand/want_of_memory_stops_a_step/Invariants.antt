@@ -1,4 +1,0 @@
-use Rattle.fork_pool.proofs.tests.by_hand.want_of_memory_stops_a_step.Given as goal
-
-abbrev pub ghosts-stopped : goal.ghosts-stopped
-ghosts-stopped g a = record { name = a.blank.name; parts = a.blank.parts }

@@ -1,4 +1,0 @@
-use Rattle.fork_pool.proofs.tests.gate.gate_two_at_once.Given as goal
-
-abbrev pub ghosts-gated : goal.ghosts-gated
-ghosts-gated g a = record { name = a.blank.name; parts = a.blank.parts }

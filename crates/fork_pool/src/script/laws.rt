@@ -1,0 +1,14 @@
+//! What holds of every roll over a script.
+ghost use Rattle.fork_pool.specs.ScriptLaws.{IsByItsScript};
+
+use crate::script::Script;
+use roll_core::Board;
+use std::sync::ledger::Ledger;
+
+/// The log of a board over a script tells what the script says, and a batch of it ends as each of its hosts does by itself on that, at any
+/// number of forks and in any order of reports.
+pub fn batches_end_by_their_script<L: Ledger>(board: &Board<'_, Script, L>)
+    ensures { IsByItsScript board.now }
+{
+    let _log = board.log();
+}

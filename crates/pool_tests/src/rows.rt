@@ -1,0 +1,138 @@
+//! Six hosts of which two may be down, three steps, and one host that fails at the second: the same rows at any number of forks.
+ghost use Rattle.std.specs.Prelude.{◌≡◌, ◌<◌, ◌≤◌};
+
+use crate::rolling::{Rolled, roll_apart, roll_together};
+use fork_pool::{Script, StepFault};
+use group_tree::HostId;
+use roll_core::{Board, Counts, Outcome, Runner, Status};
+use sample_fleets::{Setting, board_of, limited_again, set_up};
+use std::alloc::{AllocError, Global};
+use std::marker::Brand;
+use std::process::{Processes, SystemProcess};
+use std::sync::Wait;
+use std::sync::ledger::{Blank, Ledger};
+use std::test::Fail;
+use std::thread::Threads;
+
+const THREE_STEPS: &str =
+    r#"[{"hosts":"all","tasks":[{"command":"x"},{"command":"y"},{"command":"z"}]}]"#;
+
+pub const SIX: [&str; 6] = ["a", "b", "c", "d", "e", "f"];
+
+pub const BATCHES: [&[HostId]; 3] = [
+    &[HostId { index: 0 }, HostId { index: 3 }],
+    &[HostId { index: 1 }, HostId { index: 4 }],
+    &[HostId { index: 2 }, HostId { index: 5 }],
+];
+
+/// The third host fails at the second step.
+const FAILS: HostId = HostId { index: 2 };
+
+pub fn six_hosts(alloc: Global) -> Result<Setting, Fail> {
+    set_up(alloc, limited_again(alloc, 2, &SIX)?, THREE_STEPS)
+}
+
+fn script(alloc: Global) -> Result<Script, AllocError> {
+    let mut script = Script::new(alloc);
+    let end = Outcome::Ran {
+        rc: 1,
+        stdout: String::new(alloc),
+        stderr: String::new(alloc),
+    };
+    script.push(FAILS, 1, end)?;
+    Ok(script)
+}
+
+pub fn script_again(alloc: Global) -> Result<Script, AllocError> {
+    match script(alloc) {
+        Err(AllocError) => script(alloc),
+        answer => answer,
+    }
+}
+
+/// Another script, which says the same of a program in a further row.
+pub fn one_more_row(alloc: Global) -> Result<Script, AllocError> {
+    let mut script = script(alloc)?;
+    let end = Outcome::Ran {
+        rc: 0,
+        stdout: String::new(alloc),
+        stderr: String::new(alloc),
+    };
+    script.push(FAILS, 2, end)?;
+    Ok(script)
+}
+
+fn is_row(counts: Counts, rows: (u32, u32, u32)) -> bool {
+    (counts.ok, counts.changed, counts.failed) == rows && (counts.skipped, counts.ignored) == (0, 0)
+}
+
+/// Each host has its rows and its status, and each report is counted.
+pub fn is_as_worked<R: Runner, L: Ledger>(board: &Board<'_, R, L>) -> bool {
+    for index in 0..SIX.len() {
+        let host = HostId { index };
+        let (rows, status) = if host == FAILS {
+            ((1, 1, 1), Status::Failed)
+        } else {
+            ((3, 3, 0), Status::Updated)
+        };
+        if !is_row(board.counts(host), rows) || board.status(host) != status {
+            return false;
+        }
+    }
+    board.joined() == 17 && board.tallies() == 0 && board.out() == 0
+}
+
+/// Whether there was memory to roll to the end; the rows are then those that the script gives.
+pub fn rolled<R: Runner, L: Ledger, H: Threads + Wait + Processes<Started = SystemProcess> + Sync>(
+    rt: &H,
+    alloc: Global,
+    setting: &Setting,
+    runner: &R,
+    forks: usize,
+    apart: bool,
+    blank: Blank,
+) -> Result<bool, Fail>
+    requires some { 0 < forks }
+    requires few { forks ≤ 64 }
+    requires name { blank.name ≡ L.name }
+    requires parts { blank.parts ≡ L.parts }
+    requires many { blank.parts ≡ 129 }
+{
+    let Ok(board) = board_of::<R, L>(alloc, setting, runner, forks, blank) else {
+        return Ok(false);
+    };
+    let rolled = if apart {
+        roll_apart(rt, alloc, board, &BATCHES)?
+    } else {
+        roll_together(rt, alloc, board, &BATCHES)?
+    };
+    match rolled {
+        Rolled::ToItsEnd(board) if is_as_worked(&board) => Ok(true),
+        Rolled::ToItsEnd(_board) => Err(Fail::new("other rows")),
+        Rolled::Stopped(StepFault::Mixed, _board) => Err(Fail::new("mixed")),
+        Rolled::Stopped(_fault, _board) => Ok(false),
+        Rolled::NoMemory => Ok(false),
+    }
+}
+
+#[test]
+fn forks_make_no_difference(rt: HostRuntime) -> Result<(), Fail> {
+    let alloc = rt.alloc();
+    let setting = six_hosts(alloc)?;
+    let script = script_again(alloc)?;
+    for forks in [1, 2, 5, 64] {
+        for apart in [true, false] {
+            let to_its_end = rolled::<Script, Brand, HostRuntime>(
+                &rt,
+                alloc,
+                &setting,
+                &script,
+                forks,
+                apart,
+                Blank::new(129),
+            )?;
+            assert!(rt; to_its_end, "{forks} forks, {apart}");
+        }
+    }
+    Ok(())
+}

@@ -1,4 +1,0 @@
-use Rattle.roll_core_tests.proofs.memory.a_batch_comes_to_its_end_whatever_is_refused.Given as goal
-
-abbrev pub ghosts-rolled : goal.ghosts-rolled
-ghosts-rolled g a = record { name = a.blank.name; parts = a.blank.parts }

@@ -1,4 +1,0 @@
-pub mod Lines
-pub mod Scripts
-pub mod Same
-pub mod Laws
