@@ -97,7 +97,10 @@ module _ (roll : Roll) (state : State) (old new : BatchWork) (halt : Option ℕ)
   work_left = subst (λ phase. IsWorkOf roll (closed_state phase state) new) (sym at) work_behind
 
 -- before the first batch
-pub work_starts : (roll : Roll) (vars : List Vars) (work : BatchWork) → work.play.now ≡ roll.play → length roll.start ≡ length vars → ((host : ℕ) → roll.known host ≡ known_at vars host) → length work.summaries.items ≡ length vars → ShowEach roll.play (known_at vars) (λ host. []) work.summaries.items → work.turns.items ≡ replicate (length vars) Over → work.stage ≡ Between → work.batch.items ≡ [] → work.line.items ≡ [] → work.out ≡ 0 → IsWorkOf roll (start_state roll) work
+pub work_starts : (roll : Roll) (vars : List Vars) (work : BatchWork) → work.play.now ≡ roll.play → length roll.start ≡ length vars
+    → ((host : ℕ) → roll.known host ≡ known_at vars host) → length work.summaries.items ≡ length vars
+    → ShowEach roll.play (known_at vars) (λ host. []) work.summaries.items → work.turns.items ≡ replicate (length vars) Over → work.stage ≡ Between
+    → work.batch.items ≡ [] → work.line.items ≡ [] → work.out ≡ 0 → IsWorkOf roll (start_state roll) work
 work_starts roll vars work play hosts known all shows turns stage batch line out =
     record {
       play = play;

@@ -126,7 +126,9 @@ module _ (roll : Roll) (state : State) (old new : BatchWork) (host step : ℕ) (
     step_here : (other : ℕ) → state.phase ≡ working other → step ≡ other
     step_here other now = let both : working step ≡ working other = sym phase ∙ now in cc
 
-    given_here : (other now : ℕ) (was : Asked) (summary : Summary) (asks : Step) → turn_at new.turns.items other ≡ Out was → slice_get new.summaries.items other ≡ Some summary → state.phase ≡ working now → step_at roll.play now ≡ Some asks → IsGiven roll state other summary.vars was asks
+    given_here : (other now : ℕ) (was : Asked) (summary : Summary) (asks : Step) → turn_at new.turns.items other ≡ Out was
+        → slice_get new.summaries.items other ≡ Some summary → state.phase ≡ working now → step_at roll.play now ≡ Some asks
+        → IsGiven roll state other summary.vars was asks
     given_here other now was summary asks turn got is_now named = by_case (cases_eq other host)
       where
         by_case : (other ≡ host) ⊎ (other ≡ host → ⊥) → IsGiven roll state other summary.vars was asks
@@ -143,7 +145,9 @@ module _ (roll : Roll) (state : State) (old new : BatchWork) (host step : ℕ) (
         by_case (inr apart) =
             work.given other now was summary asks (sym (turn_other other apart) ∙ turn) (summary_other other summary apart got) is_now named
 
-    given_now : (other now : ℕ) (was : Asked) (summary : Summary) (asks : Step) → turn_at new.turns.items other ≡ Out was → slice_get new.summaries.items other ≡ Some summary → state.phase ≡ working now → step_at roll.play now ≡ Some asks → IsGiven roll later other summary.vars was asks
+    given_now : (other now : ℕ) (was : Asked) (summary : Summary) (asks : Step) → turn_at new.turns.items other ≡ Out was
+        → slice_get new.summaries.items other ≡ Some summary → state.phase ≡ working now → step_at roll.play now ≡ Some asks
+        → IsGiven roll later other summary.vars was asks
     given_now other now was summary asks turn got is_now named =
         let here : IsGiven roll state other summary.vars was asks = given_here other now was summary asks turn got is_now named in
         record { asks = here.asks; place = here.place }
@@ -183,7 +187,8 @@ pub record Asks (old new : BatchWork) (host : ℕ) (before after : Summary) : Ty
   pub out : new.out ≡ old.out
   pub first : has_number host (host_numbers (drop old.next old.line.items)) ≡ true
 
-pub work_asked : (roll : Roll) (state : State) (old new : BatchWork) (host : ℕ) (before after : Summary) → IsWorkOf roll state old → Asks old new host before after → Keeps before after → IsWorkOf roll state new
+pub work_asked : (roll : Roll) (state : State) (old new : BatchWork) (host : ℕ) (before after : Summary) → IsWorkOf roll state old
+    → Asks old new host before after → Keeps before after → IsWorkOf roll state new
 work_asked roll state old new host before after work asks keeps =
     record {
       play = asks.play ∙ work.play;
@@ -219,7 +224,9 @@ work_asked roll state old new host before after work asks keeps =
     not_out =
         not-true (has_number host state.out) (and_parts (is_awaited_in roll state host) (not (has_number host state.out)) (has_passed (is_free roll state) state.batch host stands).1).1
 
-    given : (other step : ℕ) (asked : Asked) (summary : Summary) (task : Step) → turn_at new.turns.items other ≡ Out asked → slice_get new.summaries.items other ≡ Some summary → state.phase ≡ working step → step_at roll.play step ≡ Some task → IsGiven roll state other summary.vars asked task
+    given : (other step : ℕ) (asked : Asked) (summary : Summary) (task : Step) → turn_at new.turns.items other ≡ Out asked
+        → slice_get new.summaries.items other ≡ Some summary → state.phase ≡ working step → step_at roll.play step ≡ Some task
+        → IsGiven roll state other summary.vars asked task
     given other step asked summary task turn got is named = by_case (cases_eq other host)
       where
         was : turn_at old.turns.items other ≡ Out asked
@@ -233,7 +240,11 @@ work_asked roll state old new host before after work asks keeps =
             work.given other step asked summary task was (get_set_other old.summaries.items host after other summary apart (sym (ap (λ (l : List Summary). slice_get l other) asks.summaries) ∙ got)) is named
 
 -- the host that is next in line was asked
-pub asks_of : (old new : BatchWork) (host : HostId) (before after : Summary) → (old.next < length old.line.items) × (slice_get old.line.items old.next ≡ Some host) → before ≡ get_or old.summaries.items host.index before → new.play.now ≡ old.play.now → new.stage ≡ old.stage → new.batch.items ≡ old.batch.items → new.summaries.items ≡ set old.summaries.items host.index after → new.turns.items ≡ old.turns.items → new.line.items ≡ old.line.items → new.next ≡ old.next → new.out ≡ old.out → Asks old new host.index before after
+pub asks_of : (old new : BatchWork) (host : HostId) (before after : Summary)
+    → (old.next < length old.line.items) × (slice_get old.line.items old.next ≡ Some host) → before ≡ get_or old.summaries.items host.index before
+    → new.play.now ≡ old.play.now → new.stage ≡ old.stage → new.batch.items ≡ old.batch.items
+    → new.summaries.items ≡ set old.summaries.items host.index after → new.turns.items ≡ old.turns.items → new.line.items ≡ old.line.items
+    → new.next ≡ old.next → new.out ≡ old.out → Asks old new host.index before after
 asks_of old new host before after at value play stage batch summaries turns line next out =
     let within : host.index < length old.summaries.items = line_below (length old.summaries.items) old.line.items old.next host old.queued at.0 at.1 in
     let behind : List ℕ = host_numbers (drop (old.next + 1) old.line.items) in
@@ -252,7 +263,11 @@ asks_of old new host before after at value play stage batch summaries turns line
     }
 
 -- and taken
-pub takes_of : (old new : BatchWork) (host : HostId) (asked : Asked) (before after : Summary) → (old.next < length old.line.items) × (slice_get old.line.items old.next ≡ Some host) → before ≡ get_or old.summaries.items host.index before → new.play.now ≡ old.play.now → new.stage ≡ old.stage → new.batch.items ≡ old.batch.items → new.summaries.items ≡ set old.summaries.items host.index after → new.turns.items ≡ set old.turns.items host.index (Out asked) → new.line.items ≡ old.line.items → new.next ≡ old.next + 1 → new.out ≡ old.out + 1 → Takes old new host.index asked before after
+pub takes_of : (old new : BatchWork) (host : HostId) (asked : Asked) (before after : Summary)
+    → (old.next < length old.line.items) × (slice_get old.line.items old.next ≡ Some host) → before ≡ get_or old.summaries.items host.index before
+    → new.play.now ≡ old.play.now → new.stage ≡ old.stage → new.batch.items ≡ old.batch.items
+    → new.summaries.items ≡ set old.summaries.items host.index after → new.turns.items ≡ set old.turns.items host.index (Out asked)
+    → new.line.items ≡ old.line.items → new.next ≡ old.next + 1 → new.out ≡ old.out + 1 → Takes old new host.index asked before after
 takes_of old new host asked before after at value play stage batch summaries turns line next out =
     let within : host.index < length old.summaries.items = line_below (length old.summaries.items) old.line.items old.next host old.queued at.0 at.1 in
     let rest : host_numbers (drop (old.next + 1) old.line.items) ≡ host_numbers (drop new.next new.line.items) = ap (λ n. host_numbers (drop n old.line.items)) (sym next) ∙ ap (λ l. host_numbers (drop new.next l)) (sym line) in

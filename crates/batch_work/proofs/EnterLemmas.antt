@@ -62,7 +62,9 @@ without_other host hosts other apart = by_case (has_number other hosts) refl
         false_from_ne_true (has_number other (without host hosts)) (λ here. both_ways (has_number other hosts) none (has_without host hosts other here).1)
 
 -- what the summary shows once the row is entered
-pub entered_shows : (roll : Roll) (state : State) (host step : ℕ) (ending : Ending) (before after : Summary) (may : MayReport roll state host step ending) → Shows roll.play (roll.known host) (state.rows host) before → HasEntered may.task ending before after → Shows roll.play (roll.known host) (rows_with roll host (state.rows host) step ending) after
+pub entered_shows : (roll : Roll) (state : State) (host step : ℕ) (ending : Ending) (before after : Summary) (may : MayReport roll state host step ending)
+    → Shows roll.play (roll.known host) (state.rows host) before → HasEntered may.task ending before after
+    → Shows roll.play (roll.known host) (rows_with roll host (state.rows host) step ending) after
 entered_shows roll state host step ending before after may shows entered =
     subst (λ (l : List Entry). Shows roll.play (roll.known host) l after) (sym rows_are) (entered roll.play (roll.known host) (state.rows host) step shows may.is)
   where
@@ -144,7 +146,9 @@ module _ (roll : Roll) (state : State) (old new : BatchWork) (host step : ℕ) (
       by_case (inr apart) =
           ap is_out (turn_other other apart) ∙ work.taken other ∙ sym (without_other host state.out other apart)
 
-  given_now : (other at : ℕ) (asked : Asked) (summary : Summary) (task : Step) → turn_at new.turns.items other ≡ Out asked → slice_get new.summaries.items other ≡ Some summary → state.phase ≡ working at → step_at roll.play at ≡ Some task → IsGiven roll now other summary.vars asked task
+  given_now : (other at : ℕ) (asked : Asked) (summary : Summary) (task : Step) → turn_at new.turns.items other ≡ Out asked
+      → slice_get new.summaries.items other ≡ Some summary → state.phase ≡ working at → step_at roll.play at ≡ Some task
+      → IsGiven roll now other summary.vars asked task
   given_now other at asked summary task turn got is_now named = by_case (cases_eq other host)
     where
       by_case : (other ≡ host) ⊎ (other ≡ host → ⊥) → IsGiven roll now other summary.vars asked task
@@ -186,7 +190,10 @@ module _ (roll : Roll) (state : State) (old new : BatchWork) (host step : ℕ) (
       }
 
 -- the host's row was entered, and nothing else was changed
-pub enters_of : (old new : BatchWork) (host : HostId) (before after : Summary) → host.index < length old.summaries.items → before ≡ get_or old.summaries.items host.index before → new.play.now ≡ old.play.now → new.stage ≡ old.stage → new.batch.items ≡ old.batch.items → new.summaries.items ≡ set old.summaries.items host.index after → new.turns.items ≡ set old.turns.items host.index Over → new.line.items ≡ old.line.items → new.next ≡ old.next → suc new.out ≡ old.out → Enters old new host.index before after
+pub enters_of : (old new : BatchWork) (host : HostId) (before after : Summary) → host.index < length old.summaries.items
+    → before ≡ get_or old.summaries.items host.index before → new.play.now ≡ old.play.now → new.stage ≡ old.stage → new.batch.items ≡ old.batch.items
+    → new.summaries.items ≡ set old.summaries.items host.index after → new.turns.items ≡ set old.turns.items host.index Over
+    → new.line.items ≡ old.line.items → new.next ≡ old.next → suc new.out ≡ old.out → Enters old new host.index before after
 enters_of old new host before after within value play stage batch summaries turns line next out =
     record {
       play = play;

@@ -110,7 +110,9 @@ all_counted p [] = refl
 all_counted p (host ∷ hosts) =
     by_case (p host) (count_by-cons p host hosts) (counted_all p hosts) (all_counted p hosts)
   where
-    by_case : (b : Bool) → count_by p (host ∷ hosts) ≡ bit b + count_by p hosts → count_by p hosts ≤ length hosts → nat_eq (count_by p hosts) (length hosts) ≡ list_all p hosts → nat_eq (count_by p (host ∷ hosts)) (length (host ∷ hosts)) ≡ (b && list_all p hosts)
+    by_case : (b : Bool) → count_by p (host ∷ hosts) ≡ bit b + count_by p hosts → count_by p hosts ≤ length hosts
+        → nat_eq (count_by p hosts) (length hosts) ≡ list_all p hosts
+        → nat_eq (count_by p (host ∷ hosts)) (length (host ∷ hosts)) ≡ (b && list_all p hosts)
     by_case true here few later = either (nat_eq (count_by p hosts) (length hosts)) refl
       where
         either : (c : Bool) → nat_eq (count_by p hosts) (length hosts) ≡ c → nat_eq (count_by p (host ∷ hosts)) (length (host ∷ hosts)) ≡ list_all p hosts
@@ -211,7 +213,8 @@ module _ (roll : Roll) (state : State) (old new : BatchWork) (step : ℕ) (work 
         }
 
 -- the halt of one that goes on with none
-pub ends_with : (play : Play) (state : State) (step : ℕ) (stage : Stage) → phase_of stage ≡ phase_after play state step → ((later : ℕ) → stage ≡ Working later → ⊥) → (halt : Option ℕ) × (phase_after play state step ≡ ended halt)
+pub ends_with : (play : Play) (state : State) (step : ℕ) (stage : Stage) → phase_of stage ≡ phase_after play state step
+    → ((later : ℕ) → stage ≡ Working later → ⊥) → (halt : Option ℕ) × (phase_after play state step ≡ ended halt)
 ends_with play state step (Ended halt) at over = (halt, sym at)
 ends_with play state step (Working later) at over = absurd (over later refl)
 ends_with play state step Between at over =

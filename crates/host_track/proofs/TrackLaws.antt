@@ -40,7 +40,8 @@ grows play known column steps (suc more) =
     let row = row_if_due play known (track play known column (steps + more)) (steps + more) (column (steps + more)) in
     (before.0 ++ row, rw add-suc (ap (λ (rows : List Entry). rows ++ row) before.1 ∙ append_assoc (track play known column steps) before.0 row))
 
-same_row : (play : Play) (known : Known) (rows : List Entry) (place : ℕ) (a b : Ending) → (IsTrue (is_due play rows place) → a ≡ b) → row_if_due play known rows place a ≡ row_if_due play known rows place b
+same_row : (play : Play) (known : Known) (rows : List Entry) (place : ℕ) (a b : Ending) → (IsTrue (is_due play rows place) → a ≡ b)
+    → row_if_due play known rows place a ≡ row_if_due play known rows place b
 same_row play known rows place a b same =
     let row : Ending → List Entry = λ given. row_at (known_after play known rows) (step_at play place) place given in
     same_if (is_due play rows place) (row a) (row b) (λ due. ap row (same due))
@@ -55,7 +56,8 @@ agree play known column other (suc place) alike =
     ap (λ (new : List Entry). rows ++ new) row ∙ ap (λ (l : List Entry). l ++ row_if_due play known l place (other place)) before
 
 -- the row of a step, where it adds one
-only_row : (P : List Entry → Type 0) (known : Known) (step : Option Step) (place : ℕ) (given : Ending) → P [] → ((entry : Entry) → entry.step ≡ place → P (entry ∷ [])) → P (row_at known step place given)
+only_row : (P : List Entry → Type 0) (known : Known) (step : Option Step) (place : ℕ) (given : Ending) → P []
+    → ((entry : Entry) → entry.step ≡ place → P (entry ∷ [])) → P (row_at known step place given)
 only_row P known None place given none some = none
 only_row P known (Some step) place given none some = some _ refl
 

@@ -18,7 +18,8 @@ counted {X} p rows row few =
         omega arith
 
 -- a count that took one row more, where the row passes
-pub counted_next : {X : Type 0} (p : X → Bool) → (rows : List X) (row : X) (passes : Bool) (old new : ℕ) → length rows < 4294967295 → old ≡ count_by p rows → passes ≡ p row → new ≡ one_more_if passes old → new ≡ count_by p (rows ++ row ∷ [])
+pub counted_next : {X : Type 0} (p : X → Bool) → (rows : List X) (row : X) (passes : Bool) (old new : ℕ) → length rows < 4294967295
+    → old ≡ count_by p rows → passes ≡ p row → new ≡ one_more_if passes old → new ≡ count_by p (rows ++ row ∷ [])
 counted_next p rows row passes old new few was is makes =
     makes ∙ ap (one_more_if passes) was ∙ ap (λ b. one_more_if b (count_by p rows)) is ∙ counted p rows row few
 

@@ -41,7 +41,8 @@ rest_again (Some step) Off = refl
 rest_again (Some step) Held = refl
 
 -- a host that is read again, after it may have changed, changes to the same
-pub again : (halt : Option ℕ) (hosts : List ℕ) (statuses : List Status) (host : ℕ) → host < length statuses → at_rest halt (status_at (changed (at_rest halt) hosts statuses) host) ≡ at_rest halt (status_at statuses host)
+pub again : (halt : Option ℕ) (hosts : List ℕ) (statuses : List Status) (host : ℕ) → host < length statuses
+    → at_rest halt (status_at (changed (at_rest halt) hosts statuses) host) ≡ at_rest halt (status_at statuses host)
 again halt hosts statuses host within =
     ap (at_rest halt) (status_at-changed (at_rest halt) hosts statuses host within) ∙ either (has_number host hosts)
   where
@@ -50,7 +51,8 @@ again halt hosts statuses host within =
     either false = refl
 
 -- a host whose turn has not come is as it was
-pub still_down : (old now : RosterView) (hosts : List HostId) (i : ℕ) (d : HostId) (halt : Option ℕ) → i < length hosts → length old.seated ≡ length old.statuses → are_distinct (host_numbers hosts) ≡ true
+pub still_down : (old now : RosterView) (hosts : List HostId) (i : ℕ) (d : HostId) (halt : Option ℕ) → i < length hosts
+    → length old.seated ≡ length old.statuses → are_distinct (host_numbers hosts) ≡ true
     → ((host : ℕ) → has_number host (host_numbers hosts) ≡ true → seated_at old.seated host ≡ true) → ((host : ℕ) → has_number host (host_numbers hosts) ≡ true → is_down (status_at old.statuses host) ≡ true)
     → HasChanged old now (take i (host_numbers hosts)) (at_rest halt) false → is_down (status_at now.statuses (get_or hosts i d).index) ≡ true
 still_down old now hosts i d halt within all distinct rest down before =

@@ -26,7 +26,8 @@ few_distinct (suc bound) numbers distinct below =
         let was = has_without bound numbers n here in
         below_apart n bound (below n was.1) was.0
 
-    by_case : (b : Bool) → has_number bound numbers ≡ b → length (without bound numbers) ≤ bound → (((n : ℕ) → has_number n numbers ≡ true → n < bound) → length numbers ≤ bound) → length numbers ≤ suc bound
+    by_case : (b : Bool) → has_number bound numbers ≡ b → length (without bound numbers) ≤ bound
+        → (((n : ℕ) → has_number n numbers ≡ true → n < bound) → length numbers ≤ bound) → length numbers ≤ suc bound
     by_case true here less same = omega (arith, less, length_without bound numbers distinct here)
     by_case false none less same =
         let few = same (λ n here. below_apart n bound (below n here) (λ is. both_ways true (sym here ∙ ap (λ k. has_number k numbers) is ∙ none) refl)) in

@@ -104,7 +104,8 @@ module _ (kernel : KernelView) (roster : RosterView) (work : BatchWork) (capacit
       }
 
 -- the kernel at its start
-pub kept_start : (kernel : KernelView) (roster : RosterView) (work : BatchWork) (capacity : ℕ) → roster.statuses ≡ kernel.start → roster.seated ≡ replicate (length kernel.start) false → kernel.log ≡ [] → length kernel.start ≡ length kernel.fleet.hosts
+pub kept_start : (kernel : KernelView) (roster : RosterView) (work : BatchWork) (capacity : ℕ) → roster.statuses ≡ kernel.start
+    → roster.seated ≡ replicate (length kernel.start) false → kernel.log ≡ [] → length kernel.start ≡ length kernel.fleet.hosts
     → IsSafe (groups_of kernel.fleet) kernel.start → NobodyRuns kernel.start → 0 < kernel.forks → kernel.forks ≤ 64 → length kernel.fleet.hosts ≤ 4096 → IsWorkOf (roll_of kernel) (start_state (roll_of kernel)) work → IsKept kernel roster work capacity
 kept_start kernel roster work capacity statuses bare none all safe rest some few_forks few works =
     record {

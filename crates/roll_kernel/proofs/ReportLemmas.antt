@@ -52,7 +52,8 @@ module _ (roll : Roll) (state : State) (roster : RosterView) (work : BatchWork) 
   seat =
       omega (arith, within roll state host step at_work may.claimed may.at, held.seats, ap length held.statuses)
 
-  pub held_reported : (failed : Bool) (new : RosterView) (entered : BatchWork) → failed ≡ has_failed ((next roll state (reported host step ending)).rows host) → new ≡ with_host roster host (cond failed Failed Running) true
+  pub held_reported : (failed : Bool) (new : RosterView) (entered : BatchWork)
+      → failed ≡ has_failed ((next roll state (reported host step ending)).rows host) → new ≡ with_host roster host (cond failed Failed Running) true
       → IsWorkOf roll (next roll state (reported host step ending)) entered → IsHeld roll (next roll state (reported host step ending)) new entered
   held_reported failed new entered is shown work_is =
       subst (λ (v : RosterView). IsHeld roll (next roll state (reported host step ending)) v entered) (sym shown) (record {

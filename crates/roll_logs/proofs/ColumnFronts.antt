@@ -219,7 +219,8 @@ module _ (roll : Roll) (columns : Columns) where
   abbrev in_phase : Phase → State → State
   in_phase phase state = record state { phase = phase }
 
-  passed_on_track : (state : State) (step : ℕ) → OnTrack state → state.phase ≡ working step → NobodyIsWaitedFor state step → (phase : Phase) → phase_after roll.play state step ≡ phase → OnTrack (in_phase phase state)
+  passed_on_track : (state : State) (step : ℕ) → OnTrack state → state.phase ≡ working step → NobodyIsWaitedFor state step → (phase : Phase)
+      → phase_after roll.play state step ≡ phase → OnTrack (in_phase phase state)
   passed_on_track state step on at none phase is = by_case phase (subst (Passes state step within through before) is (passes state step within through before))
     where
       within : step < steps
@@ -256,11 +257,13 @@ module _ (roll : Roll) (columns : Columns) where
   same_end host step (job words) ending told = told
   same_end host step (settled end) ending told = refl
 
-  same_row : (host step : ℕ) (known : Known) (task : Step) (ending : Ending) → MayEnd (gives columns) host step (asks known task) ending → row_at known (Some task) step ending ≡ row_at known (Some task) step (columns host step)
+  same_row : (host step : ℕ) (known : Known) (task : Step) (ending : Ending) → MayEnd (gives columns) host step (asks known task) ending
+      → row_at known (Some task) step ending ≡ row_at known (Some task) step (columns host step)
   same_row host step known task ending told =
       ap (λ end. entry_of known task step end ∷ []) (same_end host step (asks known task) ending told)
 
-  reported_on_track : (state : State) (host step : ℕ) (ending : Ending) → MayReport roll state host step ending → MayTell (gives columns) roll state (reported host step ending) → IsKept state → OnTrack (next roll state (reported host step ending))
+  reported_on_track : (state : State) (host step : ℕ) (ending : Ending) → MayReport roll state host step ending
+      → MayTell (gives columns) roll state (reported host step ending) → IsKept state → OnTrack (next roll state (reported host step ending))
   reported_on_track state host step ending may told (at_work, on) =
       record {
         rows = λ other now here e. by_case other now here e (cases_eq other host);
@@ -360,7 +363,8 @@ module _ (roll : Roll) (columns : Columns) where
           working_or : Bool → Status
           working_or failed = if failed then Failed else Running
 
-          by_case : (b : Bool) → at_rest None (status_in_batch rows) ≡ status_after None (failing_step rows) → at_rest None (working_or (b || has_failed rows)) ≡ status_after None (if b then Some row.step else failing_step rows)
+          by_case : (b : Bool) → at_rest None (status_in_batch rows) ≡ status_after None (failing_step rows)
+              → at_rest None (working_or (b || has_failed rows)) ≡ status_after None (if b then Some row.step else failing_step rows)
           by_case true later = refl
           by_case false later = later
   fate rows (Some at) failing whole up_to = rw (up_to at refl) (by_case (is_failed_by failing at))

@@ -250,7 +250,8 @@ module _ (roll : Roll) (host : ℕ) where
   no_row_added state (passed step) may work outside = refl
   no_row_added state closed may work outside = ap (λ phase. (closed_state phase state).rows host) may.at
 
-  no_rows : (state : State) (log : List Event) → AtWork roll.play state → is_in state ≡ false → state.rows host ≡ [] → IsLegal roll state log → count_by (is_opening_of host) log ≡ 0 → (state_after roll state log).rows host ≡ []
+  no_rows : (state : State) (log : List Event) → AtWork roll.play state → is_in state ≡ false → state.rows host ≡ [] → IsLegal roll state log
+      → count_by (is_opening_of host) log ≡ 0 → (state_after roll state log).rows host ≡ []
   no_rows state [] work outside none legal never = none
   no_rows state (event ∷ log) work outside none legal never =
       no_rows (next roll state event) log (next_at_work roll state event legal.0 work) (untouched state event legal.0 work outside not_here) (no_row_added state event legal.0 work outside ∙ none) legal.1 (sym (count_other (is_opening_of host) event log not_here) ∙ never)
