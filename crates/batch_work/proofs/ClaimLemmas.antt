@@ -46,7 +46,8 @@ abbrev pub Keeps : Summary → Summary → Type 0
 Keeps before after =
     (play : Play) (known : Known) (entries : List Entry) → Shows play known entries before → Shows play known entries after
 
-module _ (roll : Roll) (state : State) (old new : BatchWork) (host step : ℕ) (asked : Asked) (before after : Summary) (work : IsWorkOf roll state old) (takes : Takes old new host asked before after) (at : old.stage ≡ Working step) where
+module _ (roll : Roll) (state : State) (old new : BatchWork) (host step : ℕ) (asked : Asked) (before after : Summary)
+    (work : IsWorkOf roll state old) (takes : Takes old new host asked before after) (at : old.stage ≡ Working step) where
   abbrev pub rest : List ℕ
   rest = host_numbers (drop new.next new.line.items)
 
@@ -103,7 +104,8 @@ module _ (roll : Roll) (state : State) (old new : BatchWork) (host step : ℕ) (
         by_case (inl same) =
             let mine : slice_get new.summaries.items host ≡ Some summary = sym (ap (slice_get new.summaries.items) same) ∙ got in
             let now : Shows roll.play (roll.known host) (state.rows host) after = keeps roll.play (roll.known host) (state.rows host) (work.summaries host before takes.was) in
-            subst (λ (h : ℕ). Shows roll.play (roll.known h) (state.rows h) summary) (sym same) (subst (λ (s : Summary). Shows roll.play (roll.known host) (state.rows host) s) (sym (summary_here summary mine)) now)
+            subst (λ (h : ℕ). Shows roll.play (roll.known h) (state.rows h) summary) (sym same)
+                (subst (λ (s : Summary). Shows roll.play (roll.known host) (state.rows host) s) (sym (summary_here summary mine)) now)
         by_case (inr apart) = work.summaries other summary (summary_other other summary apart got)
 
     awaits_now : (other : ℕ) → awaits (turn_at new.turns.items other) ≡ is_awaited_in roll state other
@@ -154,7 +156,9 @@ module _ (roll : Roll) (state : State) (old new : BatchWork) (host step : ℕ) (
 
     line_now : rest ≡ filter (is_free roll later) state.batch
     line_now =
-        line_behind (is_free roll state) state.batch host rest work.distinct first ∙ filter_same (λ other. is_free roll state other && not (nat_eq other host)) (is_free roll later) state.batch (λ other behind. and_apart (is_awaited_in roll state other) (nat_eq other host) (has_number other state.out))
+        line_behind (is_free roll state) state.batch host rest work.distinct first
+            ∙ filter_same (λ other. is_free roll state other && not (nat_eq other host)) (is_free roll later) state.batch
+            (λ other behind. and_apart (is_awaited_in roll state other) (nat_eq other host) (has_number other state.out))
 
     pub work_taken : IsWorkOf roll (next roll state (claimed host step)) new
     work_taken =
@@ -210,7 +214,8 @@ work_asked roll state old new host before after work asks keeps =
       where
         by_case : (other ≡ host) ⊎ (other ≡ host → ⊥) → Shows roll.play (roll.known other) (state.rows other) summary
         by_case (inl same) =
-            let mine : slice_get (set old.summaries.items host after) host ≡ Some summary = sym (ap (λ (l : List Summary). slice_get l host) asks.summaries) ∙ sym (ap (slice_get new.summaries.items) same) ∙ got in
+            let mine : slice_get (set old.summaries.items host after) host ≡ Some summary =
+                sym (ap (λ (l : List Summary). slice_get l host) asks.summaries) ∙ sym (ap (slice_get new.summaries.items) same) ∙ got in
             let one : summary ≡ after = some_same summary after (sym mine ∙ get_set old.summaries.items host after asks.within) in
             let now : Shows roll.play (roll.known host) (state.rows host) after = keeps roll.play (roll.known host) (state.rows host) (work.summaries host before asks.was) in
             subst (λ (h : ℕ). Shows roll.play (roll.known h) (state.rows h) summary) (sym same) (subst (λ (s : Summary). Shows roll.play (roll.known host) (state.rows host) s) (sym one) now)
@@ -237,7 +242,9 @@ work_asked roll state old new host before after work asks keeps =
             let out : has_number other state.out ≡ true = sym (work.taken other) ∙ ap is_out was in
             absurd (both_ways (has_number host state.out) not_out (sym (ap (λ h. has_number h state.out) same) ∙ out))
         by_case (inr apart) =
-            work.given other step asked summary task was (get_set_other old.summaries.items host after other summary apart (sym (ap (λ (l : List Summary). slice_get l other) asks.summaries) ∙ got)) is named
+            work.given other step asked summary task was
+                (get_set_other old.summaries.items host after other summary apart
+                    (sym (ap (λ (l : List Summary). slice_get l other) asks.summaries) ∙ got)) is named
 
 -- the host that is next in line was asked
 pub asks_of : (old new : BatchWork) (host : HostId) (before after : Summary)
@@ -259,7 +266,8 @@ asks_of old new host before after at value play stage batch summaries turns line
       line = line;
       next = next;
       out = out;
-      first = ap (has_number host.index) (line_goes_on old.line.items old.next host at.0 at.1) ∙ or_left (nat_eq host.index host.index) (has_number host.index behind) (eq-eqb host.index host.index refl);
+      first = ap (has_number host.index) (line_goes_on old.line.items old.next host at.0 at.1)
+          ∙ or_left (nat_eq host.index host.index) (has_number host.index behind) (eq-eqb host.index host.index refl);
     }
 
 -- and taken
@@ -270,7 +278,8 @@ pub takes_of : (old new : BatchWork) (host : HostId) (asked : Asked) (before aft
     → new.line.items ≡ old.line.items → new.next ≡ old.next + 1 → new.out ≡ old.out + 1 → Takes old new host.index asked before after
 takes_of old new host asked before after at value play stage batch summaries turns line next out =
     let within : host.index < length old.summaries.items = line_below (length old.summaries.items) old.line.items old.next host old.queued at.0 at.1 in
-    let rest : host_numbers (drop (old.next + 1) old.line.items) ≡ host_numbers (drop new.next new.line.items) = ap (λ n. host_numbers (drop n old.line.items)) (sym next) ∙ ap (λ l. host_numbers (drop new.next l)) (sym line) in
+    let rest : host_numbers (drop (old.next + 1) old.line.items) ≡ host_numbers (drop new.next new.line.items) =
+        ap (λ n. host_numbers (drop n old.line.items)) (sym next) ∙ ap (λ l. host_numbers (drop new.next l)) (sym line) in
     record {
       play = play;
       stage = stage;

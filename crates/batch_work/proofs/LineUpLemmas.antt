@@ -1,5 +1,6 @@
 -- Hosts that are lined up, from the last of the batch on.
-use Rattle.std.proofs.Common.{◌≡◌, ℕ, zero, suc, ◌+◌, ◌-◌, ◌<◌, ◌≤◌, length, arith, Bool, true, false, cond, ◌&&◌, ◌||◌, nat_eq, List, [], ◌∷◌, drop, get_or, set, sym, ap, ◌∙◌, refl, subst, inl, inr, ◌⊎◌}
+use Rattle.std.proofs.Common.{◌≡◌, ℕ, zero, suc, ◌+◌, ◌-◌, ◌<◌, ◌≤◌, length, arith, Bool, true, false, cond, ◌&&◌, ◌||◌, nat_eq, List, [], ◌∷◌, drop}
+use Rattle.std.proofs.Common.{get_or, set, sym, ap, ◌∙◌, refl, subst, inl, inr, ◌⊎◌}
 use Rattle.std.specs.List.{filter}
 use Rattle.std.proofs.lemmas.Bool.{and_from, and_parts, cases_eq, eq-eqb, lt-ltb, ne_eqb}
 use Rattle.std.proofs.lemmas.List.{drop-set, drop_more, get_or-set_other, get_or-set_same}
@@ -18,7 +19,8 @@ below_set bound [] i host below within = refl
 below_set bound (first ∷ hosts) zero host below within =
     and_from _ (are_below bound (host_numbers hosts)) (lt-ltb host.index bound within) (and_parts _ (are_below bound (host_numbers hosts)) below).1
 below_set bound (first ∷ hosts) (suc i) host below within =
-    and_from _ (are_below bound (host_numbers (set hosts i host))) (and_parts _ (are_below bound (host_numbers hosts)) below).0 (below_set bound hosts i host (and_parts _ (are_below bound (host_numbers hosts)) below).1 within)
+    and_from _ (are_below bound (host_numbers (set hosts i host))) (and_parts _ (are_below bound (host_numbers hosts)) below).0
+        (below_set bound hosts i host (and_parts _ (are_below bound (host_numbers hosts)) below).1 within)
 
 -- the hosts from the one before a place on
 from_before : (hosts : List HostId) (place : ℕ) (d : HostId) → 0 < place → place ≤ length hosts
@@ -38,7 +40,9 @@ lined_none due hosts line turns n m none over =
     empty : HaveLinedUp due [] turns turns []
     empty = record { turns = λ host. refl; line = refl }
 
-module _ (due : ℕ → Bool) (batch line : List HostId) (place first : ℕ) (host : HostId) (old turns : List Turn) (some : 0 < place) (within : place ≤ length batch) (named : get_or batch (place - 1) host ≡ host) (lined : HaveLinedUp due (host_numbers (drop place batch)) old turns (host_numbers (drop first line))) where
+module _ (due : ℕ → Bool) (batch line : List HostId) (place first : ℕ) (host : HostId) (old turns : List Turn) (some : 0 < place)
+    (within : place ≤ length batch) (named : get_or batch (place - 1) host ≡ host)
+    (lined : HaveLinedUp due (host_numbers (drop place batch)) old turns (host_numbers (drop first line))) where
   abbrev rest : List ℕ
   rest = host_numbers (drop place batch)
 
@@ -61,9 +65,12 @@ module _ (due : ℕ → Bool) (batch line : List HostId) (place first : ℕ) (ho
       turn : (other : ℕ) → (other ≡ host.index) ⊎ (other ≡ host.index → ⊥)
           → turn_at (set turns host.index Due) other ≡ cond ((nat_eq other host.index || has_number other rest) && due other) Due (turn_at old other)
       turn other (inl same) =
-          ap (turn_at (set turns host.index Due)) same ∙ get_or-set_same turns host.index Due Over inside ∙ sym (ap (λ b. cond ((b || has_number other rest) && due other) Due (turn_at old other)) (eq-eqb other host.index same) ∙ ap (λ b. cond b Due (turn_at old other)) (ap due same ∙ passes))
+          ap (turn_at (set turns host.index Due)) same ∙ get_or-set_same turns host.index Due Over inside
+              ∙ sym (ap (λ b. cond ((b || has_number other rest) && due other) Due (turn_at old other)) (eq-eqb other host.index same)
+                  ∙ ap (λ b. cond b Due (turn_at old other)) (ap due same ∙ passes))
       turn other (inr apart) =
-          get_or-set_other turns host.index other Due Over apart ∙ lined.turns other ∙ sym (ap (λ b. cond ((b || has_number other rest) && due other) Due (turn_at old other)) (ne_eqb other host.index apart))
+          get_or-set_other turns host.index other Due Over apart ∙ lined.turns other
+              ∙ sym (ap (λ b. cond ((b || has_number other rest) && due other) Due (turn_at old other)) (ne_eqb other host.index apart))
 
       more : HaveLinedUp due (host.index ∷ rest) old (set turns host.index Due) (host_numbers (drop (first - 1) (set line (first - 1) host)))
       more =
@@ -102,4 +109,8 @@ pub lined_moved : (play : Play) (step : ℕ) (s s' : List Summary) (b b' : List 
     → HaveLinedUp (due_at play step s) (host_numbers b) old new (host_numbers (drop first line))
     → HaveLinedUp (due_at play step s') (host_numbers b') old' new' (host_numbers (drop first line'))
 lined_moved play step s s' b b' old old' new new' line line' first es eb eo en el lined =
-    subst (λ (x : List Summary). HaveLinedUp (due_at play step x) (host_numbers b') old' new' (host_numbers (drop first line'))) es (subst (λ (x : List HostId). HaveLinedUp (due_at play step s) (host_numbers x) old' new' (host_numbers (drop first line'))) eb (subst (λ (x : List Turn). HaveLinedUp (due_at play step s) (host_numbers b) x new' (host_numbers (drop first line'))) eo (subst (λ (x : List Turn). HaveLinedUp (due_at play step s) (host_numbers b) old x (host_numbers (drop first line'))) en (subst (λ (x : List HostId). HaveLinedUp (due_at play step s) (host_numbers b) old new (host_numbers (drop first x))) el lined))))
+    subst (λ (x : List Summary). HaveLinedUp (due_at play step x) (host_numbers b') old' new' (host_numbers (drop first line'))) es
+        (subst (λ (x : List HostId). HaveLinedUp (due_at play step s) (host_numbers x) old' new' (host_numbers (drop first line'))) eb
+            (subst (λ (x : List Turn). HaveLinedUp (due_at play step s) (host_numbers b) x new' (host_numbers (drop first line'))) eo
+            (subst (λ (x : List Turn). HaveLinedUp (due_at play step s) (host_numbers b) old x (host_numbers (drop first line'))) en
+            (subst (λ (x : List HostId). HaveLinedUp (due_at play step s) (host_numbers b) old new (host_numbers (drop first x))) el lined))))

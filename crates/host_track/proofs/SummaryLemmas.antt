@@ -1,5 +1,6 @@
 -- What a summary shows, as rows come.
-use Rattle.std.proofs.Common.{◌≡◌, ℕ, suc, ◌+◌, ◌-◌, ◌<◌, ◌≤◌, nat_lt, Bool, true, false, not, ◌&&◌, inl, inr, lt-ltb, ◌||◌, cond, Option, Some, None, List, [], ◌∷◌, ◌++◌, length, refl, sym, ap, ◌∙◌, subst, arith, length-append}
+use Rattle.std.proofs.Common.{◌≡◌, ℕ, suc, ◌+◌, ◌-◌, ◌<◌, ◌≤◌, nat_lt, Bool, true, false, not, ◌&&◌, inl, inr, lt-ltb, ◌||◌, cond, Option, Some, None}
+use Rattle.std.proofs.Common.{List, [], ◌∷◌, ◌++◌, length, refl, sym, ap, ◌∙◌, subst, arith, length-append}
 use Rattle.std.proofs.Math.Path.{fun_ext}
 use Rattle.std.proofs.lemmas.Bool.{cases_lt}
 use Rattle.std.proofs.lemmas.List.Folds.{list_any-append}
@@ -27,7 +28,8 @@ use Rattle.host_track.specs.declared.summary.Summary.{Summary}
 -- two hosts of which the same is known
 pub same_known : (a b : Known) → a.variables ≡ b.variables → ((name : Name) → a.results name ≡ b.results name) → a ≡ b
 same_known a b variables results =
-    ap (λ (v : HostView). let known : Known = record { variables = v; results = a.results } in known) variables ∙ ap (λ (r : Name → Option Row). let known : Known = record { variables = b.variables; results = r } in known) (fun_ext results)
+    ap (λ (v : HostView). let known : Known = record { variables = v; results = a.results } in known) variables
+        ∙ ap (λ (r : Name → Option Row). let known : Known = record { variables = b.variables; results = r } in known) (fun_ext results)
 
 pub kept_known : (old new : Vars) → variables_of new ≡ variables_of old → ((name : Name) → result_in new name ≡ result_in old name) → known_of new ≡ known_of old
 kept_known old new variables results =
@@ -71,7 +73,9 @@ pub record Follows (known : Known) (step : Step) (ending : Ending) (finding : Fi
       → mark_at new.notified.items handler ≡ (mark_at old.notified.items handler || (does_notify finding.judged && has_number handler step.notify.items))
   pub counts : (rows : List Judged) → length rows < 4294967295 → old.counts ≡ counts_of rows → new.counts ≡ counts_of (rows ++ finding.judged ∷ [])
 
-module _ (play : Play) (start : Known) (entries : List Entry) (place : ℕ) (step : Step) (ending : Ending) (old new : Summary) (shown : Shows play start entries old) (at : step_at play place ≡ Some step) (follows : Follows (known_after play start entries) step ending (finding_of (known_after play start entries) step ending) old new) where
+module _ (play : Play) (start : Known) (entries : List Entry) (place : ℕ) (step : Step) (ending : Ending) (old new : Summary)
+    (shown : Shows play start entries old) (at : step_at play place ≡ Some step)
+    (follows : Follows (known_after play start entries) step ending (finding_of (known_after play start entries) step ending) old new) where
   abbrev entry : Entry
   entry = entry_of (known_after play start entries) step place ending
 
@@ -110,7 +114,8 @@ pub shows_row : (play : Play) (start : Known) (entries : List Entry) (place : �
     → finding ≡ finding_of (known_of old.vars) step ending → Follows (known_of old.vars) step ending finding old new → Shows play start entries old
     → step_at play place ≡ Some step → Shows play start (entries ++ entry_of (known_after play start entries) step place ending ∷ []) new
 shows_row play start entries place step ending finding old new found follows shown at =
-    let here : Follows (known_of old.vars) step ending (finding_of (known_of old.vars) step ending) old new = subst (λ (f : Finding). Follows (known_of old.vars) step ending f old new) found follows in
+    let here : Follows (known_of old.vars) step ending (finding_of (known_of old.vars) step ending) old new =
+        subst (λ (f : Finding). Follows (known_of old.vars) step ending f old new) found follows in
     shows_row_after play start entries place step ending old new shown at (subst (λ (known : Known). Follows known step ending (finding_of known step ending) old new) shown.known here)
 
 -- a summary that says the same shows the same rows
@@ -150,12 +155,17 @@ due_shown play start entries summary place within shown =
         ap (λ b. nat_lt place play.tasks || b) (shown.notified (place - play.tasks) (omega arith))
 
 -- the result that a step registers
-pub registered_known : (old new : Vars) (step : Step) (name : Name) (ending : Ending) (finding : Finding) (copy : Option Registered) (row found : Registered) → register_of step ≡ Some name → copy ≡ Some row → IsCopyFor (register_of step) ending copy → row_of found ≡ record (row_of row) { changed = finding.changed; failed = finding.failed } → variables_of new ≡ variables_of old → ((other : Name) → result_in new other ≡ cond (same_name name other) (Some (row_of found)) (result_in old other)) → known_of new ≡ with_result (register_of step) (registered_row ending finding) (known_of old)
+pub registered_known : (old new : Vars) (step : Step) (name : Name) (ending : Ending) (finding : Finding) (copy : Option Registered)
+    (row found : Registered) → register_of step ≡ Some name → copy ≡ Some row → IsCopyFor (register_of step) ending copy → row_of found
+    ≡ record (row_of row) { changed = finding.changed; failed = finding.failed } → variables_of new ≡ variables_of old
+    → ((other : Name) → result_in new other ≡ cond (same_name name other) (Some (row_of found)) (result_in old other)) → known_of new
+    ≡ with_result (register_of step) (registered_row ending finding) (known_of old)
 registered_known old new step name ending finding copy row found named here is made variables results =
     let there : IsCopyFor (Some name) ending copy = subst (λ (n : Option Name). IsCopyFor n ending copy) named is in
     let same : row_of row ≡ table_row ending = subst (λ (o : Option Registered). IsCopyFor (Some name) ending o) here there in
     let whole : row_of found ≡ registered_row ending finding = made ∙ ap (λ (r : Row). let changed : Row = record r { changed = finding.changed; failed = finding.failed } in changed) same in
-    laid_known old new (Some name) (row_of found) variables results ∙ ap (λ (r : Row). with_result (Some name) r (known_of old)) whole ∙ ap (λ (n : Option Name). with_result n (registered_row ending finding) (known_of old)) (sym named)
+    laid_known old new (Some name) (row_of found) variables results ∙ ap (λ (r : Row). with_result (Some name) r (known_of old)) whole
+        ∙ ap (λ (n : Option Name). with_result n (registered_row ending finding) (known_of old)) (sym named)
 
 -- marks that were set through a slice
 pub marks_follow : (old new marks : List Bool) (notifies says : Bool) (handlers named : List ℕ) → marks ≡ old → handlers ≡ named → notifies ≡ says

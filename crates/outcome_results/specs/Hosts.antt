@@ -36,7 +36,8 @@ field_known known name field = option_and_then (λ row. field_in_row row field) 
 -- the host as conditions see it
 abbrev pub environment_in : Known → Environment
 environment_in known =
-    record { value = λ name. result_or_variable (known.results name) (known.variables.variable name); field = λ name field. option_map said_of (field_known known name (word_field field)); in_group = λ group. is_among group known.variables.groups; host = known.variables.name }
+    record { value = λ name. result_or_variable (known.results name) (known.variables.variable name); field = λ name field. option_map said_of
+            (field_known known name (word_field field)); in_group = λ group. is_among group known.variables.groups; host = known.variables.name }
 
 -- the host as words see it
 abbrev pub values_in : Known → Values

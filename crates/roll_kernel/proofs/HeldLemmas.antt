@@ -76,7 +76,8 @@ module _ (roll : Roll) (state : State) (roster : RosterView) (work : BatchWork) 
       either host true = sym (ap (λ l. not (has_number host l)) none)
       either host false = refl
 
-  pub held_claimed : (host step : ℕ) (new : RosterView) (given : BatchWork) → new ≡ record roster { seated = set roster.seated host false } → IsWorkOf roll (next roll state (claimed host step)) given → IsHeld roll (next roll state (claimed host step)) new given
+  pub held_claimed : (host step : ℕ) (new : RosterView) (given : BatchWork) → new ≡ record roster { seated = set roster.seated host false }
+      → IsWorkOf roll (next roll state (claimed host step)) given → IsHeld roll (next roll state (claimed host step)) new given
   held_claimed host step new given is work_is =
       subst (λ (v : RosterView). IsHeld roll (next roll state (claimed host step)) v given) (sym is) (record {
         statuses = held.statuses;

@@ -34,7 +34,8 @@ same_out host hosts other apart =
     by_case true false left was = absurd (both_ways true (sym (has_without host hosts other left).1 ∙ was) refl)
     by_case false true left was = absurd (both_ways true (sym (has_still host hosts other apart was) ∙ left) refl)
 
-module _ (roll : Roll) (state : State) (roster : RosterView) (work : BatchWork) (held : IsHeld roll state roster work) (at_work : AtWork roll.play state) (host step : ℕ) (ending : Ending) (may : MayReport roll state host step ending) where
+module _ (roll : Roll) (state : State) (roster : RosterView) (work : BatchWork) (held : IsHeld roll state roster work)
+    (at_work : AtWork roll.play state) (host step : ℕ) (ending : Ending) (may : MayReport roll state host step ending) where
   abbrev rows : List Entry
   rows = rows_with roll host (state.rows host) step ending
 

@@ -1,5 +1,6 @@
 -- A batch of a legal log ends as its hosts do by themselves.
-use Rattle.std.proofs.Common.{◌≡◌, ℕ, suc, ◌+◌, ◌-◌, ◌≤◌, ◌<◌, nat_lt, Bool, true, false, cond, ◌||◌, Option, Some, None, is_some, List, [], ◌∷◌, ◌++◌, length, refl, sym, ap, ◌∙◌, subst, arith, inl, inr, ◌⊎◌}
+use Rattle.std.proofs.Common.{◌≡◌, ℕ, suc, ◌+◌, ◌-◌, ◌≤◌, ◌<◌, nat_lt, Bool, true, false, cond, ◌||◌, Option, Some, None, is_some, List, [], ◌∷◌, ◌++◌}
+use Rattle.std.proofs.Common.{length, refl, sym, ap, ◌∙◌, subst, arith, inl, inr, ◌⊎◌}
 use Rattle.std.specs.Prelude.{if◌then◌else◌}
 use Rattle.std.specs.List.{list_any}
 use Rattle.std.proofs.lemmas.List.{ext_get_or}
@@ -293,8 +294,10 @@ module _ (roll : Roll) (columns : Columns) where
           let given = columns host step in
           let row : List Entry → Option Step → Ending → List Entry = λ rows task end. rows ++ row_at (known_after roll.play (roll.known host) rows) task step end in
           let own = state.rows host in
-          let as_given : row own (Some may.task) ending ≡ row own (Some may.task) given = ap (λ rows. own ++ rows) (same_row host step (known_after roll.play (roll.known host) own) may.task ending (told may.task may.is)) in
-          ap (λ task. row own task ending) may.is ∙ as_given ∙ sym (ap (λ task. row own task given) may.is) ∙ ap (λ rows. row rows (step_at roll.play step) given) waits ∙ sym (due_rows roll.play (roll.known host) (columns host) step due)
+          let as_given : row own (Some may.task) ending ≡ row own (Some may.task) given =
+              ap (λ rows. own ++ rows) (same_row host step (known_after roll.play (roll.known host) own) may.task ending (told may.task may.is)) in
+          ap (λ task. row own task ending) may.is ∙ as_given ∙ sym (ap (λ task. row own task given) may.is)
+              ∙ ap (λ rows. row rows (step_at roll.play step) given) waits ∙ sym (due_rows roll.play (roll.known host) (columns host) step due)
 
       by_case : (other now : ℕ) → has_number other state.batch ≡ true → state.phase ≡ working now → (other ≡ host) ⊎ (other ≡ host → ⊥) → IsAt (with_rows host new state.rows other) other now
       by_case other now here e (inl same) =
@@ -384,7 +387,8 @@ module _ (roll : Roll) (columns : Columns) where
 
   closed_status : (state : State) (halt : Option ℕ) (host : ℕ) → AtWork roll.play state → Ends state halt → has_number host state.batch ≡ true → IsClosedAs state host halt (ended halt)
   closed_status state halt host at_work is here =
-      status_at-changed_idle (at_rest halt) state.batch state.statuses host refl ∙ ap closed_if here ∙ ap (at_rest halt) (at_work.works host here) ∙ fate (state.rows host) halt (fails_by roll columns host) whole up_to
+      status_at-changed_idle (at_rest halt) state.batch state.statuses host refl ∙ ap closed_if here ∙ ap (at_rest halt) (at_work.works host here)
+          ∙ fate (state.rows host) halt (fails_by roll columns host) whole up_to
     where
       rows : state.rows host ≡ rows_of host (steps_until roll halt)
       rows = is.1 host here
@@ -415,7 +419,8 @@ module _ (roll : Roll) (columns : Columns) where
       count_same (λ host. has_failed (state.rows host)) (λ host. is_some (fails_by roll columns host)) state.batch (λ host here. ap has_failed (is.1 host here) ∙ some_failed (rows_of host steps))
   failures_alike state (Some at) is =
       let within : at < steps = halt_within state.batch at (sym is.0) in
-      count_same (λ host. has_failed (state.rows host)) (λ host. is_failed_by (fails_by roll columns host) at) state.batch (λ host here. ap has_failed (is.1 host here) ∙ sym (failed_by roll.play (roll.known host) (columns host) steps at within))
+      count_same (λ host. has_failed (state.rows host)) (λ host. is_failed_by (fails_by roll columns host) at) state.batch
+          (λ host here. ap has_failed (is.1 host here) ∙ sym (failed_by roll.play (roll.known host) (columns host) steps at within))
 
   pub along_log : (state : State) (log : List Event) → IsLegal roll state log → AreTold (gives columns) roll state log → IsKept state → IsKept (state_after roll state log)
   along_log state [] legal told kept = kept
@@ -451,7 +456,9 @@ ends_by_columns roll log columns halt legal told at =
     one : (host : ℕ) (b : Bool) → has_number host state.batch ≡ b → status_at (closed_state (ended halt) state).statuses host ≡ choice host b
     one host true here = closed_status roll columns state halt host kept.0 ended_so here
     one host false outside =
-        let stays : status_at (closed_state (ended halt) state).statuses host ≡ status_at state.statuses host = status_at-changed_idle (at_rest halt) state.batch state.statuses host refl ∙ ap (λ b. cond b (at_rest halt (status_at state.statuses host)) (status_at state.statuses host)) outside in
+        let stays : status_at (closed_state (ended halt) state).statuses host ≡ status_at state.statuses host =
+            status_at-changed_idle (at_rest halt) state.batch state.statuses host refl
+            ∙ ap (λ b. cond b (at_rest halt (status_at state.statuses host)) (status_at state.statuses host)) outside in
         stays ∙ was.others going host outside
 
     result : List Status
