@@ -35,7 +35,9 @@ idle_in : (roll : Roll) (state : State) (host : ℕ) → is_awaited_by roll.play
 idle_in roll state host idle =
     and_right (has_number host state.batch) (is_awaited_by roll.play state.phase (state.rows host)) idle
 
-module _ (roll : Roll) (state : State) (old new : BatchWork) (batch : List ℕ) (work : IsWorkOf roll state old) (stays : Stays old new) (at : state.phase ≡ between) (fresh : IsFresh state batch) (same_batch : host_numbers new.batch.items ≡ batch) (stage : new.stage ≡ Working 0) (lined : HaveLinedUp (λ host. is_due roll.play (state.rows host) 0) batch old.turns.items new.turns.items (rest_of new)) where
+module _ (roll : Roll) (state : State) (old new : BatchWork) (batch : List ℕ) (work : IsWorkOf roll state old) (stays : Stays old new)
+    (at : state.phase ≡ between) (fresh : IsFresh state batch) (same_batch : host_numbers new.batch.items ≡ batch) (stage : new.stage ≡ Working 0)
+    (lined : HaveLinedUp (λ host. is_due roll.play (state.rows host) 0) batch old.turns.items new.turns.items (rest_of new)) where
   abbrev pub now : State
   now = next roll state (opened batch)
 
@@ -61,12 +63,15 @@ module _ (roll : Roll) (state : State) (old new : BatchWork) (batch : List ℕ) 
         summaries = λ host summary got. work.summaries host summary (sym (ap (λ (l : List Summary). slice_get l host) stays.summaries) ∙ got);
         awaited = lined_awaited roll now 0 old.turns.items new.turns.items (rest_of new) were refl fresh.nobody none_yet lined;
         taken = lined_taken roll now 0 old.turns.items new.turns.items (rest_of new) were refl fresh.nobody none_yet lined;
-        given = λ host at asked summary task turn got is named. lined_given roll now 0 old.turns.items new.turns.items (rest_of new) were refl fresh.nobody none_yet lined host at asked summary task turn;
+        given = λ host at asked summary task turn got is named. lined_given roll now 0 old.turns.items new.turns.items (rest_of new) were refl
+            fresh.nobody none_yet lined host at asked summary task turn;
         free = lined_free roll now 0 old.turns.items new.turns.items (rest_of new) were refl fresh.nobody none_yet lined;
         count = stays.out ∙ work.count;
       }
 
-module _ (roll : Roll) (state : State) (old new : BatchWork) (halt : Option ℕ) (work : IsWorkOf roll state old) (stays : Stays old new) (at : state.phase ≡ ended halt) (turns : new.turns.items ≡ old.turns.items) (stage : new.stage ≡ Between) (batch : new.batch.items ≡ []) (line : new.line.items ≡ []) where
+module _ (roll : Roll) (state : State) (old new : BatchWork) (halt : Option ℕ) (work : IsWorkOf roll state old) (stays : Stays old new)
+    (at : state.phase ≡ ended halt) (turns : new.turns.items ≡ old.turns.items) (stage : new.stage ≡ Between) (batch : new.batch.items ≡ [])
+    (line : new.line.items ≡ []) where
   abbrev pub behind : State
   behind = closed_state (ended halt) state
 
@@ -97,7 +102,10 @@ module _ (roll : Roll) (state : State) (old new : BatchWork) (halt : Option ℕ)
   work_left = subst (λ phase. IsWorkOf roll (closed_state phase state) new) (sym at) work_behind
 
 -- before the first batch
-pub work_starts : (roll : Roll) (vars : List Vars) (work : BatchWork) → work.play.now ≡ roll.play → length roll.start ≡ length vars → ((host : ℕ) → roll.known host ≡ known_at vars host) → length work.summaries.items ≡ length vars → ShowEach roll.play (known_at vars) (λ host. []) work.summaries.items → work.turns.items ≡ replicate (length vars) Over → work.stage ≡ Between → work.batch.items ≡ [] → work.line.items ≡ [] → work.out ≡ 0 → IsWorkOf roll (start_state roll) work
+pub work_starts : (roll : Roll) (vars : List Vars) (work : BatchWork) → work.play.now ≡ roll.play → length roll.start ≡ length vars
+    → ((host : ℕ) → roll.known host ≡ known_at vars host) → length work.summaries.items ≡ length vars
+    → ShowEach roll.play (known_at vars) (λ host. []) work.summaries.items → work.turns.items ≡ replicate (length vars) Over → work.stage ≡ Between
+    → work.batch.items ≡ [] → work.line.items ≡ [] → work.out ≡ 0 → IsWorkOf roll (start_state roll) work
 work_starts roll vars work play hosts known all shows turns stage batch line out =
     record {
       play = play;

@@ -46,7 +46,8 @@ abbrev pub Keeps : Summary → Summary → Type 0
 Keeps before after =
     (play : Play) (known : Known) (entries : List Entry) → Shows play known entries before → Shows play known entries after
 
-module _ (roll : Roll) (state : State) (old new : BatchWork) (host step : ℕ) (asked : Asked) (before after : Summary) (work : IsWorkOf roll state old) (takes : Takes old new host asked before after) (at : old.stage ≡ Working step) where
+module _ (roll : Roll) (state : State) (old new : BatchWork) (host step : ℕ) (asked : Asked) (before after : Summary)
+    (work : IsWorkOf roll state old) (takes : Takes old new host asked before after) (at : old.stage ≡ Working step) where
   abbrev pub rest : List ℕ
   rest = host_numbers (drop new.next new.line.items)
 
@@ -103,7 +104,8 @@ module _ (roll : Roll) (state : State) (old new : BatchWork) (host step : ℕ) (
         by_case (inl same) =
             let mine : slice_get new.summaries.items host ≡ Some summary = sym (ap (slice_get new.summaries.items) same) ∙ got in
             let now : Shows roll.play (roll.known host) (state.rows host) after = keeps roll.play (roll.known host) (state.rows host) (work.summaries host before takes.was) in
-            subst (λ (h : ℕ). Shows roll.play (roll.known h) (state.rows h) summary) (sym same) (subst (λ (s : Summary). Shows roll.play (roll.known host) (state.rows host) s) (sym (summary_here summary mine)) now)
+            subst (λ (h : ℕ). Shows roll.play (roll.known h) (state.rows h) summary) (sym same)
+                (subst (λ (s : Summary). Shows roll.play (roll.known host) (state.rows host) s) (sym (summary_here summary mine)) now)
         by_case (inr apart) = work.summaries other summary (summary_other other summary apart got)
 
     awaits_now : (other : ℕ) → awaits (turn_at new.turns.items other) ≡ is_awaited_in roll state other
@@ -126,7 +128,9 @@ module _ (roll : Roll) (state : State) (old new : BatchWork) (host step : ℕ) (
     step_here : (other : ℕ) → state.phase ≡ working other → step ≡ other
     step_here other now = let both : working step ≡ working other = sym phase ∙ now in cc
 
-    given_here : (other now : ℕ) (was : Asked) (summary : Summary) (asks : Step) → turn_at new.turns.items other ≡ Out was → slice_get new.summaries.items other ≡ Some summary → state.phase ≡ working now → step_at roll.play now ≡ Some asks → IsGiven roll state other summary.vars was asks
+    given_here : (other now : ℕ) (was : Asked) (summary : Summary) (asks : Step) → turn_at new.turns.items other ≡ Out was
+        → slice_get new.summaries.items other ≡ Some summary → state.phase ≡ working now → step_at roll.play now ≡ Some asks
+        → IsGiven roll state other summary.vars was asks
     given_here other now was summary asks turn got is_now named = by_case (cases_eq other host)
       where
         by_case : (other ≡ host) ⊎ (other ≡ host → ⊥) → IsGiven roll state other summary.vars was asks
@@ -143,14 +147,18 @@ module _ (roll : Roll) (state : State) (old new : BatchWork) (host step : ℕ) (
         by_case (inr apart) =
             work.given other now was summary asks (sym (turn_other other apart) ∙ turn) (summary_other other summary apart got) is_now named
 
-    given_now : (other now : ℕ) (was : Asked) (summary : Summary) (asks : Step) → turn_at new.turns.items other ≡ Out was → slice_get new.summaries.items other ≡ Some summary → state.phase ≡ working now → step_at roll.play now ≡ Some asks → IsGiven roll later other summary.vars was asks
+    given_now : (other now : ℕ) (was : Asked) (summary : Summary) (asks : Step) → turn_at new.turns.items other ≡ Out was
+        → slice_get new.summaries.items other ≡ Some summary → state.phase ≡ working now → step_at roll.play now ≡ Some asks
+        → IsGiven roll later other summary.vars was asks
     given_now other now was summary asks turn got is_now named =
         let here : IsGiven roll state other summary.vars was asks = given_here other now was summary asks turn got is_now named in
         record { asks = here.asks; place = here.place }
 
     line_now : rest ≡ filter (is_free roll later) state.batch
     line_now =
-        line_behind (is_free roll state) state.batch host rest work.distinct first ∙ filter_same (λ other. is_free roll state other && not (nat_eq other host)) (is_free roll later) state.batch (λ other behind. and_apart (is_awaited_in roll state other) (nat_eq other host) (has_number other state.out))
+        line_behind (is_free roll state) state.batch host rest work.distinct first
+            ∙ filter_same (λ other. is_free roll state other && not (nat_eq other host)) (is_free roll later) state.batch
+            (λ other behind. and_apart (is_awaited_in roll state other) (nat_eq other host) (has_number other state.out))
 
     pub work_taken : IsWorkOf roll (next roll state (claimed host step)) new
     work_taken =
@@ -183,7 +191,8 @@ pub record Asks (old new : BatchWork) (host : ℕ) (before after : Summary) : Ty
   pub out : new.out ≡ old.out
   pub first : has_number host (host_numbers (drop old.next old.line.items)) ≡ true
 
-pub work_asked : (roll : Roll) (state : State) (old new : BatchWork) (host : ℕ) (before after : Summary) → IsWorkOf roll state old → Asks old new host before after → Keeps before after → IsWorkOf roll state new
+pub work_asked : (roll : Roll) (state : State) (old new : BatchWork) (host : ℕ) (before after : Summary) → IsWorkOf roll state old
+    → Asks old new host before after → Keeps before after → IsWorkOf roll state new
 work_asked roll state old new host before after work asks keeps =
     record {
       play = asks.play ∙ work.play;
@@ -205,7 +214,8 @@ work_asked roll state old new host before after work asks keeps =
       where
         by_case : (other ≡ host) ⊎ (other ≡ host → ⊥) → Shows roll.play (roll.known other) (state.rows other) summary
         by_case (inl same) =
-            let mine : slice_get (set old.summaries.items host after) host ≡ Some summary = sym (ap (λ (l : List Summary). slice_get l host) asks.summaries) ∙ sym (ap (slice_get new.summaries.items) same) ∙ got in
+            let mine : slice_get (set old.summaries.items host after) host ≡ Some summary =
+                sym (ap (λ (l : List Summary). slice_get l host) asks.summaries) ∙ sym (ap (slice_get new.summaries.items) same) ∙ got in
             let one : summary ≡ after = some_same summary after (sym mine ∙ get_set old.summaries.items host after asks.within) in
             let now : Shows roll.play (roll.known host) (state.rows host) after = keeps roll.play (roll.known host) (state.rows host) (work.summaries host before asks.was) in
             subst (λ (h : ℕ). Shows roll.play (roll.known h) (state.rows h) summary) (sym same) (subst (λ (s : Summary). Shows roll.play (roll.known host) (state.rows host) s) (sym one) now)
@@ -219,7 +229,9 @@ work_asked roll state old new host before after work asks keeps =
     not_out =
         not-true (has_number host state.out) (and_parts (is_awaited_in roll state host) (not (has_number host state.out)) (has_passed (is_free roll state) state.batch host stands).1).1
 
-    given : (other step : ℕ) (asked : Asked) (summary : Summary) (task : Step) → turn_at new.turns.items other ≡ Out asked → slice_get new.summaries.items other ≡ Some summary → state.phase ≡ working step → step_at roll.play step ≡ Some task → IsGiven roll state other summary.vars asked task
+    given : (other step : ℕ) (asked : Asked) (summary : Summary) (task : Step) → turn_at new.turns.items other ≡ Out asked
+        → slice_get new.summaries.items other ≡ Some summary → state.phase ≡ working step → step_at roll.play step ≡ Some task
+        → IsGiven roll state other summary.vars asked task
     given other step asked summary task turn got is named = by_case (cases_eq other host)
       where
         was : turn_at old.turns.items other ≡ Out asked
@@ -230,10 +242,16 @@ work_asked roll state old new host before after work asks keeps =
             let out : has_number other state.out ≡ true = sym (work.taken other) ∙ ap is_out was in
             absurd (both_ways (has_number host state.out) not_out (sym (ap (λ h. has_number h state.out) same) ∙ out))
         by_case (inr apart) =
-            work.given other step asked summary task was (get_set_other old.summaries.items host after other summary apart (sym (ap (λ (l : List Summary). slice_get l other) asks.summaries) ∙ got)) is named
+            work.given other step asked summary task was
+                (get_set_other old.summaries.items host after other summary apart
+                    (sym (ap (λ (l : List Summary). slice_get l other) asks.summaries) ∙ got)) is named
 
 -- the host that is next in line was asked
-pub asks_of : (old new : BatchWork) (host : HostId) (before after : Summary) → (old.next < length old.line.items) × (slice_get old.line.items old.next ≡ Some host) → before ≡ get_or old.summaries.items host.index before → new.play.now ≡ old.play.now → new.stage ≡ old.stage → new.batch.items ≡ old.batch.items → new.summaries.items ≡ set old.summaries.items host.index after → new.turns.items ≡ old.turns.items → new.line.items ≡ old.line.items → new.next ≡ old.next → new.out ≡ old.out → Asks old new host.index before after
+pub asks_of : (old new : BatchWork) (host : HostId) (before after : Summary)
+    → (old.next < length old.line.items) × (slice_get old.line.items old.next ≡ Some host) → before ≡ get_or old.summaries.items host.index before
+    → new.play.now ≡ old.play.now → new.stage ≡ old.stage → new.batch.items ≡ old.batch.items
+    → new.summaries.items ≡ set old.summaries.items host.index after → new.turns.items ≡ old.turns.items → new.line.items ≡ old.line.items
+    → new.next ≡ old.next → new.out ≡ old.out → Asks old new host.index before after
 asks_of old new host before after at value play stage batch summaries turns line next out =
     let within : host.index < length old.summaries.items = line_below (length old.summaries.items) old.line.items old.next host old.queued at.0 at.1 in
     let behind : List ℕ = host_numbers (drop (old.next + 1) old.line.items) in
@@ -248,14 +266,20 @@ asks_of old new host before after at value play stage batch summaries turns line
       line = line;
       next = next;
       out = out;
-      first = ap (has_number host.index) (line_goes_on old.line.items old.next host at.0 at.1) ∙ or_left (nat_eq host.index host.index) (has_number host.index behind) (eq-eqb host.index host.index refl);
+      first = ap (has_number host.index) (line_goes_on old.line.items old.next host at.0 at.1)
+          ∙ or_left (nat_eq host.index host.index) (has_number host.index behind) (eq-eqb host.index host.index refl);
     }
 
 -- and taken
-pub takes_of : (old new : BatchWork) (host : HostId) (asked : Asked) (before after : Summary) → (old.next < length old.line.items) × (slice_get old.line.items old.next ≡ Some host) → before ≡ get_or old.summaries.items host.index before → new.play.now ≡ old.play.now → new.stage ≡ old.stage → new.batch.items ≡ old.batch.items → new.summaries.items ≡ set old.summaries.items host.index after → new.turns.items ≡ set old.turns.items host.index (Out asked) → new.line.items ≡ old.line.items → new.next ≡ old.next + 1 → new.out ≡ old.out + 1 → Takes old new host.index asked before after
+pub takes_of : (old new : BatchWork) (host : HostId) (asked : Asked) (before after : Summary)
+    → (old.next < length old.line.items) × (slice_get old.line.items old.next ≡ Some host) → before ≡ get_or old.summaries.items host.index before
+    → new.play.now ≡ old.play.now → new.stage ≡ old.stage → new.batch.items ≡ old.batch.items
+    → new.summaries.items ≡ set old.summaries.items host.index after → new.turns.items ≡ set old.turns.items host.index (Out asked)
+    → new.line.items ≡ old.line.items → new.next ≡ old.next + 1 → new.out ≡ old.out + 1 → Takes old new host.index asked before after
 takes_of old new host asked before after at value play stage batch summaries turns line next out =
     let within : host.index < length old.summaries.items = line_below (length old.summaries.items) old.line.items old.next host old.queued at.0 at.1 in
-    let rest : host_numbers (drop (old.next + 1) old.line.items) ≡ host_numbers (drop new.next new.line.items) = ap (λ n. host_numbers (drop n old.line.items)) (sym next) ∙ ap (λ l. host_numbers (drop new.next l)) (sym line) in
+    let rest : host_numbers (drop (old.next + 1) old.line.items) ≡ host_numbers (drop new.next new.line.items) =
+        ap (λ n. host_numbers (drop n old.line.items)) (sym next) ∙ ap (λ l. host_numbers (drop new.next l)) (sym line) in
     record {
       play = play;
       stage = stage;

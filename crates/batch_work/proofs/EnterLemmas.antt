@@ -47,7 +47,8 @@ pub record Enters (old new : BatchWork) (host : ℕ) (before after : Summary) : 
 -- the summary says of the rows that one more came
 abbrev pub HasEntered : Step → Ending → Summary → Summary → Type 0
 HasEntered task ending before after =
-    (play : Play) (known : Known) (entries : List Entry) (place : ℕ) → Shows play known entries before → step_at play place ≡ Some task → Shows play known (entries ++ entry_of (known_after play known entries) task place ending ∷ []) after
+    (play : Play) (known : Known) (entries : List Entry) (place : ℕ) → Shows play known entries before → step_at play place ≡ Some task
+        → Shows play known (entries ++ entry_of (known_after play known entries) task place ending ∷ []) after
 
 ends_so : (request : Request) (ending : Ending) → EndsAs request ending → end_of request ending ≡ ending
 ends_so (job words) ending ends = refl
@@ -62,15 +63,21 @@ without_other host hosts other apart = by_case (has_number other hosts) refl
         false_from_ne_true (has_number other (without host hosts)) (λ here. both_ways (has_number other hosts) none (has_without host hosts other here).1)
 
 -- what the summary shows once the row is entered
-pub entered_shows : (roll : Roll) (state : State) (host step : ℕ) (ending : Ending) (before after : Summary) (may : MayReport roll state host step ending) → Shows roll.play (roll.known host) (state.rows host) before → HasEntered may.task ending before after → Shows roll.play (roll.known host) (rows_with roll host (state.rows host) step ending) after
+pub entered_shows : (roll : Roll) (state : State) (host step : ℕ) (ending : Ending) (before after : Summary) (may : MayReport roll state host step ending)
+    → Shows roll.play (roll.known host) (state.rows host) before → HasEntered may.task ending before after
+    → Shows roll.play (roll.known host) (rows_with roll host (state.rows host) step ending) after
 entered_shows roll state host step ending before after may shows entered =
     subst (λ (l : List Entry). Shows roll.play (roll.known host) l after) (sym rows_are) (entered roll.play (roll.known host) (state.rows host) step shows may.is)
   where
     rows_are : rows_with roll host (state.rows host) step ending ≡ state.rows host ++ entry_of (known_after roll.play (roll.known host) (state.rows host)) may.task step ending ∷ []
     rows_are =
-        ap (λ (s : Option Step). state.rows host ++ row_at (known_after roll.play (roll.known host) (state.rows host)) s step ending) may.is ∙ ap (λ e. state.rows host ++ entry_of (known_after roll.play (roll.known host) (state.rows host)) may.task step e ∷ []) (ends_so (asks (known_after roll.play (roll.known host) (state.rows host)) may.task) ending may.ends)
+        ap (λ (s : Option Step). state.rows host ++ row_at (known_after roll.play (roll.known host) (state.rows host)) s step ending) may.is
+            ∙ ap (λ e. state.rows host ++ entry_of (known_after roll.play (roll.known host) (state.rows host)) may.task step e ∷ [])
+            (ends_so (asks (known_after roll.play (roll.known host) (state.rows host)) may.task) ending may.ends)
 
-module _ (roll : Roll) (state : State) (old new : BatchWork) (host step : ℕ) (ending : Ending) (before after : Summary) (work : IsWorkOf roll state old) (enters : Enters old new host before after) (may : MayReport roll state host step ending) (entered : HasEntered may.task ending before after) where
+module _ (roll : Roll) (state : State) (old new : BatchWork) (host step : ℕ) (ending : Ending) (before after : Summary)
+    (work : IsWorkOf roll state old) (enters : Enters old new host before after) (may : MayReport roll state host step ending)
+    (entered : HasEntered may.task ending before after) where
   abbrev pub rows : List Entry
   rows = rows_with roll host (state.rows host) step ending
 
@@ -110,7 +117,8 @@ module _ (roll : Roll) (state : State) (old new : BatchWork) (host step : ℕ) (
           let with_rows : Shows roll.play (roll.known host) (now.rows host) summary = subst (λ (l : List Entry). Shows roll.play (roll.known host) l summary) (sym rows_entered) with_summary in
           subst (λ (h : ℕ). Shows roll.play (roll.known h) (now.rows h) summary) (sym same) with_rows
       by_case (inr apart) =
-          subst (λ (l : List Entry). Shows roll.play (roll.known other) l summary) (sym (other_rows host rows state.rows other apart)) (work.summaries other summary (summary_other other summary apart got))
+          subst (λ (l : List Entry). Shows roll.play (roll.known other) l summary) (sym (other_rows host rows state.rows other apart))
+              (work.summaries other summary (summary_other other summary apart got))
 
   none_awaited : is_awaited_in roll now host ≡ false
   none_awaited =
@@ -144,7 +152,9 @@ module _ (roll : Roll) (state : State) (old new : BatchWork) (host step : ℕ) (
       by_case (inr apart) =
           ap is_out (turn_other other apart) ∙ work.taken other ∙ sym (without_other host state.out other apart)
 
-  given_now : (other at : ℕ) (asked : Asked) (summary : Summary) (task : Step) → turn_at new.turns.items other ≡ Out asked → slice_get new.summaries.items other ≡ Some summary → state.phase ≡ working at → step_at roll.play at ≡ Some task → IsGiven roll now other summary.vars asked task
+  given_now : (other at : ℕ) (asked : Asked) (summary : Summary) (task : Step) → turn_at new.turns.items other ≡ Out asked
+      → slice_get new.summaries.items other ≡ Some summary → state.phase ≡ working at → step_at roll.play at ≡ Some task
+      → IsGiven roll now other summary.vars asked task
   given_now other at asked summary task turn got is_now named = by_case (cases_eq other host)
     where
       by_case : (other ≡ host) ⊎ (other ≡ host → ⊥) → IsGiven roll now other summary.vars asked task
@@ -181,12 +191,16 @@ module _ (roll : Roll) (state : State) (old new : BatchWork) (host step : ℕ) (
         awaited = awaits_now;
         taken = taken_now;
         given = given_now;
-        free = ap (λ n. host_numbers (drop n new.line.items)) enters.next ∙ ap (λ l. host_numbers (drop old.next l)) enters.line ∙ work.free ∙ filter_same (is_free roll state) (is_free roll now) state.batch (λ other here. free_now other);
+        free = ap (λ n. host_numbers (drop n new.line.items)) enters.next ∙ ap (λ l. host_numbers (drop old.next l)) enters.line ∙ work.free
+            ∙ filter_same (is_free roll state) (is_free roll now) state.batch (λ other here. free_now other);
         count = omega (arith, enters.out, work.count, length_without host state.out work.single may.claimed);
       }
 
 -- the host's row was entered, and nothing else was changed
-pub enters_of : (old new : BatchWork) (host : HostId) (before after : Summary) → host.index < length old.summaries.items → before ≡ get_or old.summaries.items host.index before → new.play.now ≡ old.play.now → new.stage ≡ old.stage → new.batch.items ≡ old.batch.items → new.summaries.items ≡ set old.summaries.items host.index after → new.turns.items ≡ set old.turns.items host.index Over → new.line.items ≡ old.line.items → new.next ≡ old.next → suc new.out ≡ old.out → Enters old new host.index before after
+pub enters_of : (old new : BatchWork) (host : HostId) (before after : Summary) → host.index < length old.summaries.items
+    → before ≡ get_or old.summaries.items host.index before → new.play.now ≡ old.play.now → new.stage ≡ old.stage → new.batch.items ≡ old.batch.items
+    → new.summaries.items ≡ set old.summaries.items host.index after → new.turns.items ≡ set old.turns.items host.index Over
+    → new.line.items ≡ old.line.items → new.next ≡ old.next → suc new.out ≡ old.out → Enters old new host.index before after
 enters_of old new host before after within value play stage batch summaries turns line next out =
     record {
       play = play;

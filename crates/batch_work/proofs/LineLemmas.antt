@@ -24,11 +24,13 @@ line_over [] (suc next) past = refl
 line_over (host ∷ hosts) zero past = absurd (let none : suc (length hosts) ≤ 0 = past in omega (arith, none))
 line_over (host ∷ hosts) (suc next) past = line_over hosts next (omega (arith, past))
 
-pub line_goes_on : (hosts : List HostId) (next : ℕ) (host : HostId) → next < length hosts → slice_get hosts next ≡ Some host → host_numbers (drop next hosts) ≡ host.index ∷ host_numbers (drop (next + 1) hosts)
+pub line_goes_on : (hosts : List HostId) (next : ℕ) (host : HostId) → next < length hosts → slice_get hosts next ≡ Some host
+    → host_numbers (drop next hosts) ≡ host.index ∷ host_numbers (drop (next + 1) hosts)
 line_goes_on hosts next host within got =
     ap host_numbers (drop_more hosts next host within) ∙ ap (λ (h : HostId). h.index ∷ host_numbers (drop (next + 1) hosts)) (get_or_from_slice_get hosts next host host got)
 
-pub line_below : (bound : ℕ) (hosts : List HostId) (next : ℕ) (host : HostId) → are_below bound (host_numbers hosts) ≡ true → next < length hosts → slice_get hosts next ≡ Some host → host.index < bound
+pub line_below : (bound : ℕ) (hosts : List HostId) (next : ℕ) (host : HostId) → are_below bound (host_numbers hosts) ≡ true → next < length hosts
+    → slice_get hosts next ≡ Some host → host.index < bound
 line_below bound hosts next host below within got =
     subst (λ (h : HostId). h.index < bound) (get_or_from_slice_get hosts next host host got) (host_below bound hosts next host below within)
 
@@ -44,7 +46,8 @@ none_free roll state work is idle =
   where
     over : (host : ℕ) → is_awaited_in roll state host ≡ false
     over host =
-        and_right (has_number host state.batch) (is_awaited_by roll.play state.phase (state.rows host)) (ap (λ p. is_awaited_by roll.play p (state.rows host)) (sym is.phase) ∙ idle_stage work.stage idle roll.play (state.rows host))
+        and_right (has_number host state.batch) (is_awaited_by roll.play state.phase (state.rows host))
+            (ap (λ p. is_awaited_by roll.play p (state.rows host)) (sym is.phase) ∙ idle_stage work.stage idle roll.play (state.rows host))
 
 -- nor where the line is at its end
 pub none_left : (roll : Roll) (state : State) (work : BatchWork) → IsWorkOf roll state work → length work.line.items ≤ work.next → find (is_free roll state) state.batch ≡ None

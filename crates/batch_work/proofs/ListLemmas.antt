@@ -49,7 +49,8 @@ pub has_passed : (p : ℕ → Bool) (hosts : List ℕ) (host : ℕ) → has_numb
 has_passed p [] host here = absurd (cc)
 has_passed p (first ∷ hosts) host here = by_case (has_passed p hosts host) (p first) refl here
   where
-    by_case : (has_number host (filter p hosts) ≡ true → (has_number host hosts ≡ true) × (p host ≡ true)) → (b : Bool) → p first ≡ b → has_number host (cond b (first ∷ filter p hosts) (filter p hosts)) ≡ true → (has_number host (first ∷ hosts) ≡ true) × (p host ≡ true)
+    by_case : (has_number host (filter p hosts) ≡ true → (has_number host hosts ≡ true) × (p host ≡ true)) → (b : Bool) → p first ≡ b
+        → has_number host (cond b (first ∷ filter p hosts) (filter p hosts)) ≡ true → (has_number host (first ∷ hosts) ≡ true) × (p host ≡ true)
     by_case later false fails is =
         let behind = later is in (or_right (nat_eq host first) (has_number host hosts) behind.0, behind.1)
     by_case later true passes is = either (nat_eq host first) refl is
@@ -65,7 +66,9 @@ distinct_passed p [] distinct = refl
 distinct_passed p (first ∷ hosts) distinct =
     let parts = and_parts (not (has_number first hosts)) (are_distinct hosts) distinct in
     let later : are_distinct (filter p hosts) ≡ true = distinct_passed p hosts parts.1 in
-    let fresh : has_number first (filter p hosts) ≡ false = false_from_ne_true (has_number first (filter p hosts)) (λ here. both_ways (has_number first hosts) (not-true (has_number first hosts) parts.0) (has_passed p hosts first here).0) in
+    let fresh : has_number first (filter p hosts)
+        ≡ false = false_from_ne_true (has_number first (filter p hosts))
+        (λ here. both_ways (has_number first hosts) (not-true (has_number first hosts) parts.0) (has_passed p hosts first here).0) in
     by_case (p first) (and_from (not (has_number first (filter p hosts))) (are_distinct (filter p hosts)) (ap not fresh) later) later
   where
     by_case : (b : Bool) → are_distinct (first ∷ filter p hosts) ≡ true → are_distinct (filter p hosts) ≡ true → are_distinct (cond b (first ∷ filter p hosts) (filter p hosts)) ≡ true
@@ -98,7 +101,8 @@ length_without host (first ∷ hosts) distinct here =
     parts : (not (has_number first hosts) ≡ true) × (are_distinct hosts ≡ true)
     parts = and_parts (not (has_number first hosts)) (are_distinct hosts) distinct
 
-    by_case : (are_distinct hosts ≡ true → has_number host hosts ≡ true → suc (length rest) ≡ length hosts) → (b : Bool) → nat_eq first host ≡ b → suc (length (cond (not b) (first ∷ rest) rest)) ≡ length (first ∷ hosts)
+    by_case : (are_distinct hosts ≡ true → has_number host hosts ≡ true → suc (length rest) ≡ length hosts) → (b : Bool) → nat_eq first host ≡ b
+        → suc (length (cond (not b) (first ∷ rest) rest)) ≡ length (first ∷ hosts)
     by_case later true same =
         let one : first ≡ host = eqb-true first host same in
         let none : has_number host hosts ≡ false = sym (ap (λ h. has_number h hosts) one) ∙ not-true (has_number first hosts) parts.0 in
@@ -111,7 +115,8 @@ length_without host (first ∷ hosts) distinct here =
         either false other is = ap suc (later parts.1 is)
 
 -- the free hosts behind the first, once that is taken
-pub line_behind : (p : ℕ → Bool) (hosts : List ℕ) (host : ℕ) (rest : List ℕ) → are_distinct hosts ≡ true → filter p hosts ≡ host ∷ rest → rest ≡ filter (λ other. p other && not (nat_eq other host)) hosts
+pub line_behind : (p : ℕ → Bool) (hosts : List ℕ) (host : ℕ) (rest : List ℕ) → are_distinct hosts ≡ true → filter p hosts ≡ host ∷ rest
+    → rest ≡ filter (λ other. p other && not (nat_eq other host)) hosts
 line_behind p hosts host rest distinct is =
     let single : are_distinct (host ∷ rest) ≡ true = sym (ap are_distinct is) ∙ distinct_passed p hosts distinct in
     sym (without_first host rest single) ∙ sym (ap (without host) is) ∙ filter-filter (λ other. not (nat_eq other host)) p hosts
@@ -121,6 +126,7 @@ pub find_number : (p : ℕ → Bool) (hosts : List HostId) → option_map (λ (h
 find_number p [] = refl
 find_number p (host ∷ hosts) = by_case (p host.index) (find_number p hosts)
   where
-    by_case : (b : Bool) → option_map (λ (host : HostId). host.index) (find (λ host. p host.index) hosts) ≡ find p (host_numbers hosts) → option_map (λ (host : HostId). host.index) (cond b (Some host) (find (λ host. p host.index) hosts)) ≡ cond b (Some host.index) (find p (host_numbers hosts))
+    by_case : (b : Bool) → option_map (λ (host : HostId). host.index) (find (λ host. p host.index) hosts) ≡ find p (host_numbers hosts)
+        → option_map (λ (host : HostId). host.index) (cond b (Some host) (find (λ host. p host.index) hosts)) ≡ cond b (Some host.index) (find p (host_numbers hosts))
     by_case true later = refl
     by_case false later = later

@@ -41,7 +41,9 @@ out_cond true turn none = refl
 out_cond false turn none = none
 
 -- the turns and the line of a batch that begins a step
-module _ (roll : Roll) (state : State) (step : ℕ) (old new : List Turn) (line : List ℕ) (idle : IsIdle old) (at : state.phase ≡ working step) (nobody : state.out ≡ []) (fresh : (host : ℕ) → has_number host state.batch ≡ true → has_row (state.rows host) step ≡ false) (lined : HaveLinedUp (λ host. is_due roll.play (state.rows host) step) state.batch old new line) where
+module _ (roll : Roll) (state : State) (step : ℕ) (old new : List Turn) (line : List ℕ) (idle : IsIdle old) (at : state.phase ≡ working step)
+    (nobody : state.out ≡ []) (fresh : (host : ℕ) → has_number host state.batch ≡ true → has_row (state.rows host) step ≡ false)
+    (lined : HaveLinedUp (λ host. is_due roll.play (state.rows host) step) state.batch old new line) where
   abbrev pub due : ℕ → Bool
   due host = is_due roll.play (state.rows host) step
 
@@ -110,7 +112,9 @@ all_counted p [] = refl
 all_counted p (host ∷ hosts) =
     by_case (p host) (count_by-cons p host hosts) (counted_all p hosts) (all_counted p hosts)
   where
-    by_case : (b : Bool) → count_by p (host ∷ hosts) ≡ bit b + count_by p hosts → count_by p hosts ≤ length hosts → nat_eq (count_by p hosts) (length hosts) ≡ list_all p hosts → nat_eq (count_by p (host ∷ hosts)) (length (host ∷ hosts)) ≡ (b && list_all p hosts)
+    by_case : (b : Bool) → count_by p (host ∷ hosts) ≡ bit b + count_by p hosts → count_by p hosts ≤ length hosts
+        → nat_eq (count_by p hosts) (length hosts) ≡ list_all p hosts
+        → nat_eq (count_by p (host ∷ hosts)) (length (host ∷ hosts)) ≡ (b && list_all p hosts)
     by_case true here few later = either (nat_eq (count_by p hosts) (length hosts)) refl
       where
         either : (c : Bool) → nat_eq (count_by p hosts) (length hosts) ≡ c → nat_eq (count_by p (host ∷ hosts)) (length (host ∷ hosts)) ≡ list_all p hosts
@@ -124,9 +128,13 @@ all_counted p (host ∷ hosts) =
 -- the phase by the number of those that failed
 pub phase_alike : (play : Play) (state : State) (step count size : ℕ) → count ≡ failures state → size ≡ length state.batch → phase_by play step count size ≡ phase_after play state step
 phase_alike play state step count size counted sized =
-    ap (λ n. phase_by play step n size) counted ∙ ap (phase_by play step (failures state)) sized ∙ by_case (is_past play.max_fail (failures state) (length state.batch)) (is_last play step) (nat_eq (failures state) (length state.batch)) (is_dead state) (all_counted (λ host. has_failed (state.rows host)) state.batch)
+    ap (λ n. phase_by play step n size) counted ∙ ap (phase_by play step (failures state)) sized
+        ∙ by_case (is_past play.max_fail (failures state) (length state.batch)) (is_last play step) (nat_eq (failures state) (length state.batch))
+        (is_dead state) (all_counted (λ host. has_failed (state.rows host)) state.batch)
   where
-    by_case : (past last all dead : Bool) → all ≡ dead → (if past then ended (Some step) else (if last || all then ended None else working (suc step))) ≡ (if past then ended (Some step) else (if last then ended None else (if dead then ended None else working (suc step))))
+    by_case : (past last all dead : Bool) → all ≡ dead
+        → (if past then ended (Some step) else (if last || all then ended None else working (suc step)))
+        ≡ (if past then ended (Some step) else (if last then ended None else (if dead then ended None else working (suc step))))
     by_case true last all dead same = refl
     by_case false true all dead same = refl
     by_case false false all dead same = ap (λ (b : Bool). if b then ended None else working (suc step)) same
@@ -157,7 +165,9 @@ pub record Stays (old new : BatchWork) : Type 0 where
 abbrev pub rest_of : BatchWork → List ℕ
 rest_of work = host_numbers (drop work.next work.line.items)
 
-module _ (roll : Roll) (state : State) (old new : BatchWork) (step : ℕ) (work : IsWorkOf roll state old) (stays : Stays old new) (same_batch : new.batch.items ≡ old.batch.items) (may : MayPass roll state step) (nobody : state.out ≡ []) (stage : phase_of new.stage ≡ phase_after roll.play state step) where
+module _ (roll : Roll) (state : State) (old new : BatchWork) (step : ℕ) (work : IsWorkOf roll state old) (stays : Stays old new)
+    (same_batch : new.batch.items ≡ old.batch.items) (may : MayPass roll state step) (nobody : state.out ≡ [])
+    (stage : phase_of new.stage ≡ phase_after roll.play state step) where
   abbrev pub now : State
   now = next roll state (passed step)
 
@@ -184,12 +194,18 @@ module _ (roll : Roll) (state : State) (old new : BatchWork) (step : ℕ) (work 
           awaited = λ host. ap (λ (l : List Turn). awaits (turn_at l host)) turns ∙ (idle roll state old step work may nobody).awaited host ∙ sym (over host);
           taken = λ host. ap (λ (l : List Turn). is_out (turn_at l host)) turns ∙ work.taken host;
           given = λ host at asked summary task turn got is named. let both : ended halt ≡ working at = sym ends ∙ is in absurd (cc);
-          free = line ∙ work.free ∙ filter_none (is_free roll state) state.batch (λ host here. and_left (is_awaited_in roll state host) (not (has_number host state.out)) (none_awaited roll state old step work may nobody host)) ∙ sym (filter_none (is_free roll now) state.batch (λ host here. and_left (is_awaited_in roll now host) (not (has_number host state.out)) (over host)));
+          free = line ∙ work.free ∙ filter_none (is_free roll state) state.batch
+              (λ host here. and_left (is_awaited_in roll state host) (not (has_number host state.out))
+                  (none_awaited roll state old step work may nobody host))
+              ∙ sym (filter_none (is_free roll now) state.batch
+                  (λ host here. and_left (is_awaited_in roll now host) (not (has_number host state.out)) (over host)));
           count = stays.out ∙ work.count;
         }
 
   -- it goes on
-  module _ (later : ℕ) (goes_on : phase_after roll.play state step ≡ working later) (fresh : (host : ℕ) → has_number host state.batch ≡ true → has_row (state.rows host) later ≡ false) (lined : HaveLinedUp (λ host. is_due roll.play (state.rows host) later) state.batch old.turns.items new.turns.items (rest_of new)) where
+  module _ (later : ℕ) (goes_on : phase_after roll.play state step ≡ working later)
+      (fresh : (host : ℕ) → has_number host state.batch ≡ true → has_row (state.rows host) later ≡ false)
+      (lined : HaveLinedUp (λ host. is_due roll.play (state.rows host) later) state.batch old.turns.items new.turns.items (rest_of new)) where
     were : IsIdle old.turns.items
     were = idle roll state old step work may nobody
 
@@ -205,13 +221,15 @@ module _ (roll : Roll) (state : State) (old new : BatchWork) (step : ℕ) (work 
           summaries = shows;
           awaited = lined_awaited roll now later old.turns.items new.turns.items (rest_of new) were goes_on nobody fresh lined;
           taken = lined_taken roll now later old.turns.items new.turns.items (rest_of new) were goes_on nobody fresh lined;
-          given = λ host at asked summary task turn got is named. lined_given roll now later old.turns.items new.turns.items (rest_of new) were goes_on nobody fresh lined host at asked summary task turn;
+          given = λ host at asked summary task turn got is named. lined_given roll now later old.turns.items new.turns.items (rest_of new) were
+              goes_on nobody fresh lined host at asked summary task turn;
           free = lined_free roll now later old.turns.items new.turns.items (rest_of new) were goes_on nobody fresh lined;
           count = stays.out ∙ work.count;
         }
 
 -- the halt of one that goes on with none
-pub ends_with : (play : Play) (state : State) (step : ℕ) (stage : Stage) → phase_of stage ≡ phase_after play state step → ((later : ℕ) → stage ≡ Working later → ⊥) → (halt : Option ℕ) × (phase_after play state step ≡ ended halt)
+pub ends_with : (play : Play) (state : State) (step : ℕ) (stage : Stage) → phase_of stage ≡ phase_after play state step
+    → ((later : ℕ) → stage ≡ Working later → ⊥) → (halt : Option ℕ) × (phase_after play state step ≡ ended halt)
 ends_with play state step (Ended halt) at over = (halt, sym at)
 ends_with play state step (Working later) at over = absurd (over later refl)
 ends_with play state step Between at over =

@@ -15,7 +15,10 @@ use Rattle.host_track.proofs.SummaryLemmas.{kept_known}
 use Rattle.batch_work.specs.Works.{known_at, known_with}
 
 -- one summary more, of the next host as it begins the play
-pub shows_more : (registers : Registers) (play : Play) (vars : List Vars) (old new : List Summary) (count : ℕ) (item begun : Vars) (summary : Summary) → length old ≡ count → ((host : ℕ) (s : Summary) → slice_get old host ≡ Some s → Shows play (known_at vars host) [] s) → new ≡ old ++ summary ∷ [] → count < length vars → item ≡ get_or vars count item → BeginsPlay registers begun item → Shows play (known_of begun) [] summary → (host : ℕ) (s : Summary) → slice_get new host ≡ Some s → Shows play (known_at vars host) [] s
+pub shows_more : (registers : Registers) (play : Play) (vars : List Vars) (old new : List Summary) (count : ℕ) (item begun : Vars) (summary : Summary)
+    → length old ≡ count → ((host : ℕ) (s : Summary) → slice_get old host ≡ Some s → Shows play (known_at vars host) [] s) → new ≡ old ++ summary ∷ []
+    → count < length vars → item ≡ get_or vars count item → BeginsPlay registers begun item → Shows play (known_of begun) [] summary
+    → (host : ℕ) (s : Summary) → slice_get new host ≡ Some s → Shows play (known_at vars host) [] s
 shows_more registers play vars old new count item begun summary len shows grown within here same now host s got = by_case (cases_lt host count)
   where
     at : slice_get (old ++ summary ∷ []) host ≡ Some s
@@ -35,5 +38,7 @@ shows_more registers play vars old new count item begun summary len shows grown 
         let last : host ≡ count = omega (arith, behind, inside, length-append old (summary ∷ []), len) in
         let first : host - count ≡ 0 = omega (arith, last) in
         let mine : get_or (old ++ summary ∷ []) host s ≡ summary = get_or-append_right old (summary ∷ []) count host s len behind ∙ ap (λ n. get_or (summary ∷ []) n s) first in
-        let known : known_at vars host ≡ known_of begun = ap (known_at vars) last ∙ ap known_with (slice_get-get_or vars count item within ∙ ap Some (sym here)) ∙ sym (kept_known item begun same.variables same.results) in
+        let known : known_at vars host ≡ known_of begun = ap (known_at vars) last
+            ∙ ap known_with (slice_get-get_or vars count item within ∙ ap Some (sym here))
+            ∙ sym (kept_known item begun same.variables same.results) in
         subst (λ (k : Known). Shows play k [] s) (sym known) (subst (λ (x : Summary). Shows play (known_of begun) [] x) (sym mine ∙ is) now)

@@ -85,7 +85,9 @@ pub record IsWorkOf (roll : Roll) (state : State) (work : BatchWork) : Type 0 wh
   pub summaries : ShowEach roll.play roll.known state.rows work.summaries.items
   pub awaited : (host : ℕ) → awaits (turn_at work.turns.items host) ≡ is_awaited_in roll state host
   pub taken : (host : ℕ) → is_out (turn_at work.turns.items host) ≡ has_number host state.out
-  pub given : (host step : ℕ) (asked : Asked) (summary : Summary) (task : Step) → turn_at work.turns.items host ≡ Out asked → slice_get work.summaries.items host ≡ Some summary → state.phase ≡ working step → step_at roll.play step ≡ Some task → IsGiven roll state host summary.vars asked task
+  pub given : (host step : ℕ) (asked : Asked) (summary : Summary) (task : Step) → turn_at work.turns.items host ≡ Out asked
+      → slice_get work.summaries.items host ≡ Some summary → state.phase ≡ working step → step_at roll.play step ≡ Some task
+      → IsGiven roll state host summary.vars asked task
   pub free : host_numbers (drop work.next work.line.items) ≡ filter (is_free roll state) state.batch
   pub count : work.out ≡ length state.out
 

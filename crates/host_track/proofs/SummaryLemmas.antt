@@ -1,5 +1,6 @@
 -- What a summary shows, as rows come.
-use Rattle.std.proofs.Common.{◌≡◌, ℕ, suc, ◌+◌, ◌-◌, ◌<◌, ◌≤◌, nat_lt, Bool, true, false, not, ◌&&◌, inl, inr, lt-ltb, ◌||◌, cond, Option, Some, None, List, [], ◌∷◌, ◌++◌, length, refl, sym, ap, ◌∙◌, subst, arith, length-append}
+use Rattle.std.proofs.Common.{◌≡◌, ℕ, suc, ◌+◌, ◌-◌, ◌<◌, ◌≤◌, nat_lt, Bool, true, false, not, ◌&&◌, inl, inr, lt-ltb, ◌||◌, cond, Option, Some, None}
+use Rattle.std.proofs.Common.{List, [], ◌∷◌, ◌++◌, length, refl, sym, ap, ◌∙◌, subst, arith, length-append}
 use Rattle.std.proofs.Math.Path.{fun_ext}
 use Rattle.std.proofs.lemmas.Bool.{cases_lt}
 use Rattle.std.proofs.lemmas.List.Folds.{list_any-append}
@@ -27,13 +28,16 @@ use Rattle.host_track.specs.declared.summary.Summary.{Summary}
 -- two hosts of which the same is known
 pub same_known : (a b : Known) → a.variables ≡ b.variables → ((name : Name) → a.results name ≡ b.results name) → a ≡ b
 same_known a b variables results =
-    ap (λ (v : HostView). let known : Known = record { variables = v; results = a.results } in known) variables ∙ ap (λ (r : Name → Option Row). let known : Known = record { variables = b.variables; results = r } in known) (fun_ext results)
+    ap (λ (v : HostView). let known : Known = record { variables = v; results = a.results } in known) variables
+        ∙ ap (λ (r : Name → Option Row). let known : Known = record { variables = b.variables; results = r } in known) (fun_ext results)
 
 pub kept_known : (old new : Vars) → variables_of new ≡ variables_of old → ((name : Name) → result_in new name ≡ result_in old name) → known_of new ≡ known_of old
 kept_known old new variables results =
     same_known (known_of new) (known_of old) variables results
 
-pub laid_known : (old new : Vars) (name : Option Name) (row : Row) → variables_of new ≡ variables_of old → ((other : Name) → result_in new other ≡ cond (is_called name other) (Some row) (result_in old other)) → known_of new ≡ with_result name row (known_of old)
+pub laid_known : (old new : Vars) (name : Option Name) (row : Row) → variables_of new ≡ variables_of old
+    → ((other : Name) → result_in new other ≡ cond (is_called name other) (Some row) (result_in old other))
+    → known_of new ≡ with_result name row (known_of old)
 laid_known old new name row variables results =
     same_known (known_of new) (with_result name row (known_of old)) variables results
 
@@ -45,7 +49,8 @@ any_with : {X : Type 0} (p : X → Bool) (xs : List X) (x : X) → list_any p (x
 any_with p xs x =
     list_any-append p xs (x ∷ []) ∙ ap (λ b. list_any p xs || b) (or_false (p x))
 
-pub known_with_row : (play : Play) (start : Known) (entries : List Entry) (entry : Entry) → known_after play start (entries ++ entry ∷ []) ≡ known_with (known_after play start entries) (step_at play entry.step) entry
+pub known_with_row : (play : Play) (start : Known) (entries : List Entry) (entry : Entry)
+    → known_after play start (entries ++ entry ∷ []) ≡ known_with (known_after play start entries) (step_at play entry.step) entry
 known_with_row play start [] entry = refl
 known_with_row play start (first ∷ entries) entry =
     known_with_row play (known_with start (step_at play first.step) first) entries entry
@@ -64,10 +69,13 @@ pub record Follows (known : Known) (step : Step) (ending : Ending) (finding : Fi
   pub registers : known_of new.vars ≡ with_result (register_of step) (registered_row ending finding) known
   pub failed : new.failed ≡ (old.failed || is_failed finding.judged)
   pub handlers : length new.notified.items ≡ length old.notified.items
-  pub notified : (handler : ℕ) → handler < length old.notified.items → mark_at new.notified.items handler ≡ (mark_at old.notified.items handler || (does_notify finding.judged && has_number handler step.notify.items))
+  pub notified : (handler : ℕ) → handler < length old.notified.items
+      → mark_at new.notified.items handler ≡ (mark_at old.notified.items handler || (does_notify finding.judged && has_number handler step.notify.items))
   pub counts : (rows : List Judged) → length rows < 4294967295 → old.counts ≡ counts_of rows → new.counts ≡ counts_of (rows ++ finding.judged ∷ [])
 
-module _ (play : Play) (start : Known) (entries : List Entry) (place : ℕ) (step : Step) (ending : Ending) (old new : Summary) (shown : Shows play start entries old) (at : step_at play place ≡ Some step) (follows : Follows (known_after play start entries) step ending (finding_of (known_after play start entries) step ending) old new) where
+module _ (play : Play) (start : Known) (entries : List Entry) (place : ℕ) (step : Step) (ending : Ending) (old new : Summary)
+    (shown : Shows play start entries old) (at : step_at play place ≡ Some step)
+    (follows : Follows (known_after play start entries) step ending (finding_of (known_after play start entries) step ending) old new) where
   abbrev entry : Entry
   entry = entry_of (known_after play start entries) step place ending
 
@@ -102,13 +110,18 @@ module _ (play : Play) (start : Known) (entries : List Entry) (place : ℕ) (ste
         counts = counts_now;
       }
 
-pub shows_row : (play : Play) (start : Known) (entries : List Entry) (place : ℕ) (step : Step) (ending : Ending) (finding : Finding) (old new : Summary) → finding ≡ finding_of (known_of old.vars) step ending → Follows (known_of old.vars) step ending finding old new → Shows play start entries old → step_at play place ≡ Some step → Shows play start (entries ++ entry_of (known_after play start entries) step place ending ∷ []) new
+pub shows_row : (play : Play) (start : Known) (entries : List Entry) (place : ℕ) (step : Step) (ending : Ending) (finding : Finding) (old new : Summary)
+    → finding ≡ finding_of (known_of old.vars) step ending → Follows (known_of old.vars) step ending finding old new → Shows play start entries old
+    → step_at play place ≡ Some step → Shows play start (entries ++ entry_of (known_after play start entries) step place ending ∷ []) new
 shows_row play start entries place step ending finding old new found follows shown at =
-    let here : Follows (known_of old.vars) step ending (finding_of (known_of old.vars) step ending) old new = subst (λ (f : Finding). Follows (known_of old.vars) step ending f old new) found follows in
+    let here : Follows (known_of old.vars) step ending (finding_of (known_of old.vars) step ending) old new =
+        subst (λ (f : Finding). Follows (known_of old.vars) step ending f old new) found follows in
     shows_row_after play start entries place step ending old new shown at (subst (λ (known : Known). Follows known step ending (finding_of known step ending) old new) shown.known here)
 
 -- a summary that says the same shows the same rows
-pub shows_same : (play : Play) (start : Known) (entries : List Entry) (old new : Summary) → known_of new.vars ≡ known_of old.vars → new.failed ≡ old.failed → new.notified.items ≡ old.notified.items → new.counts ≡ old.counts → Shows play start entries old → Shows play start entries new
+pub shows_same : (play : Play) (start : Known) (entries : List Entry) (old new : Summary) → known_of new.vars ≡ known_of old.vars
+    → new.failed ≡ old.failed → new.notified.items ≡ old.notified.items → new.counts ≡ old.counts → Shows play start entries old
+    → Shows play start entries new
 shows_same play start entries old new known failed marks counts shown =
     record {
       known = known ∙ shown.known;
@@ -119,12 +132,16 @@ shows_same play start entries old new known failed marks counts shown =
     }
 
 -- of no row
-pub shows_none : (play : Play) (summary : Summary) → summary.failed ≡ false → length summary.notified.items ≡ length play.steps.items - play.tasks → ((handler : ℕ) → handler < length summary.notified.items → mark_at summary.notified.items handler ≡ false) → summary.counts ≡ counts_of [] → Shows play (known_of summary.vars) [] summary
+pub shows_none : (play : Play) (summary : Summary) → summary.failed ≡ false → length summary.notified.items ≡ length play.steps.items - play.tasks
+    → ((handler : ℕ) → handler < length summary.notified.items → mark_at summary.notified.items handler ≡ false) → summary.counts ≡ counts_of []
+    → Shows play (known_of summary.vars) [] summary
 shows_none play summary failed handlers notified counts =
     record { known = refl; failed = failed; handlers = handlers; notified = notified; counts = λ few. counts }
 
 -- a step is due by the summary where it is by the rows
-pub due_shown : (play : Play) (start : Known) (entries : List Entry) (summary : Summary) (place : ℕ) → place < length play.steps.items → Shows play start entries summary → (not summary.failed && (nat_lt place play.tasks || mark_at summary.notified.items (place - play.tasks))) ≡ is_due play entries place
+pub due_shown : (play : Play) (start : Known) (entries : List Entry) (summary : Summary) (place : ℕ) → place < length play.steps.items
+    → Shows play start entries summary
+    → (not summary.failed && (nat_lt place play.tasks || mark_at summary.notified.items (place - play.tasks))) ≡ is_due play entries place
 due_shown play start entries summary place within shown =
     let by_mark : Bool = nat_lt place play.tasks || mark_at summary.notified.items (place - play.tasks) in
     ap (λ b. not b && by_mark) shown.failed ∙ ap (λ b. not (has_failed entries) && b) (elim (cases_lt place play.tasks) [ inl task ↦ task_due task | inr handler ↦ handler_due handler ])
@@ -138,15 +155,22 @@ due_shown play start entries summary place within shown =
         ap (λ b. nat_lt place play.tasks || b) (shown.notified (place - play.tasks) (omega arith))
 
 -- the result that a step registers
-pub registered_known : (old new : Vars) (step : Step) (name : Name) (ending : Ending) (finding : Finding) (copy : Option Registered) (row found : Registered) → register_of step ≡ Some name → copy ≡ Some row → IsCopyFor (register_of step) ending copy → row_of found ≡ record (row_of row) { changed = finding.changed; failed = finding.failed } → variables_of new ≡ variables_of old → ((other : Name) → result_in new other ≡ cond (same_name name other) (Some (row_of found)) (result_in old other)) → known_of new ≡ with_result (register_of step) (registered_row ending finding) (known_of old)
+pub registered_known : (old new : Vars) (step : Step) (name : Name) (ending : Ending) (finding : Finding) (copy : Option Registered)
+    (row found : Registered) → register_of step ≡ Some name → copy ≡ Some row → IsCopyFor (register_of step) ending copy → row_of found
+    ≡ record (row_of row) { changed = finding.changed; failed = finding.failed } → variables_of new ≡ variables_of old
+    → ((other : Name) → result_in new other ≡ cond (same_name name other) (Some (row_of found)) (result_in old other)) → known_of new
+    ≡ with_result (register_of step) (registered_row ending finding) (known_of old)
 registered_known old new step name ending finding copy row found named here is made variables results =
     let there : IsCopyFor (Some name) ending copy = subst (λ (n : Option Name). IsCopyFor n ending copy) named is in
     let same : row_of row ≡ table_row ending = subst (λ (o : Option Registered). IsCopyFor (Some name) ending o) here there in
     let whole : row_of found ≡ registered_row ending finding = made ∙ ap (λ (r : Row). let changed : Row = record r { changed = finding.changed; failed = finding.failed } in changed) same in
-    laid_known old new (Some name) (row_of found) variables results ∙ ap (λ (r : Row). with_result (Some name) r (known_of old)) whole ∙ ap (λ (n : Option Name). with_result n (registered_row ending finding) (known_of old)) (sym named)
+    laid_known old new (Some name) (row_of found) variables results ∙ ap (λ (r : Row). with_result (Some name) r (known_of old)) whole
+        ∙ ap (λ (n : Option Name). with_result n (registered_row ending finding) (known_of old)) (sym named)
 
 -- marks that were set through a slice
-pub marks_follow : (old new marks : List Bool) (notifies says : Bool) (handlers named : List ℕ) → marks ≡ old → handlers ≡ named → notifies ≡ says → ((handler : ℕ) → handler < length marks → mark_at new handler ≡ (mark_at marks handler || (notifies && has_number handler handlers))) → (handler : ℕ) → handler < length old → mark_at new handler ≡ (mark_at old handler || (says && has_number handler named))
+pub marks_follow : (old new marks : List Bool) (notifies says : Bool) (handlers named : List ℕ) → marks ≡ old → handlers ≡ named → notifies ≡ says
+    → ((handler : ℕ) → handler < length marks → mark_at new handler ≡ (mark_at marks handler || (notifies && has_number handler handlers)))
+    → (handler : ℕ) → handler < length old → mark_at new handler ≡ (mark_at old handler || (says && has_number handler named))
 marks_follow old new marks notifies says handlers named same_marks same_handlers same set handler below =
     let after : List Bool → Bool → List ℕ → Bool = λ before told list. mark_at before handler || (told && has_number handler list) in
     let within : handler < length marks = subst (λ (m : List Bool). handler < length m) (sym same_marks) below in

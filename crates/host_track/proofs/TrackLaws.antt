@@ -1,5 +1,6 @@
 -- Laws of tracks, by induction over the steps.
-use Rattle.std.proofs.Common.{◌≡◌, ℕ, zero, suc, ◌+◌, ◌-◌, ◌<◌, ◌≤◌, nat_lt, Bool, true, false, not, ◌&&◌, ◌||◌, IsTrue, Option, Some, None, List, [], ◌∷◌, ◌++◌, length, get_or, refl, sym, ap, ◌∙◌, subst, arith, append_assoc, add-suc, add-zero, le-ltb}
+use Rattle.std.proofs.Common.{◌≡◌, ℕ, zero, suc, ◌+◌, ◌-◌, ◌<◌, ◌≤◌, nat_lt, Bool, true, false, not, ◌&&◌, ◌||◌, IsTrue, Option, Some, None, List, []}
+use Rattle.std.proofs.Common.{◌∷◌, ◌++◌, length, get_or, refl, sym, ap, ◌∙◌, subst, arith, append_assoc, add-suc, add-zero, le-ltb}
 use Rattle.std.specs.Prelude.{All, AllPairs, if◌then◌else◌}
 use Rattle.std.specs.List.{list_any}
 use Rattle.std.proofs.lemmas.List.{append-nil}
@@ -12,7 +13,8 @@ use Rattle.outcome_results.specs.Hosts.{Known}
 use Rattle.outcome_results.specs.Endings.{Ending}
 use Rattle.outcome_results.specs.Counting.{is_failed}
 use Rattle.host_track.specs.Tracks.{Entry, Column, track, is_due, is_notified, has_failed, row_if_due, row_at, entry_of, known_after, step_at}
-use Rattle.host_track.specs.Laws.{DueStepAddsItsRow, OtherStepAddsNone, GrowsByAppending, AgreeWhereDue, AgreeingColumnsGiveOneTrack, StepsRise, EachRowIsDue, FailedRowIsTheLast, HandlersRunWhereNotified}
+use Rattle.host_track.specs.Laws.{DueStepAddsItsRow, OtherStepAddsNone, GrowsByAppending, AgreeWhereDue, AgreeingColumnsGiveOneTrack, StepsRise}
+use Rattle.host_track.specs.Laws.{EachRowIsDue, FailedRowIsTheLast, HandlersRunWhereNotified}
 
 same_if : {X : Type 0} (due : Bool) → (a b : List X) → (IsTrue due → a ≡ b) → (if due then a else []) ≡ (if due then b else [])
 same_if true a b same = same refl
@@ -40,7 +42,8 @@ grows play known column steps (suc more) =
     let row = row_if_due play known (track play known column (steps + more)) (steps + more) (column (steps + more)) in
     (before.0 ++ row, rw add-suc (ap (λ (rows : List Entry). rows ++ row) before.1 ∙ append_assoc (track play known column steps) before.0 row))
 
-same_row : (play : Play) (known : Known) (rows : List Entry) (place : ℕ) (a b : Ending) → (IsTrue (is_due play rows place) → a ≡ b) → row_if_due play known rows place a ≡ row_if_due play known rows place b
+same_row : (play : Play) (known : Known) (rows : List Entry) (place : ℕ) (a b : Ending) → (IsTrue (is_due play rows place) → a ≡ b)
+    → row_if_due play known rows place a ≡ row_if_due play known rows place b
 same_row play known rows place a b same =
     let row : Ending → List Entry = λ given. row_at (known_after play known rows) (step_at play place) place given in
     same_if (is_due play rows place) (row a) (row b) (λ due. ap row (same due))
@@ -55,7 +58,8 @@ agree play known column other (suc place) alike =
     ap (λ (new : List Entry). rows ++ new) row ∙ ap (λ (l : List Entry). l ++ row_if_due play known l place (other place)) before
 
 -- the row of a step, where it adds one
-only_row : (P : List Entry → Type 0) (known : Known) (step : Option Step) (place : ℕ) (given : Ending) → P [] → ((entry : Entry) → entry.step ≡ place → P (entry ∷ [])) → P (row_at known step place given)
+only_row : (P : List Entry → Type 0) (known : Known) (step : Option Step) (place : ℕ) (given : Ending) → P []
+    → ((entry : Entry) → entry.step ≡ place → P (entry ∷ [])) → P (row_at known step place given)
 only_row P known None place given none some = none
 only_row P known (Some step) place given none some = some _ refl
 
@@ -83,7 +87,8 @@ along P play known column none stays more (suc place) =
         let Q : List Entry → Type 0 = λ l. P (suc place) (rows ++ l) in
         let without : Q [] = subst (λ (l : List Entry). P (suc place) l) (sym (append-nil rows)) (stays place rows holds) in
         let known_now : Known = known_after play known rows in
-        only_due_row Q (is_due play rows place) (row_at known_now (step_at play place) place (column place)) without (λ due. only_row Q known_now (step_at play place) place (column place) without (λ entry at. more place rows entry holds due at))
+        only_due_row Q (is_due play rows place) (row_at known_now (step_at play place) place (column place)) without
+            (λ due. only_row Q known_now (step_at play place) place (column place) without (λ entry at. more place rows entry holds due at))
 
 abbrev AreBelow : ℕ → List Entry → Type 0
 AreBelow steps rows = All (λ (entry : Entry). entry.step < steps) rows
@@ -101,7 +106,8 @@ rises-none =
 
 rises_with : (play : Play) → StaysWithRow Rises play
 rises_with play place rows entry rises due at =
-    (all_pairs_push (λ (a b : Entry). a.step < b.step) rows entry rises.0 (λ k d within. before k d within), All-push (λ (e : Entry). e.step < suc place) rows entry (below-step place rows rises.1) (omega arith))
+    (all_pairs_push (λ (a b : Entry). a.step < b.step) rows entry rises.0 (λ k d within. before k d within), All-push
+            (λ (e : Entry). e.step < suc place) rows entry (below-step place rows rises.1) (omega arith))
   where
     before : (k : ℕ) (d : Entry) → k < length rows → (get_or rows k d).step < entry.step
     before k d within =

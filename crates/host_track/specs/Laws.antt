@@ -14,7 +14,10 @@ known_before play known column step = known_after play known (track play known c
 -- a step that is due adds its row: as it settles itself, or as the column says
 abbrev pub DueStepAddsItsRow : Type 0
 DueStepAddsItsRow =
-    (play : Play) (known : Known) (column : Column) (place : ℕ) (step : Step) → IsTrue (is_due play (track play known column place) place) → step_at play place ≡ Some step → track play known column (suc place) ≡ track play known column place ++ entry_of (known_before play known column place) step place (end_of (asks (known_before play known column place) step) (column place)) ∷ []
+    (play : Play) (known : Known) (column : Column) (place : ℕ) (step : Step) → IsTrue (is_due play (track play known column place) place)
+        → step_at play place ≡ Some step → track play known column (suc place)
+        ≡ track play known column place ++ entry_of (known_before play known column place) step place
+        (end_of (asks (known_before play known column place) step) (column place)) ∷ []
 
 abbrev pub OtherStepAddsNone : Type 0
 OtherStepAddsNone =
@@ -37,17 +40,21 @@ AgreeingColumnsGiveOneTrack =
 -- a later row is of a later step, and each is of a step before this one
 abbrev pub StepsRise : Type 0
 StepsRise =
-    (play : Play) (known : Known) (column : Column) (steps : ℕ) → AllPairs (λ (a b : Entry). a.step < b.step) (track play known column steps) × All (λ (entry : Entry). entry.step < steps) (track play known column steps)
+    (play : Play) (known : Known) (column : Column) (steps : ℕ) → AllPairs (λ (a b : Entry). a.step < b.step) (track play known column steps)
+        × All (λ (entry : Entry). entry.step < steps) (track play known column steps)
 
 -- wherever a track is cut at a row, the row's step is due by the rows before it
 abbrev pub EachRowIsDue : Type 0
 EachRowIsDue =
-    (play : Play) (known : Known) (column : Column) (steps : ℕ) (before after : List Entry) (entry : Entry) → track play known column steps ≡ before ++ entry ∷ after → IsTrue (is_due play before entry.step)
+    (play : Play) (known : Known) (column : Column) (steps : ℕ) (before after : List Entry) (entry : Entry) → track play known column steps
+        ≡ before ++ entry ∷ after → IsTrue (is_due play before entry.step)
 
 abbrev pub FailedRowIsTheLast : Type 0
 FailedRowIsTheLast =
-    (play : Play) (known : Known) (column : Column) (steps : ℕ) (before after : List Entry) (entry : Entry) → track play known column steps ≡ before ++ entry ∷ after → IsTrue (is_failed entry.finding.judged) → after ≡ []
+    (play : Play) (known : Known) (column : Column) (steps : ℕ) (before after : List Entry) (entry : Entry) → track play known column steps
+        ≡ before ++ entry ∷ after → IsTrue (is_failed entry.finding.judged) → after ≡ []
 
 abbrev pub HandlersRunWhereNotified : Type 0
 HandlersRunWhereNotified =
-    (play : Play) (known : Known) (column : Column) (steps : ℕ) (before after : List Entry) (entry : Entry) → track play known column steps ≡ before ++ entry ∷ after → play.tasks ≤ entry.step → IsTrue (is_notified play before (entry.step - play.tasks))
+    (play : Play) (known : Known) (column : Column) (steps : ℕ) (before after : List Entry) (entry : Entry) → track play known column steps
+        ≡ before ++ entry ∷ after → play.tasks ≤ entry.step → IsTrue (is_notified play before (entry.step - play.tasks))

@@ -18,7 +18,8 @@ counted {X} p rows row few =
         omega arith
 
 -- a count that took one row more, where the row passes
-pub counted_next : {X : Type 0} (p : X → Bool) → (rows : List X) (row : X) (passes : Bool) (old new : ℕ) → length rows < 4294967295 → old ≡ count_by p rows → passes ≡ p row → new ≡ one_more_if passes old → new ≡ count_by p (rows ++ row ∷ [])
+pub counted_next : {X : Type 0} (p : X → Bool) → (rows : List X) (row : X) (passes : Bool) (old new : ℕ) → length rows < 4294967295
+    → old ≡ count_by p rows → passes ≡ p row → new ≡ one_more_if passes old → new ≡ count_by p (rows ++ row ∷ [])
 counted_next p rows row passes old new few was is makes =
     makes ∙ ap (one_more_if passes) was ∙ ap (λ b. one_more_if b (count_by p rows)) is ∙ counted p rows row few
 
@@ -29,4 +30,5 @@ counts_with ok changed failed skipped ignored =
 -- the same in each of the five
 pub same_counts : (a b c d e v w x y z : ℕ) → a ≡ v → b ≡ w → c ≡ x → d ≡ y → e ≡ z → counts_with a b c d e ≡ counts_with v w x y z
 same_counts a b c d e v w x y z ok changed failed skipped ignored =
-    ap (λ n. counts_with n b c d e) ok ∙ ap (λ n. counts_with v n c d e) changed ∙ ap (λ n. counts_with v w n d e) failed ∙ ap (λ n. counts_with v w x n e) skipped ∙ ap (λ n. counts_with v w x y n) ignored
+    ap (λ n. counts_with n b c d e) ok ∙ ap (λ n. counts_with v n c d e) changed ∙ ap (λ n. counts_with v w n d e) failed
+        ∙ ap (λ n. counts_with v w x n e) skipped ∙ ap (λ n. counts_with v w x y n) ignored

@@ -15,6 +15,9 @@ flags_with known step name ending =
     flags_of_run (environment_in (with_result name (table_row ending) known)) step (table_row ending)
 
 -- a program's end that stands under the step's name
-pub flags_in_trial : (trial : Trial) (step : Step) (rc : ℤ) (stdout stderr : List ℕ) → name_of trial ≡ register_of step → ending_of trial.outcome.now ≡ ran rc stdout stderr → flags_of_run (environment_of_trial trial) step (row_of_trial trial) ≡ flags_of (known_of trial.vars.now) step (ending_of trial.outcome.now)
+pub flags_in_trial : (trial : Trial) (step : Step) (rc : ℤ) (stdout stderr : List ℕ) → name_of trial ≡ register_of step
+    → ending_of trial.outcome.now ≡ ran rc stdout stderr
+    → flags_of_run (environment_of_trial trial) step (row_of_trial trial) ≡ flags_of (known_of trial.vars.now) step (ending_of trial.outcome.now)
 flags_in_trial trial step rc stdout stderr named is =
-    ap (λ (n : Option Name). flags_with (known_of trial.vars.now) step n (ending_of trial.outcome.now)) named ∙ ap (flags_with (known_of trial.vars.now) step (register_of step)) is ∙ sym (ap (flags_of (known_of trial.vars.now) step) is)
+    ap (λ (n : Option Name). flags_with (known_of trial.vars.now) step n (ending_of trial.outcome.now)) named
+        ∙ ap (flags_with (known_of trial.vars.now) step (register_of step)) is ∙ sym (ap (flags_of (known_of trial.vars.now) step) is)

@@ -19,8 +19,10 @@ pub kept_down : (old lent rested new : RosterView) (share host : HostId) (status
     → rested ≡ with_host lent share.index status true → new ≡ record rested { seated = set rested.seated host.index false } → new ≡ with_host old host.index status false
 kept_down old lent rested new share host status lends same rests keeps =
     keeps
-    ∙ ap (λ (r : RosterView). record r { seated = set r.seated host.index false }) (rests ∙ ap (λ (h : HostId). with_host lent h.index status true) same ∙ ap (λ (r : RosterView). with_host r host.index status true) lends)
-    ∙ ap (λ (l : List Bool). record (with_host old host.index status false) { seated = l }) (set-set (set old.seated host.index false) host.index true false ∙ set-set old.seated host.index false false)
+    ∙ ap (λ (r : RosterView). record r { seated = set r.seated host.index false })
+        (rests ∙ ap (λ (h : HostId). with_host lent h.index status true) same ∙ ap (λ (r : RosterView). with_host r host.index status true) lends)
+    ∙ ap (λ (l : List Bool). record (with_host old host.index status false) { seated = l })
+        (set-set (set old.seated host.index false) host.index true false ∙ set-set old.seated host.index false false)
 
 pub rest_again : (halt : Option ℕ) (s : Status) → at_rest halt (at_rest halt s) ≡ at_rest halt s
 rest_again None Idle = refl
@@ -41,7 +43,8 @@ rest_again (Some step) Off = refl
 rest_again (Some step) Held = refl
 
 -- a host that is read again, after it may have changed, changes to the same
-pub again : (halt : Option ℕ) (hosts : List ℕ) (statuses : List Status) (host : ℕ) → host < length statuses → at_rest halt (status_at (changed (at_rest halt) hosts statuses) host) ≡ at_rest halt (status_at statuses host)
+pub again : (halt : Option ℕ) (hosts : List ℕ) (statuses : List Status) (host : ℕ) → host < length statuses
+    → at_rest halt (status_at (changed (at_rest halt) hosts statuses) host) ≡ at_rest halt (status_at statuses host)
 again halt hosts statuses host within =
     ap (at_rest halt) (status_at-changed (at_rest halt) hosts statuses host within) ∙ either (has_number host hosts)
   where
@@ -50,8 +53,10 @@ again halt hosts statuses host within =
     either false = refl
 
 -- a host whose turn has not come is as it was
-pub still_down : (old now : RosterView) (hosts : List HostId) (i : ℕ) (d : HostId) (halt : Option ℕ) → i < length hosts → length old.seated ≡ length old.statuses → are_distinct (host_numbers hosts) ≡ true
-    → ((host : ℕ) → has_number host (host_numbers hosts) ≡ true → seated_at old.seated host ≡ true) → ((host : ℕ) → has_number host (host_numbers hosts) ≡ true → is_down (status_at old.statuses host) ≡ true)
+pub still_down : (old now : RosterView) (hosts : List HostId) (i : ℕ) (d : HostId) (halt : Option ℕ) → i < length hosts
+    → length old.seated ≡ length old.statuses → are_distinct (host_numbers hosts) ≡ true
+    → ((host : ℕ) → has_number host (host_numbers hosts) ≡ true → seated_at old.seated host ≡ true)
+        → ((host : ℕ) → has_number host (host_numbers hosts) ≡ true → is_down (status_at old.statuses host) ≡ true)
     → HasChanged old now (take i (host_numbers hosts)) (at_rest halt) false → is_down (status_at now.statuses (get_or hosts i d).index) ≡ true
 still_down old now hosts i d halt within all distinct rest down before =
     subst (λ (n : ℕ). is_down (status_at now.statuses n) ≡ true) (number_of_host hosts i d within) here

@@ -61,7 +61,8 @@ module _ (roll : Roll) (state : State) (roster : RosterView) (work : BatchWork) 
         works = work_aside roll state (changed (λ _. Held) hosts state.statuses) work held.works;
       })
 
-  pub held_opened : (batch : List ℕ) (new : RosterView) (begun : BatchWork) → state.batch ≡ [] → state.out ≡ [] → HasChanged roster new batch (λ _. Running) true → IsWorkOf roll (next roll state (opened batch)) begun
+  pub held_opened : (batch : List ℕ) (new : RosterView) (begun : BatchWork) → state.batch ≡ [] → state.out ≡ []
+      → HasChanged roster new batch (λ _. Running) true → IsWorkOf roll (next roll state (opened batch)) begun
       → IsHeld roll (next roll state (opened batch)) new begun
   held_opened batch new begun bare none changes is =
       record {
@@ -75,7 +76,8 @@ module _ (roll : Roll) (state : State) (roster : RosterView) (work : BatchWork) 
       either host true = sym (ap (λ l. not (has_number host l)) none)
       either host false = refl
 
-  pub held_claimed : (host step : ℕ) (new : RosterView) (given : BatchWork) → new ≡ record roster { seated = set roster.seated host false } → IsWorkOf roll (next roll state (claimed host step)) given → IsHeld roll (next roll state (claimed host step)) new given
+  pub held_claimed : (host step : ℕ) (new : RosterView) (given : BatchWork) → new ≡ record roster { seated = set roster.seated host false }
+      → IsWorkOf roll (next roll state (claimed host step)) given → IsHeld roll (next roll state (claimed host step)) new given
   held_claimed host step new given is work_is =
       subst (λ (v : RosterView). IsHeld roll (next roll state (claimed host step)) v given) (sym is) (record {
         statuses = held.statuses;
@@ -103,7 +105,9 @@ module _ (roll : Roll) (state : State) (roster : RosterView) (work : BatchWork) 
   held_passed step passes is =
       record { statuses = held.statuses; seats = held.seats; shares = held.shares; works = is }
 
-  pub held_closed : (halt : Option ℕ) (new : RosterView) (over : BatchWork) → state.phase ≡ ended halt → HasChanged roster new state.batch (at_rest halt) false → IsWorkOf roll (next roll state closed) over → IsHeld roll (next roll state closed) new over
+  pub held_closed : (halt : Option ℕ) (new : RosterView) (over : BatchWork) → state.phase ≡ ended halt
+      → HasChanged roster new state.batch (at_rest halt) false → IsWorkOf roll (next roll state closed) over
+      → IsHeld roll (next roll state closed) new over
   held_closed halt new over at changes is =
       let named : IsWorkOf roll (closed_state (ended halt) state) over = subst (λ (phase : Phase). IsWorkOf roll (closed_state phase state) over) at is in
       subst (λ (phase : Phase). IsHeld roll (closed_state phase state) new over) (sym at) (record {

@@ -26,7 +26,8 @@ row_of_other : (known : Known) (at : Option Step) (step place : ℕ) (ending : E
 row_of_other known None step place ending apart = refl
 row_of_other known (Some task) step place ending apart = ap (λ b. b || false) (ne_eqb step place apart)
 
-rows_behind : (roll : Roll) (host : ℕ) (rows : List Entry) (step place : ℕ) (ending : Ending) → has_row rows place ≡ false → (step ≡ place → ⊥) → has_row (rows_with roll host rows step ending) place ≡ false
+rows_behind : (roll : Roll) (host : ℕ) (rows : List Entry) (step place : ℕ) (ending : Ending) → has_row rows place ≡ false → (step ≡ place → ⊥)
+    → has_row (rows_with roll host rows step ending) place ≡ false
 rows_behind roll host rows step place ending none apart =
     let more : List Entry = row_at (known_after roll.play (roll.known host) rows) (step_at roll.play step) step ending in
     list_any-append (λ (entry : Entry). nat_eq entry.step place) rows more
@@ -44,7 +45,8 @@ next_behind roll state (reported host step ending) may work behind =
     rows : List Entry
     rows = rows_with roll host (state.rows host) step ending
 
-    by_case : (other now place : ℕ) → state.phase ≡ working now → has_number other state.batch ≡ true → now < place → (other ≡ host) ⊎ (other ≡ host → ⊥) → has_row (with_rows host rows state.rows other) place ≡ false
+    by_case : (other now place : ℕ) → state.phase ≡ working now → has_number other state.batch ≡ true → now < place
+        → (other ≡ host) ⊎ (other ≡ host → ⊥) → has_row (with_rows host rows state.rows other) place ≡ false
     by_case other now place at here later (inl same) =
         let one : step ≡ now = step_of step now (sym may.at ∙ at) in
         let mine : has_number host state.batch ≡ true = sym (ap (λ h. has_number h state.batch) same) ∙ here in

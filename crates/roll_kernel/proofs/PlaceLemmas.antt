@@ -20,19 +20,22 @@ owed_opened roll state batch none =
 pub owed_claimed : (roll : Roll) (state : State) (host step : ℕ) → owed_by roll (next roll state (claimed host step)) ≡ suc (owed_by roll state)
 owed_claimed roll state host step = omega arith
 
-pub owed_reported : (roll : Roll) (state : State) (host step : ℕ) (ending : Ending) → are_distinct state.out ≡ true → has_number host state.out ≡ true → suc (owed_by roll (next roll state (reported host step ending))) ≡ owed_by roll state
+pub owed_reported : (roll : Roll) (state : State) (host step : ℕ) (ending : Ending) → are_distinct state.out ≡ true → has_number host state.out ≡ true
+    → suc (owed_by roll (next roll state (reported host step ending))) ≡ owed_by roll state
 owed_reported roll state host step ending distinct here =
     omega (arith, length_without host state.out distinct here)
 
 -- a step that is passed leaves one barrier less, or the closing alone
-left_after : (play : Play) (state : State) (step : ℕ) → step < length play.steps.items → suc (events_left (length play.steps.items) (phase_after play state step)) ≤ suc (length play.steps.items - step)
+left_after : (play : Play) (state : State) (step : ℕ) → step < length play.steps.items
+    → suc (events_left (length play.steps.items) (phase_after play state step)) ≤ suc (length play.steps.items - step)
 left_after play state step within =
     by_case (is_past play.max_fail (failures state) (length state.batch)) (nat_lt (suc step) (length play.steps.items)) refl (is_dead state)
   where
     steps : ℕ
     steps = length play.steps.items
 
-    by_case : (past more : Bool) → nat_lt (suc step) steps ≡ more → (dead : Bool) → suc (events_left steps (if past then ended (Some step) else (if not more then ended None else (if dead then ended None else working (suc step))))) ≤ suc (steps - step)
+    by_case : (past more : Bool) → nat_lt (suc step) steps ≡ more → (dead : Bool)
+        → suc (events_left steps (if past then ended (Some step) else (if not more then ended None else (if dead then ended None else working (suc step))))) ≤ suc (steps - step)
     by_case true more is dead = omega (arith, within)
     by_case false false is dead = omega (arith, within)
     by_case false true is true = omega (arith, within)

@@ -34,7 +34,8 @@ same_out host hosts other apart =
     by_case true false left was = absurd (both_ways true (sym (has_without host hosts other left).1 ∙ was) refl)
     by_case false true left was = absurd (both_ways true (sym (has_still host hosts other apart was) ∙ left) refl)
 
-module _ (roll : Roll) (state : State) (roster : RosterView) (work : BatchWork) (held : IsHeld roll state roster work) (at_work : AtWork roll.play state) (host step : ℕ) (ending : Ending) (may : MayReport roll state host step ending) where
+module _ (roll : Roll) (state : State) (roster : RosterView) (work : BatchWork) (held : IsHeld roll state roster work)
+    (at_work : AtWork roll.play state) (host step : ℕ) (ending : Ending) (may : MayReport roll state host step ending) where
   abbrev rows : List Entry
   rows = rows_with roll host (state.rows host) step ending
 
@@ -52,7 +53,8 @@ module _ (roll : Roll) (state : State) (roster : RosterView) (work : BatchWork) 
   seat =
       omega (arith, within roll state host step at_work may.claimed may.at, held.seats, ap length held.statuses)
 
-  pub held_reported : (failed : Bool) (new : RosterView) (entered : BatchWork) → failed ≡ has_failed ((next roll state (reported host step ending)).rows host) → new ≡ with_host roster host (cond failed Failed Running) true
+  pub held_reported : (failed : Bool) (new : RosterView) (entered : BatchWork)
+      → failed ≡ has_failed ((next roll state (reported host step ending)).rows host) → new ≡ with_host roster host (cond failed Failed Running) true
       → IsWorkOf roll (next roll state (reported host step ending)) entered → IsHeld roll (next roll state (reported host step ending)) new entered
   held_reported failed new entered is shown work_is =
       subst (λ (v : RosterView). IsHeld roll (next roll state (reported host step ending)) v entered) (sym shown) (record {

@@ -77,7 +77,8 @@ ends_as (Program words outcome) is = is
 ends_as (Settled outcome) is = refl
 
 -- what was a claim that is out may be reported
-pub may_report : (roll : Roll) (state : State) (completion : Completed) → EndsAs completion.request completion.ending → IsOut roll state completion → MayReport roll state completion.host completion.step completion.ending
+pub may_report : (roll : Roll) (state : State) (completion : Completed) → EndsAs completion.request completion.ending → IsOut roll state completion
+    → MayReport roll state completion.host completion.step completion.ending
 may_report roll state completion ends out =
     record {
       at = out.at;
@@ -128,7 +129,8 @@ module _ (roll : Roll) (state : State) (work : BatchWork) (is : IsWorkOf roll st
             sym named ∙ sym (is.awaited host) ∙ found_none (λ h. awaits (turn_at work.turns.items h)) (host_numbers work.batch.items) host none (ap (has_number host) is.batch ∙ here)
 
     -- what a host that is out was given is what the step asks of it
-    given : (host : ℕ) (asked : Asked) (task : Step) → turn_at work.turns.items host ≡ Out asked → step_at roll.play step ≡ Some task → (summary : Summary) × IsGiven roll state host summary.vars asked task
+    given : (host : ℕ) (asked : Asked) (task : Step) → turn_at work.turns.items host ≡ Out asked → step_at roll.play step ≡ Some task
+        → (summary : Summary) × IsGiven roll state host summary.vars asked task
     given host asked task turn named =
         let got = get_in work.summaries.items host (host_within host (out_inside host asked turn)) in
         (got.0, is.given host step asked got.0 task turn got.1 at_step named)

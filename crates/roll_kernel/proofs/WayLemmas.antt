@@ -7,7 +7,8 @@ use Rattle.std.proofs.lemmas.Slice.Eq.{bytes_eq-Decides, slice_eq-Decides}
 use Rattle.std.specs.Cmp.Lexicographic.{pointwise}
 
 -- words are the same where their bytes are
-pub words_decide : (same : String Global → String Global → Bool) → ((a b : String Global) → same a b ≡ bytes_eq (string_bytes a) (string_bytes b)) → (words given : List (String Global)) → Decides (pointwise same words given) (map string_bytes words ≡ map string_bytes given)
+pub words_decide : (same : String Global → String Global → Bool) → ((a b : String Global) → same a b ≡ bytes_eq (string_bytes a) (string_bytes b))
+    → (words given : List (String Global)) → Decides (pointwise same words given) (map string_bytes words ≡ map string_bytes given)
 words_decide same is words given =
     slice_eq-Decides bytes_eq-Decides (map string_bytes words) (map string_bytes given) (pointwise same words given) (bytes words given)
   where

@@ -1,5 +1,6 @@
 -- A batch of a legal log ends as its hosts do by themselves.
-use Rattle.std.proofs.Common.{◌≡◌, ℕ, suc, ◌+◌, ◌-◌, ◌≤◌, ◌<◌, nat_lt, Bool, true, false, cond, ◌||◌, Option, Some, None, is_some, List, [], ◌∷◌, ◌++◌, length, refl, sym, ap, ◌∙◌, subst, arith, inl, inr, ◌⊎◌}
+use Rattle.std.proofs.Common.{◌≡◌, ℕ, suc, ◌+◌, ◌-◌, ◌≤◌, ◌<◌, nat_lt, Bool, true, false, cond, ◌||◌, Option, Some, None, is_some, List, [], ◌∷◌, ◌++◌}
+use Rattle.std.proofs.Common.{length, refl, sym, ap, ◌∙◌, subst, arith, inl, inr, ◌⊎◌}
 use Rattle.std.specs.Prelude.{if◌then◌else◌}
 use Rattle.std.specs.List.{list_any}
 use Rattle.std.proofs.lemmas.List.{ext_get_or}
@@ -219,7 +220,8 @@ module _ (roll : Roll) (columns : Columns) where
   abbrev in_phase : Phase → State → State
   in_phase phase state = record state { phase = phase }
 
-  passed_on_track : (state : State) (step : ℕ) → OnTrack state → state.phase ≡ working step → NobodyIsWaitedFor state step → (phase : Phase) → phase_after roll.play state step ≡ phase → OnTrack (in_phase phase state)
+  passed_on_track : (state : State) (step : ℕ) → OnTrack state → state.phase ≡ working step → NobodyIsWaitedFor state step → (phase : Phase)
+      → phase_after roll.play state step ≡ phase → OnTrack (in_phase phase state)
   passed_on_track state step on at none phase is = by_case phase (subst (Passes state step within through before) is (passes state step within through before))
     where
       within : step < steps
@@ -256,11 +258,13 @@ module _ (roll : Roll) (columns : Columns) where
   same_end host step (job words) ending told = told
   same_end host step (settled end) ending told = refl
 
-  same_row : (host step : ℕ) (known : Known) (task : Step) (ending : Ending) → MayEnd (gives columns) host step (asks known task) ending → row_at known (Some task) step ending ≡ row_at known (Some task) step (columns host step)
+  same_row : (host step : ℕ) (known : Known) (task : Step) (ending : Ending) → MayEnd (gives columns) host step (asks known task) ending
+      → row_at known (Some task) step ending ≡ row_at known (Some task) step (columns host step)
   same_row host step known task ending told =
       ap (λ end. entry_of known task step end ∷ []) (same_end host step (asks known task) ending told)
 
-  reported_on_track : (state : State) (host step : ℕ) (ending : Ending) → MayReport roll state host step ending → MayTell (gives columns) roll state (reported host step ending) → IsKept state → OnTrack (next roll state (reported host step ending))
+  reported_on_track : (state : State) (host step : ℕ) (ending : Ending) → MayReport roll state host step ending
+      → MayTell (gives columns) roll state (reported host step ending) → IsKept state → OnTrack (next roll state (reported host step ending))
   reported_on_track state host step ending may told (at_work, on) =
       record {
         rows = λ other now here e. by_case other now here e (cases_eq other host);
@@ -290,8 +294,10 @@ module _ (roll : Roll) (columns : Columns) where
           let given = columns host step in
           let row : List Entry → Option Step → Ending → List Entry = λ rows task end. rows ++ row_at (known_after roll.play (roll.known host) rows) task step end in
           let own = state.rows host in
-          let as_given : row own (Some may.task) ending ≡ row own (Some may.task) given = ap (λ rows. own ++ rows) (same_row host step (known_after roll.play (roll.known host) own) may.task ending (told may.task may.is)) in
-          ap (λ task. row own task ending) may.is ∙ as_given ∙ sym (ap (λ task. row own task given) may.is) ∙ ap (λ rows. row rows (step_at roll.play step) given) waits ∙ sym (due_rows roll.play (roll.known host) (columns host) step due)
+          let as_given : row own (Some may.task) ending ≡ row own (Some may.task) given =
+              ap (λ rows. own ++ rows) (same_row host step (known_after roll.play (roll.known host) own) may.task ending (told may.task may.is)) in
+          ap (λ task. row own task ending) may.is ∙ as_given ∙ sym (ap (λ task. row own task given) may.is)
+              ∙ ap (λ rows. row rows (step_at roll.play step) given) waits ∙ sym (due_rows roll.play (roll.known host) (columns host) step due)
 
       by_case : (other now : ℕ) → has_number other state.batch ≡ true → state.phase ≡ working now → (other ≡ host) ⊎ (other ≡ host → ⊥) → IsAt (with_rows host new state.rows other) other now
       by_case other now here e (inl same) =
@@ -360,7 +366,8 @@ module _ (roll : Roll) (columns : Columns) where
           working_or : Bool → Status
           working_or failed = if failed then Failed else Running
 
-          by_case : (b : Bool) → at_rest None (status_in_batch rows) ≡ status_after None (failing_step rows) → at_rest None (working_or (b || has_failed rows)) ≡ status_after None (if b then Some row.step else failing_step rows)
+          by_case : (b : Bool) → at_rest None (status_in_batch rows) ≡ status_after None (failing_step rows)
+              → at_rest None (working_or (b || has_failed rows)) ≡ status_after None (if b then Some row.step else failing_step rows)
           by_case true later = refl
           by_case false later = later
   fate rows (Some at) failing whole up_to = rw (up_to at refl) (by_case (is_failed_by failing at))
@@ -380,7 +387,8 @@ module _ (roll : Roll) (columns : Columns) where
 
   closed_status : (state : State) (halt : Option ℕ) (host : ℕ) → AtWork roll.play state → Ends state halt → has_number host state.batch ≡ true → IsClosedAs state host halt (ended halt)
   closed_status state halt host at_work is here =
-      status_at-changed_idle (at_rest halt) state.batch state.statuses host refl ∙ ap closed_if here ∙ ap (at_rest halt) (at_work.works host here) ∙ fate (state.rows host) halt (fails_by roll columns host) whole up_to
+      status_at-changed_idle (at_rest halt) state.batch state.statuses host refl ∙ ap closed_if here ∙ ap (at_rest halt) (at_work.works host here)
+          ∙ fate (state.rows host) halt (fails_by roll columns host) whole up_to
     where
       rows : state.rows host ≡ rows_of host (steps_until roll halt)
       rows = is.1 host here
@@ -411,7 +419,8 @@ module _ (roll : Roll) (columns : Columns) where
       count_same (λ host. has_failed (state.rows host)) (λ host. is_some (fails_by roll columns host)) state.batch (λ host here. ap has_failed (is.1 host here) ∙ some_failed (rows_of host steps))
   failures_alike state (Some at) is =
       let within : at < steps = halt_within state.batch at (sym is.0) in
-      count_same (λ host. has_failed (state.rows host)) (λ host. is_failed_by (fails_by roll columns host) at) state.batch (λ host here. ap has_failed (is.1 host here) ∙ sym (failed_by roll.play (roll.known host) (columns host) steps at within))
+      count_same (λ host. has_failed (state.rows host)) (λ host. is_failed_by (fails_by roll columns host) at) state.batch
+          (λ host here. ap has_failed (is.1 host here) ∙ sym (failed_by roll.play (roll.known host) (columns host) steps at within))
 
   pub along_log : (state : State) (log : List Event) → IsLegal roll state log → AreTold (gives columns) roll state log → IsKept state → IsKept (state_after roll state log)
   along_log state [] legal told kept = kept
@@ -447,7 +456,9 @@ ends_by_columns roll log columns halt legal told at =
     one : (host : ℕ) (b : Bool) → has_number host state.batch ≡ b → status_at (closed_state (ended halt) state).statuses host ≡ choice host b
     one host true here = closed_status roll columns state halt host kept.0 ended_so here
     one host false outside =
-        let stays : status_at (closed_state (ended halt) state).statuses host ≡ status_at state.statuses host = status_at-changed_idle (at_rest halt) state.batch state.statuses host refl ∙ ap (λ b. cond b (at_rest halt (status_at state.statuses host)) (status_at state.statuses host)) outside in
+        let stays : status_at (closed_state (ended halt) state).statuses host ≡ status_at state.statuses host =
+            status_at-changed_idle (at_rest halt) state.batch state.statuses host refl
+            ∙ ap (λ b. cond b (at_rest halt (status_at state.statuses host)) (status_at state.statuses host)) outside in
         stays ∙ was.others going host outside
 
     result : List Status

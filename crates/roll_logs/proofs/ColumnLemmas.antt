@@ -42,7 +42,8 @@ failed_before (first ∷ rows) row step later =
     first_or : Bool → Option ℕ → Option ℕ
     first_or b later = if b then Some first.step else later
 
-    by_case : (b : Bool) → is_failed_by (failing_step (rows ++ row ∷ [])) step ≡ is_failed_by (failing_step rows) step → is_failed_by (first_or b (failing_step (rows ++ row ∷ []))) step ≡ is_failed_by (first_or b (failing_step rows)) step
+    by_case : (b : Bool) → is_failed_by (failing_step (rows ++ row ∷ [])) step ≡ is_failed_by (failing_step rows) step
+        → is_failed_by (first_or b (failing_step (rows ++ row ∷ []))) step ≡ is_failed_by (first_or b (failing_step rows)) step
     by_case true same = refl
     by_case false same = same
 

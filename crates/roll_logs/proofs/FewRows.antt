@@ -1,5 +1,6 @@
 -- No host has more rows than its play has steps.
-use Rattle.std.proofs.Common.{◌≡◌, ℕ, zero, suc, ◌+◌, ◌<◌, ◌≤◌, Bool, true, false, cond, not, ◌&&◌, Option, Some, None, List, [], ◌∷◌, ◌++◌, length, take, sym, ap, ◌∙◌, refl, subst, arith, inl, inr, ◌⊎◌, length-append}
+use Rattle.std.proofs.Common.{◌≡◌, ℕ, zero, suc, ◌+◌, ◌<◌, ◌≤◌, Bool, true, false, cond, not, ◌&&◌, Option, Some, None, List, [], ◌∷◌, ◌++◌, length}
+use Rattle.std.proofs.Common.{take, sym, ap, ◌∙◌, refl, subst, arith, inl, inr, ◌⊎◌, length-append}
 use Rattle.std.proofs.lemmas.Bool.{and_parts, cases_eq, not-true}
 use Rattle.std.proofs.lemmas.Option.{slice_get_within}
 use Rattle.fleet_numbers.specs.NumberLists.{has_number}
@@ -40,7 +41,8 @@ record HasFew (play : Play) (state : State) : Type 0 where
   behind : (host step : ℕ) → state.phase ≡ working step → has_number host state.batch ≡ true → length (state.rows host) ≤ step + row_bit (state.rows host) step
 
 module _ (roll : Roll) where
-  few_reported : (state : State) (host step : ℕ) (ending : Ending) → MayReport roll state host step ending → AtWork roll.play state → HasFew roll.play state → HasFew roll.play (next roll state (reported host step ending))
+  few_reported : (state : State) (host step : ℕ) (ending : Ending) → MayReport roll state host step ending → AtWork roll.play state
+      → HasFew roll.play state → HasFew roll.play (next roll state (reported host step ending))
   few_reported state host step ending may work few =
       record { rows = λ other. all other (cases_eq other host); behind = λ other now at here. late other now at here (cases_eq other host) }
     where
@@ -67,7 +69,8 @@ module _ (roll : Roll) where
       all other (inr apart) =
           omega (arith, ap length (other_rows host rows state.rows other apart), few.rows other)
 
-      late : (other now : ℕ) → state.phase ≡ working now → has_number other state.batch ≡ true → (other ≡ host) ⊎ (other ≡ host → ⊥) → length (with_rows host rows state.rows other) ≤ now + row_bit (with_rows host rows state.rows other) now
+      late : (other now : ℕ) → state.phase ≡ working now → has_number other state.batch ≡ true → (other ≡ host) ⊎ (other ≡ host → ⊥)
+          → length (with_rows host rows state.rows other) ≤ now + row_bit (with_rows host rows state.rows other) now
       late other now at here (inl same) =
           let one = step_of step now (sym may.at ∙ at) in
           subst (λ (l : List Entry). length l ≤ now + row_bit l now) (sym (own_rows host rows state.rows other same))
@@ -98,7 +101,8 @@ module _ (roll : Roll) where
       }
   next_few state closed may work few = few_closed state state.phase few refl
 
-  fronts_few : (state : State) (log : List Event) → AtWork roll.play state → HasFew roll.play state → IsLegal roll state log → (n host : ℕ) → length ((state_after roll state (take n log)).rows host) ≤ length roll.play.steps.items
+  fronts_few : (state : State) (log : List Event) → AtWork roll.play state → HasFew roll.play state → IsLegal roll state log → (n host : ℕ)
+      → length ((state_after roll state (take n log)).rows host) ≤ length roll.play.steps.items
   fronts_few state [] work few legal zero host = few.rows host
   fronts_few state [] work few legal (suc n) host = few.rows host
   fronts_few state (event ∷ log) work few legal zero host = few.rows host

@@ -35,7 +35,8 @@ row_stays roll host rows step place ending has =
     let more : List Entry = row_at (known_after roll.play (roll.known host) rows) (step_at roll.play place) place ending in
     list_any-append (λ (entry : Entry). nat_eq entry.step step) rows more ∙ ap (λ b. b || has_row more step) has
 
-pub row_added : (roll : Roll) (host : ℕ) (rows : List Entry) (step : ℕ) (ending : Ending) (task : Step) → step_at roll.play step ≡ Some task → has_row (rows_with roll host rows step ending) step ≡ true
+pub row_added : (roll : Roll) (host : ℕ) (rows : List Entry) (step : ℕ) (ending : Ending) (task : Step) → step_at roll.play step ≡ Some task
+    → has_row (rows_with roll host rows step ending) step ≡ true
 row_added roll host rows step ending task is = by_case (step_at roll.play step) is
   where
     by_case : (at : Option Step) → at ≡ Some task → has_row (rows ++ row_at (known_after roll.play (roll.known host) rows) at step ending) step ≡ true
@@ -220,7 +221,8 @@ module _ (roll : Roll) (host step : ℕ) where
   paid_claim state other place at =
       by_case (nat_eq host other) refl (has_number host state.out) (nat_eq place step) (ap at_step at)
     where
-      by_case : (mine : Bool) → nat_eq host other ≡ mine → (out here : Bool) → at_step state.phase ≡ here → 0 + bit ((mine || out) && at_step state.phase) ≤ bit (nat_eq other host && here) + bit (out && at_step state.phase)
+      by_case : (mine : Bool) → nat_eq host other ≡ mine → (out here : Bool) → at_step state.phase ≡ here
+          → 0 + bit ((mine || out) && at_step state.phase) ≤ bit (nat_eq other host && here) + bit (out && at_step state.phase)
       by_case false apart out here is = omega arith
       by_case true same out true is =
           let own : nat_eq other host ≡ true = eq-eqb other host (sym (eqb-true host other same)) in
@@ -242,7 +244,8 @@ module _ (roll : Roll) (host step : ℕ) where
       stays before false kept here = omega arith
       stays before true kept here = rw (kept refl) (omega arith)
 
-      by_case : (host ≡ other) ⊎ (host ≡ other → ⊥) → bit (nat_eq other host && nat_eq place step) + bit (has_number host (without other state.out) && at_step state.phase) ≤ 0 + bit (has_number host state.out && at_step state.phase)
+      by_case : (host ≡ other) ⊎ (host ≡ other → ⊥)
+          → bit (nat_eq other host && nat_eq place step) + bit (has_number host (without other state.out) && at_step state.phase) ≤ 0 + bit (has_number host state.out && at_step state.phase)
       by_case (inl same) =
           let own : nat_eq other host ≡ true = eq-eqb other host (sym same) in
           let left : has_number host (without other state.out) ≡ false = gone same (has_number host (without other state.out)) refl in

@@ -36,7 +36,8 @@ has_without host (first ∷ hosts) other here =
     rest_or : Bool → List ℕ
     rest_or b = cond (not b) (first ∷ rest) rest
 
-    by_case : (has_number other rest ≡ true → (other ≡ host → ⊥) × (has_number other hosts ≡ true)) → (b : Bool) → nat_eq first host ≡ b → has_number other (rest_or b) ≡ true → (other ≡ host → ⊥) × (has_number other (first ∷ hosts) ≡ true)
+    by_case : (has_number other rest ≡ true → (other ≡ host → ⊥) × (has_number other hosts ≡ true)) → (b : Bool) → nat_eq first host ≡ b
+        → has_number other (rest_or b) ≡ true → (other ≡ host → ⊥) × (has_number other (first ∷ hosts) ≡ true)
     by_case later true same is = ((later is).0, or_right (nat_eq other first) (has_number other hosts) (later is).1)
     by_case later false apart is = either (or_cases (nat_eq other first) (has_number other rest) is)
       where
@@ -86,7 +87,8 @@ has_still host (first ∷ hosts) other apart here =
     rest_or : Bool → List ℕ
     rest_or b = cond (not b) (first ∷ rest) rest
 
-    by_case : (has_number other hosts ≡ true → has_number other rest ≡ true) → (b : Bool) → nat_eq first host ≡ b → (nat_eq other first ≡ true) ⊎ (has_number other hosts ≡ true) → has_number other (rest_or b) ≡ true
+    by_case : (has_number other hosts ≡ true → has_number other rest ≡ true) → (b : Bool) → nat_eq first host ≡ b
+        → (nat_eq other first ≡ true) ⊎ (has_number other hosts ≡ true) → has_number other (rest_or b) ≡ true
     by_case later true same (inl is) = absurd (apart (eqb-true other first is ∙ eqb-true first host same))
     by_case later true same (inr behind) = later behind
     by_case later false gone (inl is) = or_left (nat_eq other first) (has_number other rest) is

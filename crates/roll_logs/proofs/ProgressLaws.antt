@@ -30,7 +30,9 @@ passed_at_a_step : (roll : Roll) (state : State) (place step : ℕ) → phase_af
 passed_at_a_step roll state place step =
     by_case (is_past roll.play.max_fail (failures state) (length state.batch)) (is_last roll.play place) refl (is_dead state)
   where
-    by_case : (past last : Bool) → is_last roll.play place ≡ last → (dead : Bool) → (if past then ended (Some place) else (if last then ended None else (if dead then ended None else working (suc place)))) ≡ working step → step < length roll.play.steps.items
+    by_case : (past last : Bool) → is_last roll.play place ≡ last → (dead : Bool)
+        → (if past then ended (Some place) else (if last then ended None else (if dead then ended None else working (suc place)))) ≡ working step
+        → step < length roll.play.steps.items
     by_case true last is dead e = absurd (cc)
     by_case false true is dead e = absurd (cc)
     by_case false false is true e = absurd (cc)
@@ -58,7 +60,8 @@ one_of test [] some = absurd (cc)
 one_of test (first ∷ hosts) some =
     by_case (one_of test hosts) (or_cases (test first) (list_any test hosts) some)
   where
-    by_case : (list_any test hosts ≡ true → (host : ℕ) × (has_number host hosts ≡ true) × (test host ≡ true)) → (test first ≡ true) ⊎ (list_any test hosts ≡ true) → (host : ℕ) × (has_number host (first ∷ hosts) ≡ true) × (test host ≡ true)
+    by_case : (list_any test hosts ≡ true → (host : ℕ) × (has_number host hosts ≡ true) × (test host ≡ true))
+        → (test first ≡ true) ⊎ (list_any test hosts ≡ true) → (host : ℕ) × (has_number host (first ∷ hosts) ≡ true) × (test host ≡ true)
     by_case later (inl here) =
         (first, or_left (nat_eq first first) (has_number first hosts) (eq-eqb first first refl), here)
     by_case later (inr behind) =
@@ -125,7 +128,8 @@ pub dead_end : DeadBatchesEnd
 dead_end roll state step dead =
     by_case (is_past roll.play.max_fail (failures state) (length state.batch)) (is_last roll.play step) (is_dead state) dead
   where
-    by_case : (past last are : Bool) → are ≡ true → (halt : Option ℕ) × ((if past then ended (Some step) else (if last then ended None else (if are then ended None else working (suc step)))) ≡ ended halt)
+    by_case : (past last are : Bool) → are ≡ true
+        → (halt : Option ℕ) × ((if past then ended (Some step) else (if last then ended None else (if are then ended None else working (suc step)))) ≡ ended halt)
     by_case true last are is = (Some step, refl)
     by_case false true are is = (None, refl)
     by_case false false true is = (None, refl)

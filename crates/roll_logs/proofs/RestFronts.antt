@@ -27,7 +27,8 @@ abbrev runs_in : List Status → ℕ → Bool
 runs_in statuses host = is_running (status_at statuses host)
 
 -- a host that runs after such a change is one of the changed, or ran before
-ran : (change : Status → Status) (hosts : List ℕ) (statuses : List Status) (host : ℕ) → runs_in (changed change hosts statuses) host ≡ true → (has_number host hosts ≡ true) ⊎ (runs_in statuses host ≡ true)
+ran : (change : Status → Status) (hosts : List ℕ) (statuses : List Status) (host : ℕ) → runs_in (changed change hosts statuses) host ≡ true
+    → (has_number host hosts ≡ true) ⊎ (runs_in statuses host ≡ true)
 ran change hosts statuses host runs = by_case (cases_lt host (length statuses))
   where
     either : (b : Bool) → is_running (cond b (change (status_at statuses host)) (status_at statuses host)) ≡ true → (b ≡ true) ⊎ (is_running (status_at statuses host) ≡ true)
@@ -41,7 +42,8 @@ ran change hosts statuses host runs = by_case (cases_lt host (length statuses))
         absurd (both_ways true (sym runs ∙ ap is_running (status_at-changed_past change hosts statuses host past)) refl)
 
 -- a change to a status at rest makes nobody run
-ran_before : (change : Status → Status) (hosts : List ℕ) (statuses : List Status) (host : ℕ) → ((s : Status) → is_running (change s) ≡ false) → runs_in (changed change hosts statuses) host ≡ true → (has_number host hosts ≡ false) × (runs_in statuses host ≡ true)
+ran_before : (change : Status → Status) (hosts : List ℕ) (statuses : List Status) (host : ℕ) → ((s : Status) → is_running (change s) ≡ false)
+    → runs_in (changed change hosts statuses) host ≡ true → (has_number host hosts ≡ false) × (runs_in statuses host ≡ true)
 ran_before change hosts statuses host rests runs = by_case (cases_lt host (length statuses))
   where
     either : (b : Bool) → is_running (cond b (change (status_at statuses host)) (status_at statuses host)) ≡ true → (b ≡ false) × (is_running (status_at statuses host) ≡ true)

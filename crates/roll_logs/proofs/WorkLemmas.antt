@@ -45,7 +45,9 @@ abbrev pub waits_in : List Status → ℕ → Bool
 waits_in statuses host = is_waiting (status_at statuses host)
 
 -- a host that waits after such a change waited before it
-pub waited : (change : Status → Status) (hosts : List ℕ) (statuses : List Status) (host : ℕ) → ((s : Status) → is_waiting (change s) ≡ true → is_waiting s ≡ true) → waits_in (changed change hosts statuses) host ≡ true → waits_in statuses host ≡ true
+pub waited : (change : Status → Status) (hosts : List ℕ) (statuses : List Status) (host : ℕ)
+    → ((s : Status) → is_waiting (change s) ≡ true → is_waiting s ≡ true) → waits_in (changed change hosts statuses) host ≡ true
+    → waits_in statuses host ≡ true
 waited change hosts statuses host only waits = by_case (cases_lt host (length statuses))
   where
     either : (b : Bool) → is_waiting (cond b (change (status_at statuses host)) (status_at statuses host)) ≡ true → is_waiting (status_at statuses host) ≡ true

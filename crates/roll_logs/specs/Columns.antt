@@ -71,4 +71,5 @@ pub record EndsByColumns (roll : Roll) (columns : Columns) (state : State) (halt
 -- a batch ends as its hosts do by themselves, whoever worked on them, in whatever order and beside whom
 abbrev pub BatchesEndByColumns : Type 0
 BatchesEndByColumns =
-    (roll : Roll) (log : List Event) (columns : Columns) (halt : Option ℕ) → IsLegal roll (start_state roll) log → Tells columns roll log → (end_state roll log).phase ≡ ended halt → EndsByColumns roll columns (end_state roll log) halt
+    (roll : Roll) (log : List Event) (columns : Columns) (halt : Option ℕ) → IsLegal roll (start_state roll) log → Tells columns roll log
+        → (end_state roll log).phase ≡ ended halt → EndsByColumns roll columns (end_state roll log) halt

@@ -20,7 +20,9 @@ loop-place-init c =
       queued = c.requires.queued;
       inside = omega arith;
       room = omega arith;
-      lined = lined_none (due_at c.args.play.now c.args.step c.args.summaries.now) c.args.batch.now c.args.line.now c.args.turns.now (length c.args.batch.now) (length c.args.batch.now) (line_over c.args.batch.now (length c.args.batch.now) (omega arith)) (line_over c.args.line.now (length c.args.batch.now) (omega (arith, c.requires.places)));
+      lined = lined_none (due_at c.args.play.now c.args.step c.args.summaries.now) c.args.batch.now c.args.line.now c.args.turns.now
+          (length c.args.batch.now) (length c.args.batch.now) (line_over c.args.batch.now (length c.args.batch.now) (omega arith))
+          (line_over c.args.line.now (length c.args.batch.now) (omega (arith, c.requires.places)));
     }
 
 pub loop-place-preserved-then-is_due_on : goal.loop-place-preserved-then-is_due_on
@@ -36,8 +38,12 @@ loop-place-preserved-then-is_due_on c =
     let inside : place - 1 < length batch = omega (arith, c.loop-place-test.true, invariant.room, invariant.inside) in
     let below : host.index < length c.args.summaries.now = host_below (length c.args.summaries.now) batch (place - 1) none c.requires.within inside in
     let named : get_or batch (place - 1) host ≡ host = get_or_from_slice_get batch (place - 1) host host (slice_get-get_or batch (place - 1) none inside) in
-    let lined = lined_due due batch line place first host c.args.turns.now c.loop-place.turns (omega (arith, c.loop-place-test.true)) (omega (arith, invariant.room, invariant.inside)) named invariant.lined (sym c.is_due_on.ensures ∙ c.if-is_due_on.true) (omega (arith, below, invariant.all, c.requires.all)) (omega (arith, c.loop-place-test.true, invariant.room)) (omega (arith, invariant.inside, invariant.places, c.requires.places)) in
-    let written = subst (λ (l : List Turn). HaveLinedUp due (host_numbers (drop (place - 1) batch)) c.args.turns.now l (host_numbers (drop (first - 1) (set line (first - 1) host)))) (sym c.put_due.ensures) lined in
+    let lined = lined_due due batch line place first host c.args.turns.now c.loop-place.turns (omega (arith, c.loop-place-test.true))
+        (omega (arith, invariant.room, invariant.inside)) named invariant.lined (sym c.is_due_on.ensures ∙ c.if-is_due_on.true)
+        (omega (arith, below, invariant.all, c.requires.all)) (omega (arith, c.loop-place-test.true, invariant.room))
+        (omega (arith, invariant.inside, invariant.places, c.requires.places)) in
+    let written = subst (λ (l : List Turn). HaveLinedUp due (host_numbers (drop (place - 1) batch)) c.args.turns.now l
+            (host_numbers (drop (first - 1) (set line (first - 1) host)))) (sym c.put_due.ensures) lined in
     record {
       all = ap length c.put_due.ensures ∙ length-set c.loop-place.turns host.index Due ∙ invariant.all;
       places = ap length c.put.ensures ∙ length-set line (first - 1) host ∙ invariant.places;
@@ -63,5 +69,7 @@ loop-place-preserved c =
       queued = invariant.queued;
       inside = invariant.inside;
       room = omega (arith, invariant.room);
-      lined = lined_over due batch c.loop-place.line place c.loop-place.first host c.args.turns.now c.loop-place.turns (omega (arith, c.loop-place-test.true)) (omega (arith, invariant.room, invariant.inside)) named invariant.lined (sym c.is_due_on.ensures ∙ c.if-is_due_on.false);
+      lined = lined_over due batch c.loop-place.line place c.loop-place.first host c.args.turns.now c.loop-place.turns
+          (omega (arith, c.loop-place-test.true)) (omega (arith, invariant.room, invariant.inside)) named invariant.lined
+          (sym c.is_due_on.ensures ∙ c.if-is_due_on.false);
     }

@@ -19,7 +19,9 @@ returns-clause-row c =
       registers = c.register.ensures (ending_of c.args.outcome.now) c.requires.copy;
       failed = c.either-self.ensures ∙ ap (λ b. c.args.self.now.failed || b) c.is_failed.ensures;
       handlers = same_length;
-      notified = λ handler below. ap (λ (m : List Bool). mark_at m handler) kept ∙ marks_follow c.args.self.now.notified.items c.notify.new.marks _ _ _ _ _ c.deref_mut.ensures.value c.deref.ensures.value c.notifies.ensures c.notify.ensures handler below;
+      notified = λ handler below. ap (λ (m : List Bool). mark_at m handler) kept
+          ∙ marks_follow c.args.self.now.notified.items c.notify.new.marks _ _ _ _ _ c.deref_mut.ensures.value c.deref.ensures.value
+          c.notifies.ensures c.notify.ensures handler below;
       counts = c.add.ensures.rows;
     } in
     λ play start entries place shown at.
