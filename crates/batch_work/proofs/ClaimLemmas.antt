@@ -105,7 +105,7 @@ module _ (roll : Roll) (state : State) (old new : BatchWork) (host step : ℕ) (
             let mine : slice_get new.summaries.items host ≡ Some summary = sym (ap (slice_get new.summaries.items) same) ∙ got in
             let now : Shows roll.play (roll.known host) (state.rows host) after = keeps roll.play (roll.known host) (state.rows host) (work.summaries host before takes.was) in
             subst (λ (h : ℕ). Shows roll.play (roll.known h) (state.rows h) summary) (sym same)
-                (subst (λ (s : Summary). Shows roll.play (roll.known host) (state.rows host) s) (sym (summary_here summary mine)) now)
+            (subst (λ (s : Summary). Shows roll.play (roll.known host) (state.rows host) s) (sym (summary_here summary mine)) now)
         by_case (inr apart) = work.summaries other summary (summary_other other summary apart got)
 
     awaits_now : (other : ℕ) → awaits (turn_at new.turns.items other) ≡ is_awaited_in roll state other
@@ -157,8 +157,8 @@ module _ (roll : Roll) (state : State) (old new : BatchWork) (host step : ℕ) (
     line_now : rest ≡ filter (is_free roll later) state.batch
     line_now =
         line_behind (is_free roll state) state.batch host rest work.distinct first
-            ∙ filter_same (λ other. is_free roll state other && not (nat_eq other host)) (is_free roll later) state.batch
-            (λ other behind. and_apart (is_awaited_in roll state other) (nat_eq other host) (has_number other state.out))
+        ∙ filter_same (λ other. is_free roll state other && not (nat_eq other host)) (is_free roll later) state.batch
+        (λ other behind. and_apart (is_awaited_in roll state other) (nat_eq other host) (has_number other state.out))
 
     pub work_taken : IsWorkOf roll (next roll state (claimed host step)) new
     work_taken =
@@ -215,7 +215,7 @@ work_asked roll state old new host before after work asks keeps =
         by_case : (other ≡ host) ⊎ (other ≡ host → ⊥) → Shows roll.play (roll.known other) (state.rows other) summary
         by_case (inl same) =
             let mine : slice_get (set old.summaries.items host after) host ≡ Some summary =
-                sym (ap (λ (l : List Summary). slice_get l host) asks.summaries) ∙ sym (ap (slice_get new.summaries.items) same) ∙ got in
+            sym (ap (λ (l : List Summary). slice_get l host) asks.summaries) ∙ sym (ap (slice_get new.summaries.items) same) ∙ got in
             let one : summary ≡ after = some_same summary after (sym mine ∙ get_set old.summaries.items host after asks.within) in
             let now : Shows roll.play (roll.known host) (state.rows host) after = keeps roll.play (roll.known host) (state.rows host) (work.summaries host before asks.was) in
             subst (λ (h : ℕ). Shows roll.play (roll.known h) (state.rows h) summary) (sym same) (subst (λ (s : Summary). Shows roll.play (roll.known host) (state.rows host) s) (sym one) now)
@@ -243,8 +243,8 @@ work_asked roll state old new host before after work asks keeps =
             absurd (both_ways (has_number host state.out) not_out (sym (ap (λ h. has_number h state.out) same) ∙ out))
         by_case (inr apart) =
             work.given other step asked summary task was
-                (get_set_other old.summaries.items host after other summary apart
-                    (sym (ap (λ (l : List Summary). slice_get l other) asks.summaries) ∙ got)) is named
+            (get_set_other old.summaries.items host after other summary apart
+            (sym (ap (λ (l : List Summary). slice_get l other) asks.summaries) ∙ got)) is named
 
 -- the host that is next in line was asked
 pub asks_of : (old new : BatchWork) (host : HostId) (before after : Summary)
@@ -279,7 +279,7 @@ pub takes_of : (old new : BatchWork) (host : HostId) (asked : Asked) (before aft
 takes_of old new host asked before after at value play stage batch summaries turns line next out =
     let within : host.index < length old.summaries.items = line_below (length old.summaries.items) old.line.items old.next host old.queued at.0 at.1 in
     let rest : host_numbers (drop (old.next + 1) old.line.items) ≡ host_numbers (drop new.next new.line.items) =
-        ap (λ n. host_numbers (drop n old.line.items)) (sym next) ∙ ap (λ l. host_numbers (drop new.next l)) (sym line) in
+    ap (λ n. host_numbers (drop n old.line.items)) (sym next) ∙ ap (λ l. host_numbers (drop new.next l)) (sym line) in
     record {
       play = play;
       stage = stage;

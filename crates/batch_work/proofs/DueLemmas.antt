@@ -58,7 +58,7 @@ module _ (roll : Roll) (state : State) (work : BatchWork) (is : IsWorkOf roll st
     pub due_alike : (step : ℕ) → step < length roll.play.steps.items → due_at work.play.now step work.summaries.items host ≡ is_due roll.play (state.rows host) step
     due_alike step inside =
         ap (due_by work.play.now step) (found.1) ∙ ap (λ (p : Play). due_by p step (Some (found.0))) is.play
-            ∙ due_shown roll.play (roll.known host) (state.rows host) (found.0) step inside (is.summaries host (found.0) (found.1))
+        ∙ due_shown roll.play (roll.known host) (state.rows host) (found.0) step inside (is.summaries host (found.0) (found.1))
 
     pub failed_alike : failed_at work.summaries.items host ≡ has_failed (state.rows host)
     failed_alike = ap failed_by (found.1) ∙ (is.summaries host (found.0) (found.1)).failed
@@ -66,18 +66,18 @@ module _ (roll : Roll) (state : State) (work : BatchWork) (is : IsWorkOf roll st
   pub failures_alike : (hosts : List HostId) (count : ℕ) → hosts ≡ work.batch.items → count ≡ count_by (λ (host : HostId). failed_at work.summaries.items host.index) hosts → count ≡ failures state
   failures_alike hosts count same counted =
       counted ∙ numbers (failed_at work.summaries.items) hosts
-          ∙ ap (λ (l : List HostId). count_by (failed_at work.summaries.items) (host_numbers l)) same
-          ∙ ap (count_by (failed_at work.summaries.items)) is.batch
-          ∙ count_same (failed_at work.summaries.items) (λ host. has_failed (state.rows host)) state.batch
-          (λ host here. failed_alike host (number_below (length work.summaries.items) state.batch host
-                  (subst (λ (l : List ℕ). are_below (length work.summaries.items) l ≡ true) is.batch work.within) here))
+      ∙ ap (λ (l : List HostId). count_by (failed_at work.summaries.items) (host_numbers l)) same
+      ∙ ap (count_by (failed_at work.summaries.items)) is.batch
+      ∙ count_same (failed_at work.summaries.items) (λ host. has_failed (state.rows host)) state.batch
+      (λ host here. failed_alike host (number_below (length work.summaries.items) state.batch host
+      (subst (λ (l : List ℕ). are_below (length work.summaries.items) l ≡ true) is.batch work.within) here))
 
   pub lined_alike : (step : ℕ) (batch : List ℕ) (old new : List Turn) (line : List ℕ) → step < length roll.play.steps.items
       → are_below (length work.summaries.items) batch ≡ true → HaveLinedUp (due_at work.play.now step work.summaries.items) batch old new line
       → HaveLinedUp (λ host. is_due roll.play (state.rows host) step) batch old new line
   lined_alike step batch old new line inside below lined =
       lined_same (due_at work.play.now step work.summaries.items) (λ host. is_due roll.play (state.rows host) step) batch old new line
-          (λ host here. due_alike host (number_below (length work.summaries.items) batch host below here) step inside) lined
+      (λ host here. due_alike host (number_below (length work.summaries.items) batch host below here) step inside) lined
 
   -- of the open batch
   pub lined_in_batch : (step : ℕ) (old new : List Turn) (line : List ℕ) → step < length roll.play.steps.items
@@ -85,8 +85,8 @@ module _ (roll : Roll) (state : State) (work : BatchWork) (is : IsWorkOf roll st
       → HaveLinedUp (λ host. is_due roll.play (state.rows host) step) state.batch old new line
   lined_in_batch step old new line inside lined =
       lined_alike step state.batch old new line inside
-          (subst (λ (l : List ℕ). are_below (length work.summaries.items) l ≡ true) is.batch work.within)
-          (subst (λ (l : List ℕ). HaveLinedUp (due_at work.play.now step work.summaries.items) l old new line) is.batch lined)
+      (subst (λ (l : List ℕ). are_below (length work.summaries.items) l ≡ true) is.batch work.within)
+      (subst (λ (l : List ℕ). HaveLinedUp (due_at work.play.now step work.summaries.items) l old new line) is.batch lined)
 
 -- a play has a step
 pub some_step : (play : Play) → 0 < length play.steps.items

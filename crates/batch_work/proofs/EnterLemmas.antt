@@ -48,7 +48,7 @@ pub record Enters (old new : BatchWork) (host : ℕ) (before after : Summary) : 
 abbrev pub HasEntered : Step → Ending → Summary → Summary → Type 0
 HasEntered task ending before after =
     (play : Play) (known : Known) (entries : List Entry) (place : ℕ) → Shows play known entries before → step_at play place ≡ Some task
-        → Shows play known (entries ++ entry_of (known_after play known entries) task place ending ∷ []) after
+    → Shows play known (entries ++ entry_of (known_after play known entries) task place ending ∷ []) after
 
 ends_so : (request : Request) (ending : Ending) → EndsAs request ending → end_of request ending ≡ ending
 ends_so (job words) ending ends = refl
@@ -72,8 +72,8 @@ entered_shows roll state host step ending before after may shows entered =
     rows_are : rows_with roll host (state.rows host) step ending ≡ state.rows host ++ entry_of (known_after roll.play (roll.known host) (state.rows host)) may.task step ending ∷ []
     rows_are =
         ap (λ (s : Option Step). state.rows host ++ row_at (known_after roll.play (roll.known host) (state.rows host)) s step ending) may.is
-            ∙ ap (λ e. state.rows host ++ entry_of (known_after roll.play (roll.known host) (state.rows host)) may.task step e ∷ [])
-            (ends_so (asks (known_after roll.play (roll.known host) (state.rows host)) may.task) ending may.ends)
+        ∙ ap (λ e. state.rows host ++ entry_of (known_after roll.play (roll.known host) (state.rows host)) may.task step e ∷ [])
+        (ends_so (asks (known_after roll.play (roll.known host) (state.rows host)) may.task) ending may.ends)
 
 module _ (roll : Roll) (state : State) (old new : BatchWork) (host step : ℕ) (ending : Ending) (before after : Summary)
     (work : IsWorkOf roll state old) (enters : Enters old new host before after) (may : MayReport roll state host step ending)
@@ -118,7 +118,7 @@ module _ (roll : Roll) (state : State) (old new : BatchWork) (host step : ℕ) (
           subst (λ (h : ℕ). Shows roll.play (roll.known h) (now.rows h) summary) (sym same) with_rows
       by_case (inr apart) =
           subst (λ (l : List Entry). Shows roll.play (roll.known other) l summary) (sym (other_rows host rows state.rows other apart))
-              (work.summaries other summary (summary_other other summary apart got))
+          (work.summaries other summary (summary_other other summary apart got))
 
   none_awaited : is_awaited_in roll now host ≡ false
   none_awaited =

@@ -47,7 +47,7 @@ none_free roll state work is idle =
     over : (host : ℕ) → is_awaited_in roll state host ≡ false
     over host =
         and_right (has_number host state.batch) (is_awaited_by roll.play state.phase (state.rows host))
-            (ap (λ p. is_awaited_by roll.play p (state.rows host)) (sym is.phase) ∙ idle_stage work.stage idle roll.play (state.rows host))
+        (ap (λ p. is_awaited_by roll.play p (state.rows host)) (sym is.phase) ∙ idle_stage work.stage idle roll.play (state.rows host))
 
 -- nor where the line is at its end
 pub none_left : (roll : Roll) (state : State) (work : BatchWork) → IsWorkOf roll state work → length work.line.items ≤ work.next → find (is_free roll state) state.batch ≡ None

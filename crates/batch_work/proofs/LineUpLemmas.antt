@@ -20,7 +20,7 @@ below_set bound (first ∷ hosts) zero host below within =
     and_from _ (are_below bound (host_numbers hosts)) (lt-ltb host.index bound within) (and_parts _ (are_below bound (host_numbers hosts)) below).1
 below_set bound (first ∷ hosts) (suc i) host below within =
     and_from _ (are_below bound (host_numbers (set hosts i host))) (and_parts _ (are_below bound (host_numbers hosts)) below).0
-        (below_set bound hosts i host (and_parts _ (are_below bound (host_numbers hosts)) below).1 within)
+    (below_set bound hosts i host (and_parts _ (are_below bound (host_numbers hosts)) below).1 within)
 
 -- the hosts from the one before a place on
 from_before : (hosts : List HostId) (place : ℕ) (d : HostId) → 0 < place → place ≤ length hosts
@@ -66,11 +66,11 @@ module _ (due : ℕ → Bool) (batch line : List HostId) (place first : ℕ) (ho
           → turn_at (set turns host.index Due) other ≡ cond ((nat_eq other host.index || has_number other rest) && due other) Due (turn_at old other)
       turn other (inl same) =
           ap (turn_at (set turns host.index Due)) same ∙ get_or-set_same turns host.index Due Over inside
-              ∙ sym (ap (λ b. cond ((b || has_number other rest) && due other) Due (turn_at old other)) (eq-eqb other host.index same)
-                  ∙ ap (λ b. cond b Due (turn_at old other)) (ap due same ∙ passes))
+          ∙ sym (ap (λ b. cond ((b || has_number other rest) && due other) Due (turn_at old other)) (eq-eqb other host.index same)
+          ∙ ap (λ b. cond b Due (turn_at old other)) (ap due same ∙ passes))
       turn other (inr apart) =
           get_or-set_other turns host.index other Due Over apart ∙ lined.turns other
-              ∙ sym (ap (λ b. cond ((b || has_number other rest) && due other) Due (turn_at old other)) (ne_eqb other host.index apart))
+          ∙ sym (ap (λ b. cond ((b || has_number other rest) && due other) Due (turn_at old other)) (ne_eqb other host.index apart))
 
       more : HaveLinedUp due (host.index ∷ rest) old (set turns host.index Due) (host_numbers (drop (first - 1) (set line (first - 1) host)))
       more =
@@ -110,7 +110,7 @@ pub lined_moved : (play : Play) (step : ℕ) (s s' : List Summary) (b b' : List 
     → HaveLinedUp (due_at play step s') (host_numbers b') old' new' (host_numbers (drop first line'))
 lined_moved play step s s' b b' old old' new new' line line' first es eb eo en el lined =
     subst (λ (x : List Summary). HaveLinedUp (due_at play step x) (host_numbers b') old' new' (host_numbers (drop first line'))) es
-        (subst (λ (x : List HostId). HaveLinedUp (due_at play step s) (host_numbers x) old' new' (host_numbers (drop first line'))) eb
-            (subst (λ (x : List Turn). HaveLinedUp (due_at play step s) (host_numbers b) x new' (host_numbers (drop first line'))) eo
-            (subst (λ (x : List Turn). HaveLinedUp (due_at play step s) (host_numbers b) old x (host_numbers (drop first line'))) en
-            (subst (λ (x : List HostId). HaveLinedUp (due_at play step s) (host_numbers b) old new (host_numbers (drop first x))) el lined))))
+    (subst (λ (x : List HostId). HaveLinedUp (due_at play step s) (host_numbers x) old' new' (host_numbers (drop first line'))) eb
+    (subst (λ (x : List Turn). HaveLinedUp (due_at play step s) (host_numbers b) x new' (host_numbers (drop first line'))) eo
+    (subst (λ (x : List Turn). HaveLinedUp (due_at play step s) (host_numbers b) old x (host_numbers (drop first line'))) en
+    (subst (λ (x : List HostId). HaveLinedUp (due_at play step s) (host_numbers b) old new (host_numbers (drop first x))) el lined))))

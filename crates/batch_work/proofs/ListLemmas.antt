@@ -67,8 +67,8 @@ distinct_passed p (first ∷ hosts) distinct =
     let parts = and_parts (not (has_number first hosts)) (are_distinct hosts) distinct in
     let later : are_distinct (filter p hosts) ≡ true = distinct_passed p hosts parts.1 in
     let fresh : has_number first (filter p hosts)
-        ≡ false = false_from_ne_true (has_number first (filter p hosts))
-        (λ here. both_ways (has_number first hosts) (not-true (has_number first hosts) parts.0) (has_passed p hosts first here).0) in
+    ≡ false = false_from_ne_true (has_number first (filter p hosts))
+    (λ here. both_ways (has_number first hosts) (not-true (has_number first hosts) parts.0) (has_passed p hosts first here).0) in
     by_case (p first) (and_from (not (has_number first (filter p hosts))) (are_distinct (filter p hosts)) (ap not fresh) later) later
   where
     by_case : (b : Bool) → are_distinct (first ∷ filter p hosts) ≡ true → are_distinct (filter p hosts) ≡ true → are_distinct (cond b (first ∷ filter p hosts) (filter p hosts)) ≡ true

@@ -129,8 +129,8 @@ all_counted p (host ∷ hosts) =
 pub phase_alike : (play : Play) (state : State) (step count size : ℕ) → count ≡ failures state → size ≡ length state.batch → phase_by play step count size ≡ phase_after play state step
 phase_alike play state step count size counted sized =
     ap (λ n. phase_by play step n size) counted ∙ ap (phase_by play step (failures state)) sized
-        ∙ by_case (is_past play.max_fail (failures state) (length state.batch)) (is_last play step) (nat_eq (failures state) (length state.batch))
-        (is_dead state) (all_counted (λ host. has_failed (state.rows host)) state.batch)
+    ∙ by_case (is_past play.max_fail (failures state) (length state.batch)) (is_last play step) (nat_eq (failures state) (length state.batch))
+    (is_dead state) (all_counted (λ host. has_failed (state.rows host)) state.batch)
   where
     by_case : (past last all dead : Bool) → all ≡ dead
         → (if past then ended (Some step) else (if last || all then ended None else working (suc step)))
@@ -196,9 +196,9 @@ module _ (roll : Roll) (state : State) (old new : BatchWork) (step : ℕ) (work 
           given = λ host at asked summary task turn got is named. let both : ended halt ≡ working at = sym ends ∙ is in absurd (cc);
           free = line ∙ work.free ∙ filter_none (is_free roll state) state.batch
               (λ host here. and_left (is_awaited_in roll state host) (not (has_number host state.out))
-                  (none_awaited roll state old step work may nobody host))
+              (none_awaited roll state old step work may nobody host))
               ∙ sym (filter_none (is_free roll now) state.batch
-                  (λ host here. and_left (is_awaited_in roll now host) (not (has_number host state.out)) (over host)));
+              (λ host here. and_left (is_awaited_in roll now host) (not (has_number host state.out)) (over host)));
           count = stays.out ∙ work.count;
         }
 

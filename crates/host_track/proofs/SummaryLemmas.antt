@@ -29,7 +29,7 @@ use Rattle.host_track.specs.declared.summary.Summary.{Summary}
 pub same_known : (a b : Known) → a.variables ≡ b.variables → ((name : Name) → a.results name ≡ b.results name) → a ≡ b
 same_known a b variables results =
     ap (λ (v : HostView). let known : Known = record { variables = v; results = a.results } in known) variables
-        ∙ ap (λ (r : Name → Option Row). let known : Known = record { variables = b.variables; results = r } in known) (fun_ext results)
+    ∙ ap (λ (r : Name → Option Row). let known : Known = record { variables = b.variables; results = r } in known) (fun_ext results)
 
 pub kept_known : (old new : Vars) → variables_of new ≡ variables_of old → ((name : Name) → result_in new name ≡ result_in old name) → known_of new ≡ known_of old
 kept_known old new variables results =
@@ -115,7 +115,7 @@ pub shows_row : (play : Play) (start : Known) (entries : List Entry) (place : �
     → step_at play place ≡ Some step → Shows play start (entries ++ entry_of (known_after play start entries) step place ending ∷ []) new
 shows_row play start entries place step ending finding old new found follows shown at =
     let here : Follows (known_of old.vars) step ending (finding_of (known_of old.vars) step ending) old new =
-        subst (λ (f : Finding). Follows (known_of old.vars) step ending f old new) found follows in
+    subst (λ (f : Finding). Follows (known_of old.vars) step ending f old new) found follows in
     shows_row_after play start entries place step ending old new shown at (subst (λ (known : Known). Follows known step ending (finding_of known step ending) old new) shown.known here)
 
 -- a summary that says the same shows the same rows
@@ -165,7 +165,7 @@ registered_known old new step name ending finding copy row found named here is m
     let same : row_of row ≡ table_row ending = subst (λ (o : Option Registered). IsCopyFor (Some name) ending o) here there in
     let whole : row_of found ≡ registered_row ending finding = made ∙ ap (λ (r : Row). let changed : Row = record r { changed = finding.changed; failed = finding.failed } in changed) same in
     laid_known old new (Some name) (row_of found) variables results ∙ ap (λ (r : Row). with_result (Some name) r (known_of old)) whole
-        ∙ ap (λ (n : Option Name). with_result n (registered_row ending finding) (known_of old)) (sym named)
+    ∙ ap (λ (n : Option Name). with_result n (registered_row ending finding) (known_of old)) (sym named)
 
 -- marks that were set through a slice
 pub marks_follow : (old new marks : List Bool) (notifies says : Bool) (handlers named : List ℕ) → marks ≡ old → handlers ≡ named → notifies ≡ says

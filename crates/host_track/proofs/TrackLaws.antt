@@ -88,7 +88,7 @@ along P play known column none stays more (suc place) =
         let without : Q [] = subst (λ (l : List Entry). P (suc place) l) (sym (append-nil rows)) (stays place rows holds) in
         let known_now : Known = known_after play known rows in
         only_due_row Q (is_due play rows place) (row_at known_now (step_at play place) place (column place)) without
-            (λ due. only_row Q known_now (step_at play place) place (column place) without (λ entry at. more place rows entry holds due at))
+        (λ due. only_row Q known_now (step_at play place) place (column place) without (λ entry at. more place rows entry holds due at))
 
 abbrev AreBelow : ℕ → List Entry → Type 0
 AreBelow steps rows = All (λ (entry : Entry). entry.step < steps) rows
@@ -105,9 +105,11 @@ rises-none =
     ((λ i j d before within. absurd (omega arith)), All-nil (λ (entry : Entry). entry.step < 0))
 
 rises_with : (play : Play) → StaysWithRow Rises play
-rises_with play place rows entry rises due at =
-    (all_pairs_push (λ (a b : Entry). a.step < b.step) rows entry rises.0 (λ k d within. before k d within), All-push
-            (λ (e : Entry). e.step < suc place) rows entry (below-step place rows rises.1) (omega arith))
+rises_with play place rows entry rises due at = (
+  all_pairs_push (λ (a b : Entry). a.step < b.step) rows entry rises.0 (λ k d within. before k d within),
+  All-push
+      (λ (e : Entry). e.step < suc place) rows entry (below-step place rows rises.1) (omega arith),
+)
   where
     before : (k : ℕ) (d : Entry) → k < length rows → (get_or rows k d).step < entry.step
     before k d within =

@@ -15,9 +15,9 @@ known_before play known column step = known_after play known (track play known c
 abbrev pub DueStepAddsItsRow : Type 0
 DueStepAddsItsRow =
     (play : Play) (known : Known) (column : Column) (place : ℕ) (step : Step) → IsTrue (is_due play (track play known column place) place)
-        → step_at play place ≡ Some step → track play known column (suc place)
-        ≡ track play known column place ++ entry_of (known_before play known column place) step place
-        (end_of (asks (known_before play known column place) step) (column place)) ∷ []
+    → step_at play place ≡ Some step → track play known column (suc place)
+    ≡ track play known column place ++ entry_of (known_before play known column place) step place
+    (end_of (asks (known_before play known column place) step) (column place)) ∷ []
 
 abbrev pub OtherStepAddsNone : Type 0
 OtherStepAddsNone =
@@ -41,20 +41,20 @@ AgreeingColumnsGiveOneTrack =
 abbrev pub StepsRise : Type 0
 StepsRise =
     (play : Play) (known : Known) (column : Column) (steps : ℕ) → AllPairs (λ (a b : Entry). a.step < b.step) (track play known column steps)
-        × All (λ (entry : Entry). entry.step < steps) (track play known column steps)
+    × All (λ (entry : Entry). entry.step < steps) (track play known column steps)
 
 -- wherever a track is cut at a row, the row's step is due by the rows before it
 abbrev pub EachRowIsDue : Type 0
 EachRowIsDue =
     (play : Play) (known : Known) (column : Column) (steps : ℕ) (before after : List Entry) (entry : Entry) → track play known column steps
-        ≡ before ++ entry ∷ after → IsTrue (is_due play before entry.step)
+    ≡ before ++ entry ∷ after → IsTrue (is_due play before entry.step)
 
 abbrev pub FailedRowIsTheLast : Type 0
 FailedRowIsTheLast =
     (play : Play) (known : Known) (column : Column) (steps : ℕ) (before after : List Entry) (entry : Entry) → track play known column steps
-        ≡ before ++ entry ∷ after → IsTrue (is_failed entry.finding.judged) → after ≡ []
+    ≡ before ++ entry ∷ after → IsTrue (is_failed entry.finding.judged) → after ≡ []
 
 abbrev pub HandlersRunWhereNotified : Type 0
 HandlersRunWhereNotified =
     (play : Play) (known : Known) (column : Column) (steps : ℕ) (before after : List Entry) (entry : Entry) → track play known column steps
-        ≡ before ++ entry ∷ after → play.tasks ≤ entry.step → IsTrue (is_notified play before (entry.step - play.tasks))
+    ≡ before ++ entry ∷ after → play.tasks ≤ entry.step → IsTrue (is_notified play before (entry.step - play.tasks))

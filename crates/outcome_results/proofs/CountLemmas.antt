@@ -31,4 +31,4 @@ counts_with ok changed failed skipped ignored =
 pub same_counts : (a b c d e v w x y z : ℕ) → a ≡ v → b ≡ w → c ≡ x → d ≡ y → e ≡ z → counts_with a b c d e ≡ counts_with v w x y z
 same_counts a b c d e v w x y z ok changed failed skipped ignored =
     ap (λ n. counts_with n b c d e) ok ∙ ap (λ n. counts_with v n c d e) changed ∙ ap (λ n. counts_with v w n d e) failed
-        ∙ ap (λ n. counts_with v w x n e) skipped ∙ ap (λ n. counts_with v w x y n) ignored
+    ∙ ap (λ n. counts_with v w x n e) skipped ∙ ap (λ n. counts_with v w x y n) ignored

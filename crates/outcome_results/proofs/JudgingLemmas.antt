@@ -20,4 +20,4 @@ pub flags_in_trial : (trial : Trial) (step : Step) (rc : ℤ) (stdout stderr : L
     → flags_of_run (environment_of_trial trial) step (row_of_trial trial) ≡ flags_of (known_of trial.vars.now) step (ending_of trial.outcome.now)
 flags_in_trial trial step rc stdout stderr named is =
     ap (λ (n : Option Name). flags_with (known_of trial.vars.now) step n (ending_of trial.outcome.now)) named
-        ∙ ap (flags_with (known_of trial.vars.now) step (register_of step)) is ∙ sym (ap (flags_of (known_of trial.vars.now) step) is)
+    ∙ ap (flags_with (known_of trial.vars.now) step (register_of step)) is ∙ sym (ap (flags_of (known_of trial.vars.now) step) is)

@@ -20,9 +20,9 @@ pub kept_down : (old lent rested new : RosterView) (share host : HostId) (status
 kept_down old lent rested new share host status lends same rests keeps =
     keeps
     ∙ ap (λ (r : RosterView). record r { seated = set r.seated host.index false })
-        (rests ∙ ap (λ (h : HostId). with_host lent h.index status true) same ∙ ap (λ (r : RosterView). with_host r host.index status true) lends)
+    (rests ∙ ap (λ (h : HostId). with_host lent h.index status true) same ∙ ap (λ (r : RosterView). with_host r host.index status true) lends)
     ∙ ap (λ (l : List Bool). record (with_host old host.index status false) { seated = l })
-        (set-set (set old.seated host.index false) host.index true false ∙ set-set old.seated host.index false false)
+    (set-set (set old.seated host.index false) host.index true false ∙ set-set old.seated host.index false false)
 
 pub rest_again : (halt : Option ℕ) (s : Status) → at_rest halt (at_rest halt s) ≡ at_rest halt s
 rest_again None Idle = refl
@@ -56,7 +56,7 @@ again halt hosts statuses host within =
 pub still_down : (old now : RosterView) (hosts : List HostId) (i : ℕ) (d : HostId) (halt : Option ℕ) → i < length hosts
     → length old.seated ≡ length old.statuses → are_distinct (host_numbers hosts) ≡ true
     → ((host : ℕ) → has_number host (host_numbers hosts) ≡ true → seated_at old.seated host ≡ true)
-        → ((host : ℕ) → has_number host (host_numbers hosts) ≡ true → is_down (status_at old.statuses host) ≡ true)
+    → ((host : ℕ) → has_number host (host_numbers hosts) ≡ true → is_down (status_at old.statuses host) ≡ true)
     → HasChanged old now (take i (host_numbers hosts)) (at_rest halt) false → is_down (status_at now.statuses (get_or hosts i d).index) ≡ true
 still_down old now hosts i d halt within all distinct rest down before =
     subst (λ (n : ℕ). is_down (status_at now.statuses n) ≡ true) (number_of_host hosts i d within) here

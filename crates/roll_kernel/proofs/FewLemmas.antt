@@ -20,7 +20,7 @@ few_distinct zero (first ∷ numbers) distinct below =
     let none = below first (or_left (nat_eq first first) (has_number first numbers) (eq-eqb first first refl)) in absurd (omega (arith, none))
 few_distinct (suc bound) numbers distinct below =
     by_case (has_number bound numbers) refl (few_distinct bound (without bound numbers)
-            (distinct_passed (λ other. not (nat_eq other bound)) numbers distinct) others) (few_distinct bound numbers distinct)
+    (distinct_passed (λ other. not (nat_eq other bound)) numbers distinct) others) (few_distinct bound numbers distinct)
   where
     others : (n : ℕ) → has_number n (without bound numbers) ≡ true → n < bound
     others n here =

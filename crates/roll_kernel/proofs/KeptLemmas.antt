@@ -55,8 +55,8 @@ module _ (kernel : KernelView) (roster : RosterView) (work : BatchWork) (capacit
   kept_safe =
       let all : take (length kernel.log) kernel.log ≡ kernel.log = take_all (length kernel.log) kernel.log (omega arith) in
       let now : IsSafe (groups_of kernel.fleet) (state_of kernel).statuses =
-          subst (λ (l : List Event). IsSafe (groups_of kernel.fleet) (state_after (roll_of kernel) (start_state (roll_of kernel)) l).statuses) all
-          (legal_fronts (roll_of kernel) kernel.log kept.safe kept.legal (length kernel.log)) in
+      subst (λ (l : List Event). IsSafe (groups_of kernel.fleet) (state_after (roll_of kernel) (start_state (roll_of kernel)) l).statuses) all
+      (legal_fronts (roll_of kernel) kernel.log kept.safe kept.legal (length kernel.log)) in
       subst (IsSafe (groups_of kernel.fleet)) (sym kept.held.statuses) now
 
   -- nobody runs where no batch is open
@@ -72,15 +72,15 @@ module _ (kernel : KernelView) (roster : RosterView) (work : BatchWork) (capacit
       let all : take (length kernel.log) kernel.log ≡ kernel.log = take_all (length kernel.log) kernel.log (omega arith) in
       let rows : List Event → ℕ = λ l. length ((state_after (roll_of kernel) (start_state (roll_of kernel)) l).rows host) in
       let few : rows kernel.log ≤ length kernel.play.steps.items =
-          subst (λ (l : List Event). rows l ≤ length kernel.play.steps.items) all
-          (rows_are_few (roll_of kernel) kernel.log kept.legal (length kernel.log) host) in
+      subst (λ (l : List Event). rows l ≤ length kernel.play.steps.items) all
+      (rows_are_few (roll_of kernel) kernel.log kept.legal (length kernel.log) host) in
       omega (arith, few, kernel.play.sound.few_steps)
 
   -- one more event keeps all of it
   pub kept_more : (event : Event) (new : KernelView) (roster' : RosterView) (work' : BatchWork) (capacity' : ℕ) → Allowed (roll_of kernel) (state_of kernel) event → new ≡ with_event kernel event
       → IsHeld (roll_of kernel) (next (roll_of kernel) (state_of kernel) event) roster' work'
-          → length kernel.log + suc (owed_by (roll_of kernel) (next (roll_of kernel) (state_of kernel) event)) ≤ capacity'
-          → IsKept new roster' work' capacity'
+      → length kernel.log + suc (owed_by (roll_of kernel) (next (roll_of kernel) (state_of kernel) event)) ≤ capacity'
+      → IsKept new roster' work' capacity'
   kept_more event new roster' work' capacity' may grown held room =
       subst (λ (v : KernelView). IsKept v roster' work' capacity') (sym grown) (record {
         all = kept.all;
@@ -113,7 +113,7 @@ module _ (kernel : KernelView) (roster : RosterView) (work : BatchWork) (capacit
 pub kept_start : (kernel : KernelView) (roster : RosterView) (work : BatchWork) (capacity : ℕ) → roster.statuses ≡ kernel.start
     → roster.seated ≡ replicate (length kernel.start) false → kernel.log ≡ [] → length kernel.start ≡ length kernel.fleet.hosts
     → IsSafe (groups_of kernel.fleet) kernel.start → NobodyRuns kernel.start → 0 < kernel.forks → kernel.forks ≤ 64
-        → length kernel.fleet.hosts ≤ 4096 → IsWorkOf (roll_of kernel) (start_state (roll_of kernel)) work → IsKept kernel roster work capacity
+    → length kernel.fleet.hosts ≤ 4096 → IsWorkOf (roll_of kernel) (start_state (roll_of kernel)) work → IsKept kernel roster work capacity
 kept_start kernel roster work capacity statuses bare none all safe rest some few_forks few works =
     record {
       all = all;
@@ -161,7 +161,7 @@ module _ (kernel : KernelView) (roster : RosterView) (work : BatchWork) (capacit
   kept_few =
       let state = state_of kernel in
       let below : (n : ℕ) → has_number n state.batch ≡ true → n < length kernel.start =
-          λ n here. subst (λ (k : ℕ). n < k) kept.held.works.hosts (host_within (roll_of kernel) state work kept.held.works n here) in
+      λ n here. subst (λ (k : ℕ). n < k) kept.held.works.hosts (host_within (roll_of kernel) state work kept.held.works n here) in
       let few = few_distinct (length kernel.start) state.batch kept.held.works.distinct below in
       omega (arith, few, kept.all, kept.few, ap length kept.held.works.batch, length-host_numbers work.batch.items)
 
@@ -184,8 +184,8 @@ pub kept_grown : (old new : RosterView) (play : Play) (forks : ℕ) (start : Lis
     → event_of entry ≡ event → new.fleet ≡ old.fleet → more ≡ log ++ entry ∷ [] → Allowed (roll_of (view_of old play forks start vars log)) (state_of (view_of old play forks start vars log)) event
     → IsHeld (roll_of (view_of old play forks start vars log)) (next (roll_of (view_of old play forks start vars log)) (state_of (view_of old play forks start vars log)) event) new now
     → length log + suc (owed_by (roll_of (view_of old play forks start vars log))
-            (next (roll_of (view_of old play forks start vars log)) (state_of (view_of old play forks start vars log)) event)) ≤ capacity'
-        → IsKept (view_of new play forks start vars more) new now capacity'
+    (next (roll_of (view_of old play forks start vars log)) (state_of (view_of old play forks start vars log)) event)) ≤ capacity'
+    → IsKept (view_of new play forks start vars more) new now capacity'
 kept_grown old new play forks start vars log more entry event was now capacity capacity' kept is fleet grown may held room =
     let kernel : KernelView = view_of old play forks start vars log in
     let seen = view_more old new play forks start vars log more entry fleet grown ∙ ap (with_event kernel) is in

@@ -30,4 +30,4 @@ ClaimsLeaveOut =
 abbrev pub OtherReportsLeaveOut : Type 0
 OtherReportsLeaveOut =
     (roll : Roll) (state : State) (completion : Completed) (host step : ℕ) (ending : Ending) → completion.host ≢ host → IsOut roll state completion
-        → IsOut roll (next roll state (reported host step ending)) completion
+    → IsOut roll (next roll state (reported host step ending)) completion

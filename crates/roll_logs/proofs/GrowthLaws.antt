@@ -255,7 +255,7 @@ module _ (roll : Roll) (host : ℕ) where
   no_rows state [] work outside none legal never = none
   no_rows state (event ∷ log) work outside none legal never =
       no_rows (next roll state event) log (next_at_work roll state event legal.0 work) (untouched state event legal.0 work outside not_here)
-          (no_row_added state event legal.0 work outside ∙ none) legal.1 (sym (count_other (is_opening_of host) event log not_here) ∙ never)
+      (no_row_added state event legal.0 work outside ∙ none) legal.1 (sym (count_other (is_opening_of host) event log not_here) ∙ never)
     where
       by_case : (b : Bool) → is_opening_of host event ≡ b → b ≡ false
       by_case true is =
@@ -285,8 +285,8 @@ module _ (roll : Roll) (host : ℕ) where
   left_behind state [] work served outside legal = record { status = refl; rows = refl }
   left_behind state (event ∷ more) work served outside legal =
       let later = left_behind (next roll state event) more (next_at_work roll state event legal.0 work)
-          (stays_served state event legal.0 work served) (untouched state event legal.0 work outside (not_opened state event legal.0 served)) legal.1
-          in
+      (stays_served state event legal.0 work served) (untouched state event legal.0 work outside (not_opened state event legal.0 served)) legal.1
+      in
       left_twice state (next roll state event) (state_after roll state (event ∷ more)) host (one_left state event legal.0 work served outside) later
 
 pub bare_at_boundaries : growth.BoundariesAreBare

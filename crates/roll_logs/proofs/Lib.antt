@@ -8,6 +8,7 @@ pub mod FewRows
 pub mod ChangeLaws
 pub mod OpeningFronts
 pub mod ColumnLemmas
+pub mod ColumnSteps
 pub mod ColumnFronts
 pub mod OnceFronts
 pub mod GrowthLaws

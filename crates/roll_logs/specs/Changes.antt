@@ -40,7 +40,7 @@ RowsLast =
 abbrev pub FailedFromTheFailingRowOn : Type 0
 FailedFromTheFailingRowOn =
     (roll : Roll) (log : List Event) → IsLegal roll (start_state roll) log → (n host : ℕ) → has_number host (front roll log n).batch ≡ true
-        → status_at (front roll log n).statuses host ≡ (if has_failed ((front roll log n).rows host) then Failed else Running)
+    → status_at (front roll log n).statuses host ≡ (if has_failed ((front roll log n).rows host) then Failed else Running)
 
 -- while a batch is at a step, the rows of each of its hosts are those of its own track before this step, or through it
 pub record IsOnTrack (roll : Roll) (columns : Columns) (state : State) (host step : ℕ) : Type 0 where
@@ -49,5 +49,5 @@ pub record IsOnTrack (roll : Roll) (columns : Columns) (state : State) (host ste
 abbrev pub BatchesAreOnTrack : Type 0
 BatchesAreOnTrack =
     (roll : Roll) (log : List Event) (columns : Columns) (host step : ℕ) → IsLegal roll (start_state roll) log → Tells columns roll log
-        → (end_state roll log).phase ≡ working step → has_number host (end_state roll log).batch ≡ true
-        → IsOnTrack roll columns (end_state roll log) host step
+    → (end_state roll log).phase ≡ working step → has_number host (end_state roll log).batch ≡ true
+    → IsOnTrack roll columns (end_state roll log) host step

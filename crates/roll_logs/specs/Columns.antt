@@ -72,4 +72,4 @@ pub record EndsByColumns (roll : Roll) (columns : Columns) (state : State) (halt
 abbrev pub BatchesEndByColumns : Type 0
 BatchesEndByColumns =
     (roll : Roll) (log : List Event) (columns : Columns) (halt : Option ℕ) → IsLegal roll (start_state roll) log → Tells columns roll log
-        → (end_state roll log).phase ≡ ended halt → EndsByColumns roll columns (end_state roll log) halt
+    → (end_state roll log).phase ≡ ended halt → EndsByColumns roll columns (end_state roll log) halt

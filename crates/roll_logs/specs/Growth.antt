@@ -86,5 +86,5 @@ HostsOfNoBatchHaveNoRows =
 abbrev pub HostsBehindTheirBatchStay : Type 0
 HostsBehindTheirBatchStay =
     (roll : Roll) (log more : List Event) (host : ℕ) → IsLegal roll (start_state roll) (log ++ more)
-        → is_waiting (status_at (end_state roll log).statuses host) ≡ false → has_number host (end_state roll log).batch ≡ false
-        → IsLeft (end_state roll log) (end_state roll (log ++ more)) host
+    → is_waiting (status_at (end_state roll log).statuses host) ≡ false → has_number host (end_state roll log).batch ≡ false
+    → IsLeft (end_state roll log) (end_state roll (log ++ more)) host

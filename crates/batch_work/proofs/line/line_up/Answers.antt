@@ -39,11 +39,11 @@ loop-place-preserved-then-is_due_on c =
     let below : host.index < length c.args.summaries.now = host_below (length c.args.summaries.now) batch (place - 1) none c.requires.within inside in
     let named : get_or batch (place - 1) host ≡ host = get_or_from_slice_get batch (place - 1) host host (slice_get-get_or batch (place - 1) none inside) in
     let lined = lined_due due batch line place first host c.args.turns.now c.loop-place.turns (omega (arith, c.loop-place-test.true))
-        (omega (arith, invariant.room, invariant.inside)) named invariant.lined (sym c.is_due_on.ensures ∙ c.if-is_due_on.true)
-        (omega (arith, below, invariant.all, c.requires.all)) (omega (arith, c.loop-place-test.true, invariant.room))
-        (omega (arith, invariant.inside, invariant.places, c.requires.places)) in
+    (omega (arith, invariant.room, invariant.inside)) named invariant.lined (sym c.is_due_on.ensures ∙ c.if-is_due_on.true)
+    (omega (arith, below, invariant.all, c.requires.all)) (omega (arith, c.loop-place-test.true, invariant.room))
+    (omega (arith, invariant.inside, invariant.places, c.requires.places)) in
     let written = subst (λ (l : List Turn). HaveLinedUp due (host_numbers (drop (place - 1) batch)) c.args.turns.now l
-            (host_numbers (drop (first - 1) (set line (first - 1) host)))) (sym c.put_due.ensures) lined in
+    (host_numbers (drop (first - 1) (set line (first - 1) host)))) (sym c.put_due.ensures) lined in
     record {
       all = ap length c.put_due.ensures ∙ length-set c.loop-place.turns host.index Due ∙ invariant.all;
       places = ap length c.put.ensures ∙ length-set line (first - 1) host ∙ invariant.places;

@@ -19,12 +19,12 @@ loop-host-init c = none_changed c.args.roster.now (at_rest c.args.halt) false
 pub end_host-requires-clause-rests : goal.end_host-requires-clause-rests
 end_host-requires-clause-rests c =
     still_seated c.args.roster.now c.loop-host.roster c.args.hosts.now c.loop-host.host-index (record { index = 0 }) (at_rest c.args.halt)
-        c.loop-host-test.true c.requires.distinct c.requires.rest c.loop-host.invariant
+    c.loop-host-test.true c.requires.distinct c.requires.rest c.loop-host.invariant
 
 pub end_host-requires-clause-was : goal.end_host-requires-clause-was
 end_host-requires-clause-was c =
     still_down c.args.roster.now c.loop-host.roster c.args.hosts.now c.loop-host.host-index (record { index = 0 }) c.args.halt c.loop-host-test.true
-        c.requires.all c.requires.distinct c.requires.rest c.requires.down c.loop-host.invariant
+    c.requires.all c.requires.distinct c.requires.rest c.requires.down c.loop-host.invariant
 
 pub loop-host-preserved : goal.loop-host-preserved
 loop-host-preserved c =
@@ -38,11 +38,11 @@ loop-host-preserved c =
     let within = c.loop-host-test.true in
     let named : get_or (host_numbers hosts) i 0 ≡ host = number_of_host hosts i none within in
     let rest = subst (λ (n : ℕ). seated_at old.seated n ≡ true) named
-        (c.requires.rest (get_or (host_numbers hosts) i 0) (number_at (host_numbers hosts) i (omega (arith, within, length-host_numbers hosts)))) in
+    (c.requires.rest (get_or (host_numbers hosts) i 0) (number_at (host_numbers hosts) i (omega (arith, within, length-host_numbers hosts)))) in
     let inside = seated_within old host c.requires.all rest in
     let seen : at_rest halt (status_at now.statuses host) ≡ at_rest halt (status_at old.statuses host) =
-        ap (λ (l : List Status). at_rest halt (status_at l host)) c.loop-host.invariant.statuses
-        ∙ again halt (take i (host_numbers hosts)) old.statuses host inside in
+    ap (λ (l : List Status). at_rest halt (status_at l host)) c.loop-host.invariant.statuses
+    ∙ again halt (take i (host_numbers hosts)) old.statuses host inside in
     stepped old now hosts i none within (at_rest halt) false c.loop-host.invariant c.requires.all inside (at_rest halt (status_at now.statuses host)) seen c.end_host.new.roster c.end_host.ensures
 
 pub returns : goal.returns

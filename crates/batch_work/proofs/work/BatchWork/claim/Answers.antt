@@ -31,27 +31,27 @@ returns-in_err-asked-clause-err c =
     let old = c.args.self.now in
     let at = at_place old.line.items _ old.next c.in-Some.host c.as_slice.ensures.value c.in-Some.ensures in
     λ roll state work. on_err c.from_residual.result
-        (work_asked roll state old _ c.in-Some.host.index c.index_mut.result.now c.ask.new.self work
-            (asks_of old _ c.in-Some.host c.index_mut.result.now c.ask.new.self at c.index_mut.ensures.value refl refl refl refl refl refl refl refl)
-        c.in_err-asked.ensures.keeps)
+    (work_asked roll state old _ c.in-Some.host.index c.index_mut.result.now c.ask.new.self work
+    (asks_of old _ c.in-Some.host c.index_mut.result.now c.ask.new.self at c.index_mut.ensures.value refl refl refl refl refl refl refl refl)
+    c.in_err-asked.ensures.keeps)
 
 pub returns-in_err-copy-clause-err : goal.returns-in_err-copy-clause-err
 returns-in_err-copy-clause-err c =
     let old = c.args.self.now in
     let at = at_place old.line.items _ old.next c.in-Some.host c.as_slice.ensures.value c.in-Some.ensures in
     λ roll state work. on_err c.from_residual-in_err-copy.result
-        (work_asked roll state old _ c.in-Some.host.index c.index_mut.result.now c.ask.new.self work
-            (asks_of old _ c.in-Some.host c.index_mut.result.now c.ask.new.self at c.index_mut.ensures.value refl refl refl refl refl refl refl refl)
-        c.in_ok-asked.ensures.keeps)
+    (work_asked roll state old _ c.in-Some.host.index c.index_mut.result.now c.ask.new.self work
+    (asks_of old _ c.in-Some.host c.index_mut.result.now c.ask.new.self at c.index_mut.ensures.value refl refl refl refl refl refl refl refl)
+    c.in_ok-asked.ensures.keeps)
 
 pub returns-in_err-given-clause-err : goal.returns-in_err-given-clause-err
 returns-in_err-given-clause-err c =
     let old = c.args.self.now in
     let at = at_place old.line.items _ old.next c.in-Some.host c.as_slice.ensures.value c.in-Some.ensures in
     λ roll state work. on_err c.from_residual-in_err-given.result
-        (work_asked roll state old _ c.in-Some.host.index c.index_mut.result.now c.ask.new.self work
-            (asks_of old _ c.in-Some.host c.index_mut.result.now c.ask.new.self at c.index_mut.ensures.value refl refl refl refl refl refl refl refl)
-        c.in_ok-asked.ensures.keeps)
+    (work_asked roll state old _ c.in-Some.host.index c.index_mut.result.now c.ask.new.self work
+    (asks_of old _ c.in-Some.host c.index_mut.result.now c.ask.new.self at c.index_mut.ensures.value refl refl refl refl refl refl refl refl)
+    c.in_ok-asked.ensures.keeps)
 
 pub index_mut-requires-2 : goal.index_mut-requires-2
 index_mut-requires-2 c =

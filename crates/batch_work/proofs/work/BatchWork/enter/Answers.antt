@@ -27,9 +27,9 @@ returns-clause-work c =
     let is : step_at roll.play c.args.step ≡ Some c.step_at-task.result.now = sym (ap (λ (p : Play). step_at p c.args.step) work.play) ∙ c.step_at-task.ensures.value in
     let same : c.step_at-task.result.now ≡ may.task = some_same c.step_at-task.result.now may.task (sym is ∙ may.is) in
     let entered : HasEntered may.task ending before after = subst (λ (t : Step). HasEntered t ending before after) same
-        (λ play known entries place shows at. c.enter-finding.ensures.row play known entries place shows at) in
+    (λ play known entries place shows at. c.enter-finding.ensures.row play known entries place shows at) in
     work_entered roll state old _ host.index c.args.step ending before after work
-        (enters_of old _ host before after c.requires.within c.index_mut-summary.ensures.value refl refl refl refl refl refl refl less) may entered
+    (enters_of old _ host before after c.requires.within c.index_mut-summary.ensures.value refl refl refl refl refl refl refl less) may entered
 
 pub returns-clause-failed : goal.returns-clause-failed
 returns-clause-failed c =
@@ -42,7 +42,7 @@ returns-clause-failed c =
     let is : step_at roll.play c.args.step ≡ Some c.step_at-task.result.now = sym (ap (λ (p : Play). step_at p c.args.step) work.play) ∙ c.step_at-task.ensures.value in
     let same : c.step_at-task.result.now ≡ may.task = some_same c.step_at-task.result.now may.task (sym is ∙ may.is) in
     let entered : HasEntered may.task ending before after = subst (λ (t : Step). HasEntered t ending before after) same
-        (λ play known entries place shows at. c.enter-finding.ensures.row play known entries place shows at) in
+    (λ play known entries place shows at. c.enter-finding.ensures.row play known entries place shows at) in
     let rows : List Entry = rows_with roll host.index (state.rows host.index) c.args.step ending in
     let was = got_at old.summaries.items host.index before c.requires.within c.index_mut-summary.ensures.value in
     let shows = entered_shows roll state host.index c.args.step ending before after may (work.summaries host.index before was) entered in

@@ -25,8 +25,8 @@ returns-in_default c =
     let long : c.len.result ≡ length old.batch.items = omega (arith, c.len.ensures, old.batch.ok) in
     let sized : c.len.result ≡ length state.batch = long ∙ sym (length-host_numbers old.batch.items) ∙ ap length work.batch in
     let stage : phase_of c.stage_after-self.result ≡ phase_after roll.play state step =
-        c.stage_after-self.ensures.stage ∙ ap (λ (p : Play). phase_by p step c.failures_in-failures.result c.len.result) work.play
-        ∙ phase_alike roll.play state step c.failures_in-failures.result c.len.result failed sized in
+    c.stage_after-self.ensures.stage ∙ ap (λ (p : Play). phase_by p step c.failures_in-failures.result c.len.result) work.play
+    ∙ phase_alike roll.play state step c.failures_in-failures.result c.len.result failed sized in
     let ends = ends_with roll.play state step c.stage_after-self.result stage c.in_default.not-Working in
     work_ended roll state old _ step work (record { play = refl; summaries = refl; out = refl }) refl may nobody stage ends.0 ends.1 refl refl
 
@@ -38,20 +38,20 @@ returns-in-Working c =
     let turns = with_items_is old.turns c.line_up-self.new.turns (omega (arith, c.line_up-self.ensures.all, c.as_mut_slice-in-Working.ensures.len)) in
     let line = with_items_is old.line c.line_up-self.new.line (omega (arith, c.line_up-self.ensures.places, c.as_mut_slice.ensures.len)) in
     let lined = lined_moved old.play.now later _ old.summaries.items _ old.batch.items _ old.turns.items _ _ _ _ c.line_up-self.result
-        c.as_slice-in-Working.ensures.value c.as_slice-in-Working-2.ensures.value c.as_mut_slice-in-Working.ensures.value (sym turns) (sym line)
-        c.line_up-self.ensures.due in
+    c.as_slice-in-Working.ensures.value c.as_slice-in-Working-2.ensures.value c.as_mut_slice-in-Working.ensures.value (sym turns) (sym line)
+    c.line_up-self.ensures.due in
     λ roll state work may nobody fresh.
     let counted = c.failures_in-failures.ensures.count ∙ ap (λ (l : List Summary). count_by (λ (host : HostId). failed_at l host.index) c.as_slice-2.result.now) c.as_slice.ensures.value in
     let failed = failures_alike roll state old work c.as_slice-2.result.now c.failures_in-failures.result c.as_slice-2.ensures.value counted in
     let long : c.len.result ≡ length old.batch.items = omega (arith, c.len.ensures, old.batch.ok) in
     let sized : c.len.result ≡ length state.batch = long ∙ sym (length-host_numbers old.batch.items) ∙ ap length work.batch in
     let stage : phase_of c.stage_after-self.result ≡ phase_after roll.play state step =
-        c.stage_after-self.ensures.stage ∙ ap (λ (p : Play). phase_by p step c.failures_in-failures.result c.len.result) work.play
-        ∙ phase_alike roll.play state step c.failures_in-failures.result c.len.result failed sized in
+    c.stage_after-self.ensures.stage ∙ ap (λ (p : Play). phase_by p step c.failures_in-failures.result c.len.result) work.play
+    ∙ phase_alike roll.play state step c.failures_in-failures.result c.len.result failed sized in
     let goes_on = sym stage ∙ ap phase_of c.in-Working.is in
     let is_later = later_is roll.play state step later goes_on in
     let inside : nat_lt later (length old.play.now.steps.items) ≡ true = sym (ap (is_within (length old.play.now.steps.items)) c.in-Working.is) ∙ c.stage_after-self.ensures.within in
     let within : later < length roll.play.steps.items = subst (λ (p : Play). later < length p.steps.items) work.play (ltb-true later (length old.play.now.steps.items) inside) in
     work_goes_on roll state old _ step work (record { play = refl; summaries = refl; out = refl }) refl may nobody stage later goes_on
-        (λ host here. subst (λ n. has_row (state.rows host) n ≡ false) (sym is_later) (fresh host here))
-        (lined_in_batch roll state old work later old.turns.items _ _ within lined)
+    (λ host here. subst (λ n. has_row (state.rows host) n ≡ false) (sym is_later) (fresh host here))
+    (lined_in_batch roll state old work later old.turns.items _ _ within lined)

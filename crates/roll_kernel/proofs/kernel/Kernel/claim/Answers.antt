@@ -25,15 +25,15 @@ invariant_of-self-2 c =
     let kept = c.self.invariant in
     let taken = c.in-Some.taken in
     let takes : IsTaken (roll_of kernel) (state_of kernel) c.claim.new.self taken =
-        subst (λ (o : Option Taken). IsClaim (roll_of kernel) (state_of kernel) c.claim.new.self o) c.in-Some.is
-        (c.in_ok-taken.ensures.ok (roll_of kernel) (state_of kernel) kept.held.works refl) in
+    subst (λ (o : Option Taken). IsClaim (roll_of kernel) (state_of kernel) c.claim.new.self o) c.in-Some.is
+    (c.in_ok-taken.ensures.ok (roll_of kernel) (state_of kernel) kept.held.works refl) in
     let owes = owed_claimed (roll_of kernel) (state_of kernel) taken.host.index taken.step in
     let owed = c.owed-owed.ensures ∙ ap (λ (v : KernelView). owed_by (roll_of v) (state_of v)) (sym c.self.view_is) in
     let reserves = c.in_ok-reserve.ensures in
     let grown = c.keep.ensures.items ∙ ap (λ (l : List Event). l ++ Claim taken.host taken.step ∷ []) reserves.items in
     kept_grown old new c.self.inside.play.now c.self.inside.forks c.self.inside.start.now c.self.inside.vars.now log c.keep.new.log.items
-        (Claim taken.host taken.step) (claimed taken.host.index taken.step) work c.claim.new.self _ _ kept refl
-        (ap (λ (r : RosterView). r.fleet) c.lend-share.ensures.rest) grown takes.may
+    (Claim taken.host taken.step) (claimed taken.host.index taken.step) work c.claim.new.self _ _ kept refl
+    (ap (λ (r : RosterView). r.fleet) c.lend-share.ensures.rest) grown takes.may
     (held_claimed (roll_of kernel) (state_of kernel) old work kept.held taken.host.index taken.step new c.claim.new.self c.lend-share.ensures.rest takes.work)
     (omega (arith, owes, owed, reserves.ok, reserves.len, c.self.inside.log.ok, c.keep.ensures.capacity))
 
@@ -48,14 +48,14 @@ returns-clause-ok c =
     let kept = c.self.invariant in
     let taken = c.in-Some.taken in
     let takes : IsTaken (roll_of kernel) (state_of kernel) c.claim.new.self taken =
-        subst (λ (o : Option Taken). IsClaim (roll_of kernel) (state_of kernel) c.claim.new.self o) c.in-Some.is
-        (c.in_ok-taken.ensures.ok (roll_of kernel) (state_of kernel) kept.held.works refl) in
+    subst (λ (o : Option Taken). IsClaim (roll_of kernel) (state_of kernel) c.claim.new.self o) c.in-Some.is
+    (c.in_ok-taken.ensures.ok (roll_of kernel) (state_of kernel) kept.held.works refl) in
     let at = stage_at work.stage taken.step (kept.held.works.phase ∙ takes.may.at) in
     let task = task_at (roll_of kernel) (state_of kernel) work kept.held.works taken.step at in
     let reserves = c.in_ok-reserve.ensures in
     let grown = c.keep.ensures.items ∙ ap (λ (l : List Event). l ++ Claim taken.host taken.step ∷ []) reserves.items in
     let seen = view_more old new c.self.inside.play.now c.self.inside.forks c.self.inside.start.now c.self.inside.vars.now log c.keep.new.log.items
-        (Claim taken.host taken.step) (ap (λ (r : RosterView). r.fleet) c.lend-share.ensures.rest) grown in
+    (Claim taken.host taken.step) (ap (λ (r : RosterView). r.fleet) c.lend-share.ensures.rest) grown in
     let made : IsHandedOut kernel (view new c.keep.new.log.items) c.claimed.result = record {
       host = taken.host.index;
       step = taken.step;

@@ -33,5 +33,5 @@ pub returns-clause-counts : goal.returns-clause-counts
 returns-clause-counts c =
     let kernel : KernelView = view_of c.self.inside.roster c.self.inside.play.now c.self.inside.forks c.self.inside.start.now c.self.inside.vars.now c.self.inside.log.items in
     let left = counts_left (roll_of kernel) (state_of kernel) c.self.inside.work c.self.invariant.held.works
-        (kept_rows kernel c.self.inside.roster c.self.inside.work _ c.self.invariant) c.finish-vars.result.1.items c.finish-vars.ensures.counts in
+    (kept_rows kernel c.self.inside.roster c.self.inside.work _ c.self.invariant) c.finish-vars.result.1.items c.finish-vars.ensures.counts in
     subst (λ (v : KernelView). AreCounted (roll_of v) (state_of v) c.finish-vars.result.1.items) c.self.view_is left

@@ -24,7 +24,7 @@ invariant_of-self-2 c =
     let reserves = c.in_ok-reserve.ensures in
     let grown = c.keep.ensures.items ∙ ap (λ (l : List Event). l ++ Hold c.in_ok-batch.batch ∷ []) reserves.items in
     kept_grown old new c.self.inside.play.now c.self.inside.forks c.self.inside.start.now c.self.inside.vars.now log c.keep.new.log.items
-        (Hold c.in_ok-batch.batch) (set_aside numbers) c.self.inside.work c.self.inside.work _ _ kept (ap set_aside c.in_ok-batch.ensures)
-        (ap (λ (r : RosterView). r.fleet) c.set_all_aside.ensures) grown may
+    (Hold c.in_ok-batch.batch) (set_aside numbers) c.self.inside.work c.self.inside.work _ _ kept (ap set_aside c.in_ok-batch.ensures)
+    (ap (λ (r : RosterView). r.fleet) c.set_all_aside.ensures) grown may
     (held_aside (roll_of kernel) (state_of kernel) old c.self.inside.work kept.held numbers new c.set_all_aside.ensures)
-        (omega (arith, none, reserves.ok, reserves.len, c.self.inside.log.ok, c.keep.ensures.capacity))
+    (omega (arith, none, reserves.ok, reserves.len, c.self.inside.log.ok, c.keep.ensures.capacity))

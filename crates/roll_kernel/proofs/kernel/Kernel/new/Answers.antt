@@ -17,6 +17,6 @@ invariant_of-result c =
     let all : length c.args.start.now ≡ length roster.fleet.hosts = c.requires.all ∙ ap (λ (f : FleetView). length f.hosts) (sym fleet) in
     let few : length roster.fleet.hosts ≤ 4096 = subst (λ (r : RosterView). length r.fleet.hosts ≤ 4096) c.roster.view_is c.roster.invariant.sound.few_hosts in
     kept_start kernel roster c.in_ok-work.work _ (ap (λ (r : RosterView). r.statuses) is ∙ copied)
-        (ap (λ (r : RosterView). r.seated) is ∙ ap (λ (l : List Status). replicate (length l) false) copied) (ap events_of c.new-log.ensures.items)
-        all (subst (λ (f : FleetView). IsSafe (groups_of f) c.args.start.now) (sym fleet) c.requires.safe) c.requires.at_rest c.requires.some
-        c.requires.few few (c.in_ok-work.ensures (roll_of kernel) refl (c.requires.all ∙ sym c.requires.each) (λ host. refl))
+    (ap (λ (r : RosterView). r.seated) is ∙ ap (λ (l : List Status). replicate (length l) false) copied) (ap events_of c.new-log.ensures.items)
+    all (subst (λ (f : FleetView). IsSafe (groups_of f) c.args.start.now) (sym fleet) c.requires.safe) c.requires.at_rest c.requires.some
+    c.requires.few few (c.in_ok-work.ensures (roll_of kernel) refl (c.requires.all ∙ sym c.requires.each) (λ host. refl))

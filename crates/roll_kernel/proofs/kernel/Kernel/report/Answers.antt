@@ -67,14 +67,14 @@ invariant_of-self c =
     let entered = c.enter-failed.ensures.work (roll_of kernel) (state_of kernel) kept.held.works may in
     let failed = c.enter-failed.ensures.failed (roll_of kernel) (state_of kernel) kept.held.works may in
     let shown : c.rest.new.self ≡ with_host old host.index (cond c.enter-failed.result Failed Running) true =
-        c.rest.ensures ∙ ap (λ (h : HostId). with_host old h.index c.status_after.result true) (sym c.host-host.ensures)
-        ∙ ap (λ (s : Status). with_host old host.index s true) c.status_after.ensures in
+    c.rest.ensures ∙ ap (λ (h : HostId). with_host old h.index c.status_after.result true) (sym c.host-host.ensures)
+    ∙ ap (λ (s : Status). with_host old host.index s true) c.status_after.ensures in
     let owes = owed_reported (roll_of kernel) (state_of kernel) host.index step (ending_of outcome) kept.held.works.single may.claimed in
     kept_grown old c.rest.new.self c.self.inside.play.now c.self.inside.forks c.self.inside.start.now c.self.inside.vars.now log c.keep.new.log.items
-        (Report host step outcome) (reported host.index step (ending_of outcome)) work c.enter-failed.new.self _ _ kept refl
-        (ap (λ (r : RosterView). r.fleet) c.rest.ensures) c.keep.ensures.items may
+    (Report host step outcome) (reported host.index step (ending_of outcome)) work c.enter-failed.new.self _ _ kept refl
+    (ap (λ (r : RosterView). r.fleet) c.rest.ensures) c.keep.ensures.items may
     (held_reported (roll_of kernel) (state_of kernel) old work kept.held (kept_at_work kernel old work _ kept) host.index step (ending_of outcome)
-            may c.enter-failed.result c.rest.new.self c.enter-failed.new.self failed shown entered)
+    may c.enter-failed.result c.rest.new.self c.enter-failed.new.self failed shown entered)
     (omega (arith, owes, kept.places, length-map log event_of, c.keep.ensures.capacity))
 
 pub returns-clause-allowed : goal.returns-clause-allowed

@@ -23,5 +23,5 @@ pub returns-clause-rests : goal.returns-clause-rests
 returns-clause-rests c =
     let kernel : KernelView = view_of c.self.inside.roster c.self.inside.play.now c.self.inside.forks c.self.inside.start.now c.self.inside.vars.now c.self.inside.log.items in
     let rests : (state_of kernel).phase ≡ between → NobodyRuns c.statuses.result.now =
-        λ at. subst NobodyRuns (sym c.statuses.ensures.value) (kept_rest kernel c.self.inside.roster c.self.inside.work _ c.self.invariant at) in
+    λ at. subst NobodyRuns (sym c.statuses.ensures.value) (kept_rest kernel c.self.inside.roster c.self.inside.work _ c.self.invariant at) in
     subst (λ (v : KernelView). (state_of v).phase ≡ between → NobodyRuns c.statuses.result.now) c.self.view_is rests
