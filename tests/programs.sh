@@ -229,7 +229,7 @@ long=$(head -c 65536 /dev/zero | tr '\0' x)
 says 'a word of 65,536 bytes' 65536 "[\"sh\",\"-c\",\"printf %s \\\"\$0\\\" | wc -c\",\"$long\"]"
 says '200,000 bytes of words' 200000 "[\"sh\",\"-c\",\"printf %s \\\"\$@\\\" | wc -c\",\"x\",\"$long\",\"$long\",\"$long\",\"$(printf '%.3392s' "$long")\"]"
 unstarted 'a word of 65,537 bytes' "[\"true\",\"x$long\"]"
-unstarted 'more bytes of words than the system takes' "[\"true\"$(for i in $(seq 1 120); do printf ',"%s"' "$long"; done)]"
+! proved 'eight million bytes of words' || unstarted 'more bytes of words than the system takes' "[\"true\"$(for i in $(seq 1 120); do printf ',"%s"' "$long"; done)]"
 mkdir "$work/bin"
 printf '#!/bin/sh\necho found\n' >"$work/bin/ours"
 chmod 755 "$work/bin/ours"
