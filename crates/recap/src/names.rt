@@ -41,7 +41,7 @@ fn write_name<W: Write>(text: &mut TextWriter<'_, W>, fleet: &Fleet, host: HostI
 }
 
 #[tactic(auto, using(bounded_io::proofs::Pieces::pieces_of_text))]
-fn write_each<W: Write>(text: &mut TextWriter<'_, W>, fleet: &Fleet, hosts: &[HostId])
+fn write_each_name<W: Write>(text: &mut TextWriter<'_, W>, fleet: &Fleet, hosts: &[HostId])
     ensures { Writes W.contents text.old text.new (flat_map (λ host. spaced_name fleet.now host.index) hosts.now) }
 {
     for host in hosts {
@@ -53,7 +53,7 @@ fn write_each<W: Write>(text: &mut TextWriter<'_, W>, fleet: &Fleet, hosts: &[Ho
 fn write_names<W: Write>(text: &mut TextWriter<'_, W>, fleet: &Fleet, hosts: &[HostId])
     ensures { Writes W.contents text.old text.new (names_text fleet.now (host_numbers hosts.now)) }
 {
-    write_each(text, fleet, hosts);
+    write_each_name(text, fleet, hosts);
 }
 
 /// Writes the word, the names of the hosts and the end of the line.

@@ -7,4 +7,4 @@ use Rattle.recap.proofs.names.write_names.Goals as goal
 
 pub returns : goal.returns
 returns g c =
-    subst (λ (l : List ℕ). Writes g.W.Write.contents c.args.text.now c.write_each.new.text l) (sym (flat_map-map (spaced_name c.args.fleet.now) (λ (host : HostId). host.index) c.args.hosts.now)) c.write_each.ensures
+    subst (λ (l : List ℕ). Writes g.W.Write.contents c.args.text.now c.write_each_name.new.text l) (sym (flat_map-map (spaced_name c.args.fleet.now) (λ (host : HostId). host.index) c.args.hosts.now)) c.write_each_name.ensures

@@ -2,7 +2,7 @@ use Rattle.std.proofs.Common.{take, flat_map}
 use Rattle.bounded_io.specs.Writing.{Writes}
 use Rattle.group_tree.specs.declared.ids.HostId.{HostId}
 use Rattle.recap.specs.PlanText.{spaced_name}
-use Rattle.recap.proofs.names.write_each.Given as goal
+use Rattle.recap.proofs.names.write_each_name.Given as goal
 
 abbrev pub invariant-loop-host : goal.invariant-loop-host
 invariant-loop-host g l =

@@ -2,7 +2,7 @@ use Rattle.std.proofs.Common.{arith, refl}
 use Rattle.bounded_io.proofs.Pieces.{writes_each}
 use Rattle.group_tree.specs.declared.ids.HostId.{HostId}
 use Rattle.recap.specs.PlanText.{spaced_name}
-use Rattle.recap.proofs.names.write_each.Goals as goal
+use Rattle.recap.proofs.names.write_each_name.Goals as goal
 
 pub loop-host-preserved : goal.loop-host-preserved
 loop-host-preserved g c =
