@@ -10,7 +10,7 @@ use recap::{group_name, write_field};
 use std::io::Write;
 
 #[tactic(auto, using(bounded_io::proofs::Pieces::pieces_of_text))]
-fn write_blocked<W: Write>(text: &mut TextWriter<'_, W>, fleet: &Fleet, group: GroupId)
+fn write_blocked_end<W: Write>(text: &mut TextWriter<'_, W>, fleet: &Fleet, group: GroupId)
     ensures { Writes W.contents text.old text.new (blocked_end fleet.now group.index) }
 {
     text.write_str("end blocked group=");
@@ -36,7 +36,7 @@ pub fn write_end<W: Write>(text: &mut TextWriter<'_, W>, fleet: &Fleet, end: End
     match end {
         End::Finished => text.write_str("end finished\n"),
         End::Held => text.write_str("end held\n"),
-        End::Blocked { group } => write_blocked(text, fleet, group),
+        End::Blocked { group } => write_blocked_end(text, fleet, group),
         End::TooManyFailed { step, failed, size } => {
             write_too_many(text, step as u64, failed as u64, size as u64);
         }

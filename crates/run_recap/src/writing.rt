@@ -38,7 +38,7 @@ pub fn write_numbered<W: Write>(
     write_play(text, fleet, recap);
 }
 
-fn write_each<W: Write>(text: &mut TextWriter<'_, W>, fleet: &Fleet, recaps: &[Recap<'_>])
+fn write_each_play<W: Write>(text: &mut TextWriter<'_, W>, fleet: &Fleet, recaps: &[Recap<'_>])
     ensures { Writes W.contents text.old text.new (recaps_text fleet.now recaps.now) }
 {
     for place in 0..recaps.len() {
@@ -70,6 +70,6 @@ pub fn write_recaps<W: Write>(
     ensures { SendsText (W.contents out.old) (W.contents out.new) (recaps_text fleet.now recaps.now) result }
 {
     let mut text = TextWriter::new(out);
-    write_each(&mut text, fleet, recaps);
+    write_each_play(&mut text, fleet, recaps);
     text.finish()
 }

@@ -1,7 +1,7 @@
 use Rattle.std.proofs.Common.{take}
 use Rattle.bounded_io.specs.Writing.{Writes}
 use Rattle.run_recap.specs.RecapText.{recaps_text}
-use Rattle.run_recap.proofs.writing.write_each.Given as goal
+use Rattle.run_recap.proofs.writing.write_each_play.Given as goal
 
 abbrev pub invariant-loop-place : goal.invariant-loop-place
 invariant-loop-place g l =

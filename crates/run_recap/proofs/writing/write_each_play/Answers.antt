@@ -5,7 +5,7 @@ use Rattle.bounded_io.proofs.WritingLemmas.{writes_two}
 use Rattle.run_recap.specs.declared.parts.Recap.{Recap}
 use Rattle.run_recap.specs.RecapText.{numbered_text, recaps_text}
 use Rattle.run_recap.proofs.PlaceLemmas.{text_more}
-use Rattle.run_recap.proofs.writing.write_each.Goals as goal
+use Rattle.run_recap.proofs.writing.write_each_play.Goals as goal
 
 pub loop-place-preserved : goal.loop-place-preserved
 loop-place-preserved g c =
