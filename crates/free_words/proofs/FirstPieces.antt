@@ -2,10 +2,10 @@
 use Rattle.std.proofs.Common.{◌≡◌, ℕ, suc, zero, ◌+◌, ◌<◌, ◌≤◌, Bool, true, false, cond, List, [], ◌∷◌, ◌++◌, length, take, drop, get_or, refl, sym, ap, ◌∙◌, subst, arith, drop-cons, length-drop, append_assoc, ◌⊎◌, inl, inr}
 use Rattle.std.specs.Str.{IsCharBoundary, IsUtf8}
 use Rattle.std.proofs.lemmas.Bool.{cases_lt}
-use Rattle.std.proofs.lemmas.Bool.Decides.{nat_tests}
 use Rattle.std.proofs.lemmas.List.{drop_all, drop-drop}
 use Rattle.std.proofs.lemmas.Str.{IsCharBoundary-end, IsCharBoundary-before_ascii, IsCharBoundary-after_ascii}
 use Rattle.word_parts.specs.Words.{is_blank}
+use Rattle.word_parts.proofs.Boundaries.{blank_ascii}
 use Rattle.play_rules.specs.Commands.{Word, hole_behind, pieces}
 use Rattle.free_words.specs.Pieces.{piece_length}
 
@@ -37,11 +37,23 @@ no_more : (word : Word) → word ≡ word ++ []
 no_more [] = refl
 no_more (byte ∷ word) = ap (λ (rest : Word). byte ∷ rest) (no_more word)
 
-outside : (word : Word) (byte : ℕ) (bytes : List ℕ) → pieces (hole_behind (byte ∷ bytes)) (word ++ byte ∷ []) bytes ≡ cut_at (piece_length (hole_behind (byte ∷ bytes)) bytes) (word ++ byte ∷ []) bytes → (b : Bool) → is_blank byte ≡ b → pieces 0 word (byte ∷ bytes) ≡ cut_at (piece_length 0 (byte ∷ bytes)) word (byte ∷ bytes)
+-- it is so behind a byte of the word
+abbrev IsCutBehind : Word → ℕ → List ℕ → Type 0
+IsCutBehind word byte bytes =
+    let inside = hole_behind (byte ∷ bytes) in
+    let more = word ++ byte ∷ [] in
+    pieces inside more bytes ≡ cut_at (piece_length inside bytes) more bytes
+
+outside : (word : Word) (byte : ℕ) (bytes : List ℕ) → IsCutBehind word byte bytes → (b : Bool) → is_blank byte ≡ b → pieces 0 word (byte ∷ bytes) ≡ cut_at (piece_length 0 (byte ∷ bytes)) word (byte ∷ bytes)
 outside word byte bytes later true e =
-    pieces_at_blank word byte bytes e ∙ ap (λ (w : Word). w ∷ pieces 0 [] bytes) (no_more word) ∙ ap (λ (n : ℕ). cut_at n word (byte ∷ bytes)) (sym (length_at_blank byte bytes e))
+    pieces_at_blank word byte bytes e
+    ∙ ap (λ (w : Word). w ∷ pieces 0 [] bytes) (no_more word)
+    ∙ ap (λ (n : ℕ). cut_at n word (byte ∷ bytes)) (sym (length_at_blank byte bytes e))
 outside word byte bytes later false e =
-    pieces_at_other word byte bytes e ∙ later ∙ cut_longer (piece_length (hole_behind (byte ∷ bytes)) bytes) word byte bytes ∙ ap (λ (n : ℕ). cut_at n word (byte ∷ bytes)) (sym (length_at_other byte bytes e))
+    pieces_at_other word byte bytes e
+    ∙ later
+    ∙ cut_longer (piece_length (hole_behind (byte ∷ bytes)) bytes) word byte bytes
+    ∙ ap (λ (n : ℕ). cut_at n word (byte ∷ bytes)) (sym (length_at_other byte bytes e))
 
 pub first_piece : (inside : ℕ) (word : Word) (bytes : List ℕ) → pieces inside word bytes ≡ cut_at (piece_length inside bytes) word bytes
 first_piece inside word [] = ap (λ (w : Word). w ∷ []) (no_more word)
@@ -68,11 +80,8 @@ ends (suc inside) (byte ∷ bytes) =
     record { within = omega (arith, later.within); blank = λ l. later.blank (omega (arith, l)) }
 ends zero (byte ∷ bytes) = ends_outside byte bytes (ends (hole_behind (byte ∷ bytes)) bytes) (is_blank byte) refl
 
-blank_small : (byte : ℕ) → is_blank byte ≡ true → byte < 128
-blank_small byte e = grind (arith, nat_tests)
-
 piece_boundary : (bytes : List ℕ) (place : ℕ) → Ends bytes place → (place < length bytes) ⊎ (length bytes ≤ place) → IsCharBoundary bytes place
-piece_boundary bytes place found (inl l) = IsCharBoundary-before_ascii bytes place l (blank_small _ (found.blank l))
+piece_boundary bytes place found (inl l) = IsCharBoundary-before_ascii bytes place l (blank_ascii _ (found.blank l))
 piece_boundary bytes place found (inr l) =
     let whole : length bytes ≡ place = omega (arith, found.within) in
     subst (IsCharBoundary bytes) whole (IsCharBoundary-end bytes)
@@ -83,7 +92,7 @@ piece_ends bytes = piece_boundary bytes (piece_length 0 bytes) (ends 0 bytes) (c
 -- behind the blank that ends it
 pub blank_ends : (bytes : List ℕ) (n : ℕ) → n ≡ piece_length 0 bytes → IsUtf8 bytes → n < length bytes → IsCharBoundary bytes (n + 1)
 blank_ends bytes n is utf8 within =
-    let small : get_or bytes n 0 < 128 = blank_small (get_or bytes n 0) (subst (λ (k : ℕ). k < length bytes → is_blank (get_or bytes k 0) ≡ true) (sym is) (ends 0 bytes).blank within) in
+    let small : get_or bytes n 0 < 128 = blank_ascii (get_or bytes n 0) (subst (λ (k : ℕ). k < length bytes → is_blank (get_or bytes k 0) ≡ true) (sym is) (ends 0 bytes).blank within) in
     IsCharBoundary-after_ascii bytes n utf8 within small
 
 pub whole_piece : (bytes : List ℕ) (n : ℕ) → n ≡ piece_length 0 bytes → length bytes ≤ n → pieces 0 [] bytes ≡ take n bytes ∷ []
@@ -98,9 +107,14 @@ piece_before bytes n is within =
 -- one byte more
 pub length_outside : (bytes : List ℕ) (index : ℕ) → index < length bytes → is_blank (get_or bytes index 0) ≡ false → piece_length 0 (drop index bytes) ≡ suc (piece_length (hole_behind (drop index bytes)) (drop (index + 1) bytes))
 length_outside bytes index within other =
-    let front : drop index bytes ≡ get_or bytes index 0 ∷ drop (suc index) bytes = drop-cons bytes index 0 within in
+    let byte = get_or bytes index 0 in
+    let rest = drop (suc index) bytes in
+    let front : drop index bytes ≡ byte ∷ rest = drop-cons bytes index 0 within in
     let next : suc index ≡ index + 1 = omega arith in
-    ap (piece_length 0) front ∙ length_at_other (get_or bytes index 0) (drop (suc index) bytes) other ∙ ap (λ (list : List ℕ). suc (piece_length (hole_behind list) (drop (suc index) bytes))) (sym front) ∙ ap (λ (k : ℕ). suc (piece_length (hole_behind (drop index bytes)) (drop k bytes))) next
+    ap (piece_length 0) front
+    ∙ length_at_other byte rest other
+    ∙ ap (λ (list : List ℕ). suc (piece_length (hole_behind list) rest)) (sym front)
+    ∙ ap (λ (k : ℕ). suc (piece_length (hole_behind (drop index bytes)) (drop k bytes))) next
 
 -- all bytes of a hole are the piece's
 skipped : (inside : ℕ) (bytes : List ℕ) → inside ≤ length bytes → piece_length inside bytes ≡ inside + piece_length 0 (drop inside bytes)

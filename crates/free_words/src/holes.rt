@@ -1,8 +1,9 @@
 //! Holes in a text: `{{`, and what follows up to the next `}}`.
-ghost use Rattle.std.specs.Prelude.{◌≡◌, ◌+◌, ◌-◌, ◌<◌, ◌≤◌, length, option_map, unwrap_or, IfSome, true};
-ghost use Rattle.word_parts.specs.Words.{starts};
+ghost use Rattle.std.specs.Prelude.{◌≡◌, ◌+◌, ◌-◌, ◌<◌, ◌≤◌, length, option_map, unwrap_or, IfSome};
 ghost use Rattle.play_rules.specs.Commands as spec;
 ghost use Rattle.free_words.specs.Pieces.{IsOpenBelow};
+
+use word_parts::starts_with_pair;
 
 /// How many bytes more belong to a hole that the bytes begin with; 0 where they begin with none. In fewer bytes than `tail`
 /// at their end no hole is closed.
@@ -48,14 +49,4 @@ pub(crate) fn tail_of_last_closing(bytes: &[u8]) -> usize
         }
     }
     usize::MAX
-}
-
-fn starts_with_pair(bytes: &[u8], first: u8, second: u8) -> bool
-    requires some { 0 < first }
-    requires second_some { 0 < second }
-    ensures same { result ≡ starts first second bytes.now }
-    ensures two { result ≡ true → 2 ≤ length bytes.now }
-{
-    // Most bytes are told from the first one, with no look at how many follow.
-    !bytes.is_empty() && bytes[0] == first && bytes.len() > 1 && bytes[1] == second
 }

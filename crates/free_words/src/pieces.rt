@@ -1,10 +1,10 @@
 //! Pieces of a text between single blanks.
 ghost use Rattle.std.specs.Prelude.{◌≡◌, ◌+◌, ◌<◌, ◌≤◌, [], ◌∷◌, length, take, drop, IfSome};
-ghost use Rattle.word_parts.specs.Words as words;
 ghost use Rattle.play_rules.specs.Commands as spec;
 ghost use Rattle.free_words.specs.Pieces.{piece_length, pieces_left, IsOpenBelow};
 
 use crate::holes::hole_behind;
+use word_parts::is_blank;
 
 /// The first piece, and the text behind the blank that ends it. In fewer bytes than `tail` at its end no hole is closed.
 pub(crate) fn cut_piece(text: &str, tail: usize) -> (&str, Option<&str>)
@@ -35,11 +35,4 @@ fn count_piece(bytes: &[u8], tail: usize) -> usize
         index += 1 + hole_behind(&bytes[index..], tail);
     }
     index
-}
-
-fn is_blank(byte: u8) -> bool
-    ensures { result ≡ words.is_blank byte }
-{
-    // Most bytes are told from blanks by this one comparison.
-    byte <= b' ' && matches!(byte, b' ' | b'\t' | b'\n' | b'\r')
 }

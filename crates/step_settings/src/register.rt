@@ -1,15 +1,14 @@
 //! The key `register` of a step.
 ghost use Rattle.std.specs.Prelude.{◌≡◌, IfOk, option_map, option_and_then};
-ghost use Rattle.std.specs.List.{list_all};
 ghost use Rattle.serde_json.specs.Find.{get};
 ghost use Rattle.serde_json.specs.View.{view};
-ghost use Rattle.word_parts.specs.Words as words;
 ghost use Rattle.play_rules.specs.Keys.{register_key};
 ghost use Rattle.play_rules.specs.Steps as spec;
 ghost use Rattle.play_settings.specs.Verdicts.{IsVerdict};
 
 use play_settings::{Below, Flaw};
 use serde_json::Value;
+use word_parts::is_name;
 
 /// The name under which a step's result is registered: where a step has `register`, it is a letter or `_`, then letters,
 /// digits and `_`, and no reserved word.
@@ -31,54 +30,4 @@ fn registered(value: &Value) -> Option<&str>
 {
     let text = value.as_str()?;
     if is_name(text) { Some(text) } else { None }
-}
-
-#[tactic(auto, unfolding(word_parts::specs::Words::is_name))]
-fn is_name(word: &str) -> bool
-    ensures { result ≡ words.is_name word.now }
-{
-    is_word_of_letters(word.as_bytes()) && !is_reserved(word)
-}
-
-fn is_word_of_letters(bytes: &[u8]) -> bool
-    ensures { result ≡ words.is_word_of_letters bytes.now }
-{
-    bytes.len() > 0 && is_letter(bytes[0]) && has_name_bytes(bytes)
-}
-
-fn has_name_bytes(bytes: &[u8]) -> bool
-    ensures { result ≡ list_all words.is_name_byte bytes.now }
-{
-    bytes.iter().all(|byte| is_name_byte(*byte))
-}
-
-fn is_letter(byte: u8) -> bool
-    ensures { result ≡ words.is_letter byte }
-{
-    matches!(byte, b'A'..=b'Z' | b'a'..=b'z' | b'_')
-}
-
-fn is_name_byte(byte: u8) -> bool
-    ensures { result ≡ words.is_name_byte byte }
-{
-    is_letter(byte) || matches!(byte, b'0'..=b'9')
-}
-
-fn is_reserved(word: &str) -> bool
-    ensures { result ≡ words.is_reserved word.now }
-{
-    matches!(
-        word,
-        "not"
-            | "and"
-            | "or"
-            | "is"
-            | "in"
-            | "true"
-            | "false"
-            | "True"
-            | "False"
-            | "group_names"
-            | "inventory_hostname"
-    )
 }

@@ -1,6 +1,7 @@
 use Rattle.std.proofs.Common.{◌≡◌, false, drop, sym, ap, ◌∙◌}
 use Rattle.word_parts.specs.Words.{starts}
-use Rattle.free_words.proofs.Closings.{rest_is, next_closing}
+use Rattle.word_parts.proofs.PlainLemmas.{rest_is}
+use Rattle.free_words.proofs.Closings.{next_closing}
 use Rattle.free_words.proofs.holes.before_closing.Goals as goal
 
 pub loop-index-preserved : goal.loop-index-preserved

@@ -1,7 +1,7 @@
 use Rattle.std.proofs.Common.{◌≡◌, ◌+◌, ◌≤◌, false, length, drop, get_or, sym, ap, ◌∙◌, arith, length-drop}
 use Rattle.word_parts.specs.Words.{is_blank}
 use Rattle.play_rules.specs.Commands.{hole_behind}
-use Rattle.free_words.proofs.Closings.{rest_is}
+use Rattle.word_parts.proofs.PlainLemmas.{rest_is}
 use Rattle.free_words.proofs.FirstPieces.{length_past}
 use Rattle.free_words.proofs.pieces.count_piece.Goals as goal
 

@@ -23,6 +23,10 @@ returns-then-length-text-clause-pieces c =
 
 pub returns-clause-pieces : goal.returns-clause-pieces
 returns-clause-pieces c =
+    let text = c.args.text.now in
+    let count = c.count_piece-length.result in
     let place = c.count_piece-length.ensures.number ∙ ap (piece_length 0) c.as_bytes.ensures.value in
-    let within : c.count_piece-length.result < length c.args.text.now = omega (arith, c.count_piece-length.ensures.within, c.as_bytes.ensures.len) in
-    piece_before c.args.text.now c.count_piece-length.result place within ∙ ap (λ (piece : Word). piece ∷ pieces 0 [] (drop (c.count_piece-length.result + 1) c.args.text.now)) (sym c.split_at.ensures.front) ∙ ap (λ (rest : List ℕ). c.split_at.result.0.now ∷ pieces 0 [] rest) (sym c.split_at-2.ensures.back)
+    let within : count < length text = omega (arith, c.count_piece-length.ensures.within, c.as_bytes.ensures.len) in
+    piece_before text count place within
+    ∙ ap (λ (piece : Word). piece ∷ pieces 0 [] (drop (count + 1) text)) (sym c.split_at.ensures.front)
+    ∙ ap (λ (rest : List ℕ). c.split_at.result.0.now ∷ pieces 0 [] rest) (sym c.split_at-2.ensures.back)
