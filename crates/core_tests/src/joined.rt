@@ -31,3 +31,37 @@ fn a_part_that_is_refused_leaves_the_others(rt: HostRuntime) -> Result<(), Fail>
     }
     Ok(())
 }
+
+// A fault's text is in no contract; the program writes lines of its own.
+#[test]
+fn a_fault_says_what_it_is_about(rt: HostRuntime) -> Result<(), Fail> {
+    assert_eq!(rt;
+        CondFault::BadToken { at: 0 }
+            .to_string(rt.alloc())?
+            .as_str(),
+        "no token at byte 0"
+    );
+    assert_eq!(rt;
+        CondFault::Unexpected { at: 231 }
+            .to_string(rt.alloc())?
+            .as_str(),
+        "unexpected at byte 231"
+    );
+    assert_eq!(rt;
+        CondFault::TooDeep { at: 32 }
+            .to_string(rt.alloc())?
+            .as_str(),
+        "nested too deep at byte 32"
+    );
+    assert_eq!(rt;
+        CondFault::TooLong { at: 4096 }
+            .to_string(rt.alloc())?
+            .as_str(),
+        "longer than 4096 bytes"
+    );
+    assert_eq!(rt;
+        CondFault::Memory.to_string(rt.alloc())?.as_str(),
+        "out of memory"
+    );
+    Ok(())
+}
