@@ -73,34 +73,7 @@ answers_rehearse_short_help = refl
 -- the words are no request, where they are none of those that get one kind of answer
 no_request : (words : List Word) → ((request : List Word) (kind : ErrorKind) → fault_of rollout request ≡ kind ∷ [] → (kind ≡ DisplayHelp) ⊎ (kind ≡ DisplayVersion) → words ≢ request)
     → IsNoneOf words requests
-no_request words other = (
-  other _ _ answers_help (inl refl),
-  (
-    other _ _ answers_short_help (inl refl),
-    (
-      other _ _ answers_version (inr refl),
-      (
-        other _ _ answers_short_version (inr refl),
-        (
-          other _ _ answers_limits_help (inl refl),
-          (
-            other _ _ answers_limits_short_help (inl refl),
-            (
-              other _ _ answers_plan_help (inl refl),
-              (
-                other _ _ answers_plan_short_help (inl refl),
-                (
-                  other _ _ answers_run_help (inl refl),
-                  (other _ _ answers_run_short_help (inl refl), (other _ _ answers_rehearse_help (inl refl), (other _ _ answers_rehearse_short_help (inl refl), tt))),
-                ),
-              ),
-            ),
-          ),
-        ),
-      ),
-    ),
-  ),
-)
+no_request words other = (other _ _ answers_help (inl refl), (other _ _ answers_short_help (inl refl), (other _ _ answers_version (inr refl), (other _ _ answers_short_version (inr refl), (other _ _ answers_limits_help (inl refl), (other _ _ answers_limits_short_help (inl refl), (other _ _ answers_plan_help (inl refl), (other _ _ answers_plan_short_help (inl refl), (other _ _ answers_run_help (inl refl), (other _ _ answers_run_short_help (inl refl), (other _ _ answers_rehearse_help (inl refl), (other _ _ answers_rehearse_short_help (inl refl), tt))))))))))))
 
 -- the words say no command that clap would have to take
 abbrev SayNothing : List Word → Type 0

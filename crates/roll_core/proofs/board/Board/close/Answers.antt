@@ -20,7 +20,5 @@ invariant_of-self g c =
 pub returns-clause-statuses : goal.returns-clause-statuses
 returns-clause-statuses g c =
     let left : List Status = (state_of c.close.new.self).statuses in
-    let Ends : BoardView g.row.R.Denot → Type 0 =
-    λ v. (columns : Columns) (halt : Option ℕ) → Tells columns (roll_of v.kernel) v.kernel.log → (state_of v.kernel).phase ≡ ended halt
-    → left ≡ statuses_after halt (fails_by (roll_of v.kernel) columns) (state_of v.kernel).batch (state_of v.kernel).opening in
+    let Ends : BoardView g.row.R.Denot → Type 0 = λ v. (columns : Columns) (halt : Option ℕ) → Tells columns (roll_of v.kernel) v.kernel.log → (state_of v.kernel).phase ≡ ended halt → left ≡ statuses_after halt (fails_by (roll_of v.kernel) columns) (state_of v.kernel).batch (state_of v.kernel).opening in
     subst Ends c.self.view_is c.close.ensures.statuses
