@@ -13,7 +13,8 @@ use Rattle.clap.specs.declared.builder.value_parser.ValueParser.TheVariants.{Uns
 use Rattle.clap.proofs.WalkLemmas.{both}
 use Rattle.command_line.specs.Forks.{default_text, forks_in, is_number}
 use Rattle.command_line.specs.Operands.{Word, dashes, is_operand}
-use Rattle.command_line.specs.Runs.{behind, first_and_rest, leading_option, without_option}
+use Rattle.command_line.specs.Options.{behind, first_and_rest}
+use Rattle.command_line.specs.Runs.{leading_option, without_option}
 use Rattle.command_line.proofs.AcceptedLemmas.{value_of_operand}
 use Rattle.command_line.proofs.ForksLemmas.{number_from}
 use Rattle.command_line.proofs.RunShapes.{IsText, with_option}

@@ -3,7 +3,9 @@ pub mod Faults
 pub mod Forks
 pub mod Messages
 pub mod Operands
+pub mod Options
 pub mod Runs
+pub mod StopFiles
 pub mod Syntax
 pub mod Verbose
 pub mod Words

@@ -1,24 +1,14 @@
 -- What the words of a run say: two files, and an option that says how many hosts are worked on at once.
-use Rattle.std.specs.Prelude.{ℕ, List, [], ◌∷◌, if◌then◌else◌, Option, Some, None, option_map, option_and_then, unwrap_or, codes, take, drop, length}
+use Rattle.std.specs.Prelude.{ℕ, List, [], ◌∷◌, if◌then◌else◌, Option, Some, None, option_map, option_and_then, unwrap_or, codes}
 use Rattle.std.specs.Option.{option_map_or}
 use Rattle.std.specs.Str.{bytes_eq}
 use Rattle.command_line.specs.Forks.{forks_in, default_text}
 use Rattle.command_line.specs.Operands.{Word, dashes, is_end, lone_operand, two_operands}
+use Rattle.command_line.specs.Options.{leading_value}
 
--- what the word has behind this beginning
-abbrev pub behind : Word → Word → Option Word
-behind start word = if bytes_eq (take (length start) word) start then Some (drop (length start) word) else None
-
-abbrev pub first_and_rest : List Word → Option (Word × List Word)
-first_and_rest [] = None
-first_and_rest (word ∷ words) = Some (word, words)
-
--- the option at the beginning of the words: its value, which is a word of its own or stands behind `=`, and the words behind it
+-- the option at the beginning of the words: its value, and the words behind it
 abbrev pub leading_option : List Word → Option (Word × List Word)
-leading_option [] = None
-leading_option (word ∷ words) =
-    if bytes_eq word (codes "--forks") then first_and_rest words
-    else option_map (λ value. (value, words)) (behind (codes "--forks=") word)
+leading_option words = leading_value (codes "--forks") (codes "--forks=") words
 
 -- the words without the first such option, and its value; behind the word that ends options there is none
 abbrev pub without_option : List Word → List Word × Option Word

@@ -28,6 +28,10 @@ forks_argument = record (new_rule (codes "forks")) {
 abbrev pub verbose_argument : Rule
 verbose_argument = record (new_rule (codes "verbose")) { short = Some 118; long = Some (codes "verbose"); action = Some SetTrue }
 
+-- the option that names the file which ends a run
+abbrev pub stop_file_argument : Rule
+stop_file_argument = record (new_rule (codes "stop-file")) { long = Some (codes "stop-file"); value_names = 1 }
+
 abbrev pub limits_command : App
 limits_command = with_rule (new_app (codes "limits")) inventory_argument
 
@@ -35,7 +39,8 @@ abbrev pub plan_command : App
 plan_command = with_rule (with_rule (new_app (codes "plan")) inventory_argument) playbook_argument
 
 abbrev pub run_command : App
-run_command = with_rule (with_rule (with_rule (with_rule (new_app (codes "run")) inventory_argument) playbook_argument) forks_argument) verbose_argument
+run_command =
+    with_rule (with_rule (with_rule (with_rule (with_rule (new_app (codes "run")) inventory_argument) playbook_argument) forks_argument) verbose_argument) stop_file_argument
 
 abbrev pub rehearse_command : App
 rehearse_command = with_rule (with_rule (new_app (codes "rehearse")) inventory_argument) playbook_argument

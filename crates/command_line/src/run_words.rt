@@ -1,10 +1,11 @@
 //! The words of a run: two files, and an option that says how many hosts are worked on at once.
-ghost use Rattle.std.specs.Prelude.{◌≡◌, ◌∷◌, map, string_bytes, codes};
+ghost use Rattle.std.specs.Prelude.{◌≡◌, ◌∷◌, map, string_bytes};
 ghost use Rattle.std.specs.Option.{option_map};
 ghost use Rattle.command_line.specs.Operands as operands;
 ghost use Rattle.command_line.specs.Runs as spec;
 
 use crate::forks::{DEFAULT, Forks};
+use crate::option_words::leading_value;
 use crate::words;
 use crate::words::{is_operand, is_word};
 
@@ -134,25 +135,5 @@ fn leading_option<'a>(first: &'a String, rest: &'a [String]) -> Option<(&'a str,
     ensures { option_map (λ found. (found.0.now, map string_bytes found.1.now)) result
         ≡ spec.leading_option (string_bytes first.now ∷ map string_bytes rest.now) }
 {
-    if is_word(first, "--forks") {
-        return first_and_rest(rest);
-    }
-    let value = attached_value(first)?;
-    Some((value, rest))
-}
-
-fn first_and_rest(words: &[String]) -> Option<(&str, &[String])>
-    ensures { option_map (λ found. (found.0.now, map string_bytes found.1.now)) result ≡ spec.first_and_rest (map string_bytes words.now) }
-{
-    match words {
-        [first, rest @ ..] => Some((first.as_str(), rest)),
-        [] => None,
-    }
-}
-
-/// The value behind `=` in the word of the option.
-fn attached_value(word: &String) -> Option<&str>
-    ensures { option_map (λ s. s.now) result ≡ spec.behind (codes "--forks=") (string_bytes word.now) }
-{
-    word.as_str().strip_prefix("--forks=")
+    leading_value("--forks", "--forks=", first, rest)
 }

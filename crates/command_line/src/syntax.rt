@@ -18,6 +18,8 @@ const FORKS: &str = "forks";
 
 const VERBOSE: &str = "verbose";
 
+const STOP_FILE: &str = "stop-file";
+
 const INVENTORY_HELP: &str =
     "The inventory: a file of JSON that lists groups with their hosts, children and variables";
 
@@ -28,6 +30,8 @@ const FORKS_HELP: &str = "How many hosts are worked on at once, 1 to 64";
 
 const VERBOSE_HELP: &str =
     "Tells on standard error of each batch that opens and each program that ends";
+
+const STOP_FILE_HELP: &str = "Ends the run before the next batch once this file is there";
 
 const NOTES: &str = "\
 INV is the inventory: a file of JSON that lists groups with their hosts, children and variables.
@@ -97,7 +101,8 @@ fn run<'a>(alloc: Global) -> Result<Command<'a>, AllocError>
         .arg(inventory(alloc))?
         .arg(playbook(alloc))?
         .arg(forks(alloc))?
-        .arg(verbose(alloc))
+        .arg(verbose(alloc))?
+        .arg(stop_file(alloc))
 }
 
 fn rehearse<'a>(alloc: Global) -> Result<Command<'a>, AllocError>
@@ -151,6 +156,17 @@ fn verbose<'a>(alloc: Global) -> Arg<'a>
         .long(VERBOSE)
         .action(ArgAction::SetTrue)
         .help(VERBOSE_HELP)
+}
+
+/// It stands in the help, and clap says what is wrong where its file is wanting. The words that clap reads are without any that has one.
+fn stop_file<'a>(alloc: Global) -> Arg<'a>
+    ensures rule { rule_of result ≡ spec.stop_file_argument }
+    ensures local { result.global ≡ false }
+{
+    Arg::new(alloc, STOP_FILE)
+        .long(STOP_FILE)
+        .value_name("FILE")
+        .help(STOP_FILE_HELP)
 }
 
 /// What clap reads of the words.

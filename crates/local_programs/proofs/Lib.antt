@@ -1,2 +1,4 @@
 mod KeepLemmas
+mod OptionLemmas
+mod ShownLemmas
 mod TextLemmas

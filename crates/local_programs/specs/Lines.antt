@@ -1,5 +1,5 @@
 -- What is told of a run while it goes on.
-use Rattle.std.specs.Prelude.{ℕ, ℤ, pos, Bool, ◌&&◌, ◌||◌, ◌==◌, ◌+◌, min, not, nat_lt, unwrap_or, option_map, string_bytes, if◌then◌else◌, List, [], ◌∷◌, ◌++◌, codes, count_by, decimal, flat_map, int_lt, length, unsigned_abs}
+use Rattle.std.specs.Prelude.{ℕ, ℤ, pos, Bool, Option, Some, None, ◌==◌, ◌+◌, min, not, unwrap_or, option_map, string_bytes, if◌then◌else◌, List, [], ◌++◌, codes, count_by, decimal, int_lt, unsigned_abs}
 use Rattle.std.specs.Ordering.{int_eq}
 use Rattle.inventory_model.specs.Names.{Name}
 use Rattle.domains.specs.FleetViews.{FleetView}
@@ -11,26 +11,10 @@ use Rattle.play_model.specs.declared.step.Step.{Step}
 use Rattle.roll_logs.specs.Told.{Work}
 use Rattle.recap.specs.LimitsText.{field_text}
 use Rattle.recap.specs.PlanText.{names_line}
-
--- a byte as a terminal is given it: a control character but for the tabulator is a question mark
-abbrev pub shown : ℕ → ℕ
-shown byte = if (nat_lt byte 32 && not (byte == 9)) || byte == 127 then 63 else byte
-
-abbrev pub shown_text : List ℕ → List ℕ
-shown_text bytes = flat_map (λ byte. shown byte ∷ []) bytes
-
--- `  HOST END: `
-abbrev pub front_text : List ℕ → List ℕ → List ℕ
-front_text host end = codes "  " ++ (host ++ (codes " " ++ (end ++ codes ": ")))
-
--- a byte of an output; behind a line feed the next line begins as the first one did
-abbrev pub byte_text : List ℕ → List ℕ → ℕ → List ℕ
-byte_text host end byte = if byte == 10 then codes "\n" ++ front_text host end else shown byte ∷ []
-
--- an output, each line behind the host's name
-abbrev pub output_text : List ℕ → List ℕ → List ℕ → List ℕ
-output_text host end bytes =
-    if length bytes == 0 then [] else front_text host end ++ (flat_map (byte_text host end) bytes ++ codes "\n")
+use Rattle.local_programs.specs.Options.{is_taken_for_an_option}
+use Rattle.local_programs.specs.Shown.{output_text, shown_text}
+use Rattle.local_programs.specs.declared.remark.Remark.{Remark}
+use Rattle.local_programs.specs.declared.remark.Remark.TheVariants.{Nothing, Signal, Refused}
 
 abbrev pub sign_text : ℤ → List ℕ
 sign_text number = if int_lt number (pos 0) then codes "-" else []
@@ -66,14 +50,49 @@ outputs_text host lost = []
 outputs_text host skipped = []
 outputs_text host (undefined name) = []
 
--- `HOST step=N rc=N ms=N name=TEXT`
-abbrev pub end_line : List ℕ → ℕ → List ℕ → ℕ → Ending → List ℕ
-end_line host step name milliseconds ending =
-    host ++ (field_text (codes " step=") step ++ (how_text ending ++ (field_text (codes " ms=") milliseconds ++ (codes " name=" ++ (shown_text name ++ codes "\n")))))
+-- ` signal=N`
+abbrev pub number_text : ℤ → List ℕ
+number_text number = codes " signal=" ++ integer_text number
 
--- the same with the outputs of a program that failed
-abbrev pub end_text : List ℕ → ℕ → List ℕ → ℕ → Ending → List ℕ
-end_text host step name milliseconds ending = end_line host step name milliseconds ending ++ outputs_text host ending
+-- the signal that ended a program
+abbrev pub signal_text : Remark → List ℕ
+signal_text Nothing = []
+signal_text (Signal number) = number_text number
+signal_text (Refused said) = []
+
+-- what is told of a program that this signal ended, or none
+abbrev pub remark_in : Option ℤ → Remark
+remark_in None = Nothing
+remark_in (Some number) = Signal number
+
+-- what the system said of a program that it didn't start
+abbrev pub refusal_text : List ℕ → Remark → List ℕ
+refusal_text host Nothing = []
+refusal_text host (Signal number) = []
+refusal_text host (Refused said) = output_text host (codes "error") (string_bytes said)
+
+-- `HOST step=N rc=N signal=N ms=N name=TEXT`
+abbrev pub end_line : List ℕ → ℕ → List ℕ → Ending → Remark → ℕ → List ℕ
+end_line host step name ending remark milliseconds =
+    host
+    ++ (field_text (codes " step=") step
+    ++ (how_text ending ++ (signal_text remark ++ (field_text (codes " ms=") milliseconds ++ (codes " name=" ++ (shown_text name ++ codes "\n"))))))
+
+-- the same with the outputs of a program that failed, and why one wasn't started
+abbrev pub end_text : List ℕ → ℕ → List ℕ → Ending → Remark → ℕ → List ℕ
+end_text host step name ending remark milliseconds =
+    end_line host step name ending remark milliseconds ++ (outputs_text host ending ++ refusal_text host remark)
+
+abbrev pub warning : List ℕ
+warning = codes "its name stands where an option may: write -- before it"
+
+-- a warning where the program may take the host's name for an option
+abbrev pub warning_text : List ℕ → List (List ℕ) → List ℕ
+warning_text host words = if is_taken_for_an_option host words then output_text host (codes "warning") warning else []
+
+-- `descriptors=N at-once=N`
+abbrev pub gate_line : ℕ → ℕ → List ℕ
+gate_line descriptors most = field_text (codes "descriptors=") descriptors ++ (field_text (codes " at-once=") most ++ codes "\n")
 
 -- `waiting=N open: HOST ..`
 abbrev pub opening_line : FleetView → List ℕ → List Status → List ℕ
@@ -90,6 +109,7 @@ abbrev pub step_name : Step → List ℕ
 step_name step = unwrap_or (option_map string_bytes step.name) []
 
 -- what is told of the program of a job; steps are counted from 1
-abbrev pub told_text : NamesView → Work → Ending → ℕ → List ℕ
-told_text names work ending milliseconds =
-    end_text (host_at names.hosts work.host) (min (work.step + 1) 18446744073709551615) (host_at names.steps work.step) milliseconds ending
+abbrev pub told_text : NamesView → Work → Ending → Remark → ℕ → List ℕ
+told_text names work ending remark milliseconds =
+    end_text (host_at names.hosts work.host) (min (work.step + 1) 18446744073709551615) (host_at names.steps work.step) ending remark milliseconds
+    ++ warning_text (host_at names.hosts work.host) work.words

@@ -1,18 +1,34 @@
-//! How long a program takes.
+//! The time.
+use libc::net::poll;
 use libc::types::timespec;
 
-/// Milliseconds of a clock that only goes forward, from some moment on; 0 where the system has none.
-pub(crate) fn milliseconds() -> u64 {
+/// Milliseconds of a clock that only goes forward, from some moment on; none where the system has none.
+pub(crate) fn milliseconds() -> Option<u64> {
     let mut time = timespec {
         tv_sec: 0,
         tv_nsec: 0,
     };
     if libc::clock_gettime(libc::CLOCK_MONOTONIC, &mut time) != 0 {
-        return 0;
+        return None;
     }
     let seconds = u64::try_from(time.tv_sec).unwrap_or(0);
     let nanoseconds = u64::try_from(time.tv_nsec).unwrap_or(0);
-    seconds
-        .saturating_mul(1_000)
-        .saturating_add(nanoseconds / 1_000_000)
+    Some(
+        seconds
+            .saturating_mul(1_000)
+            .saturating_add(nanoseconds / 1_000_000),
+    )
+}
+
+/// Waits so many milliseconds.
+pub(crate) fn wait(milliseconds: i32) {
+    let _ = poll(&mut [], milliseconds);
+}
+
+/// How many milliseconds have gone by since then; 0 where there is no clock.
+pub(crate) fn milliseconds_since(then: Option<u64>) -> u64 {
+    match (then, milliseconds()) {
+        (Some(then), Some(now)) => now.saturating_sub(then),
+        (_, _) => 0,
+    }
 }

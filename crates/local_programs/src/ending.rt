@@ -2,10 +2,10 @@
 ghost use Rattle.std.specs.Prelude.{◌≡◌, Err, IfErr, IfOk, IsErr, IsOk};
 ghost use Rattle.outcome_results.specs.Endings.{ending_of, lost};
 ghost use Rattle.local_programs.specs.Ends.{IsLocalEnd, code_of, ran_to};
-ghost use Rattle.local_programs.specs.declared.outputs.Unread.TheVariants.{Failed, Memory};
+ghost use Rattle.local_programs.specs.declared.output.Unread.TheVariants.{Failed, Memory};
 
 use crate::kept::Kept;
-use crate::outputs::Unread;
+use crate::output::Unread;
 use crate::text::text_of;
 use roll_core::Outcome;
 use std::alloc::{AllocError, Global};
@@ -40,16 +40,16 @@ fn ran_to(
 pub(crate) fn outcome_of(
     alloc: Global,
     read: Result<(Kept, Kept), Unread>,
-    waited: io::Result<ExitStatus>,
+    waited: &io::Result<ExitStatus>,
 ) -> Result<Outcome, AllocError>
-    ensures ran { IfOk result (λ outcome. IfOk read (λ (out, err). IfOk waited (λ status. ending_of outcome ≡ ran_to status out err))) }
+    ensures ran { IfOk result (λ outcome. IfOk read (λ (out, err). IfOk waited.now (λ status. ending_of outcome ≡ ran_to status out err))) }
     ensures unread { read ≡ Err Failed → IfOk result (λ outcome. ending_of outcome ≡ lost) × IsOk result }
-    ensures unended { IfOk result (λ outcome. IfErr waited (λ _. ending_of outcome ≡ lost)) }
+    ensures unended { IfOk result (λ outcome. IfErr waited.now (λ _. ending_of outcome ≡ lost)) }
     ensures memory { read ≡ Err Memory → IsErr result }
     ensures local { IfOk result (λ outcome. IsLocalEnd (ending_of outcome)) }
 {
     match (read, waited) {
-        (Ok((stdout, stderr)), Ok(status)) => ran_to(alloc, status, &stdout, &stderr),
+        (Ok((stdout, stderr)), Ok(status)) => ran_to(alloc, *status, &stdout, &stderr),
         (Err(Unread::Memory), _) => Err(AllocError),
         (_, _) => Ok(Outcome::Lost),
     }

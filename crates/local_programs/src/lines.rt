@@ -1,12 +1,17 @@
 //! The lines that are told of a run while it goes on.
-ghost use Rattle.std.specs.Prelude.{◌≡◌, count_by, decimal, flat_map, int_lt, pos, unsigned_abs};
+ghost use Rattle.std.specs.Prelude.{◌≡◌, count_by, map, string_bytes};
 ghost use Rattle.bounded_io.specs.Writing.{Writes};
 ghost use Rattle.domains.specs.Ids.{host_numbers};
+ghost use Rattle.domains.specs.Numbered.{host_at};
 ghost use Rattle.fleet_states.specs.Statuses.{is_waiting};
 ghost use Rattle.outcome_results.specs.Endings.{ending_of};
 ghost use Rattle.local_programs.specs.Lines as spec;
 
+use crate::integers::write_integer;
 use crate::names::Names;
+use crate::options::{WARNING, is_taken_for_an_option};
+use crate::remark::Remark;
+use crate::shown::{write_output, write_shown};
 use bounded_io::TextWriter;
 use domains::Fleet;
 use fleet_states::Status;
@@ -15,114 +20,12 @@ use recap::{write_field, write_names_line};
 use roll_core::{Job, Outcome};
 use std::io::Write;
 
-/// A control character would move a terminal about, so it is a question mark there.
-fn shown(byte: u8) -> u8
-    ensures { result ≡ spec.shown byte }
-{
-    if byte < b' ' && byte != b'\t' || byte == 0x7f {
-        b'?'
-    } else {
-        byte
-    }
-}
-
-#[tactic(auto, using(bounded_io::proofs::Pieces::pieces_of_text))]
-fn write_shown<W: Write>(text: &mut TextWriter<'_, W>, bytes: &[u8])
-    ensures { Writes W.contents text.old text.new (spec.shown_text bytes.now) }
-{
-    for byte in bytes {
-        text.write_bytes(&[shown(*byte)]);
-    }
-}
-
-/// What each line of an output begins with.
-#[tactic(auto, using(bounded_io::proofs::Pieces::pieces_of_text))]
-fn write_front<W: Write>(text: &mut TextWriter<'_, W>, host: &str, end: &str)
-    ensures { Writes W.contents text.old text.new (spec.front_text host.now end.now) }
-{
-    text.write_str("  ");
-    text.write_str(host);
-    text.write_str(" ");
-    text.write_str(end);
-    text.write_str(": ");
-}
-
-#[tactic(auto, using(bounded_io::proofs::Pieces::pieces_of_text))]
-fn write_byte<W: Write>(text: &mut TextWriter<'_, W>, host: &str, end: &str, byte: u8)
-    ensures { Writes W.contents text.old text.new (spec.byte_text host.now end.now byte) }
-{
-    if byte == b'\n' {
-        text.write_str("\n");
-        write_front(text, host, end);
-    } else {
-        text.write_bytes(&[shown(byte)]);
-    }
-}
-
-#[tactic(auto, using(bounded_io::proofs::Pieces::pieces_of_text))]
-fn write_lines<W: Write>(text: &mut TextWriter<'_, W>, host: &str, end: &str, bytes: &[u8])
-    ensures { Writes W.contents text.old text.new (flat_map (spec.byte_text host.now end.now) bytes.now) }
-{
-    for byte in bytes {
-        write_byte(text, host, end, *byte);
-    }
-}
-
-/// Writes an output, each line behind the host's name.
-#[tactic(auto, using(bounded_io::proofs::Pieces::pieces_of_text))]
-fn write_output<W: Write>(text: &mut TextWriter<'_, W>, host: &str, end: &str, bytes: &[u8])
-    ensures { Writes W.contents text.old text.new (spec.output_text host.now end.now bytes.now) }
-{
-    if bytes.is_empty() {
-        return;
-    }
-    write_front(text, host, end);
-    write_lines(text, host, end, bytes);
-    text.write_str("\n");
-}
-
 #[tactic(auto, using(bounded_io::proofs::Pieces::pieces_of_text))]
 fn write_code<W: Write>(text: &mut TextWriter<'_, W>, rc: i32)
     ensures { Writes W.contents text.old text.new (spec.code_text rc) }
 {
     text.write_str(" rc=");
     write_integer(text, rc);
-}
-
-#[tactic(auto, using(bounded_io::proofs::Pieces::pieces_of_text))]
-fn write_integer<W: Write>(text: &mut TextWriter<'_, W>, number: i32)
-    ensures { Writes W.contents text.old text.new (spec.integer_text number) }
-{
-    write_sign(text, number);
-    write_magnitude(text, number);
-}
-
-#[tactic(auto, using(bounded_io::proofs::Pieces::pieces_of_text))]
-fn write_magnitude<W: Write>(text: &mut TextWriter<'_, W>, number: i32)
-    ensures { Writes W.contents text.old text.new (decimal (unsigned_abs number)) }
-{
-    text.write_number(magnitude(number));
-}
-
-fn magnitude(number: i32) -> u64
-    ensures { result ≡ unsigned_abs number }
-{
-    u64::from(number.unsigned_abs())
-}
-
-#[tactic(auto, using(bounded_io::proofs::Pieces::pieces_of_text))]
-fn write_sign<W: Write>(text: &mut TextWriter<'_, W>, number: i32)
-    ensures { Writes W.contents text.old text.new (spec.sign_text number) }
-{
-    if is_negative(number) {
-        text.write_str("-");
-    }
-}
-
-fn is_negative(number: i32) -> bool
-    ensures { result ≡ int_lt number (pos 0) }
-{
-    number < 0
 }
 
 fn has_failed(rc: i32) -> bool
@@ -172,24 +75,62 @@ fn write_outputs<W: Write>(text: &mut TextWriter<'_, W>, host: &str, outcome: &O
     }
 }
 
+/// How a program ended, as it is told: its outcome, what is told beside it, and how many milliseconds it took.
+#[derive(Clone, Copy)]
+pub(crate) struct End<'a> {
+    pub(crate) outcome: &'a Outcome,
+    pub(crate) remark: &'a Remark,
+    pub(crate) milliseconds: u64,
+}
+
+#[tactic(auto, using(bounded_io::proofs::Pieces::pieces_of_text))]
+fn write_signal<W: Write>(text: &mut TextWriter<'_, W>, remark: &Remark)
+    ensures { Writes W.contents text.old text.new (spec.signal_text remark.now) }
+{
+    match remark {
+        Remark::Signal(number) => write_signal_number(text, *number),
+        Remark::Nothing | Remark::Refused(_) => {}
+    }
+}
+
+#[tactic(auto, using(bounded_io::proofs::Pieces::pieces_of_text))]
+fn write_signal_number<W: Write>(text: &mut TextWriter<'_, W>, number: i32)
+    ensures { Writes W.contents text.old text.new (spec.number_text number) }
+{
+    text.write_str(" signal=");
+    write_integer(text, number);
+}
+
 #[tactic(auto, using(bounded_io::proofs::Pieces::pieces_of_text))]
 fn write_end_line<W: Write>(
     text: &mut TextWriter<'_, W>,
     host: &str,
     step: u64,
     name: &str,
-    outcome: &Outcome,
-    milliseconds: u64,
+    end: &End<'_>,
 )
-    ensures { Writes W.contents text.old text.new (spec.end_line host.now step name.now milliseconds (ending_of outcome.now)) }
+    ensures { Writes W.contents text.old text.new
+        (spec.end_line host.now step name.now (ending_of end.now.outcome.now) end.now.remark.now end.now.milliseconds) }
 {
     text.write_str(host);
     write_field(text, " step=", step);
-    write_how(text, outcome);
-    write_field(text, " ms=", milliseconds);
+    write_how(text, end.outcome);
+    write_signal(text, end.remark);
+    write_field(text, " ms=", end.milliseconds);
     text.write_str(" name=");
     write_shown(text, name.as_bytes());
     text.write_str("\n");
+}
+
+/// Writes what the system said of a program that it didn't start.
+#[tactic(auto, using(bounded_io::proofs::Pieces::pieces_of_text))]
+fn write_refusal<W: Write>(text: &mut TextWriter<'_, W>, host: &str, remark: &Remark)
+    ensures { Writes W.contents text.old text.new (spec.refusal_text host.now remark.now) }
+{
+    match remark {
+        Remark::Refused(said) => write_output(text, host, "error", said.as_bytes()),
+        Remark::Nothing | Remark::Signal(_) => {}
+    }
 }
 
 /// Writes how the program of a step ended on a host, how long it took, and what is kept of its outputs where it failed.
@@ -199,33 +140,58 @@ fn write_end<W: Write>(
     host: &str,
     step: u64,
     name: &str,
-    outcome: &Outcome,
-    milliseconds: u64,
+    end: &End<'_>,
 )
-    ensures { Writes W.contents text.old text.new (spec.end_text host.now step name.now milliseconds (ending_of outcome.now)) }
+    ensures { Writes W.contents text.old text.new
+        (spec.end_text host.now step name.now (ending_of end.now.outcome.now) end.now.remark.now end.now.milliseconds) }
 {
-    write_end_line(text, host, step, name, outcome, milliseconds);
-    write_outputs(text, host, outcome);
+    write_end_line(text, host, step, name, end);
+    write_outputs(text, host, end.outcome);
+    write_refusal(text, host, end.remark);
+}
+
+/// Warns of a program that may take the host's name for an option.
+#[tactic(auto, using(bounded_io::proofs::Pieces::pieces_of_text))]
+fn write_warning<W: Write>(text: &mut TextWriter<'_, W>, host: &str, words: &[String])
+    ensures { Writes W.contents text.old text.new (spec.warning_text host.now (map string_bytes words.now)) }
+{
+    if is_taken_for_an_option(host, words) {
+        write_output(text, host, "warning", WARNING.as_bytes());
+    }
 }
 
 /// Writes what is told of the program of a job.
+#[tactic(auto, using(bounded_io::proofs::Pieces::pieces_of_text))]
 pub(crate) fn write_told<W: Write>(
     text: &mut TextWriter<'_, W>,
     names: &Names,
     job: &Job,
-    outcome: &Outcome,
-    milliseconds: u64,
+    end: &End<'_>,
 )
-    ensures { Writes W.contents text.old text.new (spec.told_text names.now job.now (ending_of outcome.now) milliseconds) }
+    ensures { Writes W.contents text.old text.new
+        (spec.told_text names.now job.now (ending_of end.now.outcome.now) end.now.remark.now end.now.milliseconds) }
 {
-    write_end(
-        text,
-        names.host(job.host()),
-        (job.step() as u64).saturating_add(1),
-        names.step(job.step()),
-        outcome,
-        milliseconds,
-    );
+    let host = names.host(job.host());
+    let number = (job.step() as u64).saturating_add(1);
+    write_end(text, host, number, names.step(job.step()), end);
+    write_warning(text, host, job.words());
+}
+
+/// Writes what is told of a program that isn't told of itself: the warning alone.
+pub(crate) fn write_warned<W: Write>(text: &mut TextWriter<'_, W>, names: &Names, job: &Job)
+    ensures { Writes W.contents text.old text.new (spec.warning_text (host_at names.now.hosts job.now.host) job.now.words) }
+{
+    write_warning(text, names.host(job.host()), job.words());
+}
+
+/// Writes how many programs may be under way at once with so many descriptors.
+#[tactic(auto, using(bounded_io::proofs::Pieces::pieces_of_text))]
+pub(crate) fn write_gate<W: Write>(text: &mut TextWriter<'_, W>, descriptors: u64, most: u64)
+    ensures { Writes W.contents text.old text.new (spec.gate_line descriptors most) }
+{
+    write_field(text, "descriptors=", descriptors);
+    write_field(text, " at-once=", most);
+    text.write_str("\n");
 }
 
 /// How many hosts wait.

@@ -5,29 +5,35 @@ ghost use Rattle.roll_core.specs.Leaves.{IsGoOf};
 ghost use Rattle.roll_logs.specs.Rolls.{is_of_program};
 ghost use Rattle.local_programs.specs.Ends.{IsLocalEnd};
 
-use crate::clock::milliseconds;
+use crate::clock::{milliseconds, milliseconds_since};
 use crate::ending::outcome_of;
+use crate::gate::Gate;
+use crate::lines::End;
 use crate::outputs::read_both;
+use crate::remark::{Remark, refusal_of, remark_of};
 use crate::screen::Screen;
-use crate::starting::start;
+use crate::starting::{Started, start};
 use roll_core::{Go, Job, Outcome, Runner};
 use std::alloc::{AllocError, Global};
 use std::io::Stderr;
-use std::process::{Processes, SystemProcess};
+use std::process::{Child, Processes, SystemProcess};
 use std::sync::Wait;
 use std::thread::Threads;
 
 /// Runs each program on this machine: the first word with the others as its arguments and no shell, in this program's folder and environment,
-/// with nothing to read. What it may tell is every end of a program. Where it watches a run beside that, it tells of it on standard error.
+/// with nothing to read, and no more of them at once than this process may have descriptors for. What it may tell is every end of a program.
+/// Where it watches a run beside that, it tells of it on standard error.
 #[derive(Drop)]
 pub struct LocalPrograms {
     pub(crate) screen: Screen,
+    gate: Gate,
 }
 
 impl LocalPrograms {
-    pub fn new(errors: Stderr) -> LocalPrograms {
+    pub fn new(alloc: Global, errors: Stderr) -> LocalPrograms {
         LocalPrograms {
-            screen: Screen::new(errors),
+            screen: Screen::new(alloc, errors),
+            gate: Gate::new(),
         }
     }
 }
@@ -48,11 +54,19 @@ impl Runner for LocalPrograms {
         ensures program { IfOk result (λ outcome. is_of_program (ending_of outcome) ≡ true) }
         ensures local { IfOk result (λ outcome. IsLocalEnd (ending_of outcome)) }
     {
+        if self.gate.is_full(rt) {
+            self.screen.tell_gate(rt, self.gate.bounds());
+        }
+        self.gate.enter(rt);
         let begin = milliseconds();
-        let outcome = run_program(rt, alloc, go, job)?;
-        let taken = milliseconds().saturating_sub(begin);
-        self.screen.tell_end(rt, job, &outcome, taken);
-        Ok(outcome)
+        let ended = run_program(rt, alloc, &self.gate, go, job)?;
+        let end = End {
+            outcome: &ended.0,
+            remark: &ended.1,
+            milliseconds: milliseconds_since(begin),
+        };
+        self.screen.tell_end(rt, job, &end);
+        Ok(ended.0)
     }
 
     fn same(&self, _other: &LocalPrograms) -> bool {
@@ -64,20 +78,52 @@ impl Runner for LocalPrograms {
     ghost one_relation = { λ one other alike work ending. ((λ may. may), λ may. may) };
 }
 
-/// Starts the program of the job, reads its outputs, and waits for its end.
+/// Starts the program of the job where the gate let it in, and sees it to its end; then it leaves.
 fn run_program<H: Wait + Processes<Started = SystemProcess>>(
     rt: &H,
     alloc: Global,
+    gate: &Gate,
     go: Go,
     job: &Job,
-) -> Result<Outcome, AllocError>
+) -> Result<(Outcome, Remark), AllocError>
     requires { IsGoOf go job.now }
-    ensures program { IfOk result (λ outcome. is_of_program (ending_of outcome) ≡ true) }
-    ensures local { IfOk result (λ outcome. IsLocalEnd (ending_of outcome)) }
+    ensures program { IfOk result (λ ended. is_of_program (ending_of ended.0) ≡ true) }
+    ensures local { IfOk result (λ ended. IsLocalEnd (ending_of ended.0)) }
 {
-    let Some(mut child) = start(rt, alloc, go, job)? else {
-        return Ok(Outcome::NotStarted);
+    match start(rt, alloc, gate, go, job) {
+        Ok(Started::Running(child)) => {
+            gate.starts(rt);
+            let ended = see_to_its_end(rt, alloc, child);
+            gate.leave(rt, true);
+            ended
+        }
+        Ok(Started::Refused(error)) => {
+            gate.leave(rt, false);
+            Ok((Outcome::NotStarted, refusal_of(alloc, &error)))
+        }
+        Err(refused) => {
+            gate.leave(rt, false);
+            Err(refused)
+        }
+    }
+}
+
+/// Reads the outputs of a program that was started, and waits for its end.
+fn see_to_its_end<H: Wait>(
+    rt: &H,
+    alloc: Global,
+    mut child: Child,
+) -> Result<(Outcome, Remark), AllocError>
+    ensures program { IfOk result (λ ended. is_of_program (ending_of ended.0) ≡ true) }
+    ensures local { IfOk result (λ ended. IsLocalEnd (ending_of ended.0)) }
+{
+    let (stdout, stderr) = (child.stdout.take(), child.stderr.take());
+    let read = read_both(rt, alloc, &mut child, stdout, stderr);
+    let waited = child.wait();
+    let outcome = outcome_of(alloc, read, &waited)?;
+    let remark = match outcome {
+        Outcome::Ran { .. } => remark_of(&waited),
+        _ => Remark::Nothing,
     };
-    let read = read_both(rt, alloc, child.stdout.take(), child.stderr.take());
-    outcome_of(alloc, read, child.wait())
+    Ok((outcome, remark))
 }

@@ -1,9 +1,9 @@
 -- A run is over: it came to its end, or a fault broke it off.
-use Rattle.std.proofs.Common.{◌≡◌, ℕ, ◌<◌, ◌⊎◌, inl, inr, Option, Some, None, List, [], ◌∷◌, ◌++◌, length, take, get_or, refl, sym, ap, ap₂, ◌∙◌, subst, arith, append_assoc}
+use Rattle.std.proofs.Common.{◌≡◌, ℕ, ◌+◌, ◌<◌, ◌⊎◌, inl, inr, Option, Some, None, List, [], ◌∷◌, ◌++◌, length, length-append, take, get_or, refl, sym, ap, ap₂, ◌∙◌, subst, arith, append_assoc}
 use Rattle.std.specs.List.{count_by}
 use Rattle.std.specs.Prelude.{slice_index_or}
 use Rattle.std.proofs.Math.Seq.{take-nil}
-use Rattle.std.proofs.lemmas.List.{append-nil}
+use Rattle.std.proofs.lemmas.List.{append-nil, length-map}
 use Rattle.std.proofs.lemmas.Option.{slice_get-get_or}
 use Rattle.domains.specs.FleetViews.{FleetView}
 use Rattle.fleet_states.specs.declared.status.Status.{Status}
@@ -30,9 +30,11 @@ use Rattle.roll_kernel.specs.Leavings as leavings
 use Rattle.roll_kernel.specs.Views.{FrontsAreSafe, KernelView, RestsAtBoundaries, event_of, events_of, roll_of, state_of}
 use Rattle.roll_core.specs.Boards.{BoardView}
 use Rattle.fork_pool.specs.declared.fault.StepFault.{StepFault}
-use Rattle.roll_run.specs.Runs.{AreCounted, IsBrokenOff, IsFaultIn, IsRun, IsSafeLog, TookItsCourse, WasOnCourse, aside_at, batches_in, boundary_events, events_at_each, setting_aside}
+use Rattle.roll_run.specs.Runs.{AreCounted, IsAskedAt, IsBreakIn, IsBrokenOff, IsRun, IsSafeLog, TookItsCourse, WasOnCourse, aside_at, batches_in, boundary_events, events_at_each, setting_aside}
 use Rattle.roll_run.specs.Plays.{IsNotBegun}
 use Rattle.roll_run.specs.declared.run.Run.{Run}
+use Rattle.roll_run.specs.declared.fault.Break.{Break}
+use Rattle.roll_run.specs.declared.fault.Break.TheVariants.{Asked, Fault}
 use Rattle.roll_run.specs.declared.fault.RunFault.{RunFault}
 use Rattle.roll_run.specs.Inside.{HasBroken, HasComeTo, IsAt, IsBetween, IsEnded, IsOnCourse, aside_in, grown, opens, setting_by}
 use Rattle.roll_run.proofs.Behind.{aside_is_at, aside_opens_none, batches_by_events, events-append, events_at_each-push, opened_are}
@@ -147,6 +149,17 @@ broken_at old new behind boundaries boundary before at are goes_on broken =
       is_begun = inl refl;
     }
 
+-- it was asked to end at the boundary
+pub asked_at : {R : Type 0} (old new : BoardView R) (behind boundaries : List Boundary) (boundary : Boundary) (before : Option End) (why : Break)
+    → IsAt old.kernel behind boundary before → boundaries ≡ behind ++ boundary ∷ [] → (why ≡ Asked → new ≡ old) → IsAskedAt boundaries new.kernel.log why
+asked_at {R} old new behind boundaries boundary before (Fault why) at are still = tt
+asked_at {R} old new behind boundaries boundary before Asked at are still =
+    let same : new.kernel.log ≡ old.kernel.log = ap (λ (b : BoardView R). b.kernel.log) (still refl) in
+    let batches = batches_by_events old.kernel.log behind (aside_at boundary) at.events (aside_opens_none (host_numbers boundary.held.items)) in
+    let many : length (batches_in old.kernel.log) ≡ length behind = ap length batches ∙ length-map behind (λ (b : Boundary). next_batch b.answer) in
+    let all : length boundaries ≡ length behind + 1 = ap length are ∙ length-append behind (boundary ∷ []) in
+    subst (λ log. length boundaries ≡ length (batches_in log) + 1) (sym same) (omega (arith, many, all))
+
 -- what the board hands out, of which the log is written by these entries
 module _ (may : Work → Ending → Type 0) (kernel : KernelView) where
   safe_log : (log : List Event) → log ≡ kernel.log → IsLegal (roll_of kernel) (start_state (roll_of kernel)) kernel.log → FrontsAreSafe (roll_of kernel) kernel.log → RestsAtBoundaries (roll_of kernel) kernel.log
@@ -173,12 +186,13 @@ module _ (may : Work → Ending → Type 0) (kernel : KernelView) where
 
   pub is_broken : (fault : RunFault) → events_of fault.log.items ≡ kernel.log → IsLegal (roll_of kernel) (start_state (roll_of kernel)) kernel.log → FrontsAreSafe (roll_of kernel) kernel.log → RestsAtBoundaries (roll_of kernel) kernel.log
       → AreTold may (roll_of kernel) (start_state (roll_of kernel)) kernel.log → fault.statuses.items ≡ (state_of kernel).statuses → leavings.AreCounted (roll_of kernel) (state_of kernel) fault.counts.items
-      → fault.opened ≡ count_by (λ event. opens (event_of event)) fault.log.items → IsOnCourse kernel fault.boundaries.items → IsFaultIn kernel.forks (state_of kernel) fault.why → IsBrokenOff may kernel.fleet (roll_of kernel) fault
-  is_broken fault is legal safe rests told statuses counts many on why = record {
+      → fault.opened ≡ count_by (λ event. opens (event_of event)) fault.log.items → IsOnCourse kernel fault.boundaries.items → IsBreakIn kernel.forks (state_of kernel) fault.why → IsAskedAt fault.boundaries.items kernel.log fault.why → IsBrokenOff may kernel.fleet (roll_of kernel) fault
+  is_broken fault is legal safe rests told statuses counts many on why asked = record {
     log = safe_log (events_of fault.log.items) is legal safe rests told;
     statuses = statuses ∙ ap (λ l. (end_state (roll_of kernel) l).statuses) (sym is);
     counts = counted_by (events_of fault.log.items) fault.counts.items is counts;
-    why = subst (λ l. IsFaultIn kernel.forks (end_state (roll_of kernel) l) fault.why) (sym is) why;
+    why = subst (λ l. IsBreakIn kernel.forks (end_state (roll_of kernel) l) fault.why) (sym is) why;
+    asked = subst (λ l. IsAskedAt fault.boundaries.items l fault.why) (sym is) asked;
     opened_are = many ∙ sym (opened_are fault.log.items);
     by = λ columns tells. subst (WasOnCourse kernel.fleet (roll_of kernel) columns fault.boundaries.items) (sym is) (on columns (subst (Tells columns (roll_of kernel)) is tells));
   }
@@ -189,7 +203,8 @@ is_unbegun may fleet roll fault safe rests not = record {
   log = subst (IsSafeLog may roll) (sym empty) (record { legal = tt; safe = λ n. subst (IsSafe roll.groups) (sym (start_at n)) safe; rests = λ n _. subst NobodyRuns (sym (start_at n)) rests; told = tt });
   statuses = not.statuses_are ∙ ap (λ l. (end_state roll l).statuses) (sym empty);
   counts = λ host within. ap (λ l. slice_index_or l host (counts_in [])) not.counts ∙ ap (λ l. counts_in ((end_state roll l).rows host)) (sym empty);
-  why = subst (IsFaultIn roll.forks (end_state roll (events_of fault.log.items))) (sym not.why) tt;
+  why = subst (IsBreakIn roll.forks (end_state roll (events_of fault.log.items))) (sym not.why) tt;
+  asked = subst (IsAskedAt fault.boundaries.items (events_of fault.log.items)) (sym not.why) tt;
   opened_are = not.opened ∙ ap (λ l. length (batches_in l)) (sym empty);
   by = λ columns tells. subst (λ l. WasOnCourse fleet roll columns fault.boundaries.items l) (sym empty)
       (subst (λ bs. WasOnCourse fleet roll columns bs []) (sym not.boundaries) (record { course = refl; behind = []; rest = []; boundaries_are = refl; few = omega arith; batches = refl; begun = []; events = refl; is_begun = inl refl }));

@@ -1,5 +1,5 @@
 -- The runs of a file of plays are its courses.
-use Rattle.std.proofs.Common.{◌≡◌, ℕ, ◌+◌, Some, List, [], ◌∷◌, ◌++◌, length, map, zero, suc, refl, sym, ap, ◌∙◌, subst, arith}
+use Rattle.std.proofs.Common.{◌≡◌, ◌⊎◌, inl, inr, ℕ, ◌+◌, Some, List, [], ◌∷◌, ◌++◌, length, map, zero, suc, refl, sym, ap, ◌∙◌, subst, arith}
 use Rattle.std.proofs.Math.Path.{fun_ext}
 use Rattle.domains.specs.FleetViews.{FleetView}
 use Rattle.fleet_states.specs.declared.status.Status.{Status}
@@ -27,10 +27,12 @@ use Rattle.roll_kernel.specs.Views.{events_of}
 use Rattle.fork_pool.specs.declared.fault.StepFault.{StepFault}
 use Rattle.fork_pool.specs.declared.fault.StepFault.TheVariants.{Mem, WorkerMem, Mixed}
 use Rattle.roll_run.specs.declared.run.Run.{Run}
-use Rattle.roll_run.specs.Runs.{IsFaultIn, IsRun, roll_by, setting_of}
+use Rattle.roll_run.specs.declared.fault.Break.{Break}
+use Rattle.roll_run.specs.declared.fault.Break.TheVariants.{Asked, Fault}
+use Rattle.roll_run.specs.Runs.{IsBreakIn, IsFaultIn, IsRun, roll_by, setting_of}
 use Rattle.roll_run.specs.Plays.{AreRunsAfter, AreSameHosts, IsRollAfter}
 use Rattle.roll_run.specs.Files.{TellLater, course_of, roll_after, settings_after}
-use Rattle.roll_run.specs.Laws.{MemoryAloneAtBoundaries, RunsAreCourses}
+use Rattle.roll_run.specs.Laws.{NoWorkerAtBoundaries, RunsAreCourses}
 
 same_host : (one other : Vars) → IsSameHost one other → known_of one ≡ known_of other
 same_host one other same =
@@ -106,8 +108,8 @@ runs_are_courses may columns fleet forks first later statuses vars run rest are 
           goes_on = later_courses may columns fleet forks 1 later run rest (last_statuses [] run.boundaries.items) (left_by may columns fleet forks (roll_by fleet first forks statuses vars) run (columns 0) here tell.0) after tell.1;
         }
 
-pub memory_alone : (may : Work → Ending → Type 0) → MemoryAloneAtBoundaries may
-memory_alone may fleet roll fault is at = by fault.why is.why
+pub no_worker : (may : Work → Ending → Type 0) → NoWorkerAtBoundaries may
+no_worker may fleet roll fault is at = either fault.why is.why
   where
     none : (end_state roll (events_of fault.log.items)).out ≡ []
     none = nobody_out roll (events_of fault.log.items) is.log.legal (λ step here. apart step (sym at ∙ here))
@@ -119,3 +121,7 @@ memory_alone may fleet roll fault is at = by fault.why is.why
     by Mem so = refl
     by (WorkerMem at) so = absurd (omega (arith, so.1, ap length none))
     by Mixed so = absurd (omega (arith, so, ap length none))
+
+    either : (why : Break) → IsBreakIn roll.forks (end_state roll (events_of fault.log.items)) why → (why ≡ Asked) ⊎ (why ≡ Fault Mem)
+    either (Fault why) so = inr (ap (λ (w : StepFault). Fault w) (by why so))
+    either Asked so = inl refl

@@ -37,7 +37,8 @@ use Rattle.roll_core.specs.Boards.{BoardView, with_event}
 use Rattle.fork_pool.specs.declared.fault.StepFault.{StepFault}
 use Rattle.fork_pool.specs.declared.fault.StepFault.TheVariants.{Mem, WorkerMem, Mixed}
 use Rattle.fork_pool.specs.Faults.{IsFaultOf}
-use Rattle.roll_run.specs.Runs.{IsFaultIn}
+use Rattle.roll_run.specs.declared.fault.Break.{Break}
+use Rattle.roll_run.specs.Runs.{IsBreakIn, IsFaultIn}
 use Rattle.roll_run.specs.Inside.{HasRun, IsAt, IsBehind, IsBetween, IsSameRoll, halt_in}
 use Rattle.roll_run.proofs.Lengths.{as_many}
 use Rattle.roll_run.proofs.Closing.{closes, others_same}
@@ -106,8 +107,8 @@ pub same_further : {R : Type 0} (first old new : BoardView R) → IsSameRoll fir
 same_further first old new one other =
     record { kernel = other.kernel ∙ ap (λ (k : KernelView). record k { log = new.kernel.log }) one.kernel; runner = other.runner ∙ one.runner }
 
-pub still_so : (forks workers : ℕ) (state : State) (why : StepFault) → workers ≡ forks → IsFaultIn workers state why → IsFaultIn forks state why
-still_so forks workers state why same is = subst (λ n. IsFaultIn n state why) same is
+pub still_so : (forks workers : ℕ) (state : State) (why : Break) → workers ≡ forks → IsBreakIn workers state why → IsBreakIn forks state why
+still_so forks workers state why same is = subst (λ n. IsBreakIn n state why) same is
 
 -- the boundary's batch has run, and is closed
 module _ {R : Type 0} (old ran new : BoardView R) (behind : List Boundary) (boundary : Boundary) (before : Option End)

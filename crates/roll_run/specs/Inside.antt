@@ -24,10 +24,10 @@ use Rattle.roll_kernel.specs.declared.next.Next.TheVariants.{Step, BatchEnd, Hal
 use Rattle.roll_kernel.specs.Barriers.{is_over, is_working}
 use Rattle.roll_kernel.specs.Views.{KernelView, roll_of, state_of}
 use Rattle.roll_core.specs.Boards.{BoardView}
-use Rattle.fork_pool.specs.declared.fault.StepFault.{StepFault}
-use Rattle.roll_run.specs.Runs.{IsFaultIn, TookItsCourse, WasOnCourse, aside_at, boundary_events, events_at_each, rows_behind, setting_aside, setting_of}
+use Rattle.roll_run.specs.Runs.{IsAskedAt, IsBreakIn, MayBreak, TookItsCourse, WasOnCourse, aside_at, boundary_events, events_at_each, rows_behind, setting_aside, setting_of}
 use Rattle.roll_run.specs.Plays.{AreBrokenAfter, AreRunsAfter}
 use Rattle.roll_run.specs.declared.run.Run.{Run}
+use Rattle.roll_run.specs.declared.fault.Break.{Break}
 use Rattle.roll_run.specs.declared.fault.RunFault.{RunFault}
 use Rattle.roll_run.specs.declared.turns.Turn.{Turn}
 use Rattle.roll_run.specs.declared.turns.Turn.TheVariants.{Behind, Ended, Broken}
@@ -177,12 +177,18 @@ pub record IsBehind {R : Type 0} (boundaries : List Boundary) (counted : Counted
 abbrev pub HasTurned : {R : Type 0} → List Boundary → Counted → BoardView R → Turn → Type 0
 HasTurned boundaries counted board (Behind before) = IsBehind boundaries counted board before
 HasTurned boundaries counted board (Ended end) = IsEnded board.kernel boundaries end
-HasTurned boundaries counted board (Broken why) = IsOnCourse board.kernel boundaries × IsFaultIn board.kernel.forks (state_of board.kernel) why
+HasTurned boundaries counted board (Broken why) = IsOnCourse board.kernel boundaries × IsBreakIn board.kernel.forks (state_of board.kernel) why × IsAskedAt boundaries board.kernel.log why
+
+-- who asks for the end may ask
+abbrev pub MayTurn : Bool → Turn → Type 0
+MayTurn asks (Behind before) = Unit {0}
+MayTurn asks (Ended end) = Unit {0}
+MayTurn asks (Broken why) = MayBreak asks why
 
 -- what all turns came to
-abbrev pub HasGone : List Boundary → KernelView → Result End StepFault → Type 0
+abbrev pub HasGone : List Boundary → KernelView → Result End Break → Type 0
 HasGone boundaries kernel (Ok end) = IsEnded kernel boundaries end
-HasGone boundaries kernel (Err why) = IsOnCourse kernel boundaries × IsFaultIn kernel.forks (state_of kernel) why
+HasGone boundaries kernel (Err why) = IsOnCourse kernel boundaries × IsBreakIn kernel.forks (state_of kernel) why × IsAskedAt boundaries kernel.log why
 
 -- a plan may be made of the statuses that a run left, and it left the variables of each host
 pub record IsReadyRun (fleet : FleetView) (run : Run) : Type 0 where

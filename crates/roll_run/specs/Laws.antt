@@ -1,5 +1,5 @@
 -- What holds of every run.
-use Rattle.std.specs.Prelude.{◌≡◌, ℕ, List, ◌∷◌, map}
+use Rattle.std.specs.Prelude.{◌≡◌, ◌⊎◌, ℕ, List, ◌∷◌, map}
 use Rattle.domains.specs.FleetViews.{FleetView}
 use Rattle.fleet_states.specs.declared.status.Status.{Status}
 use Rattle.host_vars.specs.declared.vars.Vars.{Vars}
@@ -13,6 +13,7 @@ use Rattle.roll_logs.specs.States.{between}
 use Rattle.roll_logs.specs.Told.{Work}
 use Rattle.roll_kernel.specs.Views.{events_of}
 use Rattle.fork_pool.specs.declared.fault.StepFault.TheVariants.{Mem}
+use Rattle.roll_run.specs.declared.fault.Break.TheVariants.{Asked, Fault}
 use Rattle.roll_run.specs.declared.fault.RunFault.{RunFault}
 use Rattle.roll_run.specs.declared.run.Run.{Run}
 use Rattle.roll_run.specs.Runs.{IsBrokenOff, roll_by, setting_of}
@@ -26,7 +27,7 @@ RunsAreCourses may =
     → AreRuns may fleet forks (first ∷ later) statuses vars (run ∷ rest) → TellTheirs columns fleet forks (first ∷ later) statuses vars (run ∷ rest)
     → AreCourses (setting_of fleet (roll_by fleet first forks statuses vars) (columns 0)) (settings_after columns fleet forks 1 later run rest) statuses (map course_of (run ∷ rest))
 
--- a run that a fault broke off while no batch was open was broken off for want of the coordinator's memory
-abbrev pub MemoryAloneAtBoundaries : (Work → Ending → Type 0) → Type 0
-MemoryAloneAtBoundaries may =
-    (fleet : FleetView) (roll : Roll) (fault : RunFault) → IsBrokenOff may fleet roll fault → (end_state roll (events_of fault.log.items)).phase ≡ between → fault.why ≡ Mem
+-- a run that was broken off while no batch was open was asked to end, or the coordinator's memory was wanting
+abbrev pub NoWorkerAtBoundaries : (Work → Ending → Type 0) → Type 0
+NoWorkerAtBoundaries may =
+    (fleet : FleetView) (roll : Roll) (fault : RunFault) → IsBrokenOff may fleet roll fault → (end_state roll (events_of fault.log.items)).phase ≡ between → (fault.why ≡ Asked) ⊎ (fault.why ≡ Fault Mem)

@@ -15,6 +15,7 @@ use Rattle.roll_logs.specs.Told.{Work}
 use Rattle.fork_pool.specs.declared.fault.StepFault.TheVariants.{Mem}
 use Rattle.roll_run.specs.Runs.{IsBrokenOff, IsRun, roll_by}
 use Rattle.roll_run.specs.declared.run.Run.{Run}
+use Rattle.roll_run.specs.declared.fault.Break.TheVariants.{Fault}
 use Rattle.roll_run.specs.declared.fault.RunFault.{RunFault}
 
 -- of each host the same variables and results
@@ -56,7 +57,7 @@ pub record AreRuns (may : Work → Ending → Type 0) (fleet : FleetView) (forks
 
 -- a play was to begin with these statuses, and memory was wanting before it had a board
 pub record IsNotBegun (statuses : List Status) (fault : RunFault) : Type 0 where
-  pub why : fault.why ≡ Mem
+  pub why : fault.why ≡ Fault Mem
   pub boundaries : fault.boundaries.items ≡ []
   pub opened : fault.opened ≡ 0
   pub log : fault.log.items ≡ []

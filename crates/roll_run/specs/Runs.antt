@@ -1,5 +1,5 @@
 -- What a run of a play leaves: it took the course that its hosts by themselves say.
-use Rattle.std.specs.Prelude.{◌≡◌, ℕ, ◌≤◌, ◌<◌, ◌⊎◌, Bool, true, false, cond, Option, Some, None, List, [], ◌∷◌, ◌++◌, filter, flat_map, length, slice_index_or}
+use Rattle.std.specs.Prelude.{◌≡◌, ℕ, ◌+◌, ◌≤◌, ◌<◌, ◌⊎◌, Bool, true, false, cond, Option, Some, None, List, [], ◌∷◌, ◌++◌, filter, flat_map, length, slice_index_or}
 use Rattle.fleet_numbers.specs.NumberLists.{has_number}
 use Rattle.domains.specs.FleetViews.{FleetView}
 use Rattle.domains.specs.Ids.{host_numbers}
@@ -28,6 +28,8 @@ use Rattle.roll_kernel.specs.Views.{FrontsAreSafe, RestsAtBoundaries, events_of}
 use Rattle.fork_pool.specs.declared.fault.StepFault.{StepFault}
 use Rattle.fork_pool.specs.declared.fault.StepFault.TheVariants.{Mem, WorkerMem, Mixed}
 use Rattle.roll_run.specs.declared.run.Run.{Run}
+use Rattle.roll_run.specs.declared.fault.Break.{Break}
+use Rattle.roll_run.specs.declared.fault.Break.TheVariants.{Asked, Fault}
 use Rattle.roll_run.specs.declared.fault.RunFault.{RunFault}
 
 -- the roll of a play over a fleet, with so many workers, from these statuses and variables
@@ -160,12 +162,28 @@ IsFaultIn forks state Mem = Unit {0}
 IsFaultIn forks state (WorkerMem at) = (at < forks) × (0 < length state.out)
 IsFaultIn forks state Mixed = 0 < length state.out
 
--- what a run that a fault broke off leaves
+-- what is told of a run that was broken off is so in the state: where it was asked to end, no batch is open
+abbrev pub IsBreakIn : ℕ → State → Break → Type 0
+IsBreakIn forks state (Fault why) = IsFaultIn forks state why
+IsBreakIn forks state Asked = state.phase ≡ between
+
+-- where it was asked to end, it stands at its last boundary, whose batch was not opened
+abbrev pub IsAskedAt : List Boundary → List Event → Break → Type 0
+IsAskedAt boundaries log (Fault why) = Unit {0}
+IsAskedAt boundaries log Asked = length boundaries ≡ length (batches_in log) + 1
+
+-- a run is asked to end only by one who may ask
+abbrev pub MayBreak : Bool → Break → Type 0
+MayBreak asks (Fault why) = Unit {0}
+MayBreak asks Asked = asks ≡ true
+
+-- what a run that was broken off leaves
 pub record IsBrokenOff (may : Work → Ending → Type 0) (fleet : FleetView) (roll : Roll) (fault : RunFault) : Type 0 where
   pub log : IsSafeLog may roll (events_of fault.log.items)
   pub statuses : fault.statuses.items ≡ (end_state roll (events_of fault.log.items)).statuses
   pub counts : AreCounted roll (end_state roll (events_of fault.log.items)) fault.counts.items
-  pub why : IsFaultIn roll.forks (end_state roll (events_of fault.log.items)) fault.why
+  pub why : IsBreakIn roll.forks (end_state roll (events_of fault.log.items)) fault.why
+  pub asked : IsAskedAt fault.boundaries.items (events_of fault.log.items) fault.why
   pub opened_are : fault.opened ≡ length (batches_in (events_of fault.log.items))
   pub by : (columns : Columns) → Tells columns roll (events_of fault.log.items)
       → WasOnCourse fleet roll columns fault.boundaries.items (events_of fault.log.items)

@@ -4,11 +4,15 @@ ghost use Rattle.domains.specs.Ids.{host_numbers};
 ghost use Rattle.roll_kernel.specs.Barriers.{is_working};
 ghost use Rattle.roll_kernel.specs.Views.{state_of};
 ghost use Rattle.roll_run.specs.Inside.{HasBroken, HasPassedStep, HasRun, HasWorked, IsWorkedOff};
-ghost use Rattle.roll_run.specs.Runs.{IsFaultIn};
+ghost use Rattle.roll_logs.specs.States.{between};
+ghost use Rattle.roll_run.specs.Runs.{IsBreakIn, IsFaultIn, MayBreak};
+ghost use Rattle.roll_run.specs.declared.fault.Break.TheVariants.{Asked};
 
+use crate::attend::Attend;
+use crate::fault::Break;
 use fork_pool::{Front, StepFault};
 use group_tree::HostId;
-use roll_core::{Board, Next, Runner, Watch};
+use roll_core::{Board, Next, Runner};
 use std::alloc::Global;
 use std::sync::Wait;
 use std::sync::ledger::Ledger;
@@ -68,10 +72,10 @@ where
 }
 
 /// Opens a batch, and works on it until it is over. Where it isn't opened, nothing has changed.
-pub(crate) fn run_batch<'f, 'b, R: Runner, L: Ledger, H: Wait, V: Watch>(
+fn work_off<'f, 'b, R: Runner, L: Ledger, H: Wait, A: Attend>(
     rt: &H,
     alloc: Global,
-    watch: &V,
+    attend: &A,
     front: &mut Front<'f, R>,
     mut board: Board<'b, R, L>,
     batch: &[HostId],
@@ -88,9 +92,40 @@ where
 {
     match board.open(alloc, batch) {
         Ok(()) => {
-            watch.batch_opens(rt, board.fleet(), batch, board.statuses());
+            attend.batch_opens(rt, board.fleet(), batch, board.statuses());
             pass_steps(rt, alloc, front, board)
         }
         Err(_refused) => Err((StepFault::Mem, board)),
+    }
+}
+
+/// Opens a batch where whoever attends the run lets it go on, and works on it until it is over. Where it isn't opened, nothing has changed.
+pub(crate) fn run_batch<'f, 'b, R: Runner, L: Ledger, H: Wait, A: Attend>(
+    rt: &H,
+    alloc: Global,
+    attend: &A,
+    front: &mut Front<'f, R>,
+    board: Board<'b, R, L>,
+    batch: &[HostId],
+) -> Result<Board<'b, R, L>, (Break, Board<'b, R, L>)>
+where
+    'f: 'b,
+    requires forks { front.old.forks ≡ board.kernel.forks }
+    requires tallies { board.tallies ≡ 0 }
+    requires some { 0 < length batch.now }
+    requires rests { (state_of board.kernel).phase ≡ between }
+    ensures ok { IfOk result (HasRun (host_numbers batch.now) board.entry) }
+    ensures err { IfErr result (λ refused. HasBroken (host_numbers batch.now) board.entry refused.1) }
+    ensures why { IfErr result (λ refused. IsBreakIn front.old.forks (state_of refused.1.kernel) refused.0) }
+    ensures asked { IfErr result (λ refused. MayBreak (A.asks attend.now) refused.0) }
+    ensures unopened { IfErr result (λ refused. refused.0 ≡ Asked → refused.1 ≡ board.entry) }
+    ensures forks { front.new.forks ≡ front.old.forks }
+{
+    if !attend.goes_on(rt) {
+        return Err((Break::Asked, board));
+    }
+    match work_off(rt, alloc, attend, front, board, batch) {
+        Ok(board) => Ok(board),
+        Err((why, board)) => Err((Break::Fault(why), board)),
     }
 }

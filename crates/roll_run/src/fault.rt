@@ -1,4 +1,4 @@
-//! A run that a fault broke off.
+//! A run that was broken off.
 ghost use Rattle.std.specs.Prelude.{◌≡◌, []};
 ghost use Rattle.roll_run.specs.Plays.{IsNotBegun};
 
@@ -10,12 +10,21 @@ use play_course::Boundary;
 use roll_core::Event;
 use std::alloc::Global;
 
-/// A run that a fault broke off: why; its boundaries, of which the first `opened` ones opened a batch; the log, the oldest event first; of each
+/// Why a run was broken off.
+#[derive(Clone, Copy, Debug, PartialEq, Eq, Drop)]
+pub enum Break {
+    /// A fault in a step, or want of memory.
+    Fault(StepFault),
+    /// Whoever attends the run had it end at a boundary.
+    Asked,
+}
+
+/// A run that was broken off: why; its boundaries, of which the first `opened` ones opened a batch; the log, the oldest event first; of each
 /// host its status, and how its rows were judged. The hosts of a batch that is open are down. Where the run had no board yet, the log and
 /// the list of counts are empty: no host has a row then.
 #[derive(Drop)]
 pub struct RunFault {
-    pub why: StepFault,
+    pub why: Break,
     pub boundaries: Vec<Boundary>,
     pub opened: usize,
     pub log: Vec<Event>,
@@ -29,7 +38,7 @@ impl RunFault {
         ensures { IsNotBegun statuses.items result }
     {
         RunFault {
-            why: StepFault::Mem,
+            why: Break::Fault(StepFault::Mem),
             boundaries: Vec::new(alloc),
             opened: 0,
             log: Vec::new(alloc),
@@ -39,7 +48,7 @@ impl RunFault {
     }
 }
 
-/// A run of several plays that a fault broke off: the runs of the plays before, each finished, and what the last one came to.
+/// A run of several plays that was broken off: the runs of the plays before, each finished, and what the last one came to.
 #[derive(Drop)]
 pub struct RunsFault {
     pub done: Vec<Run>,

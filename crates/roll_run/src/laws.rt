@@ -1,5 +1,5 @@
 //! What holds of every run.
-ghost use Rattle.roll_run.specs.Laws.{MemoryAloneAtBoundaries, RunsAreCourses};
+ghost use Rattle.roll_run.specs.Laws.{NoWorkerAtBoundaries, RunsAreCourses};
 
 use roll_core::Runner;
 
@@ -9,7 +9,7 @@ pub fn runs_are_courses<R: Runner>(runner: &R)
     ensures { RunsAreCourses (R.may runner.now) }
 {}
 
-/// A fault that breaks a run off while no batch is open is want of memory, and no worker's.
-pub fn memory_alone_is_wanting_at_boundaries<R: Runner>(runner: &R)
-    ensures { MemoryAloneAtBoundaries (R.may runner.now) }
+/// A run that is broken off while no batch is open was asked to end, or memory was wanting, and no worker's.
+pub fn no_worker_fails_at_boundaries<R: Runner>(runner: &R)
+    ensures { NoWorkerAtBoundaries (R.may runner.now) }
 {}

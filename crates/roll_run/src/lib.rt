@@ -1,6 +1,7 @@
 //! A run of a play: from boundary to boundary, with the shortest plan at each, until nobody waits or a batch ends the play.
 #![tactic(auto)]
 
+mod attend;
 mod batch;
 mod boundary;
 mod close;
@@ -14,9 +15,10 @@ mod pool;
 mod run;
 mod turns;
 
-pub use fault::{RunFault, RunsFault};
+pub use attend::Attend;
+pub use fault::{Break, RunFault, RunsFault};
 pub use fork_pool::StepFault;
-pub use laws::{memory_alone_is_wanting_at_boundaries, runs_are_courses};
+pub use laws::{no_worker_fails_at_boundaries, runs_are_courses};
 pub use play::run_play;
 pub use play_course::{Boundary, End};
 pub use pool::run_plays;

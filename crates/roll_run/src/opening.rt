@@ -1,25 +1,26 @@
 //! A run begins, and what it leaves.
-ghost use Rattle.std.specs.Prelude.{◌≡◌, ◌<◌, ◌≤◌, [], IfErr, IfOk, None, count_by, find, length};
+ghost use Rattle.std.specs.Prelude.{◌≡◌, ◌<◌, ◌≤◌, [], Err, IfErr, IfOk, None, count_by, find, length};
 ghost use Rattle.fleet_states.specs.Groups.{IsSafe, groups_of};
 ghost use Rattle.fleet_states.specs.Statuses.{NobodyRuns};
 ghost use Rattle.domains.specs.Patterns.{names_nothing};
 ghost use Rattle.play_plan.specs.PlayPlans.{parts_of_play, targets};
 ghost use Rattle.roll_kernel.specs.Views.{event_of, roll_of};
 ghost use Rattle.roll_run.specs.Inside.{HasGone, opens};
-ghost use Rattle.roll_run.specs.Runs.{IsBrokenOff, IsRun, roll_by};
+ghost use Rattle.roll_run.specs.Runs.{IsBrokenOff, IsRun, MayBreak, roll_by};
 
-use crate::fault::RunFault;
+use crate::attend::Attend;
+use crate::fault::{Break, RunFault};
 use crate::run::Run;
 use crate::turns::go_on;
 use batch_plan::counted;
 use bumpalo::Bump;
 use domains::Fleet;
 use fleet_states::Status;
-use fork_pool::{Front, StepFault};
+use fork_pool::Front;
 use host_vars::Vars;
 use play_course::{Boundary, End};
 use play_model::Play;
-use roll_core::{Board, Event, Runner, Watch};
+use roll_core::{Board, Event, Runner};
 use std::alloc::{AllocError, Global};
 use std::sync::Wait;
 use std::sync::ledger::{Blank, Ledger};
@@ -41,11 +42,12 @@ fn count_opened(log: &[Event]) -> usize
 fn leave<R: Runner, L: Ledger>(
     board: Board<'_, R, L>,
     boundaries: Vec<Boundary>,
-    gone: Result<End, StepFault>,
+    gone: Result<End, Break>,
 ) -> Result<Run, RunFault>
     requires { HasGone boundaries.items board.kernel gone }
     ensures ok { IfOk result (IsRun (R.may board.entry.runner) board.entry.kernel.fleet (roll_of board.entry.kernel)) }
     ensures err { IfErr result (IsBrokenOff (R.may board.entry.runner) board.entry.kernel.fleet (roll_of board.entry.kernel)) }
+    ensures why { IfErr result (λ fault. gone ≡ Err fault.why) }
 {
     let left = board.finish();
     match gone {
@@ -82,10 +84,10 @@ fn count_targets(alloc: Global, fleet: &Fleet, play: &Play) -> Result<u32, Alloc
 /// A run of the play with the workers of a pool. The counts of the fleet stay in an arena of the coordinator's own. Where memory is wanting before there
 /// is a board, only that is told.
 #[allow(clippy::too_many_arguments)]
-pub(crate) fn run_on<'f, 'b, R: Runner, L: Ledger, H: Wait, V: Watch>(
+pub(crate) fn run_on<'f, 'b, R: Runner, L: Ledger, H: Wait, A: Attend>(
     rt: &H,
     alloc: Global,
-    watch: &V,
+    attend: &A,
     front: &mut Front<'f, R>,
     fleet: &'b Fleet,
     play: &'b Play,
@@ -110,6 +112,7 @@ where
     requires many { blank.parts ≡ 129 }
     ensures ok { IfOk result (λ run. IfOk run (IsRun (R.may runner.now) fleet.now (roll_by fleet.now play.now forks statuses.now vars.now))) }
     ensures err { IfOk result (λ run. IfErr run (IsBrokenOff (R.may runner.now) fleet.now (roll_by fleet.now play.now forks statuses.now vars.now))) }
+    ensures asked { IfOk result (λ run. IfErr run (λ fault. MayBreak (A.asks attend.now) fault.why)) }
     ensures forks { front.new.forks ≡ front.old.forks }
 {
     let targeted = count_targets(alloc, fleet, play)?;
@@ -120,7 +123,7 @@ where
     let (gone, board) = go_on(
         rt,
         alloc,
-        watch,
+        attend,
         front,
         board,
         &mut domains,

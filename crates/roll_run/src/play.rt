@@ -4,8 +4,9 @@ ghost use Rattle.domains.specs.Patterns.{names_nothing};
 ghost use Rattle.fleet_states.specs.Groups.{IsSafe, groups_of};
 ghost use Rattle.fleet_states.specs.Statuses.{NobodyRuns};
 ghost use Rattle.play_plan.specs.PlayPlans.{parts_of_play};
-ghost use Rattle.roll_run.specs.Runs.{IsBrokenOff, IsRun, roll_by};
+ghost use Rattle.roll_run.specs.Runs.{IsBrokenOff, IsRun, MayBreak, roll_by};
 
+use crate::attend::Attend;
 use crate::fault::RunFault;
 use crate::pool::run_plays;
 use crate::run::Run;
@@ -13,7 +14,7 @@ use domains::Fleet;
 use fleet_states::Status;
 use host_vars::Vars;
 use play_model::Play;
-use roll_core::{Runner, Watch};
+use roll_core::Runner;
 use std::alloc::Global;
 use std::process::{Processes, SystemProcess};
 use std::slice;
@@ -22,12 +23,17 @@ use std::thread::Threads;
 
 /// Runs a play on the hosts of its pattern, with `forks` workers, 1 to 64: at each boundary with the shortest plan that there is, and with
 /// that plan's first batch. At no moment is a group over its limit, whatever the programs answer and however many run at once. Want of
-/// memory breaks it off with what it came to; where a worker can't be started, nothing is opened. `watch` is told of each batch.
+/// memory breaks it off with what it came to, and so does `attend` before a batch; where a worker can't be started, nothing is opened. `attend` is told
+/// of each batch.
 #[allow(clippy::too_many_arguments)]
-pub fn run_play<R: Runner, H: Threads + Wait + Processes<Started = SystemProcess> + Sync, V: Watch>(
+pub fn run_play<
+    R: Runner,
+    H: Threads + Wait + Processes<Started = SystemProcess> + Sync,
+    A: Attend,
+>(
     rt: &H,
     alloc: Global,
-    watch: &V,
+    attend: &A,
     fleet: &Fleet,
     play: &Play,
     statuses: Vec<Status>,
@@ -44,11 +50,12 @@ pub fn run_play<R: Runner, H: Threads + Wait + Processes<Started = SystemProcess
     requires known { find (names_nothing fleet.now) (parts_of_play play.now) ≡ None }
     ensures ok { IfOk result (IsRun (R.may runner.now) fleet.now (roll_by fleet.now play.now forks statuses.items vars.items)) }
     ensures err { IfErr result (IsBrokenOff (R.may runner.now) fleet.now (roll_by fleet.now play.now forks statuses.items vars.items)) }
+    ensures asked { IfErr result (λ fault. MayBreak (A.asks attend.now) fault.why) }
 {
     match run_plays(
         rt,
         alloc,
-        watch,
+        attend,
         fleet,
         slice::from_ref(play),
         statuses,

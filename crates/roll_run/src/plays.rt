@@ -6,8 +6,9 @@ ghost use Rattle.fleet_states.specs.Statuses.{NobodyRuns};
 ghost use Rattle.play_plan.specs.PlayPlans.{named_parts, parts_of_play};
 ghost use Rattle.roll_run.specs.Inside.{HasBrokenAfter, HasRunAfter, IsReadyRun, is_finished};
 ghost use Rattle.roll_run.specs.Plays.{AreBroken, AreRuns};
-ghost use Rattle.roll_run.specs.Runs.{IsBrokenOff, IsRun, roll_by};
+ghost use Rattle.roll_run.specs.Runs.{IsBrokenOff, IsRun, MayBreak, roll_by};
 
+use crate::attend::Attend;
 use crate::fault::{RunFault, RunsFault};
 use crate::next::{begin_after, copy_into, keep};
 use crate::opening::run_on;
@@ -18,7 +19,7 @@ use fork_pool::Front;
 use host_vars::Vars;
 use play_course::End;
 use play_model::Play;
-use roll_core::{Runner, Watch};
+use roll_core::Runner;
 use std::alloc::{AllocError, Global};
 use std::marker::Brand;
 use std::sync::Wait;
@@ -26,10 +27,10 @@ use std::sync::ledger::Blank;
 
 /// A run of a play on the workers of a pool.
 #[allow(clippy::too_many_arguments)]
-fn run_one<'f, R: Runner, H: Wait, V: Watch>(
+fn run_one<'f, R: Runner, H: Wait, A: Attend>(
     rt: &H,
     alloc: Global,
-    watch: &V,
+    attend: &A,
     front: &mut Front<'f, R>,
     fleet: &Fleet,
     play: &Play,
@@ -48,13 +49,14 @@ fn run_one<'f, R: Runner, H: Wait, V: Watch>(
     requires workers { front.old.forks ≡ forks }
     ensures ok { IfOk result (IsRun (R.may runner.now) fleet.now (roll_by fleet.now play.now forks statuses.items vars.items)) }
     ensures err { IfErr result (IsBrokenOff (R.may runner.now) fleet.now (roll_by fleet.now play.now forks statuses.items vars.items)) }
+    ensures asked { IfErr result (λ fault. MayBreak (A.asks attend.now) fault.why) }
     ensures forks { front.new.forks ≡ front.old.forks }
 {
-    watch.play_begins(rt, alloc, fleet, play);
-    let answer = run_on::<R, Brand, H, V>(
+    attend.play_begins(rt, alloc, fleet, play);
+    let answer = run_on::<R, Brand, H, A>(
         rt,
         alloc,
-        watch,
+        attend,
         front,
         fleet,
         play,
@@ -80,10 +82,10 @@ fn is_finished(end: End) -> bool
 /// Runs the plays after a run, each where the one before it ended, until one ends otherwise than finished, and puts that run and theirs with those that are done.
 /// `room` is for as many statuses as there are hosts, for a play that can't begin.
 #[allow(clippy::too_many_arguments)]
-fn run_later<'f, R: Runner, H: Wait, V: Watch>(
+fn run_later<'f, R: Runner, H: Wait, A: Attend>(
     rt: &H,
     alloc: Global,
-    watch: &V,
+    attend: &A,
     front: &mut Front<'f, R>,
     fleet: &Fleet,
     plays: &[Play],
@@ -103,6 +105,7 @@ fn run_later<'f, R: Runner, H: Wait, V: Watch>(
     requires room { length fleet.now.hosts ≤ vec_capacity room }
     ensures ok { OnOk result (HasRunAfter (R.may runner.now) fleet.now forks plays.now before done.old.items done.new.items) }
     ensures err { IfErr result (HasBrokenAfter (R.may runner.now) fleet.now forks plays.now before done.old.items done.new.items) }
+    ensures asked { IfErr result (λ fault. MayBreak (A.asks attend.now) fault.why) }
     ensures forks { front.new.forks ≡ front.old.forks }
 {
     let [play, rest @ ..] = plays else {
@@ -119,7 +122,7 @@ fn run_later<'f, R: Runner, H: Wait, V: Watch>(
             match run_one(
                 rt,
                 alloc,
-                watch,
+                attend,
                 front,
                 fleet,
                 play,
@@ -129,7 +132,7 @@ fn run_later<'f, R: Runner, H: Wait, V: Watch>(
                 forks,
             ) {
                 Ok(run) => run_later(
-                    rt, alloc, watch, front, fleet, rest, runner, forks, run, done, room,
+                    rt, alloc, attend, front, fleet, rest, runner, forks, run, done, room,
                 ),
                 Err(fault) => Err(fault),
             }
@@ -154,10 +157,10 @@ fn places(alloc: Global, runs: usize, hosts: usize) -> Result<(Vec<Run>, Vec<Sta
 
 /// Runs the plays, one after the other, on the workers of a pool.
 #[allow(clippy::too_many_arguments)]
-pub(crate) fn run_each<'f, R: Runner, H: Wait, V: Watch>(
+pub(crate) fn run_each<'f, R: Runner, H: Wait, A: Attend>(
     rt: &H,
     alloc: Global,
-    watch: &V,
+    attend: &A,
     front: &mut Front<'f, R>,
     fleet: &Fleet,
     plays: &[Play],
@@ -177,6 +180,7 @@ pub(crate) fn run_each<'f, R: Runner, H: Wait, V: Watch>(
     requires workers { front.old.forks ≡ forks }
     ensures ok { IfOk result (λ runs. AreRuns (R.may runner.now) fleet.now forks plays.now statuses.items vars.items runs.items) }
     ensures err { IfErr result (λ fault. AreBroken (R.may runner.now) fleet.now forks plays.now statuses.items vars.items fault.done.items fault.last) }
+    ensures asked { IfErr result (λ fault. MayBreak (A.asks attend.now) fault.last.why) }
 {
     let [first, later @ ..] = plays else {
         unreachable!()
@@ -185,10 +189,10 @@ pub(crate) fn run_each<'f, R: Runner, H: Wait, V: Watch>(
         return Err(RunsFault::before_a_log(alloc, statuses));
     };
     match run_one(
-        rt, alloc, watch, front, fleet, first, statuses, vars, runner, forks,
+        rt, alloc, attend, front, fleet, first, statuses, vars, runner, forks,
     ) {
         Ok(run) => match run_later(
-            rt, alloc, watch, front, fleet, later, runner, forks, run, &mut done, room,
+            rt, alloc, attend, front, fleet, later, runner, forks, run, &mut done, room,
         ) {
             Ok(()) => Ok(done),
             Err(last) => Err(RunsFault { done, last }),

@@ -5,7 +5,9 @@ ghost use Rattle.fleet_states.specs.Groups.{IsSafe, groups_of};
 ghost use Rattle.fleet_states.specs.Statuses.{NobodyRuns};
 ghost use Rattle.play_plan.specs.PlayPlans.{named_parts};
 ghost use Rattle.roll_run.specs.Plays.{AreBroken, AreRuns};
+ghost use Rattle.roll_run.specs.Runs.{MayBreak};
 
+use crate::attend::Attend;
 use crate::fault::{RunFault, RunsFault};
 use crate::plays::run_each;
 use crate::run::Run;
@@ -14,7 +16,7 @@ use fleet_states::Status;
 use fork_pool::{Front, WorkerEnd, pool, serve};
 use host_vars::Vars;
 use play_model::Play;
-use roll_core::{Runner, Watch};
+use roll_core::Runner;
 use std::alloc::Global;
 use std::process::{Processes, SystemProcess};
 use std::sync::Wait;
@@ -23,10 +25,10 @@ use std::thread::Threads;
 
 /// Runs the plays, unless a worker is missing.
 #[allow(clippy::too_many_arguments)]
-fn run_with_all<'f, R: Runner, H: Wait, V: Watch>(
+fn run_with_all<'f, R: Runner, H: Wait, A: Attend>(
     rt: &H,
     alloc: Global,
-    watch: &V,
+    attend: &A,
     missing: bool,
     front: &mut Front<'f, R>,
     fleet: &Fleet,
@@ -47,12 +49,13 @@ fn run_with_all<'f, R: Runner, H: Wait, V: Watch>(
     requires workers { front.old.forks ≡ forks }
     ensures ok { IfOk result (λ runs. AreRuns (R.may runner.now) fleet.now forks plays.now statuses.items vars.items runs.items) }
     ensures err { IfErr result (λ fault. AreBroken (R.may runner.now) fleet.now forks plays.now statuses.items vars.items fault.done.items fault.last) }
+    ensures asked { IfErr result (λ fault. MayBreak (A.asks attend.now) fault.last.why) }
 {
     if missing {
         return Err(RunsFault::before_a_log(alloc, statuses));
     }
     run_each(
-        rt, alloc, watch, front, fleet, plays, statuses, vars, runner, forks,
+        rt, alloc, attend, front, fleet, plays, statuses, vars, runner, forks,
     )
 }
 
@@ -62,11 +65,11 @@ fn with_workers<
     'f,
     R: Runner,
     H: Threads + Wait + Processes<Started = SystemProcess> + Sync,
-    V: Watch,
+    A: Attend,
 >(
     rt: &H,
     alloc: Global,
-    watch: &'f V,
+    attend: &'f A,
     front: Front<'f, R>,
     ends: Vec<WorkerEnd<'f, R>>,
     fleet: &'f Fleet,
@@ -87,6 +90,7 @@ fn with_workers<
     requires workers { front.forks ≡ forks }
     ensures ok { IfOk result (λ runs. AreRuns (R.may runner.now) fleet.now forks plays.now statuses.items vars.items runs.items) }
     ensures err { IfErr result (λ fault. AreBroken (R.may runner.now) fleet.now forks plays.now statuses.items vars.items fault.done.items fault.last) }
+    ensures asked { IfErr result (λ fault. MayBreak (A.asks attend.now) fault.last.why) }
 {
     thread::scope(
         thread::scope_env(),
@@ -103,6 +107,7 @@ fn with_workers<
             requires workers { front.forks ≡ forks }
             ensures ok { IfOk result (λ runs. AreRuns (R.may runner.entry.now) fleet.entry.now forks plays.entry.now statuses.items vars.items runs.items) }
             ensures err { IfErr result (λ fault. AreBroken (R.may runner.entry.now) fleet.entry.now forks plays.entry.now statuses.items vars.items fault.done.items fault.last) }
+            ensures asked { IfErr result (λ fault. MayBreak (A.asks attend.entry.now) fault.last.why) }
         {
             let mut front = front;
             let mut missing = false;
@@ -111,7 +116,7 @@ fn with_workers<
                 missing |= started.is_err();
             }
             run_with_all(
-                rt, alloc, watch, missing, &mut front, fleet, plays, statuses, vars, runner, forks,
+                rt, alloc, attend, missing, &mut front, fleet, plays, statuses, vars, runner, forks,
             )
         },
     )
@@ -119,17 +124,17 @@ fn with_workers<
 
 /// Runs plays one after the other, with `forks` workers, 1 to 64, who stand throughout: each play as `run_play` does, the first one from these statuses and
 /// variables, each next one where the one before it ended and with the results that were registered before. A play that ends otherwise than finished is the last.
-/// Want of memory breaks the run off: the runs before it come back, with what the last one came to; where a worker can't be started, nothing is opened.
-/// `watch` is told of each play and batch.
+/// Want of memory breaks the run off, and so does `attend` before a batch: the runs before it come back, with what the last one came to; where a worker
+/// can't be started, nothing is opened. `attend` is told of each play and batch.
 #[allow(clippy::too_many_arguments)]
 pub fn run_plays<
     R: Runner,
     H: Threads + Wait + Processes<Started = SystemProcess> + Sync,
-    V: Watch,
+    A: Attend,
 >(
     rt: &H,
     alloc: Global,
-    watch: &V,
+    attend: &A,
     fleet: &Fleet,
     plays: &[Play],
     statuses: Vec<Status>,
@@ -147,10 +152,11 @@ pub fn run_plays<
     requires known { find (names_nothing fleet.now) (named_parts plays.now) ≡ None }
     ensures ok { IfOk result (λ runs. AreRuns (R.may runner.now) fleet.now forks plays.now statuses.items vars.items runs.items) }
     ensures err { IfErr result (λ fault. AreBroken (R.may runner.now) fleet.now forks plays.now statuses.items vars.items fault.done.items fault.last) }
+    ensures asked { IfErr result (λ fault. MayBreak (A.asks attend.now) fault.last.why) }
 {
     match pool(alloc, forks) {
         Ok((front, ends)) => with_workers(
-            rt, alloc, watch, front, ends, fleet, plays, statuses, vars, runner, forks,
+            rt, alloc, attend, front, ends, fleet, plays, statuses, vars, runner, forks,
         ),
         Err(_refused) => Err(RunsFault::before_a_log(alloc, statuses)),
     }

@@ -1,18 +1,21 @@
 //! From boundary to boundary.
-ghost use Rattle.std.specs.Prelude.{◌≡◌, None, length};
+ghost use Rattle.std.specs.Prelude.{◌≡◌, IfErr, None, length};
 ghost use Rattle.batch_plan.specs.Places.{AreCountsOf};
 ghost use Rattle.play_course.specs.Courses as courses;
 ghost use Rattle.play_plan.specs.PlayPlans.{targets};
 ghost use Rattle.roll_kernel.specs.Views.{state_of};
-ghost use Rattle.roll_run.specs.Inside.{HasGone, HasTurned, IsBetween, IsNoted, IsSameRoll};
+ghost use Rattle.roll_run.specs.Inside.{HasGone, HasTurned, IsBetween, IsNoted, IsSameRoll, MayTurn};
+ghost use Rattle.roll_run.specs.Runs.{MayBreak};
 
+use crate::attend::Attend;
 use crate::batch::run_batch;
 use crate::boundary::come_to_boundary;
 use crate::close::close_batch;
+use crate::fault::Break;
 use domain_counts::Domains;
 use fork_pool::{Front, StepFault};
 use play_course::{Boundary, End};
-use roll_core::{Board, Runner, Watch};
+use roll_core::{Board, Runner};
 use std::alloc::{Allocator, Global};
 use std::sync::Wait;
 use std::sync::ledger::Ledger;
@@ -24,8 +27,8 @@ pub(crate) enum Turn {
     Behind(Option<End>),
     /// The play ended at the boundary.
     Ended(End),
-    /// A fault broke it off.
-    Broken(StepFault),
+    /// It was broken off.
+    Broken(Break),
 }
 
 /// How the play ends at the boundary, if it does: as the batch before it ended it, or since no batch can be opened.
@@ -40,10 +43,10 @@ fn end_at(before: Option<End>, boundary: &Boundary) -> Option<End>
 
 /// Ends the play at the last boundary, or runs its batch.
 #[allow(clippy::too_many_arguments)]
-fn pass<'f, 'b, A: Allocator, R: Runner, L: Ledger, H: Wait, V: Watch>(
+fn pass<'f, 'b, A: Allocator, R: Runner, L: Ledger, H: Wait, W: Attend>(
     rt: &H,
     alloc: Global,
-    watch: &V,
+    attend: &W,
     front: &mut Front<'f, R>,
     board: Board<'b, R, L>,
     domains: &mut Domains<'_, A>,
@@ -57,6 +60,7 @@ where
     requires counts { AreCountsOf (state_of board.kernel).statuses domains.old }
     requires noted { IsNoted board.kernel boundaries.now before }
     ensures turned { HasTurned boundaries.now domains.new result.1 result.0 }
+    ensures asked { MayTurn (W.asks attend.now) result.0 }
     ensures same { IsSameRoll board.entry result.1 }
     ensures fleet { domains.new.fleet ≡ domains.old.fleet }
     ensures forks { front.new.forks ≡ front.old.forks }
@@ -64,7 +68,7 @@ where
     let boundary = &boundaries[boundaries.len() - 1];
     match end_at(before, boundary) {
         Some(end) => (Turn::Ended(end), board),
-        None => match run_batch(rt, alloc, watch, front, board, boundary.next_batch()) {
+        None => match run_batch(rt, alloc, attend, front, board, boundary.next_batch()) {
             Ok(mut board) => {
                 let end = close_batch(&mut board, domains, boundary.next_batch());
                 (Turn::Behind(end), board)
@@ -76,10 +80,10 @@ where
 
 /// Comes to the next boundary, and ends the play there or runs its batch.
 #[allow(clippy::too_many_arguments)]
-fn move_on<'f, 'b, A: Allocator, R: Runner, L: Ledger, H: Wait, V: Watch>(
+fn move_on<'f, 'b, A: Allocator, R: Runner, L: Ledger, H: Wait, W: Attend>(
     rt: &H,
     alloc: Global,
-    watch: &V,
+    attend: &W,
     front: &mut Front<'f, R>,
     mut board: Board<'b, R, L>,
     domains: &mut Domains<'_, A>,
@@ -96,6 +100,7 @@ where
     requires targeted { targeted ≡ length (targets board.kernel.fleet board.kernel.play) }
     requires between { IsBetween board.kernel boundaries.old.items before }
     ensures turned { HasTurned boundaries.new.items domains.new result.1 result.0 }
+    ensures asked { MayTurn (W.asks attend.now) result.0 }
     ensures same { IsSameRoll board.entry result.1 }
     ensures fleet { domains.new.fleet ≡ domains.old.fleet }
     ensures forks { front.new.forks ≡ front.old.forks }
@@ -104,29 +109,29 @@ where
         Ok(()) => pass(
             rt,
             alloc,
-            watch,
+            attend,
             front,
             board,
             domains,
             boundaries.as_slice(),
             before,
         ),
-        Err(_refused) => (Turn::Broken(StepFault::Mem), board),
+        Err(_refused) => (Turn::Broken(Break::Fault(StepFault::Mem)), board),
     }
 }
 
-/// From the present boundary to the end of the play, or to a fault.
+/// From the present boundary to the end of the play, or until it is broken off.
 #[allow(clippy::too_many_arguments)]
-pub(crate) fn go_on<'f, 'b, A: Allocator, R: Runner, L: Ledger, H: Wait, V: Watch>(
+pub(crate) fn go_on<'f, 'b, A: Allocator, R: Runner, L: Ledger, H: Wait, W: Attend>(
     rt: &H,
     alloc: Global,
-    watch: &V,
+    attend: &W,
     front: &mut Front<'f, R>,
     mut board: Board<'b, R, L>,
     domains: &mut Domains<'_, A>,
     boundaries: &mut Vec<Boundary>,
     targeted: u32,
-) -> (Result<End, StepFault>, Board<'b, R, L>)
+) -> (Result<End, Break>, Board<'b, R, L>)
 where
     'f: 'b,
     requires forks { front.old.forks ≡ board.kernel.forks }
@@ -136,13 +141,14 @@ where
     requires targeted { targeted ≡ length (targets board.kernel.fleet board.kernel.play) }
     requires between { IsBetween board.kernel boundaries.old.items None }
     ensures gone { HasGone boundaries.new.items result.1.kernel result.0 }
+    ensures asked { IfErr result.0 (MayBreak (W.asks attend.now)) }
     ensures same { IsSameRoll board.entry result.1 }
     ensures forks { front.new.forks ≡ front.old.forks }
 {
     let mut before = None;
     for _ in rt.forever() {
         let (turn, back) = move_on(
-            rt, alloc, watch, front, board, domains, boundaries, before, targeted,
+            rt, alloc, attend, front, board, domains, boundaries, before, targeted,
         );
         board = back;
         match turn {

@@ -1,3 +1,4 @@
+pub mod Ignoring
 pub mod Rehearsing
 pub mod Rolling
 pub mod Tables

@@ -1,20 +1,61 @@
 -- A run of the texts of both inputs is what the command `run` does.
-use Rattle.std.proofs.Common.{ℕ, List, Option, Result, Ok, Err, inr}
+use Rattle.std.proofs.Common.{◌≡◌, ℕ, Bool, true, List, Option, Result, Ok, Err, inl, inr, subst}
 use Rattle.std.specs.Prelude.{IfOk, IfErr}
 use Rattle.command_line.specs.declared.command.Source.{Source}
 use Rattle.outcome_results.specs.Endings.{Ending}
 use Rattle.roll_logs.specs.Told.{Work}
-use Rattle.rollout.specs.Inputs.{ReadsBoth}
-use Rattle.rollout.specs.Rolls.{BreaksOff, PrintsRecap, Rolls}
+use Rattle.fork_pool.specs.declared.fault.StepFault.{StepFault}
+use Rattle.fork_pool.specs.declared.fault.StepFault.TheVariants as step
+use Rattle.planning.specs.declared.fault.PlanFault.{PlanFault}
+use Rattle.planning.specs.declared.fault.PlanFault.TheVariants as plan
+use Rattle.roll_run.specs.declared.fault.Break.{Break}
+use Rattle.roll_run.specs.declared.fault.Break.TheVariants as break
+use Rattle.running.specs.RunTexts.{MayBreakText}
+use Rattle.running.specs.declared.fault.RunTextFault.{RunTextFault}
+use Rattle.running.specs.declared.fault.RunTextFault.TheVariants as running
+use Rattle.rollout.specs.Inputs.{LacksInput, ReadsBoth}
+use Rattle.rollout.specs.PlanFaults as planning
+use Rattle.rollout.specs.RollFaults.{fault_of}
+use Rattle.rollout.specs.Rolls.{BreaksOff, PrintsRecap, RollsInputs}
 use Rattle.rollout.specs.Systems.{Sources}
 use Rattle.rollout.specs.declared.fault.Fault.{Fault}
+use Rattle.rollout.specs.declared.fault.Fault.TheVariants.{Stopped}
 use Rattle.rollout.specs.declared.status.Status.{Status}
 
-pub Rolls-of_texts : (may : Work → Ending → Type 0) (sources : Sources) (inventory playbook : Source) (forks : ℕ) (input_old input_new out_old out_new : Option (List ℕ))
+pub RollsInputs-of_texts : (may : Work → Ending → Type 0) (sources : Sources) (inventory playbook : Source) (forks : ℕ) (input_old input_new out_old out_new : Option (List ℕ))
     (first second : List ℕ) (result : Result Status Fault) → ReadsBoth sources inventory playbook input_old input_new first second
     → IfOk result (PrintsRecap may first second forks out_old out_new) → IfErr result (BreaksOff may first second forks out_old out_new)
-    → Rolls may sources inventory playbook forks input_old input_new out_old out_new result
-Rolls-of_texts may sources inventory playbook forks input_old input_new out_old out_new first second (Ok status) texts prints breaks =
+    → RollsInputs may sources inventory playbook forks input_old input_new out_old out_new result
+RollsInputs-of_texts may sources inventory playbook forks input_old input_new out_old out_new first second (Ok status) texts prints breaks =
     record { first = first; second = second; texts = texts; prints = prints }
-Rolls-of_texts may sources inventory playbook forks input_old input_new out_old out_new first second (Err fault) texts prints breaks =
+RollsInputs-of_texts may sources inventory playbook forks input_old input_new out_old out_new first second (Err fault) texts prints breaks =
     inr (record { first = first; second = second; texts = texts; breaks = breaks })
+
+pub fault_in : (fault : Fault) → ◌≡◌ {A = Result Status Fault} (Err fault) (Err Stopped) → fault ≡ Stopped
+fault_in fault same = cc
+
+-- an input that can't be read stops no run
+pub never_lacking : (sources : Sources) (inventory playbook : Source) (old new : Option (List ℕ)) (fault : Fault) → fault ≡ Stopped
+    → LacksInput sources inventory playbook old new fault → ⊥
+never_lacking sources inventory playbook old new fault is lacks = never (subst (LacksInput sources inventory playbook old new) is lacks)
+  where
+    never : LacksInput sources inventory playbook old new Stopped → ⊥
+    never (inl unreadable) = unreadable
+    never (inr lacking) = lacking.unreadable
+
+plan_stops_nothing : (fault : PlanFault) → planning.fault_of fault ≡ Stopped → ⊥
+plan_stops_nothing (plan.Read fault) same = cc
+plan_stops_nothing (plan.Fleet fault) same = cc
+plan_stops_nothing (plan.Playbook fault) same = cc
+plan_stops_nothing (plan.Pattern fault) same = cc
+plan_stops_nothing (plan.Write fault) same = cc
+
+-- a run that was stopped was asked to end
+pub stops_where_asked : (asks : Bool) (cause : RunTextFault) → MayBreakText asks cause → fault_of cause ≡ Stopped → asks ≡ true
+stops_where_asked asks (running.Refused fault) may same = absurd (plan_stops_nothing fault same)
+stops_where_asked asks running.Memory may same = absurd (cc)
+stops_where_asked asks (running.Broken (break.Fault step.Mem)) may same = absurd (cc)
+stops_where_asked asks (running.Broken (break.Fault (step.WorkerMem at))) may same = absurd (cc)
+stops_where_asked asks (running.Broken (break.Fault step.Mixed)) may same = absurd (cc)
+stops_where_asked asks (running.Broken break.Asked) may same = may
+stops_where_asked asks (running.Write fault) may same = absurd (cc)

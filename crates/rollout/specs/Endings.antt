@@ -4,7 +4,8 @@ use Rattle.std.specs.Io.KnownBytes.{Keeps}
 use Rattle.bounded_io.specs.Sending.{SendsText}
 use Rattle.bounded_io.specs.declared.write_fault.WriteFault.{WriteFault}
 use Rattle.rollout.specs.FaultLines.{line_text}
-use Rattle.rollout.specs.FaultRows.{number_of, row_of, explanation_of}
+use Rattle.rollout.specs.Explanations.{explanation_of}
+use Rattle.rollout.specs.FaultRows.{number_of, row_of}
 use Rattle.rollout.specs.declared.fault.Fault.{Fault}
 use Rattle.rollout.specs.declared.status.Status.{Status}
 use Rattle.rollout.specs.declared.status.Status.TheVariants as status

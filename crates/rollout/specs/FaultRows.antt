@@ -4,7 +4,6 @@ use Rattle.bounded_io.specs.Faults as input
 use Rattle.bounded_io.specs.declared.input_fault.InputFault.{InputFault}
 use Rattle.bounded_io.specs.declared.input_fault.InputFault.TheVariants as input_fault
 use Rattle.command_line.specs.Faults as line
-use Rattle.command_line.specs.Messages as messages
 use Rattle.command_line.specs.declared.command.Source.{Source}
 use Rattle.command_line.specs.declared.command.Source.TheVariants.{StandardInput, File}
 use Rattle.command_line.specs.declared.fault.LineFault.{LineFault}
@@ -27,7 +26,7 @@ use Rattle.play_faults.specs.declared.key.ConditionKey.{ConditionKey}
 use Rattle.recap.specs.Printable.{printed}
 use Rattle.rollout.specs.FaultLines.{Row, ShownDetail}
 use Rattle.rollout.specs.declared.fault.Fault.{Fault}
-use Rattle.rollout.specs.declared.fault.Fault.TheVariants.{Line, Input, Read, Fleet, Playbook, Pattern, Mixed, LongLine, Write, Memory}
+use Rattle.rollout.specs.declared.fault.Fault.TheVariants.{Line, Input, Read, Fleet, Playbook, Pattern, Mixed, LongLine, ChildrenIgnored, Stopped, Write, Memory}
 
 abbrev row : List ℕ → List ShownDetail → Row
 row name details = record { name = name; details = details }
@@ -128,6 +127,8 @@ number_of (Playbook fault) = playbook.number_of fault
 number_of (Pattern fault) = pattern_number fault
 number_of Mixed = Some 822
 number_of LongLine = Some 906
+number_of ChildrenIgnored = Some 916
+number_of Stopped = Some 917
 number_of (Write fault) = Some 904
 number_of Memory = None
 
@@ -140,20 +141,7 @@ row_of (Playbook fault) = playbook_row fault
 row_of (Pattern fault) = pattern_row fault
 row_of Mixed = row (codes "Mixed") []
 row_of LongLine = row (codes "LongLine") []
+row_of ChildrenIgnored = row (codes "ChildrenIgnored") []
+row_of Stopped = row (codes "Stopped") []
 row_of (Write fault) = row (codes "Write") (number (codes "written") fault.written ∷ [])
 row_of Memory = no_row
-
--- what is said of a bad line behind its own
-abbrev pub explanation_of : Fault → List ℕ
-explanation_of (Line (line_fault.BadLine explanation)) = messages.text_of explanation
-explanation_of (Line line_fault.Unexplained) = []
-explanation_of (Line line_fault.Memory) = []
-explanation_of (Input source fault) = []
-explanation_of (Read fault) = []
-explanation_of (Fleet fault) = []
-explanation_of (Playbook fault) = []
-explanation_of (Pattern fault) = []
-explanation_of Mixed = []
-explanation_of LongLine = []
-explanation_of (Write fault) = []
-explanation_of Memory = []

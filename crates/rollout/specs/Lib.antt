@@ -3,8 +3,10 @@ pub mod Systems
 pub mod FaultLines
 pub mod Details
 pub mod FaultRows
+pub mod Explanations
 pub mod Endings
 pub mod Inputs
+pub mod Children
 pub mod LimitsText
 pub mod Commands
 pub mod PlanFaults

@@ -13,7 +13,7 @@ use Rattle.domains.specs.FleetViews.{FleetView}
 use Rattle.domains.specs.Fleets.{IsFleetOf}
 use Rattle.recap.specs.LimitsTable.{limits_table}
 use Rattle.rollout.specs.declared.fault.Fault.{Fault}
-use Rattle.rollout.specs.declared.fault.Fault.TheVariants.{Line, Input, Read, Fleet, Playbook, Pattern, Mixed, LongLine, Write, Memory}
+use Rattle.rollout.specs.declared.fault.Fault.TheVariants.{Line, Input, Read, Fleet, Playbook, Pattern, Mixed, LongLine, ChildrenIgnored, Stopped, Write, Memory}
 
 -- the text says this inventory, which has no more hosts than a fleet may have; its limited groups lie inside each other
 -- wherever they share a host, and none has more hosts down than its limit when a run starts
@@ -51,6 +51,8 @@ IsTrueFault text old new (Playbook fault) = ⊥
 IsTrueFault text old new (Pattern fault) = ⊥
 IsTrueFault text old new Mixed = ⊥
 IsTrueFault text old new LongLine = ⊥
+IsTrueFault text old new ChildrenIgnored = ⊥
+IsTrueFault text old new Stopped = ⊥
 IsTrueFault text old new (Line fault) = ⊥
 IsTrueFault text old new (Input source fault) = ⊥
 
@@ -70,5 +72,7 @@ IsUnread text (Playbook fault) = ⊥
 IsUnread text (Pattern fault) = ⊥
 IsUnread text Mixed = ⊥
 IsUnread text LongLine = ⊥
+IsUnread text ChildrenIgnored = ⊥
+IsUnread text Stopped = ⊥
 IsUnread text (Line fault) = ⊥
 IsUnread text (Input source fault) = ⊥

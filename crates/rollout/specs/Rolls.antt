@@ -1,5 +1,5 @@
 -- What the command `run` does with the inputs that a line names.
-use Rattle.std.specs.Prelude.{◌≡◌, ◌⊎◌, ℕ, List, Option, Result, Ok, Err}
+use Rattle.std.specs.Prelude.{◌≡◌, ◌⊎◌, ◌<◌, ◌≤◌, ℕ, Bool, true, false, List, Option, Result, Ok, Err}
 use Rattle.std.specs.Io.KnownBytes.{Keeps}
 use Rattle.command_line.specs.declared.command.Source.{Source}
 use Rattle.outcome_results.specs.Endings.{Ending}
@@ -7,11 +7,13 @@ use Rattle.roll_logs.specs.Told.{Work}
 use Rattle.running.specs.RunTexts.{WritesRecap, IsTrueFault}
 use Rattle.running.specs.declared.end.RunEnd.{RunEnd}
 use Rattle.running.specs.declared.fault.RunTextFault.{RunTextFault}
+use Rattle.rollout.specs.Children.{IsAnswerOf}
 use Rattle.rollout.specs.Inputs.{LacksInput, ReadsBoth}
 use Rattle.rollout.specs.RollFaults.{fault_of}
 use Rattle.rollout.specs.Status.{status_of_run}
-use Rattle.rollout.specs.Systems.{Sources}
+use Rattle.rollout.specs.Systems.{Files, Sources}
 use Rattle.rollout.specs.declared.fault.Fault.{Fault}
+use Rattle.rollout.specs.declared.fault.Fault.TheVariants.{ChildrenIgnored, Memory, Stopped}
 use Rattle.rollout.specs.declared.status.Status.{Status}
 
 -- the plays of both texts were run with so many workers, their recap went out, and the status tells of their end
@@ -40,11 +42,41 @@ pub record BreaksRun (may : Work → Ending → Type 0) (sources : Sources) (inv
   pub texts : ReadsBoth sources inventory playbook input_old input_new first second
   pub breaks : BreaksOff may first second forks out_old out_new fault
 
--- the command `run`, where each program may end so: nothing is run before both inputs were read
-abbrev pub Rolls : (Work → Ending → Type 0) → Sources → Source → Source → ℕ → Option (List ℕ) → Option (List ℕ) → Option (List ℕ) → Option (List ℕ)
+-- both inputs were read and their plays were run, where each program may end so: nothing is run before both inputs were read
+abbrev pub RollsInputs : (Work → Ending → Type 0) → Sources → Source → Source → ℕ → Option (List ℕ) → Option (List ℕ) → Option (List ℕ) → Option (List ℕ)
     → Result Status Fault → Type 0
-Rolls may sources inventory playbook forks input_old input_new out_old out_new (Ok status) =
+RollsInputs may sources inventory playbook forks input_old input_new out_old out_new (Ok status) =
     ShowsRecap may sources inventory playbook forks input_old input_new out_old out_new status
-Rolls may sources inventory playbook forks input_old input_new out_old out_new (Err fault) =
+RollsInputs may sources inventory playbook forks input_old input_new out_old out_new (Err fault) =
     (LacksInput sources inventory playbook input_old input_new fault × Keeps out_old out_new)
     ⊎ BreaksRun may sources inventory playbook forks input_old input_new out_old out_new fault
+
+-- why a run is refused before anything is read: the ends of children are ignored, or memory was wanting to look
+abbrev pub IsRefusedBy : Files → Fault → Type 0
+IsRefusedBy files ChildrenIgnored = IsAnswerOf files true
+IsRefusedBy files Memory = Unit {0}
+IsRefusedBy files fault = ⊥
+
+-- a run is refused: nothing was read, run or written
+pub record RefusesToRoll (sources : Sources) (input_old input_new out_old out_new : Option (List ℕ)) (result : Result Status Fault) : Type 0 where
+  pub fault : Fault
+  pub because : IsRefusedBy sources.files fault
+  pub is : result ≡ Err fault
+  pub unread : Keeps input_old input_new
+  pub unwritten : Keeps out_old out_new
+
+-- the ends of children are not ignored, and the inputs were run, by as many workers as were asked for or fewer; that a run was stopped is told only where it may be
+pub record RollsOn (may : Work → Ending → Type 0) (asks : Bool) (sources : Sources) (inventory playbook : Source) (forks : ℕ) (input_old input_new out_old out_new : Option (List ℕ)) (result : Result Status Fault) : Type 0 where
+  pub kept : IsAnswerOf sources.files false
+  pub workers : ℕ
+  pub some : 0 < workers
+  pub few : workers ≤ forks
+  pub rolls : RollsInputs may sources inventory playbook workers input_old input_new out_old out_new result
+  pub stops : result ≡ Err Stopped → asks ≡ true
+
+-- the command `run`, where each program may end so, and whether it may be stopped
+abbrev pub Rolls : (Work → Ending → Type 0) → Bool → Sources → Source → Source → ℕ → Option (List ℕ) → Option (List ℕ) → Option (List ℕ) → Option (List ℕ)
+    → Result Status Fault → Type 0
+Rolls may asks sources inventory playbook forks input_old input_new out_old out_new result =
+    RefusesToRoll sources input_old input_new out_old out_new result
+    ⊎ RollsOn may asks sources inventory playbook forks input_old input_new out_old out_new result

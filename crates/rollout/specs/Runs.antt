@@ -1,10 +1,11 @@
 -- What a run of the program does, from the words that the system gives to the exit status.
-use Rattle.std.specs.Prelude.{◌≡◌, ◌≢◌, ◌⊎◌, ℕ, List, Option, Result, Err, drop}
+use Rattle.std.specs.Prelude.{◌≡◌, ◌≢◌, ◌⊎◌, ℕ, Bool, List, Option, Result, Err, drop, is_some}
 use Rattle.std.specs.declared.io.ErrorKind.{ErrorKind}
 use Rattle.std.specs.declared.io.ErrorKind.TheVariants.{OutOfMemory}
 use Rattle.std.specs.Io.KnownBytes.{Keeps}
 use Rattle.command_line.specs.Messages as messages
 use Rattle.command_line.specs.Operands.{Word}
+use Rattle.command_line.specs.StopFiles.{stop_file}
 use Rattle.command_line.specs.Verbose.{plain}
 use Rattle.command_line.specs.Words as words
 use Rattle.command_line.specs.declared.command.Line as declared_line
@@ -25,23 +26,24 @@ use Rattle.rollout.specs.declared.fault.Fault.TheVariants.{Line, Memory}
 use Rattle.rollout.specs.declared.status.Status.{Status}
 
 -- what a line asks for was done, or its fault is true
-abbrev pub Does : (Work → Ending → Type 0) → Sources → declared_line.Line → Option (List ℕ) → Option (List ℕ) → Option (List ℕ) → Option (List ℕ) → Result Status Fault → Type 0
-Does may sources (Limits inventory) input_old input_new out_old out_new result =
+abbrev pub Does : (Work → Ending → Type 0) → Bool → Sources → declared_line.Line → Option (List ℕ) → Option (List ℕ) → Option (List ℕ) → Option (List ℕ) → Result Status Fault → Type 0
+Does may asks sources (Limits inventory) input_old input_new out_old out_new result =
     TabulatesLimits sources inventory input_old input_new out_old out_new result
-Does may sources (Plan inventory playbook) input_old input_new out_old out_new result =
+Does may asks sources (Plan inventory playbook) input_old input_new out_old out_new result =
     Plans sources inventory playbook input_old input_new out_old out_new result
-Does may sources (Run inventory playbook forks) input_old input_new out_old out_new result =
-    Rolls may sources inventory playbook forks input_old input_new out_old out_new result
-Does may sources (Rehearse inventory playbook) input_old input_new out_old out_new result =
+Does may asks sources (Run inventory playbook forks) input_old input_new out_old out_new result =
+    Rolls may asks sources inventory playbook forks input_old input_new out_old out_new result
+Does may asks sources (Rehearse inventory playbook) input_old input_new out_old out_new result =
     RehearsesInputs sources inventory playbook input_old input_new out_old out_new result
-Does may sources (Print message) input_old input_new out_old out_new result =
+Does may asks sources (Print message) input_old input_new out_old out_new result =
     Keeps input_old input_new × Prints (messages.text_of message) out_old out_new result
 
--- the words, but for the flag of a run, are a line, and what it asks for was done: whether a run tells of itself while it goes on makes no difference
+-- the words, but for the flag and the stop file of a run, are a line, and what it asks for was done: whether a run tells of itself while it goes on makes no
+-- difference, and it may be stopped where they name a file for that
 pub record FollowsLine (may : Work → Ending → Type 0) (sources : Sources) (words_given : List Word) (input_old input_new out_old out_new : Option (List ℕ)) (result : Result Status Fault) : Type 0 where
   pub line : declared_line.Line
   pub says : words.Says (plain words_given) line
-  pub does : Does may sources line input_old input_new out_old out_new result
+  pub does : Does may (is_some (stop_file words_given)) sources line input_old input_new out_old out_new result
 
 -- the words are no line, and nothing was read or written
 pub record RefusesWords (words_given : List Word) (input_old input_new out_old out_new : Option (List ℕ)) (result : Result Status Fault) : Type 0 where

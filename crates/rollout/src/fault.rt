@@ -11,6 +11,7 @@ use inventory_read::ReadFault;
 use planning::PlanFault;
 use play_faults::PlayFault;
 use rehearsing::RehearseFault;
+use roll_run::Break;
 use running::RunTextFault;
 use std::alloc::AllocError;
 
@@ -33,6 +34,10 @@ pub enum Fault {
     Mixed,
     /// A command of a rehearsal is longer than a line may be.
     LongLine,
+    /// This process ignores the ends of its children, so that no program's end could be had.
+    ChildrenIgnored,
+    /// A run ended at a boundary, since the file was there that ends it.
+    Stopped,
     /// An output broke off.
     Write(WriteFault),
     Memory,
@@ -52,6 +57,8 @@ impl Fault {
             Fault::Pattern(fault) => fault.number(),
             Fault::Mixed => Some(822),
             Fault::LongLine => Some(906),
+            Fault::ChildrenIgnored => Some(916),
+            Fault::Stopped => Some(917),
             Fault::Write(fault) => Some(fault.number()),
             Fault::Memory => None,
         }
@@ -119,6 +126,20 @@ impl From<StepFault> for Fault {
             StepFault::Mem => Fault::Memory,
             StepFault::WorkerMem { at: _ } => Fault::Memory,
             StepFault::Mixed => Fault::Mixed,
+        }
+    }
+}
+
+impl From<Break> for Fault {
+    ghost use Rattle.std.specs.Prelude.{◌≡◌};
+    ghost use Rattle.rollout.specs.RollFaults.{fault_of_break};
+
+    ghost from_gives = { λ why fault. fault ≡ fault_of_break why };
+
+    fn from(why: Break) -> Fault {
+        match why {
+            Break::Fault(fault) => Fault::from(fault),
+            Break::Asked => Fault::Stopped,
         }
     }
 }

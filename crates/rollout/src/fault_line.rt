@@ -8,6 +8,7 @@ ghost use Rattle.rollout.specs.FaultRows as rows;
 
 use crate::detail::Detail::{Number, Text};
 use crate::detail::{Detail, write_details};
+use crate::explanation::write_explanation;
 use crate::fault::Fault;
 use bounded_io::{InputFault, TextWriter};
 use command_line::{LineFault, Source};
@@ -17,7 +18,7 @@ use inventory_read::ReadFault;
 use play_faults::{ConditionKey, PlayFault};
 use std::io::Write;
 
-/// Writes the fault's line; behind a bad line of words follows what is wrong with it.
+/// Writes the fault's line; behind a bad line of words follows what is wrong with it, and behind ignored children what to do.
 #[tactic(auto, using(bounded_io::proofs::Pieces::pieces_of_text))]
 pub fn write_fault<W: Write>(text: &mut TextWriter<'_, W>, fault: &Fault)
     ensures { Writes W.contents text.old text.new (fault_text fault.now) }
@@ -41,15 +42,6 @@ fn write_line<W: Write>(text: &mut TextWriter<'_, W>, fault: &Fault)
     text.write_str("\n");
 }
 
-#[tactic(auto, using(bounded_io::proofs::Pieces::pieces_of_text))]
-fn write_explanation<W: Write>(text: &mut TextWriter<'_, W>, fault: &Fault)
-    ensures { Writes W.contents text.old text.new (rows.explanation_of fault.now) }
-{
-    if let Fault::Line(LineFault::BadLine(explanation)) = fault {
-        text.write_str(explanation.as_str());
-    }
-}
-
 /// What stands behind the number. Want of memory has no number, and no row.
 #[tactic(auto, using(bounded_io::proofs::Pieces::pieces_of_text))]
 fn write_row<W: Write>(text: &mut TextWriter<'_, W>, fault: &Fault)
@@ -64,6 +56,8 @@ fn write_row<W: Write>(text: &mut TextWriter<'_, W>, fault: &Fault)
         Fault::Pattern(fault) => write_pattern_row(text, fault),
         Fault::Mixed => row(text, "Mixed", &[]),
         Fault::LongLine => row(text, "LongLine", &[]),
+        Fault::ChildrenIgnored => row(text, "ChildrenIgnored", &[]),
+        Fault::Stopped => row(text, "Stopped", &[]),
         Fault::Write(fault) => row(text, "Write", &[Number("written", fault.written)]),
         Fault::Memory => {}
     }

@@ -1,9 +1,12 @@
 //! rollout: rolling updates over failure domains.
 #![tactic(auto)]
 
+mod attendant;
+mod children;
 mod commands;
 mod detail;
 mod ending;
+mod explanation;
 mod fault;
 mod fault_line;
 mod inputs;
@@ -16,16 +19,17 @@ mod words;
 use crate::run::run;
 use crate::system::Host;
 use bounded_io::Fallible;
-use local_programs::LocalPrograms;
+use local_programs::{LocalPrograms, Tell, occupy_standard};
 use std::io;
 use std::io::{IsTerminal, Stderr, Stdin, Stdout};
 use std::process::ExitCode;
 
 fn main(rt: HostRuntime) -> ExitCode {
+    occupy_standard();
     let errors = rt.stderr();
-    let programs = LocalPrograms::new(errors);
+    let programs = LocalPrograms::new(rt.alloc(), errors);
     let prompts = prompts_of(rt.stdin(), rt.stdout(), errors);
-    run(
+    let code = run(
         &Host::new(&rt, prompts),
         &rt,
         rt.alloc(),
@@ -34,7 +38,9 @@ fn main(rt: HostRuntime) -> ExitCode {
         &mut Fallible(rt.reader()),
         &mut io::writer(&rt),
         &mut io::writer(&errors),
-    )
+    );
+    programs.run_ends(&rt);
+    code
 }
 
 /// Standard error, where commands are typed at a terminal and their answers are seen on one.

@@ -4,6 +4,7 @@ ghost use Rattle.std.specs.Process.{exit_status};
 ghost use Rattle.rollout.specs.Runs.{Attempts, Does, Performs, Runs};
 ghost use Rattle.rollout.specs.Systems.{sources_of};
 
+use crate::attendant::Attendant;
 use crate::commands::{limits, plan, print, rehearse, roll};
 use crate::ending::{conclude, exit_code};
 use crate::fault::Fault;
@@ -13,22 +14,23 @@ use crate::words::{words_fault, words_of};
 use bounded_io::Input;
 use command_line::command::Line;
 use command_line::{Request, request_of};
+use local_programs::Tell;
 use roll_core::Runner;
-use roll_run::Watch;
+use roll_run::Attend;
 use std::alloc::Global;
 use std::io::Write;
 use std::process::{ExitCode, Processes, SystemProcess};
 use std::sync::Wait;
 use std::thread::Threads;
 
-/// Does what the words say; a fault is reported on `errors`, and the exit status tells of it too. `watch` is told of a run where the words ask
-/// for that.
+/// Does what the words say; a fault is reported on `errors`, and the exit status tells of it too. `tell` is told of a run, and whether the words
+/// ask for its lines.
 #[allow(clippy::too_many_arguments)]
 pub fn run<
     S: System,
     H: Threads + Wait + Processes<Started = SystemProcess> + Sync,
     R: Runner,
-    V: Watch,
+    T: Tell,
     I: Input,
     O: Write,
     E: Write,
@@ -37,7 +39,7 @@ pub fn run<
     rt: &H,
     alloc: Global,
     runner: &R,
-    watch: &V,
+    tell: &T,
     input: &mut I,
     out: &mut O,
     errors: &mut E,
@@ -45,7 +47,7 @@ pub fn run<
     ensures { Runs (R.may runner.now) (S.words system.now) (sources_of (S.files system.now) (I.is_reliable input.old))
         (I.remaining input.old) (I.remaining input.new) (O.contents out.old) (O.contents out.new) (E.contents errors.old) (E.contents errors.new) (exit_status result) }
 {
-    let outcome = perform(system, rt, alloc, runner, watch, input, out);
+    let outcome = perform(system, rt, alloc, runner, tell, input, out);
     exit_code(conclude(outcome, errors))
 }
 
@@ -54,7 +56,7 @@ fn perform<
     S: System,
     H: Threads + Wait + Processes<Started = SystemProcess> + Sync,
     R: Runner,
-    V: Watch,
+    T: Tell,
     I: Input,
     O: Write,
 >(
@@ -62,7 +64,7 @@ fn perform<
     rt: &H,
     alloc: Global,
     runner: &R,
-    watch: &V,
+    tell: &T,
     input: &mut I,
     out: &mut O,
 ) -> Result<Status, Fault>
@@ -75,7 +77,7 @@ fn perform<
             rt,
             alloc,
             runner,
-            watch,
+            tell,
             words_of(args.as_slice()),
             input,
             out,
@@ -90,7 +92,7 @@ fn attempt<
     S: System,
     H: Threads + Wait + Processes<Started = SystemProcess> + Sync,
     R: Runner,
-    V: Watch,
+    T: Tell,
     I: Input,
     O: Write,
 >(
@@ -98,7 +100,7 @@ fn attempt<
     rt: &H,
     alloc: Global,
     runner: &R,
-    watch: &V,
+    tell: &T,
     words: &[String],
     input: &mut I,
     out: &mut O,
@@ -107,9 +109,17 @@ fn attempt<
         (O.contents out.old) (O.contents out.new) result }
 {
     match request_of(alloc, words) {
-        Ok(Request { line, is_verbose }) => follow(
-            system, rt, alloc, runner, watch, line, is_verbose, input, out,
-        ),
+        Ok(
+            Request {
+                line,
+                is_verbose,
+                stop_file,
+            },
+        ) => {
+            tell.run_begins(rt, is_verbose);
+            let attend = Attendant::new(system, tell, stop_file);
+            follow(system, rt, alloc, runner, &attend, line, input, out)
+        }
         Err(fault) => Err(Fault::Line(fault)),
     }
 }
@@ -119,7 +129,7 @@ fn follow<
     S: System,
     H: Threads + Wait + Processes<Started = SystemProcess> + Sync,
     R: Runner,
-    V: Watch,
+    A: Attend,
     I: Input,
     O: Write,
 >(
@@ -127,13 +137,12 @@ fn follow<
     rt: &H,
     alloc: Global,
     runner: &R,
-    watch: &V,
+    attend: &A,
     line: Line,
-    is_verbose: bool,
     input: &mut I,
     out: &mut O,
 ) -> Result<Status, Fault>
-    ensures { Does (R.may runner.now) (sources_of (S.files system.now) (I.is_reliable input.old)) line (I.remaining input.old) (I.remaining input.new)
+    ensures { Does (R.may runner.now) (A.asks attend.now) (sources_of (S.files system.now) (I.is_reliable input.old)) line (I.remaining input.old) (I.remaining input.new)
         (O.contents out.old) (O.contents out.new) result }
 {
     match line {
@@ -146,12 +155,9 @@ fn follow<
             inventory,
             playbook,
             forks,
-        } => {
-            let watch = if is_verbose { Some(watch) } else { None };
-            roll(
-                system, rt, alloc, runner, watch, inventory, playbook, forks, input, out,
-            )
-        }
+        } => roll(
+            system, rt, alloc, runner, attend, inventory, playbook, forks, input, out,
+        ),
         Line::Rehearse {
             inventory,
             playbook,

@@ -38,7 +38,7 @@ pub fn read_source<S: System, I: Input>(
 }
 
 /// Reads the file of this name, whatever the name is.
-fn read_file<S: System>(system: &S, alloc: Global, name: &str) -> Result<Vec<u8>, InputFault>
+pub fn read_file<S: System>(system: &S, alloc: Global, name: &str) -> Result<Vec<u8>, InputFault>
     ensures ok { IfOk result (λ text. IsTextOfFile (S.files system.now name.now) text.items) }
     ensures err { IfErr result (IsFaultOfFile (S.files system.now name.now)) }
 {

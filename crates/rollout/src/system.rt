@@ -26,6 +26,9 @@ pub trait System: Prompt {
     fn open(&self, name: &str) -> io::Result<Self::File>
         ensures ok { IfOk result (λ file. Opens (files self.now name.now) (Self.File.remaining file) (Self.File.is_reliable file)) }
         ensures err { IfErr result (λ error. Fails (files self.now name.now) (error_kind error)) };
+
+    /// Whether there is a file of this name now, of whatever kind.
+    fn is_there(&self, name: &str) -> bool;
 }
 
 /// The system that runs the program; and standard error, where somebody types commands and is to see on it that the next one is awaited.
@@ -59,5 +62,9 @@ impl<R: Env + fs::Files + AllocGlobal> System for Host<'_, R> {
 
     fn open(&self, name: &str) -> io::Result<Fallible<R::File>> {
         Ok(Fallible(fs::open(self.rt, name)?))
+    }
+
+    fn is_there(&self, name: &str) -> bool {
+        fs::exists(self.rt, name).unwrap_or(false)
     }
 }

@@ -88,7 +88,7 @@ fn write_host<W: Write>(
 }
 
 /// Writes the lines of the hosts that aren't idle, by name.
-pub(crate) fn write_hosts<W: Write>(
+pub fn write_hosts<W: Write>(
     text: &mut TextWriter<'_, W>,
     fleet: &Fleet,
     statuses: &[Status],

@@ -1,6 +1,9 @@
 -- The text of the recaps of a playbook's plays.
-use Rattle.std.specs.Prelude.{ℕ, ◌+◌, ◌-◌, nat_lt, Bool, true, false, Some, None, List, ◌++◌, codes, length}
+use Rattle.std.specs.Prelude.{ℕ, ◌+◌, ◌-◌, nat_lt, if◌then◌else◌, Bool, true, false, Some, None, List, ◌++◌, codes, length}
 use Rattle.domains.specs.FleetViews.{FleetView}
+use Rattle.fleet_states.specs.declared.status.Status.{Status}
+use Rattle.fleet_states.specs.declared.status.Status.TheVariants.{Idle}
+use Rattle.fleet_states.specs.Statuses.{is_down}
 use Rattle.play_model.specs.declared.play.Play.{Play}
 use Rattle.recap.specs.LimitsText.{field_text}
 use Rattle.roll_run.specs.declared.run.Run.{Run}
@@ -17,6 +20,10 @@ run_text fleet run =
 abbrev pub fault_text : FleetView → RunFault → List ℕ
 fault_text fleet fault =
     boundary_lines fleet fault.opened fault.boundaries.items ++ (host_lines fleet fault.statuses.items fault.counts.items ++ end_line fleet None)
+
+-- the status of a host that is down; one that isn't counts as idle, which has no line
+abbrev pub if_down : Status → Status
+if_down status = if is_down status then status else Idle
 
 -- whether each recap stands under the number of its play
 abbrev pub are_several : List Play → Bool

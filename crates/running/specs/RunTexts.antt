@@ -8,10 +8,11 @@ use Rattle.host_vars.specs.declared.vars.Vars.{Vars}
 use Rattle.outcome_results.specs.Endings.{Ending}
 use Rattle.play_model.specs.declared.play.Play.{Play}
 use Rattle.roll_logs.specs.Told.{Work}
-use Rattle.fork_pool.specs.declared.fault.StepFault.{StepFault}
 use Rattle.roll_run.specs.declared.run.Run.{Run}
+use Rattle.roll_run.specs.declared.fault.Break.{Break}
 use Rattle.roll_run.specs.declared.fault.RunFault.{RunFault}
 use Rattle.roll_run.specs.Plays.{AreBroken, AreRuns}
+use Rattle.roll_run.specs.Runs.{MayBreak}
 use Rattle.running.specs.Ends.{IsEndOf}
 use Rattle.running.specs.Inputs.{AreInputs, RefusesTexts}
 use Rattle.running.specs.Recaps.{are_several, broken_text, runs_text}
@@ -62,8 +63,8 @@ pub record BreaksRecap (may : Work → Ending → Type 0) (inventory playbook : 
   pub is : IsRecap may inventory playbook forks runs text
   pub written : SendsFirst old new text count
 
--- a fault broke the runs off, and the recaps of what they came to went out, and nothing else
-pub record WritesBroken (may : Work → Ending → Type 0) (inventory playbook : List ℕ) (forks : ℕ) (old new : Option (List ℕ)) (why : StepFault) : Type 0 where
+-- the runs were broken off, and the recaps of what they came to went out, and nothing else
+pub record WritesBroken (may : Work → Ending → Type 0) (inventory playbook : List ℕ) (forks : ℕ) (old new : Option (List ℕ)) (why : Break) : Type 0 where
   pub done : List Run
   pub last : RunFault
   pub text : List ℕ
@@ -71,7 +72,7 @@ pub record WritesBroken (may : Work → Ending → Type 0) (inventory playbook :
   pub written : Appends old new text
   pub why_is : why ≡ last.why
 
--- a fault broke the runs off, and the recaps of what they came to broke off after so many bytes
+-- the runs were broken off, and the recaps of what they came to broke off after so many bytes
 pub record BreaksBroken (may : Work → Ending → Type 0) (inventory playbook : List ℕ) (forks : ℕ) (old new : Option (List ℕ)) (count : ℕ) : Type 0 where
   pub done : List Run
   pub last : RunFault
@@ -87,6 +88,13 @@ IsTrueFault may inventory playbook forks old new Memory = Keeps old new
 IsTrueFault may inventory playbook forks old new (Broken why) = WritesBroken may inventory playbook forks old new why
 IsTrueFault may inventory playbook forks old new (Write fault) =
     BreaksRecap may inventory playbook forks old new fault.written ⊎ BreaksBroken may inventory playbook forks old new fault.written
+
+-- a run is told to have been asked to end only where it may be
+abbrev pub MayBreakText : Bool → RunTextFault → Type 0
+MayBreakText asks (Refused fault) = Unit {0}
+MayBreakText asks Memory = Unit {0}
+MayBreakText asks (Broken why) = MayBreak asks why
+MayBreakText asks (Write fault) = Unit {0}
 
 -- the recaps of runs that came to their ends went out, or broke off
 abbrev pub TellsRuns : FleetView → Bool → List Run → Option (List ℕ) → Option (List ℕ) → Result RunEnd RunTextFault → Type 0

@@ -1,7 +1,7 @@
 //! Why a playbook was not run to its end, or its recap not written.
 use bounded_io::WriteFault;
 use planning::PlanFault;
-use roll_run::StepFault;
+use roll_run::Break;
 use std::alloc::AllocError;
 
 /// Why a playbook was not run to its end, or its recap not written.
@@ -12,7 +12,7 @@ pub enum RunTextFault {
     /// Memory was wanting before anything was run.
     Memory,
     /// The run was broken off; its recap went out as far as the run came.
-    Broken(StepFault),
+    Broken(Break),
     /// The recap broke off, also where the run had been broken off before.
     Write(WriteFault),
 }

@@ -1,6 +1,7 @@
 //! The command `run`: from the bytes of an inventory and of a playbook to the recap of what the plays did.
 #![tactic(auto)]
 
+mod down;
 mod end;
 mod fault;
 mod hosts;

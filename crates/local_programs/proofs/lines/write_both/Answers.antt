@@ -2,7 +2,8 @@ use Rattle.std.proofs.Common.{◌≡◌, ◌++◌, Bool, true, [], codes, sym, a
 use Rattle.std.proofs.Math.Facts.{to_z-of_z}
 use Rattle.std.specs.Prelude.{if◌then◌else◌}
 use Rattle.bounded_io.proofs.WritingLemmas.{writes_two}
-use Rattle.local_programs.specs.Lines.{both_text, has_failed, output_text}
+use Rattle.local_programs.specs.Lines.{both_text, has_failed}
+use Rattle.local_programs.specs.Shown.{output_text}
 use Rattle.local_programs.proofs.lines.write_both.Goals as goal
 
 pub returns-then-has_failed : goal.returns-then-has_failed

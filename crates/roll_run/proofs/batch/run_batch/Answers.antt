@@ -1,11 +1,7 @@
+use Rattle.std.proofs.Common.{refl}
 use Rattle.domains.specs.Ids.{host_numbers}
-use Rattle.roll_run.proofs.Passing.{breaks_at_once, broken_where, run_where}
+use Rattle.roll_run.proofs.Passing.{breaks_at_once}
 use Rattle.roll_run.proofs.batch.run_batch.Goals as goal
 
-pub returns-in-Ok-clause-ok : goal.returns-in-Ok-clause-ok
-returns-in-Ok-clause-ok g c =
-    run_where c.args.board c.open.new.self (host_numbers c.args.batch.now) c.in-Ok.ensures.ok c.pass_steps.result c.pass_steps.ensures.ok
-
-pub returns-in-Ok-clause-err : goal.returns-in-Ok-clause-err
-returns-in-Ok-clause-err g c =
-    broken_where c.args.board c.open.new.self (host_numbers c.args.batch.now) c.in-Ok.ensures.ok c.pass_steps.result c.pass_steps.ensures.err
+pub returns-then-not-goes_on-clause-err : goal.returns-then-not-goes_on-clause-err
+returns-then-not-goes_on-clause-err g c = breaks_at_once c.args.board c.args.board (host_numbers c.args.batch.now) refl

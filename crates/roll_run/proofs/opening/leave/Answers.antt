@@ -16,4 +16,4 @@ returns-in-Err-clause-err g c =
     let left = c.finish-left.ensures in
     let gone = subst (HasGone c.args.boundaries.items c.args.board.kernel) c.in-Err.is c.requires in
     let opened = c.count_opened.ensures ∙ ap (count_by (λ event. opens (event_of event))) c.as_slice.ensures.value in
-    is_broken (g.R.Runner.may c.args.board.runner) c.args.board.kernel _ left.log left.legal left.safe left.rests left.told left.statuses left.counts opened gone.0 gone.1
+    is_broken (g.R.Runner.may c.args.board.runner) c.args.board.kernel _ left.log left.legal left.safe left.rests left.told left.statuses left.counts opened gone.0 gone.1 gone.2

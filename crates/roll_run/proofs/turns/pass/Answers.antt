@@ -9,7 +9,7 @@ use Rattle.roll_logs.specs.States.{failures}
 use Rattle.roll_kernel.specs.Views.{KernelView, state_of}
 use Rattle.roll_run.specs.Inside.{HasBroken, HasRun, grown, halt_in}
 use Rattle.roll_run.proofs.Counting.{told_fleet}
-use Rattle.roll_run.proofs.Ending.{broken_at, ends_here}
+use Rattle.roll_run.proofs.Ending.{asked_at, broken_at, ends_here}
 use Rattle.roll_run.proofs.Turning.{is_behind, last_is, opens_some, same_behind, same_by, still_so}
 use Rattle.roll_run.proofs.turns.pass.Goals as goal
 
@@ -20,6 +20,9 @@ run_batch-requires-clause-some g c κs within =
     let goes_on = ap (end_here c.args.before) (sym here) ∙ sym c.end_at.ensures ∙ c.in-None.is in
     let batch = c.next_batch.ensures ∙ ap (λ (b : Boundary). next_batch b.answer) here in
     subst (λ n. 0 < n) (ap length (sym batch) ∙ length-host_numbers c.next_batch.result.now) (opens_some c.args.board.kernel.fleet noted.at.bound c.args.before noted.boundary noted.at.best goes_on)
+
+pub run_batch-requires-clause-rests : goal.run_batch-requires-clause-rests
+run_batch-requires-clause-rests g c κs within = c.requires.noted.at.phase
 
 pub returns-in-Some-clause-turned : goal.returns-in-Some-clause-turned
 returns-in-Some-clause-turned g c =
@@ -62,8 +65,11 @@ returns-in-Err-clause-turned g c =
     let goes_on = ap (end_here c.args.before) (sym here) ∙ sym c.end_at.ensures ∙ c.in-None.is in
     let batch = c.next_batch.ensures ∙ ap (λ (b : Boundary). next_batch b.answer) here in
     let broken = subst (λ hosts. HasBroken hosts c.args.board c.in-Err.board) batch c.in-Err.ensures.err in
-    let forks = c.requires.forks ∙ sym (ap (λ (k : KernelView). k.forks) broken.kernel) in
-    (broken_at c.args.board c.in-Err.board noted.behind c.args.boundaries.now noted.boundary c.args.before noted.at noted.boundaries_are goes_on broken, still_so c.in-Err.board.kernel.forks c.args.front.now.forks (state_of c.in-Err.board.kernel) c.in-Err.why forks c.in-Err.ensures.why)
+    let forks = c.requires.forks ∙ sym (ap (λ (k : KernelView). k.forks) broken.kernel) in (
+      broken_at c.args.board c.in-Err.board noted.behind c.args.boundaries.now noted.boundary c.args.before noted.at noted.boundaries_are goes_on broken,
+      still_so c.in-Err.board.kernel.forks c.args.front.now.forks (state_of c.in-Err.board.kernel) c.in-Err.why forks c.in-Err.ensures.why,
+      asked_at c.args.board c.in-Err.board noted.behind c.args.boundaries.now noted.boundary c.args.before c.in-Err.why noted.at noted.boundaries_are c.in-Err.ensures.unopened,
+    )
 
 pub returns-in-Err-clause-same : goal.returns-in-Err-clause-same
 returns-in-Err-clause-same g c =

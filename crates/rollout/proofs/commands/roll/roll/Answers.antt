@@ -1,13 +1,24 @@
-use Rattle.std.proofs.Common.{inl}
+use Rattle.std.proofs.Common.{inl, inr, refl, subst, ◌≤◌}
 use Rattle.std.proofs.KnownBytes.{Keeps-refl}
-use Rattle.rollout.proofs.Rolling.{Rolls-of_texts}
 use Rattle.rollout.proofs.commands.roll.roll.Goals as goal
 
-pub returns-in-Ok : goal.returns-in-Ok
-returns-in-Ok g c =
-    let prints = rw (c.as_slice-inventory.ensures.value, c.as_slice-playbook.ensures.value, c.number-forks.ensures.value) at c.print_recap.ensures.ok in
-    let breaks = rw (c.as_slice-inventory.ensures.value, c.as_slice-playbook.ensures.value, c.number-forks.ensures.value) at c.print_recap.ensures.err in
-    Rolls-of_texts _ _ _ _ c.args.forks _ _ _ _ c.in-Ok.inventory.items c.in-Ok.playbook.items c.print_recap.result c.in-Ok.ensures.ok prints breaks
+pub returns-in-Some : goal.returns-in-Some
+returns-in-Some g c =
+    inl (record {
+      fault = c.in-Some.fault;
+      because = c.in-Some.ensures.some;
+      is = refl;
+      unread = Keeps-refl (g.I.Read.remaining c.args.input.now);
+      unwritten = Keeps-refl (g.W.Write.contents c.args.out.now);
+    })
 
-pub returns-in-Err : goal.returns-in-Err
-returns-in-Err g c = inl (c.in-Err.ensures.err, Keeps-refl (g.W.Write.contents c.args.out.now))
+pub returns-in-None : goal.returns-in-None
+returns-in-None g c =
+    inr (record {
+      kept = c.refusal.ensures.none c.in-None.is;
+      workers = c.workers-forks.result;
+      some = c.workers-forks.ensures.some;
+      few = subst (λ n. c.workers-forks.result ≤ n) c.number.ensures.value c.workers-forks.ensures.few;
+      rolls = c.roll_inputs.ensures.rolls;
+      stops = c.roll_inputs.ensures.stops;
+    })

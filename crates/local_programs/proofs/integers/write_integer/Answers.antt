@@ -3,7 +3,7 @@ use Rattle.std.proofs.Math.Facts.{to_z-of_z}
 use Rattle.std.specs.Prelude.{decimal, unsigned_abs}
 use Rattle.bounded_io.proofs.WritingLemmas.{writes_two}
 use Rattle.local_programs.specs.Lines.{integer_text, sign_text}
-use Rattle.local_programs.proofs.lines.write_integer.Goals as goal
+use Rattle.local_programs.proofs.integers.write_integer.Goals as goal
 
 pub returns : goal.returns
 returns g c =

@@ -1,0 +1,11 @@
+use Rattle.std.proofs.Common.{codes, refl}
+use Rattle.std.proofs.Math.Facts.{to_z-of_z}
+use Rattle.bounded_io.proofs.WritingLemmas.{writes_two}
+use Rattle.local_programs.specs.Lines.{integer_text, number_text}
+use Rattle.local_programs.proofs.lines.write_signal_number.Goals as goal
+
+pub returns : goal.returns
+returns g c =
+    let same = to_z-of_z c.ranges.number in
+    let integer = rw same at c.write_integer.ensures in
+    writes_two _ _ _ _ (codes " signal=") (integer_text c.args.number) (number_text c.args.number) c.write_str.ensures integer refl

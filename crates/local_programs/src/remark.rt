@@ -1,0 +1,52 @@
+//! What is told of a program beside how it ended.
+ghost use Rattle.std.specs.Prelude.{◌≡◌, IfOk};
+ghost use Rattle.std.specs.Process.{exit_signal};
+ghost use Rattle.local_programs.specs.Lines.{remark_in};
+
+use std::alloc::{AllocError, Global};
+use std::io;
+use std::os::unix::process::ExitStatusExt;
+use std::process::ExitStatus;
+
+/// What the lines of a run tell of a program beside its outcome.
+#[derive(Debug, Drop)]
+pub(crate) enum Remark {
+    Nothing,
+    /// The signal that ended it.
+    Signal(i32),
+    /// What the system said when it was to be started.
+    Refused(String),
+}
+
+/// What is told beside the outcome of a program for which was waited so.
+pub(crate) fn remark_of(waited: &io::Result<ExitStatus>) -> Remark
+    ensures { IfOk waited.now (λ status. result ≡ remark_in (exit_signal status)) }
+{
+    match waited {
+        Ok(status) => match status.signal() {
+            Some(signal) => Remark::Signal(signal),
+            None => Remark::Nothing,
+        },
+        Err(_error) => Remark::Nothing,
+    }
+}
+
+/// What is told of a start that was refused so; nothing where memory is wanting for it.
+pub(crate) fn refusal_of(alloc: Global, error: &Option<io::Error>) -> Remark {
+    match error {
+        Some(error) => match text_of(alloc, error) {
+            Ok(text) => Remark::Refused(text),
+            Err(_refused) => Remark::Nothing,
+        },
+        None => Remark::Nothing,
+    }
+}
+
+/// What the system says of a program that it doesn't start. Of a file that it can't run it doesn't say what to do.
+fn text_of(alloc: Global, error: &io::Error) -> Result<String, AllocError> {
+    let mut text = error.to_string(alloc)?;
+    if error.raw_os_error() == Some(libc::ENOEXEC) {
+        text.push_str(" (a script needs a first line with #!)")?;
+    }
+    Ok(text)
+}

@@ -1,0 +1,34 @@
+-- What is said behind the line of a fault.
+use Rattle.std.specs.Prelude.{ℕ, ◌&&◌, ◌||◌, ◌==◌, not, nat_lt, if◌then◌else◌, List, [], ◌∷◌, codes, flat_map}
+use Rattle.command_line.specs.Messages as messages
+use Rattle.command_line.specs.declared.fault.LineFault.TheVariants as line_fault
+use Rattle.rollout.specs.declared.fault.Fault.{Fault}
+use Rattle.rollout.specs.declared.fault.Fault.TheVariants.{Line, Input, Read, Fleet, Playbook, Pattern, Mixed, LongLine, ChildrenIgnored, Stopped, Write, Memory}
+
+-- a byte of a text in which words of somebody else stand: a control character but for the line feed and the tabulator is a question mark
+abbrev pub told : ℕ → ℕ
+told byte = if (nat_lt byte 32 && (not (byte == 10) && not (byte == 9))) || byte == 127 then 63 else byte
+
+abbrev pub told_text : List ℕ → List ℕ
+told_text bytes = flat_map (λ byte. told byte ∷ []) bytes
+
+-- how a run is started where the ends of children are ignored
+abbrev pub ignored : List ℕ
+ignored = codes "SIGCHLD is ignored here, so no program's end could be had. Start it with: env --default-signal=CHLD rollout run ..\n"
+
+-- what is said behind the line of a fault: what is wrong with bad words, and what to do
+abbrev pub explanation_of : Fault → List ℕ
+explanation_of (Line (line_fault.BadLine explanation)) = told_text (messages.text_of explanation)
+explanation_of (Line line_fault.Unexplained) = []
+explanation_of (Line line_fault.Memory) = []
+explanation_of (Input source fault) = []
+explanation_of (Read fault) = []
+explanation_of (Fleet fault) = []
+explanation_of (Playbook fault) = []
+explanation_of (Pattern fault) = []
+explanation_of Mixed = []
+explanation_of LongLine = []
+explanation_of ChildrenIgnored = ignored
+explanation_of Stopped = []
+explanation_of (Write fault) = []
+explanation_of Memory = []

@@ -1,0 +1,49 @@
+//! What stands behind the line of a fault.
+ghost use Rattle.std.specs.Prelude.{◌≡◌};
+ghost use Rattle.bounded_io.specs.Writing.{Writes};
+ghost use Rattle.rollout.specs.Explanations as spec;
+
+use crate::fault::Fault;
+use bounded_io::TextWriter;
+use command_line::LineFault;
+use std::io::Write;
+
+/// How a run is started where the ends of children are ignored.
+const IGNORED: &str = "\
+SIGCHLD is ignored here, so no program's end could be had. Start it with: env --default-signal=CHLD rollout run ..
+";
+
+/// Goes on with what is wrong with bad words, and what to do where children are ignored.
+#[tactic(auto, using(bounded_io::proofs::Pieces::pieces_of_text))]
+pub fn write_explanation<W: Write>(text: &mut TextWriter<'_, W>, fault: &Fault)
+    ensures { Writes W.contents text.old text.new (spec.explanation_of fault.now) }
+{
+    match fault {
+        Fault::Line(LineFault::BadLine(explanation)) => {
+            write_told(text, explanation.as_str().as_bytes());
+        }
+        Fault::ChildrenIgnored => text.write_str(IGNORED),
+        _ => {}
+    }
+}
+
+/// Goes on with lines in which words of somebody else stand.
+#[tactic(auto, using(bounded_io::proofs::Pieces::pieces_of_text))]
+fn write_told<W: Write>(text: &mut TextWriter<'_, W>, bytes: &[u8])
+    ensures { Writes W.contents text.old text.new (spec.told_text bytes.now) }
+{
+    for byte in bytes {
+        text.write_bytes(&[told(*byte)]);
+    }
+}
+
+/// A control character would move a terminal about, so it is a question mark, but for the ends of lines and tabulators.
+fn told(byte: u8) -> u8
+    ensures { result ≡ spec.told byte }
+{
+    if byte < b' ' && byte != b'\n' && byte != b'\t' || byte == 0x7f {
+        b'?'
+    } else {
+        byte
+    }
+}
