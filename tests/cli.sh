@@ -297,7 +297,7 @@ updated="$four
 $(for host in a b c d e; do counted $host 1 0 updated; done)
 end finished"
 rolled 'a run' 0 "$racks" "$all" "$updated"
-for words in 'run racks.json all.json' 'run --forks 64 racks.json all.json' 'run racks.json --forks=1 all.json' 'run -- racks.json all.json'; do
+for words in 'run racks.json all.json' 'run --forks 64 racks.json all.json' 'run racks.json --forks=1 all.json' 'run -- racks.json all.json' 'run --stop-file -v racks.json --stop-file=racks.json all.json --stop-file --'; do
     (
         cd "$work" || exit 1
         "$rollout" $words </dev/null >out 2>errors
@@ -520,9 +520,10 @@ Arguments:
   <PLAY>  The playbook: a file of JSON that lists plays with their hosts and tasks
 
 Options:
-      --forks <N>  How many hosts are worked on at once, 1 to 64 [default: 5]
-  -v, --verbose    Tells on standard error of each batch that opens and each program that ends
-  -h, --help       Print help
+      --forks <N>         How many hosts are worked on at once, 1 to 64 [default: 5]
+  -v, --verbose           Tells on standard error of each batch that opens and each program that ends
+      --stop-file <FILE>  Ends the run before the next batch once this file is there
+  -h, --help              Print help
 '
 for words in 'run --help' 'run -h' 'help run'; do
     run $words
@@ -573,6 +574,13 @@ bad run 'rollout run <INV> <PLAY>' "the following required arguments were not pr
 bad 'run a' 'rollout run <INV> <PLAY>' "the following required arguments were not provided:$newline  <PLAY>"
 bad 'run a b c' 'rollout run [OPTIONS] <INV> <PLAY>' "unexpected argument 'c' found"
 bad 'run -vv a b' 'rollout run [OPTIONS] <INV> <PLAY>' "the argument '--verbose' cannot be used multiple times"
+run run a b --stop-file
+check 'a stop file without its file' 1 '' "rollout: 901 BadLine
+error: a value is required for '--stop-file <FILE>' but none was supplied
+
+For more information, try '--help'.
+"
+bad 'run -- a b --stop-file c' 'rollout run [OPTIONS] <INV> <PLAY>' "unexpected argument '--stop-file' found"
 bad '-v run a b' 'rollout <COMMAND>' "unexpected argument '-v' found"
 bad rehearse 'rollout rehearse <INV> <PLAY>' "the following required arguments were not provided:$newline  <INV>$newline  <PLAY>"
 bad 'rehearse a b c' 'rollout rehearse <INV> <PLAY>' "unexpected argument 'c' found"

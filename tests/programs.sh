@@ -3,116 +3,7 @@
 # it compared byte by byte; many programs at once; and each call by which a program is run failing in turn. It needs a C compiler and
 # crates/rollout/out/rollout. While that has no command `run`, all is passed over.
 . "$(dirname "$0")/common.sh"
-helpers=$top/tests/programs
-
-# Runs the program, which is not to hang.
-limit=120
-[ -z "${UNPROVED:-}" ] || limit=600
-run() {
-    timeout -k 5 "$limit" "$rollout" "$@" <"$input" >"$work/out" 2>"$work/errors"
-    status=$?
-}
-
-printf '{"all":{"hosts":{"a":null}}}' >"$work/one.json"
-printf '[{"hosts":"all","tasks":[{"command":"true"}]}]' >"$work/true.json"
-run run "$work/one.json" "$work/true.json"
-if [ "$status" -eq 1 ] && head -n 1 "$work/errors" | grep -q '^rollout: 901 BadLine'; then
-    echo 'the program has no command "run" yet: its programs are passed over'
-    pass
-    finish
-    exit
-fi
-
-{ ${CC:-cc} -O1 -o "$work/act" "$helpers/act.c" && ${CC:-cc} -shared -fPIC -O1 -o "$work/fail.so" "$helpers/fail.c" -ldl; } || {
-    fail 'no C compiler made the helpers'
-    finish
-    exit 1
-}
-chmod 755 "$work"
-mkdir -m 777 "$work/kept"
-act=$work/act
-
-# What a step keeps of another: its two words, each in a file of its own.
-cat >"$work/keep" <<'SH'
-#!/bin/sh
-printf '%s' "$1" >"${0%/*}/kept/out"
-printf '%s' "$2" >"${0%/*}/kept/err"
-SH
-chmod 755 "$work/keep"
-
-# words WORD..: these as the words of a command. They hold nothing that a JSON text would have to hide.
-words() {
-    between=
-    printf '['
-    for word; do
-        printf '%s"%s"' "$between" "$word"
-        between=,
-    done
-    printf ']'
-}
-
-# shell TEXT: the words of a shell that runs this line, which may hold quotes.
-shell() {
-    printf '["sh","-c","%s"]' "$(printf '%s' "$1" | sed 's/\\/\\\\/g; s/"/\\"/g')"
-}
-
-# played STEPS: runs a play of these steps on one host.
-played() {
-    printf '[{"hosts":"all","tasks":[%s]}]' "$1" >"$work/play.json"
-    run run "$work/one.json" "$work/play.json"
-}
-
-# told WHAT STATUS ENDING END: the last run ended so, as did its host.
-told() {
-    check "$1" "$2" "boundary 1: plan batches=1 bound=one-host
-open: a
-boundary 2: plan batches=0 bound=nothing
-a $3
-end $4
-" ''
-}
-
-# ran WHAT CODE WORDS: the program gives back CODE, and the two texts of it that are kept are those in want.out and want.err.
-: >"$work/want.out"
-: >"$work/want.err"
-ran() {
-    rm -f "$work/kept/out" "$work/kept/err"
-    played "{\"command\":{\"argv\":$3},\"register\":\"r\",\"ignore_errors\":true},{\"command\":{\"argv\":[\"$work/keep\",\"{{ r.stdout }}\",\"{{ r.stderr }}\"]},\"when\":\"r.rc == $2\"}"
-    ignored=0
-    [ "$2" -eq 0 ] || ignored=1
-    told "$1" 0 "ok=2 changed=2 failed=0 skipped=0 ignored=$ignored state=updated" finished
-    if cmp -s "$work/kept/out" "$work/want.out" && cmp -s "$work/kept/err" "$work/want.err"; then
-        pass
-    else
-        fail "$1: other texts are kept"
-        cmp "$work/kept/out" "$work/want.out" | head -n 1
-        cmp "$work/kept/err" "$work/want.err" | head -n 1
-    fi
-    : >"$work/want.out"
-    : >"$work/want.err"
-}
-
-# acted WHAT CODE OUT ERR WORDS..: the same of what act does, of which so many first bytes of each output are kept.
-acted() {
-    what=$1
-    code=$2
-    "$act" out "$3" >"$work/want.out"
-    "$act" out "$4" >"$work/want.err"
-    shift 4
-    ran "$what" "$code" "$(words "$act" "$@")"
-}
-
-# says WHAT TEXT WORDS: the program ends well, and this text is kept of its output.
-says() {
-    printf '%s' "$2" >"$work/want.out"
-    ran "$1" 0 "$3"
-}
-
-# unstarted WHAT WORDS: there is no such program to start.
-unstarted() {
-    played "{\"command\":{\"argv\":$2},\"register\":\"r\",\"ignore_errors\":true},{\"command\":\"true\",\"when\":[\"r is failed and not r is changed and not r is skipped\",\"r.rc is not defined\",\"r.stdout == '' and r.stderr == ''\"]}"
-    told "$1" 0 'ok=2 changed=1 failed=0 skipped=0 ignored=1 state=updated' finished
-}
+. "$top/tests/programs/steps.sh"
 
 # ---- outputs: their first 65,536 bytes are kept
 
@@ -195,9 +86,9 @@ acted 'stops, and is made to go on' 0 30 0 child rest 100 continue meanwhile out
 acted 'closes its outputs and goes on' 5 10 20 out 10 err 20 close 1 close 2 rest 300 exit 5
 acted 'closes its output alone' 0 10 "$most" out 10 close 1 err 70000 rest 50 err 1
 acted 'closes its errors alone' 0 "$most" 3 err 3 close 2 rest 50 out 100000
-acted 'a child that it leaves behind holds its outputs' 0 9 0 child rest 300 out 9 meanwhile
-acted 'a child that it leaves behind holds its errors alone' 6 0 9 child close 1 rest 300 err 9 meanwhile exit 6
-acted 'is ended by a signal, while a child holds its outputs' -1 8 0 child rest 200 out 8 meanwhile raise 9
+acted 'a child that it leaves behind writes too late' 0 5 0 child rest 1000 out 9 meanwhile out 5
+acted 'a child that it leaves behind writes errors too late' 6 0 4 child close 1 rest 1000 err 9 meanwhile err 4 exit 6
+acted 'is ended by a signal, and a child writes too late' -1 8 0 child rest 1000 out 8 meanwhile out 8 raise 9
 before=$(date +%s)
 acted 'a child that it leaves behind holds nothing' 0 4 0 alone rest 20000 meanwhile out 4
 [ $(($(date +%s) - before)) -lt 15 ] && pass || fail 'a child that holds nothing is waited for'
@@ -267,31 +158,6 @@ cd "$top" || exit 1
 
 # ---- many at once
 
-# hosts COUNT: an inventory of so many hosts.
-hosts() {
-    awk -v count="$1" 'BEGIN { printf "{\"all\":{\"hosts\":{"; for (i = 0; i < count; i++) printf "%s\"h%04d\":null", (i ? "," : ""), i; printf "}}}" }'
-}
-
-# all COUNT ENDING END [NUMBER ENDING]: the recap of so many hosts, in one batch, of which one may have another ending.
-all() {
-    awk -v count="$1" -v ending="$2" -v end="$3" -v other="${4:--1}" -v otherwise="${5:-}" 'BEGIN {
-        print "boundary 1: plan batches=1 bound=one-host"
-        printf "open:"
-        for (i = 0; i < count; i++) printf " h%04d", i
-        print "\nboundary 2: plan batches=0 bound=nothing"
-        for (i = 0; i < count; i++) printf "h%04d %s\n", i, (i == other ? otherwise : ending)
-        print "end " end
-    }'
-}
-
-# many COUNT FORKS STEPS: runs a play of these steps on so many hosts.
-many() {
-    hosts "$1" >"$work/hosts.json"
-    printf '[{"hosts":"all","tasks":[%s]}]' "$3" >"$work/play.json"
-    run run "$work/hosts.json" "$work/play.json" --forks "$2"
-}
-
-updated='changed=1 failed=0 skipped=0 ignored=0 state=updated'
 for forks in 1 2 7 64; do
     many 300 "$forks" '{"command":{"argv":["test","{{ inventory_hostname }}","!=","h0007"]}}'
     check "one of 300 fails, at $forks forks" 2 "$(all 300 "ok=1 $updated" finished 7 'ok=0 changed=0 failed=1 skipped=0 ignored=0 state=failed')$newline" ''
@@ -362,7 +228,9 @@ told="waiting=1 open: a c
 a step=1 rc=0 ms=N name=greet
 c step=1 rc=0 ms=N name=greet
 a step=2 not-started ms=N name=
+  a error: No such file or directory (os error 2)
 c step=2 not-started ms=N name=
+  c error: No such file or directory (os error 2)
 c step=3 rc=0 ms=N name=a$(printf '\t')b?c
 waiting=0 open: b
 b step=1 rc=3 ms=N name=greet
@@ -481,35 +349,6 @@ if proved '10,000 programs'; then
     [ "$more" -lt 16384 ] && pass || fail "9,900 programs more take $more KiB"
 fi
 
-# Few descriptors: some programs can't be started, and each host is told of.
-hosts 200 >"$work/hosts.json"
-(
-    ulimit -n 40
-    timeout -k 5 120 "$rollout" run "$work/hosts.json" "$work/true.json" --forks 64 >"$work/out" 2>"$work/errors" </dev/null
-)
-status=$?
-told_of=$(grep -c '^h[0-9]* ok=\(1 changed=1 failed=0\|0 changed=0 failed=1\) skipped=0 ignored=0 state=\(updated\|failed\)$' "$work/out")
-if [ "$told_of" -eq 200 ] && { [ "$status" -eq 2 ] || [ "$status" -eq 0 ]; } && [ ! -s "$work/errors" ] && grep -q '^end finished$' "$work/out"; then
-    pass
-else
-    fail "40 descriptors: status $status, $told_of of 200 hosts, $(head -n 1 "$work/errors")"
-fi
-
-# Few processes: programs can't be started, or threads. Of root no limit is asked, so it is run as nobody.
-as_nobody=
-[ "$(id -u)" -ne 0 ] || as_nobody='setpriv --reuid=65534 --regid=65534 --clear-groups'
-cp "$rollout" "$work/rollout"
-for processes in 1 8 40; do
-    timeout -k 5 120 prlimit --nproc="$processes" $as_nobody "$work/rollout" run "$work/hosts.json" "$work/true.json" --forks 16 >"$work/out" 2>"$work/errors" </dev/null
-    status=$?
-    told_of=$(grep -c '^h[0-9]* .* state=' "$work/out")
-    if [ "$told_of" -eq 200 ] && case $status in 0 | 2 | 4) [ ! -s "$work/errors" ] ;; 5) [ "$(cat "$work/errors")" = 'rollout: memory' ] && grep -q '^end fault$' "$work/out" ;; *) false ;; esac; then
-        pass
-    else
-        fail "$processes processes: status $status, $told_of of 200 hosts, $(head -n 1 "$work/errors")"
-    fi
-done
-
 # ---- calls that fail
 
 # failing CALL AT HOW: the program with one call failing; `more` are further words of its line.
@@ -552,19 +391,24 @@ errno_io=5
 errno_no_child=10
 errno_again=11
 errno_memory=12
+errno_access=13
 errno_files=24
 for at in 1 2; do
     nothing "wait $at for an output interrupted" poll $at $errno_interrupted
     gone "wait $at for an output fails" poll $at $errno_io
     nothing "read $at interrupted" read $at $errno_interrupted
     gone "read $at fails" read $at $errno_io
-    none "pipe $at can't be made" pipe2 $at $errno_files
+    none "pipe $at can't be made" pipe2 $at $errno_io
+    nothing "pipe $at can't be made at first" pipe2 $at $errno_files
 done
 nothing 'the wait for the end interrupted' waitpid 1 $errno_interrupted
 failing waitpid 1 $errno_no_child
 told 'the end of a program is another'"'"'s' 0 'ok=2 changed=1 failed=0 skipped=0 ignored=1 state=updated' finished
-none 'the null device can'"'"'t be opened' open 1 $errno_files
-none 'no process can be had' posix_spawn 1 $errno_again
+# That one runs on, since it can't be waited for: what it does is none of the next row's.
+sleep 1
+none 'the null device can'"'"'t be opened' open 1 $errno_access
+nothing 'the null device can'"'"'t be opened at first' open 1 $errno_files
+nothing 'no process can be had at first' posix_spawn 1 $errno_again
 
 # Want of memory: the run of this play with all of it, or one that a fault broke off. A program that was started is waited for all the same.
 printf '[{"hosts":"all","tasks":[{"command":{"argv":["sh","-c","trap : PIPE; : >%s; head -c 70000 /dev/zero | tr %s x; echo some >&2; exec >&- 2>&-; sleep 0.1; : >%s"]},"register":"r"},{"command":"true","when":"r.rc == 0"}]}]' "$work/kept/begun" "'\\\\0'" "$work/kept/done" >"$work/play.json"
@@ -620,16 +464,6 @@ end fault
 ' "rollout: memory$newline"
 
 # ---- from outside
-
-# Descriptors 0 to 2 of the program may be closed.
-printf '[{"hosts":"all","tasks":[{"command":{"argv":["sh","-c","echo some; echo more >&2"]},"register":"r"},{"command":"true","when":"r.stdout == %s and r.stderr == %s"}]}]' "'some'" "'more'" >"$work/play.json"
-timeout 60 "$rollout" run "$work/one.json" "$work/play.json" <&- >"$work/out" 2>"$work/errors"
-status=$?
-told 'a closed input' 0 'ok=2 changed=2 failed=0 skipped=0 ignored=0 state=updated' finished
-timeout 60 "$rollout" run "$work/one.json" "$work/play.json" <&- >"$work/out" 2>&-
-status=$?
-: >"$work/errors"
-told 'a closed input and no errors' 0 'ok=2 changed=2 failed=0 skipped=0 ignored=0 state=updated' finished
 
 # Stopped and made to go on, while it waits.
 printf '[{"hosts":"all","tasks":[{"command":{"argv":["sh","-c","echo some; sleep 0.6; echo more"]},"register":"r"},{"command":"true","when":"r.rc == 0"}]}]' >"$work/play.json"

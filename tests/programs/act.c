@@ -10,10 +10,23 @@
    deaf               the same, but a write that fails is passed over
    child              what follows is done by a child, up to `meanwhile`; this program goes on behind that
    alone              the same, the child in a session of its own and with no output
+   session            goes on in a session of its own
+   heirs N            what follows is done by a child, and this program ends; so N times
+   line N             the same, but each stays for a while, with what it has open
+   orphan             waits until the program of which this is the child has ended
+   dots FD MS         writes a dot there each MS milliseconds, until nobody reads
+   flood FD           writes dots there without a rest, until nobody reads
+   stopped            is stopped, and isn't made to go on
    continue           makes the program of which this is the child go on
    exit N             ends with N
+   is N TEXT          ends with 1 where TEXT isn't the first N bytes that `out` writes, of which 65,536 are kept
+   among N TEXT       the same of TEXT without its dots
+   opens N            opens the null device N times
+   becomes WORD..     is the program of these words from now on
    open               writes which descriptors it has
-   signals            writes which signals it was started to ignore or to hold back */
+   signals            writes which signals it was started to ignore or to hold back
+
+   Where NUMBERS is set, the process and all that come of it add their numbers to the file of that name: some stay for a while. */
 #define _GNU_SOURCE
 #include <errno.h>
 #include <fcntl.h>
@@ -38,12 +51,16 @@ static void put(int file, const char *bytes, size_t count) {
     }
 }
 
-/* The bytes from this place on, of letters that go round in 23 and are one behind in each round. */
+/* The byte at this place, of letters that go round in 23 and are one behind in each round. */
+static char letter(long place) {
+    return (char)('a' + (place + place / 23) % 26);
+}
+
 static void put_letters(int file, long from, long count) {
     static char piece[4096];
     while (count > 0) {
         long part = count < (long)sizeof piece ? count : (long)sizeof piece;
-        for (long i = 0; i < part; i++) piece[i] = (char)('a' + (from + i + (from + i) / 23) % 26);
+        for (long i = 0; i < part; i++) piece[i] = letter(from + i);
         put(file, piece, (size_t)part);
         from += part;
         count -= part;
@@ -53,6 +70,64 @@ static void put_letters(int file, long from, long count) {
 static void rest(long milliseconds) {
     struct timespec left = { milliseconds / 1000, milliseconds % 1000 * 1000000 };
     while (nanosleep(&left, &left) != 0 && errno == EINTR) {}
+}
+
+/* Whether this text, its dots left out where they may be in it, is the first letters, as many as are kept. */
+static int is_letters(const char *text, long count, int dots) {
+    long place = 0;
+    for (; *text; text++) {
+        if (dots && *text == '.') continue;
+        if (*text != letter(place)) return 0;
+        place++;
+    }
+    return place == (count < 65536 ? count : 65536);
+}
+
+static void put_dots(int file, long milliseconds) {
+    for (;;) {
+        put(file, ".", 1);
+        rest(milliseconds);
+    }
+}
+
+static void put_flood(int file) {
+    char piece[4096];
+    memset(piece, '.', sizeof piece);
+    for (;;) put(file, piece, sizeof piece);
+}
+
+/* Writes this process down. Whatever becomes of it, in two minutes it ends. */
+static void note(void) {
+    char number[32];
+    const char *path = getenv("NUMBERS");
+    int file = path ? open(path, O_WRONLY | O_CREAT | O_APPEND | O_CLOEXEC, 0666) : -1;
+    if (file >= 0) {
+        put(file, number, (size_t)sprintf(number, "%d\n", (int)getpid()));
+        close(file);
+    }
+    alarm(120);
+}
+
+static pid_t maker;
+
+/* A child, which knows of which process it is one. */
+static pid_t split(void) {
+    pid_t of = getpid(), child = fork();
+    if (child < 0) _exit(8);
+    if (child == 0) {
+        maker = of;
+        note();
+    }
+    return child;
+}
+
+/* What follows is done by a child, or a child of that, and so on. */
+static void hand_on(long times, long milliseconds) {
+    while (times-- > 0) {
+        if (split() == 0) continue;
+        rest(milliseconds);
+        _exit(0);
+    }
 }
 
 static void show_open(void) {
@@ -73,7 +148,7 @@ static void show_signals(void) {
 
 int main(int count, char **words) {
     long out = 0, err = 0;
-    pid_t child = 0;
+    note();
     for (int i = 1; i < count; i++) {
         const char *word = words[i];
         const char *next = i + 1 < count ? words[i + 1] : "";
@@ -99,12 +174,17 @@ int main(int count, char **words) {
         else if (strcmp(word, "ignore") == 0) { signal(SIGPIPE, SIG_IGN); deaf = 0; }
         else if (strcmp(word, "deaf") == 0) { signal(SIGPIPE, SIG_IGN); deaf = 1; }
         else if (strcmp(word, "exit") == 0) return (int)number;
+        else if (strcmp(word, "opens") == 0) {
+            while (number-- > 0) {
+                if (open("/dev/null", O_RDWR) < 0) return 8;
+            }
+            i++;
+        }
+        else if (strcmp(word, "becomes") == 0) { alarm(0); execvp(words[i + 1], words + i + 1); return 8; }
         else if (strcmp(word, "open") == 0) show_open();
         else if (strcmp(word, "signals") == 0) show_signals();
         else if (strcmp(word, "child") == 0 || strcmp(word, "alone") == 0) {
-            child = fork();
-            if (child < 0) return 8;
-            if (child > 0) {
+            if (split() > 0) {
                 while (i < count && strcmp(words[i], "meanwhile") != 0) i++;
             } else if (strcmp(word, "alone") == 0) {
                 setsid();
@@ -115,6 +195,18 @@ int main(int count, char **words) {
             }
         }
         else if (strcmp(word, "meanwhile") == 0) return 0;
+        else if (strcmp(word, "session") == 0) setsid();
+        else if (strcmp(word, "heirs") == 0) { hand_on(number, 0); i++; }
+        else if (strcmp(word, "line") == 0) { hand_on(number, 60000); i++; }
+        else if (strcmp(word, "orphan") == 0) { while (getppid() == maker) rest(1); }
+        else if (strcmp(word, "dots") == 0) { put_dots((int)number, i + 2 < count ? atol(words[i + 2]) : 0); }
+        else if (strcmp(word, "flood") == 0) put_flood((int)number);
+        else if (strcmp(word, "stopped") == 0) raise(SIGSTOP);
+        else if (strcmp(word, "is") == 0 || strcmp(word, "among") == 0) {
+            const char *text = i + 2 < count ? words[i + 2] : "";
+            if (!is_letters(text, number, strcmp(word, "among") == 0)) return 1;
+            i += 2;
+        }
         else if (strcmp(word, "continue") == 0) kill(getppid(), SIGCONT);
         else { dprintf(2, "what is %s?\n", word); return 9; }
     }

@@ -183,7 +183,7 @@ def told_wrong(errors, notes, recap):
     opened = [line.partition(" open: ")[2].split() for line in errors if line.startswith("waiting=")]
     if opened != [hosts for _, hosts in batches]:
         return f"other batches are told of: {opened}"
-    ends = sorted(tuple(line.split()[:2]) for line in errors if re.match(r"h[0-9]+ step=[0-9]+ (rc=-?[0-9]+|lost|not-started) ms=[0-9]+ name=", line))
+    ends = sorted(tuple(line.split()[:2]) for line in errors if re.match(r"h[0-9]+ step=[0-9]+ (rc=-1 signal=[0-9]+|rc=[0-9]+|lost|not-started) ms=[0-9]+ name=", line))
     noted = sorted((host, f"step={step}") for sign, host, _, step in map(str.split, notes) if sign == "+")
     if ends != noted:
         return f"other programs are told of: {ends}"
