@@ -1,5 +1,5 @@
 //! How long outputs are waited for.
-ghost use Rattle.std.specs.Prelude.{◌≡◌, IfOk, Option, is_some, true};
+ghost use Rattle.std.specs.Prelude.{◌≡◌, IfOk, Option, false, is_some, true};
 ghost use Rattle.std.specs.Process.{child_status};
 ghost use Rattle.local_programs.specs.Reads.{HasSeen};
 ghost use Rattle.std.specs.declared.process.status.ExitStatus.{ExitStatus};
@@ -32,7 +32,8 @@ impl Patience {
 
     /// Whether nothing more is waited for: the program has ended, nothing is left of the moment behind that, and nothing lies there to be read.
     pub(crate) fn is_over(self, left: u32, is_ready: bool) -> bool
-        ensures { (status : Option ExitStatus) → HasSeen self status → result ≡ true → is_some status ≡ true }
+        ensures ended { (status : Option ExitStatus) → HasSeen self status → result ≡ true → is_some status ≡ true }
+        ensures nothing_lies_there { result ≡ true → is_ready ≡ false }
     {
         match self {
             Patience::Running => false,
