@@ -306,19 +306,37 @@ for words in 'run racks.json all.json' 'run --forks 64 racks.json all.json' 'run
     check "a run by $words" 0 "$updated$newline" ''
 done
 # The flag may stand anywhere before the word that ends options. What is told by it stands in the order in which programs end, with the time that each took.
-told="$(for host in a b c d e; do echo "$host step=1 rc=0 ms=N name="; done)
-waiting=0 open: c
-waiting=1 open: b e
-waiting=3 open: a d"
-for words in 'run -v racks.json all.json' 'run racks.json --verbose all.json' 'run racks.json all.json -v' 'run --forks 64 -v racks.json all.json' 'run -v racks.json --forks=1 -v all.json --verbose --' 'run --verbose -- racks.json all.json'; do
+told=$(
+    {
+        for host in a b c d e; do
+            echo "$host step=1 begins at=N name=${newline}$host step=1 changed rc=0 ms=N name="
+        done
+        for count in 2 2 1; do
+            echo "closed updated=$count failed=0 halted=0 ms=N at=N"
+        done
+        echo "waiting=3 at=N open: a d${newline}waiting=1 at=N open: b e${newline}waiting=0 at=N open: c"
+    } | LC_ALL=C sort
+)
+for words in 'run --quiet -v racks.json all.json' 'run -v racks.json all.json --quiet' 'run -v racks.json all.json' 'run racks.json --verbose all.json' 'run racks.json all.json -v' 'run --forks 64 -v racks.json all.json' 'run -v racks.json --forks=1 -v all.json --verbose --' 'run --verbose -- racks.json all.json'; do
     (
         cd "$work" || exit 1
         "$rollout" $words </dev/null >out 2>errors.raw
     )
     status=$?
-    sed 's/ ms=[0-9]* name=/ ms=N name=/' "$work/errors.raw" | LC_ALL=C sort >"$work/errors"
+    sed 's/ ms=[0-9]* name=/ ms=N name=/; s/ at=[0-9]* open:/ at=N open:/; s/ begins at=[0-9]* / begins at=N /; s/ ms=[0-9]* at=[0-9]*$/ ms=N at=N/' "$work/errors.raw" |
+        LC_ALL=C sort >"$work/errors"
     check "a run by $words" 0 "$updated$newline" "$told$newline"
 done
+for words in 'run --quiet racks.json all.json' 'run racks.json all.json --quiet' 'run racks.json --quiet all.json --quiet --'; do
+    (
+        cd "$work" || exit 1
+        "$rollout" $words </dev/null >out 2>errors
+    )
+    status=$?
+    check "a run by $words" 0 "$updated$newline" ''
+done
+run run -- --quiet "$work/all.json"
+check 'a file with the name of the other flag' 1 '' "rollout: 902 File name=--quiet$newline"
 run run -- -v "$work/all.json"
 check 'a file with the name of the flag' 1 '' "rollout: 902 File name=-v$newline"
 rolled 'a run of nobody' 0 '{"all":{}}' "$all" "boundary 1: plan batches=0 bound=nothing${newline}end finished"
@@ -497,14 +515,15 @@ done
 
 plan_help='Prints the fewest batches that update the hosts of a play, and what forces their number
 
-Usage: rollout plan <INV> <PLAY>
+Usage: rollout plan [OPTIONS] <INV> <PLAY>
 
 Arguments:
   <INV>   The inventory: a file of JSON that lists groups with their hosts, children and variables
   <PLAY>  The playbook: a file of JSON that lists plays with their hosts and tasks
 
 Options:
-  -h, --help  Print help
+  -v, --verbose  Tells on standard error which hosts of the play are down already, and left out
+  -h, --help     Print help
 '
 for words in 'plan --help' 'plan -h' 'help plan'; do
     run $words
@@ -521,7 +540,8 @@ Arguments:
 
 Options:
       --forks <N>         How many hosts are worked on at once, 1 to 64 [default: 5]
-  -v, --verbose           Tells on standard error of each batch that opens and each program that ends
+  -v, --verbose           Tells on standard error of each batch, and of each step of each host
+      --quiet             Tells nothing unasked, also at a terminal; beside -v it changes nothing
       --stop-file <FILE>  Ends the run before the next batch once this file is there
   -h, --help              Print help
 '
@@ -569,10 +589,12 @@ bad 'limits a b c d e f g h i j k l m n o p q r s t' 'rollout limits <INV>' "une
 bad jump 'rollout <COMMAND>' "unrecognized subcommand 'jump'"
 bad plan 'rollout plan <INV> <PLAY>' "the following required arguments were not provided:$newline  <INV>$newline  <PLAY>"
 bad 'plan a' 'rollout plan <INV> <PLAY>' "the following required arguments were not provided:$newline  <PLAY>"
-bad 'plan a b c' 'rollout plan <INV> <PLAY>' "unexpected argument 'c' found"
+bad 'plan a b c' 'rollout plan [OPTIONS] <INV> <PLAY>' "unexpected argument 'c' found"
+bad 'plan --quiet a b' 'rollout plan [OPTIONS] <INV> <PLAY>' "unexpected argument '--quiet' found$newline$newline  tip: to pass '--quiet' as a value, use '-- --quiet'"
 bad run 'rollout run <INV> <PLAY>' "the following required arguments were not provided:$newline  <INV>$newline  <PLAY>"
 bad 'run a' 'rollout run <INV> <PLAY>' "the following required arguments were not provided:$newline  <PLAY>"
 bad 'run a b c' 'rollout run [OPTIONS] <INV> <PLAY>' "unexpected argument 'c' found"
+bad 'plan -vv a b' 'rollout plan [OPTIONS] <INV> <PLAY>' "the argument '--verbose' cannot be used multiple times"
 bad 'run -vv a b' 'rollout run [OPTIONS] <INV> <PLAY>' "the argument '--verbose' cannot be used multiple times"
 run run a b --stop-file
 check 'a stop file without its file' 1 '' "rollout: 901 BadLine

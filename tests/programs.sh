@@ -224,44 +224,58 @@ b ok=0 changed=0 failed=1 skipped=0 ignored=0 state=failed
 c ok=3 changed=2 failed=0 skipped=0 ignored=1 state=updated
 end all-failed
 '
-told="waiting=1 open: a c
-a step=1 rc=0 ms=N name=greet
-c step=1 rc=0 ms=N name=greet
-a step=2 not-started ms=N name=
-  a error: No such file or directory (os error 2)
-c step=2 not-started ms=N name=
-  c error: No such file or directory (os error 2)
-c step=3 rc=0 ms=N name=a$(printf '\t')b?c
-waiting=0 open: b
-b step=1 rc=3 ms=N name=greet
+told="waiting=1 at=N open: a c
+$(begun a 1 greet)
+a step=1 changed rc=0 ms=N name=greet
+$(begun c 1 greet)
+c step=1 changed rc=0 ms=N name=greet
+$(begun a 2)
+a step=2 ignored not-started ms=N name=
+  a error: /no/such/program: No such file or directory (os error 2)
+$(begun c 2)
+c step=2 ignored not-started ms=N name=
+  c error: /no/such/program: No such file or directory (os error 2)
+a step=3 skipped name=a$(printf '\t')b?c
+$(begun c 3 "a$(printf '\t')b?c")
+c step=3 changed rc=0 ms=N name=a$(printf '\t')b?c
+$(closed 2 0 0)
+waiting=0 at=N open: b
+$(begun b 1 greet)
+b step=1 failed rc=3 ms=N name=greet
   b stdout: hello
   b stdout: one
   b stdout: $(printf '\t')two?[31m
   b stderr: oops
+$(closed 0 1 0)
 "
 run run "$work/three.json" "$work/play.json" --forks 1
 check 'nothing is told where nobody asks' 4 "$recap" ''
-run run -v "$work/three.json" "$work/play.json" --forks 1
-sed -i 's/ ms=[0-9]* name=/ ms=N name=/' "$work/errors"
+verbose "$work/three.json" "$work/play.json" --forks 1
 check 'what is told' 4 "$recap" "$told"
 # A step takes at least as long as its program.
 played '{"command":"sleep 0.3"}'
 run run -v "$work/one.json" "$work/play.json"
-taken=$(sed -n 's/^a step=1 rc=0 ms=\([0-9]*\) name=$/\1/p' "$work/errors")
+taken=$(sed -n 's/^a step=1 changed rc=0 ms=\([0-9]*\) name=$/\1/p' "$work/errors")
 [ "${taken:-0}" -ge 300 ] && [ "$taken" -lt 5000 ] && pass || fail "a program of 0.3 s took $taken ms"
 # Each of five programs of 0.1 s is told with its part of a second.
 played "$(seq 1 5 | sed 's/.*/{"command":"sleep 0.1"}/' | paste -sd, -)"
 run run -v "$work/one.json" "$work/play.json"
-[ "$(sed -n 's/^a step=[1-5] rc=0 ms=\([0-9]*\) name=$/\1/p' "$work/errors" | awk '$1 >= 100 && $1 < 5000' | wc -l)" -eq 5 ] && pass || fail "five programs of 0.1 s: $(grep -o 'ms=[0-9]*' "$work/errors" | tr '\n' ' ')"
+[ "$(sed -n 's/^a step=[1-5] changed rc=0 ms=\([0-9]*\) name=$/\1/p' "$work/errors" | awk '$1 >= 100 && $1 < 5000' | wc -l)" -eq 5 ] && pass || fail "five programs of 0.1 s: $(grep -o 'ms=[0-9]*' "$work/errors" | tr '\n' ' ')"
 # Each play is told of under the names of its own steps.
 printf '[{"hosts":"all","tasks":[{"name":"first","command":"true"}]},{"hosts":"all","tasks":[{"name":"second","command":"true"},{"name":"third","command":"true"}]}]' >"$work/plays.json"
-run run -v "$work/one.json" "$work/plays.json"
-sed -i 's/ ms=[0-9]* name=/ ms=N name=/' "$work/errors"
-check 'what is told of a second play' 0 "$(cat "$work/out")$newline" "waiting=0 open: a
-a step=1 rc=0 ms=N name=first
-waiting=0 open: a
-a step=1 rc=0 ms=N name=second
-a step=2 rc=0 ms=N name=third
+verbose "$work/one.json" "$work/plays.json"
+check 'what is told of a second play' 0 "$(cat "$work/out")$newline" "play 1
+waiting=0 at=N open: a
+$(begun a 1 first)
+a step=1 changed rc=0 ms=N name=first
+$(closed 1 0 0)
+play 2
+waiting=0 at=N open: a
+$(begun a 1 second)
+a step=1 changed rc=0 ms=N name=second
+$(begun a 2 third)
+a step=2 changed rc=0 ms=N name=third
+$(closed 1 0 0)
 "
 # Nobody reads what is told, or it can't be written: the run goes on.
 run run "$work/three.json" "$work/play.json"
@@ -279,8 +293,8 @@ cmp -s "$work/out" "$work/unwatched" && pass || fail 'told to a closed pipe: ano
 many 64 64 "{\"command\":{\"argv\":[\"sh\",\"-c\",\"yes \$0.out | head -n 3000; yes \$0.err | head -n 3000 >&2; exit 1\",\"{{ inventory_hostname }}\"]},\"ignore_errors\":true}"
 run run --verbose "$work/hosts.json" "$work/play.json" --forks 64
 awk '
-    /^waiting=/ { next }
-    /^h[0-9]* step=1 rc=1 ms=[0-9]* name=$/ { if (block && lines != 6000) bad = 1; block = $1; lines = 0; seen++; next }
+    /^waiting=|^closed |^h[0-9]* step=1 begins / { next }
+    /^h[0-9]* step=1 ignored rc=1 ms=[0-9]* name=$/ { if (block && lines != 6000) bad = 1; block = $1; lines = 0; seen++; next }
     { lines++; end = lines <= 3000 ? "out" : "err"; if ($0 != "  " block " std" end ": " block "." end) bad = 1 }
     END { exit bad || lines != 6000 || seen != 64 }
 ' "$work/errors" && pass || fail 'what is told of 64 at once is mixed'
@@ -439,7 +453,7 @@ if proved 'want of memory'; then
 fi
 printf '[{"hosts":"all","tasks":[{"name":"a step","command":"true"},{"command":"true"}]}]' >"$work/play.json"
 if proved 'want of memory for what is told'; then
-    # Where memory is wanting for what is told, the run is as it would be untold.
+    # Where memory is wanting for what is told, the run is as it would be untold. Where it is for the run, what is told behind its fault says what became of the host.
     more=-v
     untold=0
     number=0
@@ -448,8 +462,8 @@ if proved 'want of memory for what is told'; then
         failing malloc "$number" $errno_memory
         [ -e "$work/failed" ] || break
         case $status in
-            0) [ "$(cat "$work/out")" = "$whole" ] && { grep -q '^a step=1 rc=0 ms=[0-9]* name=a step$' "$work/errors" || untold=$((untold + 1)); } ;;
-            5) [ "$(tail -n 1 "$work/errors")" = 'rollout: memory' ] && { [ ! -s "$work/out" ] || [ "$(tail -n 1 "$work/out")" = 'end fault' ]; } ;;
+            0) [ "$(cat "$work/out")" = "$whole" ] && { grep -q '^a step=1 changed rc=0 ms=[0-9]* name=a step$' "$work/errors" || untold=$((untold + 1)); } ;;
+            5) grep -qx 'rollout: memory' "$work/errors" && ! sed '1,/^rollout: memory$/d' "$work/errors" | grep -qvx 'a was at work\|next: .*' && { [ ! -s "$work/out" ] || [ "$(tail -n 1 "$work/out")" = 'end fault' ]; } ;;
             *) false ;;
         esac || fail "told, allocation $number refused: status $status"
     done

@@ -120,6 +120,97 @@ end none
 > b" " * 65537
 ! 1 rollout: 906 LongLine
 LINES
+help='advance NAMES  the next batch is over; these hosts failed in it (no names: none)
+undo           take the last advance back
+plan           the plan of the hosts that still wait
+show           the state of each host, and the end of the play
+hosts GROUP    the state of each host of a group, and its batch in the plan
+help, ?        this list
+quit           end the session'
+typed 'the list of commands' ended <<LINES
+> b"help\n"
+$help
+> b" ?\t\r\n"
+$help
+! 0
+LINES
+typed 'the hosts of a group, with their states and batches' ended <<'LINES'
+> b"hosts r1\n"
+a state=waiting batch=1
+b state=waiting batch=2
+c state=waiting batch=3
+> b"advance\nhosts all\n"
+advanced: a d
+a state=updated batch=-
+b state=waiting batch=1
+c state=waiting batch=2
+d state=updated batch=-
+e state=waiting batch=1
+> b"advance b\nhosts r1\nplan\n"
+advanced: b e
+a state=updated batch=-
+b state=failed batch=-
+c state=waiting batch=-
+blocked group=r1 waiting=1
+> b"undo\nundo\nhosts  r2\t\n"
+undone
+undone
+d state=waiting batch=1
+e state=waiting batch=2
+! 0
+LINES
+typed 'groups that there are not' ended <<'LINES'
+> b"hosts r3\n"
+refused 304 NoSuchName name=r3
+> b"hosts a\n"
+refused 304 NoSuchName name=a
+> b"hosts Eu\n"
+refused 304 NoSuchName name=Eu
+> b"hosts r1:r2\n"
+refused 304 NoSuchName name=r1:r2
+> b"hosts r\xc3\xa91\xff\n"
+refused 304 NoSuchName name=r??1?
+! 0
+LINES
+typed 'words that are missing, or one too many' ended <<'LINES'
+> b"hosts\n"
+refused 905 BadCommand
+> b"hosts r1 r2\n"
+refused 905 BadCommand
+> b"help undo\n? ?\n"
+refused 905 BadCommand
+refused 905 BadCommand
+> b"quit now\nQuit\nquit\r\r\nexit\n"
+refused 905 BadCommand
+refused 905 BadCommand
+refused 905 BadCommand
+refused 905 BadCommand
+! 0
+LINES
+typed 'an end that is asked for' open <<'LINES'
+> b"advance\n"
+advanced: a d
+> b"quit\n"
+! 0
+LINES
+typed 'nothing behind an end that is asked for' open <<'LINES'
+> b"advance\n \tquit \r\nundo\njump\n"
+advanced: a d
+! 0
+LINES
+typed 'an end that is asked for, without a line feed' ended <<'LINES'
+> b"undo\nquit"
+nothing to undo
+.
+! 0
+LINES
+typed 'an end that is asked for while nobody reads the answers' open <<'LINES'
+> b"advance\n"
+advanced: a d
+|
+> b"undo\nquit\n"
+! 1 rollout: 904 Write written=14
+LINES
 typed 'answers that nobody reads any more' open <<'LINES'
 > b"advance\n"
 advanced: a d

@@ -135,14 +135,18 @@ if [ -n "$as_others" ]; then
     among_processes 1 "$work/rollout" run -v "$work/one.json" "$work/true.json"
     check 'no process for a worker' 5 'a ok=0 changed=0 failed=0 skipped=0 ignored=0 state=waiting
 end fault
-' "rollout: memory$newline"
+' "rollout: memory
+a waits
+next: run what is left, with a narrower \"hosts\" (docs/FROM_ANSIBLE.md)
+"
 fi
 
 # ---- starts that fail
 
-unstarted_told='waiting=0 open: a
-a step=1 not-started ms=N name=
-'
+# unstarted_told TEXT: what is told of a program that is tried once and not started
+unstarted_told() {
+    printf 'waiting=0 at=N open: a\n%s\na step=1 failed not-started ms=N name=\n  a error: true: %s\n%s\n' "$(begun a 1)" "$1" "$(closed 0 1 0)"
+}
 none_started='boundary 1: plan batches=1 bound=one-host
 open: a
 boundary 2: plan batches=0 bound=nothing
@@ -166,12 +170,12 @@ end finished
 "
 for failing in 'pipe2 24' 'pipe2 23' 'open 24' 'open 23' 'posix_spawn 11'; do
     first_fails $failing
-    check "a first start fails by $failing" 0 "$one_updated" "waiting=0 open: a${newline}a step=1 rc=0 ms=N name=$newline"
+    check "a first start fails by $failing" 0 "$one_updated" "waiting=0 at=N open: a$newline$(begun a 1)${newline}a step=1 changed rc=0 ms=N name=$newline$(closed 1 0 0)$newline"
 done
 first_fails posix_spawn 1
-check 'a first start is forbidden' 4 "$none_started" "$unstarted_told  a error: Operation not permitted (os error 1)$newline"
+check 'a first start is forbidden' 4 "$none_started" "$(unstarted_told 'Operation not permitted (os error 1)')$newline"
 first_fails pipe2 5
-check 'a pipe that an error forbids' 4 "$none_started" "$unstarted_told  a error: Input/output error (os error 5)$newline"
+check 'a pipe that an error forbids' 4 "$none_started" "$(unstarted_told 'Input/output error (os error 5)')$newline"
 
 # ---- closed descriptors
 
@@ -195,10 +199,10 @@ for closed in none 0 1 2 01 02 12 012; do
         want=0 fault= recap=$(cat "$work/recap")$newline
         case $closed in *1*) want=1 recap= fault="rollout: 904 Write written=0$newline" ;; esac
         case $closed in *2*) fault= ;; esac
-        lines=$(grep -c '^h000[0-7] step=[1-4] rc=0 ms=[0-9]* name=$\|^waiting=0 open: h0000 ' "$work/errors")
-        sed -i '/^waiting=/d; / step=[1-4] rc=0 ms=/d' "$work/errors"
+        lines=$(grep -c '^h000[0-7] step=[1-4] changed rc=0 ms=[0-9]* name=$\|^h000[0-7] step=[1-4] begins at=\|^waiting=0 at=[0-9]* open: h0000 \|^closed updated=8 ' "$work/errors")
+        sed -i '/^waiting=/d; / step=[1-4] changed rc=0 ms=/d; / step=[1-4] begins /d; /^closed /d' "$work/errors"
         check "$what" "$want" "$recap" "$fault"
-        case $closed$flag in *2* | *[!v]) all_lines=0 ;; *) all_lines=33 ;; esac
+        case $closed$flag in *2* | *[!v]) all_lines=0 ;; *) all_lines=66 ;; esac
         [ "$lines" -eq "$all_lines" ] && pass || fail "$what: $lines lines are told"
         [ "$(find "$work/kept" -name 'h*' | wc -l)" -eq 8 ] && pass || fail "$what: other outputs are registered"
     done
@@ -257,10 +261,10 @@ came() {
 
 # waited WHAT TEXT: it was tried for ten seconds, and not started, for what the system says
 waited() {
-    taken=$(sed -n 's/^a step=1 not-started ms=\([0-9]*\) name=$/\1/p' "$work/errors")
+    taken=$(sed -n 's/^a step=1 failed not-started ms=\([0-9]*\) name=$/\1/p' "$work/errors")
     [ "${taken:-0}" -ge 10000 ] && [ "$taken" -lt 20000 ] && pass || fail "$1: a start was tried for ${taken:-no} ms"
     timeless
-    check "$1" 4 "$none_started" "$unstarted_told  a error: $2$newline"
+    check "$1" 4 "$none_started" "$(unstarted_told "$2")$newline"
 }
 wait
 came descriptors

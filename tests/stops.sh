@@ -112,10 +112,14 @@ check 'stopped and told of' 1 "$(stopped_at 1)$newline" "rollout: 917 Stopped$ne
 rm -f "$stop"
 one_by_one "test {{ inventory_hostname }} != b || : >$stop"
 verbose "$work/five.json" "$work/play.json" --stop-file "$stop"
-check 'stopped and told of, behind two batches' 1 "$(stopped_at 3)$newline" "waiting=4 open: a
-a step=1 rc=0 ms=N name=
-waiting=3 open: b
-b step=1 rc=0 ms=N name=
+check 'stopped and told of, behind two batches' 1 "$(stopped_at 3)$newline" "waiting=4 at=N open: a
+$(begun a 1)
+a step=1 changed rc=0 ms=N name=
+$(closed 1 0 0)
+waiting=3 at=N open: b
+$(begun b 1)
+b step=1 changed rc=0 ms=N name=
+$(closed 1 0 0)
 rollout: 917 Stopped
 "
 rm -f "$stop"

@@ -1,5 +1,5 @@
 #!/bin/sh
-# What a run tells of itself on standard error: how each program ended or why it wasn't started, names that may be taken for options, characters that would move a
+# What a run tells of a program on standard error: how it ended or why it wasn't started, names that may be taken for options, characters that would move a
 # terminal about, and what stands there where the recap can't be written. It needs a C compiler, Python 3 and crates/rollout/out/rollout.
 . "$(dirname "$0")/common.sh"
 . "$top/tests/programs/steps.sh"
@@ -23,8 +23,11 @@ for to in full closed; do
         : >"$work/out"
         timeless
         wanted="rollout: 904 Write written=0$newline"
-        [ -z "$flag" ] || wanted="$(cat "$work/before")$newline$wanted$(cat "$work/down")$newline"
+        [ -z "$flag" ] || wanted="$(cat "$work/before")$newline$wanted"
         check "an output that is $to ${flag}" 1 '' "$wanted"
+        [ -n "$flag" ] || : >"$work/down.here"
+        [ -z "$flag" ] || cp "$work/down" "$work/down.here"
+        grep ' state=' "$work/behind" | cmp -s - "$work/down.here" && pass || fail "an output that is $to ${flag}: behind the fault stands $(head -n 3 "$work/behind" | tr '\n' '|')"
     done
 done
 # Of several plays the last that was begun has what counts.
@@ -32,32 +35,34 @@ printf '[{"hosts":"all","tasks":[{"command":{"argv":["test","{{ inventory_hostna
 verbose "$work/down.json" "$work/play.json"
 sed '1,/^play 2$/d' "$work/out" | grep ' state=\(running\|failed\|halted\|off\)$' >"$work/down"
 timeout -k 5 "$limit" "$rollout" run -v "$work/down.json" "$work/play.json" </dev/null >/dev/full 2>"$work/errors"
-[ -s "$work/down" ] && sed '1,/^rollout: 904 Write written=0$/d' "$work/errors" | cmp -s - "$work/down" && pass || fail "two plays, an output that is full: $(tail -n 3 "$work/errors" | tr '\n' '|')"
+[ -s "$work/down" ] && sed '1,/^rollout: 904 Write written=0$/d' "$work/errors" | grep ' state=' | cmp -s - "$work/down" && pass || fail "two plays, an output that is full: $(tail -n 3 "$work/errors" | tr '\n' '|')"
 # Where no host is down nothing follows.
 timeout -k 5 "$limit" "$rollout" run -v "$work/one.json" "$work/true.json" </dev/null >/dev/full 2>"$work/errors"
 [ "$(tail -n 1 "$work/errors")" = 'rollout: 904 Write written=0' ] && pass || fail 'no host is down, and an output is full'
 
 # ---- what is told of a program
 
-# tells WHAT STATUS LINES WORDS: these lines are told of a program behind that of its batch
+# tells WHAT STATUS LINES WORDS: these lines are told of a program behind that of its batch and its beginning
 tells() {
     printf '[{"hosts":"all","tasks":[{"name":"x","command":{"argv":%s}}]}]' "$4" >"$work/play.json"
     verbose "$work/one.json" "$work/play.json"
     : >"$work/out"
-    check "$1" "$2" '' "waiting=0 open: a$newline$3$newline"
+    last=$(closed 1 0 0)
+    [ "$2" -eq 0 ] || last=$(closed 0 1 0)
+    check "$1" "$2" '' "waiting=0 at=N open: a$newline$(begun a 1 x)$newline$3$newline$last$newline"
 }
 for signal in 1 2 3 4 6 8 9 10 11 13 14 15 24 31 34 64; do
-    tells "signal $signal" 4 "a step=1 rc=-1 signal=$signal ms=N name=x" "$(words "$act" raise "$signal")"
+    tells "signal $signal" 4 "a step=1 failed rc=-1 signal=$signal ms=N name=x" "$(words "$act" raise "$signal")"
 done
-tells 'a signal, behind outputs' 4 'a step=1 rc=-1 signal=9 ms=N name=x
+tells 'a signal, behind outputs' 4 'a step=1 failed rc=-1 signal=9 ms=N name=x
   a stdout: abc
   a stderr: ab' "$(words "$act" out 3 err 2 raise 9)"
-tells 'a return code above 128' 4 'a step=1 rc=137 ms=N name=x' "$(words "$act" exit 137)"
-tells 'a program that ends well' 0 'a step=1 rc=0 ms=N name=x' "$(words "$act" out 3 err 2)"
+tells 'a return code above 128' 4 'a step=1 failed rc=137 ms=N name=x' "$(words "$act" exit 137)"
+tells 'a program that ends well' 0 'a step=1 changed rc=0 ms=N name=x' "$(words "$act" out 3 err 2)"
 
 # unstarted_for WHAT TEXT WORDS: the program isn't started, for what the system says
 unstarted_for() {
-    tells "$1" 4 "a step=1 not-started ms=N name=x$newline  a error: $2" "$3"
+    tells "$1" 4 "a step=1 failed not-started ms=N name=x$newline  a error: $(printf %s "$3" | sed 's/^\["\([^"]*\)".*/\1/'): $2" "$3"
 }
 printf 'echo no\n' >"$work/bare"
 printf '#!/bin/sh\necho no\n' >"$work/plain"
@@ -84,7 +89,11 @@ warned() {
     printf '[{"hosts":"all","tasks":[{"command":{"argv":["true"%s]}}]}]' "$2" >"$work/play.json"
     verbose "$work/dash.json" "$work/play.json" --forks 1
     : >"$work/out"
-    check "$1" 0 '' "waiting=0 open: -Fevil a${newline}-Fevil step=1 rc=0 ms=N name=$newline${3:+$3$newline}a step=1 rc=0 ms=N name=$newline"
+    check "$1" 0 '' "waiting=0 at=N open: -Fevil a$newline$(begun -Fevil 1)$newline${3:+$3$newline}-Fevil step=1 changed rc=0 ms=N name=
+$(begun a 1)
+a step=1 changed rc=0 ms=N name=
+$(closed 2 0 0)
+"
 }
 warning='  -Fevil warning: its name stands where an option may: write -- before it'
 warned 'a name as the second word' ',"{{ inventory_hostname }}"' "$warning"
@@ -123,16 +132,16 @@ PYTHON
 }
 shown text >"$work/characters"
 hidden=$(shown hidden)
-tells 'characters of an output' 4 "a step=1 rc=3 ms=N name=x
+tells 'characters of an output' 4 "a step=1 failed rc=3 ms=N name=x
   a stdout: $hidden
   a stderr: $hidden" "$(shell "cat $work/characters; cat $work/characters >&2; exit 3")"
 printf '[{"hosts":"all","tasks":[{"name":"%s","command":"true"}]}]' "$(shown json)" >"$work/play.json"
 verbose "$work/one.json" "$work/play.json"
 : >"$work/out"
-check 'characters of the name of a step' 0 '' "waiting=0 open: a${newline}a step=1 rc=0 ms=N name=$hidden$newline"
-tells 'characters that are cut short' 4 "a step=1 rc=3 ms=N name=x
+check 'characters of the name of a step' 0 '' "waiting=0 at=N open: a$newline$(begun a 1 "$hidden")${newline}a step=1 changed rc=0 ms=N name=$hidden$newline$(closed 1 0 0)$newline"
+tells 'characters that are cut short' 4 "a step=1 failed rc=3 ms=N name=x
   a stdout: $(printf '\357\277\275x\357\277\275y\357\277\275')" "$(shell 'printf "\302x\342\200y\342\201"; exit 3')"
-tells 'bytes below 32, and 127' 4 "a step=1 rc=3 ms=N name=x
+tells 'bytes below 32, and 127' 4 "a step=1 failed rc=3 ms=N name=x
   a stdout: ?$(printf '\t')?[31m???" "$(shell 'printf "\001\t\033[31m\r\177\013"; exit 3')"
 # What is registered has them all.
 printf '[{"hosts":"all","tasks":[{"command":{"argv":["cat","%s"]},"register":"r"},{"command":{"argv":["%s","{{ r.stdout }}",""]}}]}]' "$work/characters" "$work/keep" >"$work/play.json"
@@ -141,12 +150,12 @@ cmp -s "$work/kept/out" "$work/characters" && pass || fail 'what is registered h
 
 # ---- at a terminal
 
-# at_terminal WHAT SHOWN WORD..: a run whose standard error is a terminal shows this there, and has what is in `recap` as its recap
+# at_terminal WHAT SHOWN WORD..: of a run whose standard error is a terminal this is left there in the end
 at_terminal() {
     what=$1
     seen=$2
     shift 2
-    timeout -k 5 "$limit" python3 "$helpers/terminal.py" "${to:-$work/recap.seen}" "$@" >"$work/out" 2>"$work/errors" </dev/null
+    TERM=xterm timeout -k 5 "$limit" python3 "$helpers/screen.py" 200 "${to:-$work/recap.seen}" "$work/raw" "$@" >"$work/out" 2>"$work/errors" </dev/null
     status=$?
     check "$what" "${want:-0}" "$seen" ''
 }
@@ -157,11 +166,13 @@ at_terminal 'a name that begins with a dash' "$warning$newline" "$rollout" run "
 hosts 24 >"$work/hosts.json"
 printf '[{"hosts":"all","tasks":[{"command":{"argv":["sleep","0.2"]}}]}]' >"$work/play.json"
 at_terminal 'few descriptors' "descriptors=40 at-once=8$newline" /bin/sh -c 'ulimit -n 40; exec "$@"' sh "$rollout" run "$work/hosts.json" "$work/play.json" --forks 64
-to=/dev/full
-want=1
 printf '[{"hosts":"all","tasks":[{"command":{"argv":["test","{{ inventory_hostname }}","!=","b"]}}]}]' >"$work/play.json"
-at_terminal 'a recap that can'"'"'t be written' 'rollout: 904 Write written=0
+TERM=xterm timeout -k 5 "$limit" python3 "$helpers/screen.py" 200 /dev/full "$work/raw" "$rollout" run "$work/down.json" "$work/play.json" >"$work/screen" 2>"$work/errors" </dev/null
+status=$?
+sed -n 's/ ms=[0-9]* name=/ ms=N name=/; / step=\|^rollout: \| state=/p' "$work/screen" >"$work/out"
+check 'a recap that can'"'"'t be written' 1 'b step=1 failed rc=1 ms=N name=
+rollout: 904 Write written=0
 b ok=0 changed=0 failed=1 skipped=0 ignored=0 state=failed
 d ok=0 changed=0 failed=0 skipped=0 ignored=0 state=off
-' "$rollout" run "$work/down.json" "$work/play.json"
+' ''
 finish

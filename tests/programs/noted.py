@@ -183,12 +183,14 @@ def told_wrong(errors, notes, recap):
     opened = [line.partition(" open: ")[2].split() for line in errors if line.startswith("waiting=")]
     if opened != [hosts for _, hosts in batches]:
         return f"other batches are told of: {opened}"
-    ends = sorted(tuple(line.split()[:2]) for line in errors if re.match(r"h[0-9]+ step=[0-9]+ (rc=-1 signal=[0-9]+|rc=[0-9]+|lost|not-started) ms=[0-9]+ name=", line))
+    if len(opened) != sum(line.startswith("closed ") for line in errors):
+        return "not each batch is closed once"
     noted = sorted((host, f"step={step}") for sign, host, _, step in map(str.split, notes) if sign == "+")
-    if ends != noted:
-        return f"other programs are told of: {ends}"
-    rest = [line for line in errors if not line.startswith(("waiting=", "h", "  h"))]
-    return f"torn: {rest}" if rest else None
+    for form in (r"begins at=[0-9]+ name=", r"(ok|changed|failed|ignored) (rc=-1 signal=[0-9]+|rc=[0-9]+|lost|not-started) ms=[0-9]+ name="):
+        told = sorted(tuple(line.split()[:2]) for line in errors if re.match(rf"h[0-9]+ step=[0-9]+ {form}", line))
+        if told != noted:
+            return f"other programs are told of: {told}"
+    return None
 
 
 class Cases:

@@ -137,13 +137,28 @@ many() {
 # How a host ends that went through its one step.
 updated='changed=1 failed=0 skipped=0 ignored=0 state=updated'
 
-# timeless: what was told, without its times
+# timeless: what was told while the run went on, and the line of a fault, without times. What follows that, as the reasons for which hosts are down, is put into `behind`.
 timeless() {
-    sed -i 's/ ms=[0-9]* name=/ ms=N name=/' "$work/errors"
+    sed 's/ ms=[0-9]* name=/ ms=N name=/; s/^\(waiting=[0-9]*\) at=[0-9]* open:/\1 at=N open:/
+        s/^\([^ ]* step=[0-9]* begins\) at=[0-9]* name=/\1 at=N name=/; s/^\(closed .*\) ms=[0-9]* at=[0-9]*$/\1 ms=N at=N/' "$work/errors" >"$work/timeless"
+    : >"$work/errors"
+    : >"$work/behind"
+    awk -v told="$work/errors" -v behind="$work/behind" '
+        !/^(note: |waiting=|closed |[^ ]+ step=[0-9]+ |play [0-9]+$|held: |  [^ ]+ (stdout|stderr|error|warning): |descriptors=|rollout: )/ { is_behind = 1 }
+        { print > (is_behind ? behind : told) }
+    ' "$work/timeless"
 }
 
 # verbose WORD..: a run that tells of itself, without its times
 verbose() {
     run run -v "$@"
     timeless
+}
+
+# begun HOST STEP [NAME]: the line of a program that begins. closed UPDATED FAILED HALTED: the line of a batch that is closed.
+begun() {
+    echo "$1 step=$2 begins at=N name=${3:-}"
+}
+closed() {
+    echo "closed updated=$1 failed=$2 halted=$3 ms=N at=N"
 }

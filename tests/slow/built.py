@@ -5,6 +5,7 @@ from pathlib import Path
 
 from cases import INVENTORY, PLAYBOOK, Case
 from commands import Said
+from telling import in_order, timeless
 
 LONGEST_RUN = 60
 
@@ -18,7 +19,14 @@ def call(program, case, folder, before=None):
         )
     except subprocess.TimeoutExpired:
         return Said("", f"it didn't end within {LONGEST_RUN} seconds\n", -1)
-    return Said(_text(done.stdout), _text(done.stderr), done.returncode)
+    return Said(_text(done.stdout), _told(case, _text(done.stderr)), done.returncode)
+
+
+def _told(case, errors):
+    """Standard error; of a run that tells of itself without its times, and where programs run at once, in the order of one at a time."""
+    if not case.is_verbose:
+        return errors
+    return timeless(errors) if case.words[-1] == "1" else in_order(errors)
 
 
 def put_files(case, folder):

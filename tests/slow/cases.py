@@ -11,7 +11,7 @@ from draw_lines import draw_lines
 from draw_playbook import draw_playbook
 from draw_playbook import draw_right as draw_right_playbook
 from draw_programs import RunStyle
-from draw_steps import AnyStyle
+from draw_steps import AnyStyle, name_tasks
 from faults import Fault
 from inventory import read_inventory
 from json_draw import write
@@ -41,6 +41,11 @@ class Case:
         """The command: limits (also without words), plan, run or rehearse."""
         return self.words[0] if self.words else "limits"
 
+    @property
+    def is_verbose(self):
+        """Whether it is a run that tells of itself."""
+        return self.kind == "run" and "-v" in self.words
+
     def said(self):
         """What the slow program says."""
         files = {INVENTORY: self.inventory, PLAYBOOK: self.playbook}
@@ -58,6 +63,8 @@ class Case:
         """The calls that have to say the same: a run with several numbers of programs at once, where none is said."""
         if self.kind != "run" or "--forks" in self.words:
             return [self]
+        if self.is_verbose:
+            return self.at_forks((1, FORKS[1 + len(self.inventory) % 3]))
         chosen = self.at_forks(FORKS)
         # 5 is what holds where none are chosen.
         return [self, *chosen[:2], chosen[3]] if len(self.inventory) % 2 else chosen
@@ -94,13 +101,22 @@ def _plan(random):
     return case
 
 
-def _run(random):
-    """A run of programs whose outcomes are known."""
+def draw_told(seed, number):
+    """The run of this number that tells of itself: as those of `draw_case`, and some of its tasks have names that nobody would choose."""
+    random = Random(f"{seed}/told/{number}")
+    case = _run(random, lambda play: name_tasks(random, play))
+    return replace(case, words=(*case.words, "-v"))
+
+
+def _run(random, further=lambda play: None):
+    """A run of programs whose outcomes are known; to each play something further may be done."""
     while True:
         focused = random.random() < 0.5
         inventory = write(draw_right_inventory(random, crossing=0.02, down=0.05, limited=0.1 if focused else 0.35, dense=True), random)
         style = (FocusedStyle if focused else RunStyle)(hosts_in(inventory))
         value = draw_right_playbook(random, names_in(inventory), style, random.choice([1, 1, 1, 2, 3]))
+        for play in value:
+            further(play)
         playbook = write(mutate(value, random) if random.random() < 0.03 else value, random)
         case = Case(("run", INVENTORY, PLAYBOOK), inventory, playbook)
         try:

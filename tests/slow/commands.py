@@ -2,6 +2,7 @@
 
 from dataclasses import dataclass
 
+from aftermath import left_out, why
 from course import next_boundary
 from faults import Fault
 from fleet import Fleet
@@ -13,6 +14,7 @@ from rehearsal import Rehearsal
 from rehearsal import rehearse as answers
 from rules import turned
 from sizes import cap
+from telling import told
 from texts import limits_text, plan_text
 
 
@@ -32,7 +34,7 @@ def command(words, files, typed):
     if words[0] == "plan":
         return plan(*files)
     if words[0] == "run":
-        return run(*files)
+        return run(*files, is_verbose="-v" in words)
     if words[0] == "rehearse":
         return rehearse(*files, typed)
     return refused(Fault(901, "BadLine"))
@@ -58,14 +60,15 @@ def plan(inventory, playbook):
     return Said(plan_text(boundary.answer, boundary.aside), "", 3 if isinstance(boundary.answer, Blocked) or left_out else 0)
 
 
-def run(inventory, playbook):
-    """The recap of a whole run; how many are worked on at once makes no difference to it."""
+def run(inventory, playbook, is_verbose=False):
+    """The recap of a whole run; how many are worked on at once makes no difference to it. With `-v`, what is told before, meanwhile and behind it."""
     try:
         fleet, plays, targets = accepted(inventory, playbook)
     except Fault as fault:
         return refused(fault)
     courses = run_plays(fleet, plays, targets, lambda target: targeted(fleet, target))
-    return Said(recaps(courses, len(plays) > 1), "", status_of(courses))
+    errors = left_out(fleet, targets) + told(plays, courses) + why(fleet, plays, courses) if is_verbose else ""
+    return Said(recaps(courses, len(plays) > 1), errors, status_of(courses))
 
 
 def rehearse(inventory, playbook, typed):

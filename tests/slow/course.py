@@ -12,11 +12,16 @@ COUNTED = ("ok", "changed", "failed", "skipped", "ignored")
 
 @dataclass
 class Boundary:
-    """A state between batches: who was set aside at it, what the planner answers, and the batch that was opened."""
+    """A state between batches: who was set aside at it, what the planner answers, and the batch that was opened; and what is told of that: how many wait behind it,
+    the rows of its hosts, the step at which it halts, and the state that it ends with."""
 
     answer: object
     aside: list
     opened: list | None = None
+    waiting: int = 0
+    tracks: dict = field(default_factory=dict)
+    halt: tuple | None = None
+    left: dict = field(default_factory=dict)
 
 
 @dataclass
@@ -42,11 +47,13 @@ def run_play(fleet, play, state, hosts, targeted, opened=0):
             return course
         batch = boundary.answer.batches[-1 if turned("first-batch-is-opened") else 0]
         boundary.opened, opened = batch, opened + 1
-        tracks = {host: track(play, hosts[host]) for host in batch}
-        halt = halt_of(tracks, play)
+        boundary.waiting = sum(status == "waiting" for status in state.values()) - len(batch)
+        tracks = boundary.tracks = {host: track(play, hosts[host]) for host in batch}
+        halt = boundary.halt = halt_of(tracks, play)
         _count(course.counts, tracks, halt)
         failing = {host: failing_step(rows) for host, rows in tracks.items()}
         end = close(state, batch, failing, halt, play.most_failed)
+        boundary.left = {host: state[host] for host in batch}
 
 
 def next_boundary(fleet, play, state, bound, end=None):

@@ -1,6 +1,6 @@
 """Drawn lines of a rehearsal: mostly advances that name hosts of the batch at hand, and undos; some that are no command."""
 
-BAD = [b"jump", b"undo x", b"Show", b"plan plan", b"show\v", b"advance\va", b"help", b"\xff", b"und", b"adv ance"]
+BAD = [b"jump", b"undo x", b"Show", b"plan plan", b"show\v", b"advance\va", b"help me", b"\xff", b"und", b"adv ance", b"hosts", b"hosts all all", b"quit now", b"? ?"]
 STRANGERS = [b"nobody", b"all", b"r1", b"\xff\xfe", b"caf\xc3\xa9", b"a\r"]
 
 
@@ -29,8 +29,12 @@ def _line(random, rehearsal):
         return _spaced(random, [b"undo"])
     if kind < 0.72:
         return _spaced(random, [b"plan"])
-    if kind < 0.9:
+    if kind < 0.84:
         return _spaced(random, [b"show"])
+    if kind < 0.91:
+        return _spaced(random, [b"hosts", _group(random, rehearsal)])
+    if kind < 0.92:
+        return _spaced(random, [random.choice([b"help", b"?", b"quit"])])
     if kind < 0.95:
         return random.choice([b"", b" ", b"\t \t", b"\r", b"  "])
     return random.choice(BAD)
@@ -48,6 +52,16 @@ def _names(random, rehearsal):
     if names and random.random() < 0.1:
         names.append(names[0])
     return names
+
+
+def _group(random, rehearsal):
+    """The name of a group; now and then a host's, or nobody's."""
+    kind = random.random()
+    if kind < 0.1:
+        return random.choice(STRANGERS)
+    if kind < 0.2 and rehearsal.fleet.hosts:
+        return random.choice(rehearsal.fleet.hosts).encode()
+    return random.choice(rehearsal.fleet.places).name.encode()
 
 
 def _spaced(random, words):

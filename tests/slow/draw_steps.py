@@ -19,6 +19,7 @@ WRONG = {
     "notify": [None, 1, ["H1", None], Members()],
 }
 HANDLERS = ["H1", "H2", "H3", ""]
+ODD_NAMES = ["a\tb", "a\nb", "\x1b[2J", "\r", "\x7f\x9b31m", "caf\u00e9 \u202etxt", "x ms=5 name=y", "  a stdout: b", "closed updated=1", "\u2066\u0085", "\U0001f600"]
 
 
 class AnyStyle:
@@ -82,6 +83,13 @@ def _task(random, style, names):
     elif random.random() < style.wrong:
         step.append(("notify", random.choice(["H9", ["H9", "H8"], []])))
     return step
+
+
+def name_tasks(random, play):
+    """Gives some of a play's tasks that have no name one that shows how names are shown."""
+    for step in dict(play)["tasks"]:
+        if random.random() < 0.2 and "name" not in step.names():
+            step.append(("name", random.choice(ODD_NAMES)))
 
 
 def _notifying(random, step, names):

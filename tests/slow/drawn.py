@@ -1,6 +1,7 @@
 """Draws cases from a seed, has both programs say what they say of each, and tells where they differ.
 
-`python3 drawn.py PROGRAM [SEED [CASES]]` prints each case that differs, made smaller, as two files and a command; its last line counts.
+`python3 drawn.py PROGRAM [SEED [CASES]]` prints each case that differs, made smaller, as two files and a command; its last line counts. `told.py` does the same of runs that
+tell of themselves.
 """
 
 import os
@@ -19,14 +20,14 @@ from shrink import smallest
 MOST_SHOWN = 20
 
 
-def main(program, seed, count):
+def main(program, seed, count, draw=draw_case):
     program = os.path.abspath(program)
     with tempfile.TemporaryDirectory() as folder:
         known = [kind for kind in KINDS if knows(program, kind, folder)]
     if len(known) < len(KINDS):
         print(f"passed over, since the program has no such command: {', '.join(kind for kind in KINDS if kind not in known)}")
     passed = failed = 0
-    work = [(program, seed, number, known) for number in range(count)]
+    work = [(draw, program, seed, number, known) for number in range(count)]
     with Pool(len(os.sched_getaffinity(0))) as pool:
         for number, difference in pool.imap(_try, work, chunksize=8):
             if difference is None:
@@ -41,8 +42,8 @@ def main(program, seed, count):
 
 def _try(work):
     """The number of a case and how both programs differ: nothing to say where they don't, None where the case is passed over."""
-    program, seed, number, known = work
-    case = draw_case(seed, number)
+    draw, program, seed, number, known = work
+    case = draw(seed, number)
     if case.kind not in known:
         return number, None
     with tempfile.TemporaryDirectory() as folder:

@@ -1,4 +1,5 @@
-"""The seed and the number of the cases that the gate draws."""
+"""The seed and the numbers of the cases that the gate draws: of all commands, and of runs that tell of themselves."""
 
 SEED = "1"
 CASES = 5_000
+TOLD = 2_000

@@ -24,16 +24,16 @@ class Host:
             return self.results[ref.name]
         if ref.name in self.variables:
             return self.variables[ref.name]
-        raise Undefined
+        raise Undefined(ref.name)
 
     def _field(self, ref):
         if ref.name not in self.results:
-            raise Undefined
+            raise Undefined(ref.name)
         value = getattr(self.results[ref.name], ref.field)
         if value is None:
             if turned("no-code-is-undefined"):
                 return 0
-            raise Undefined
+            raise Undefined(ref.name)
         return value
 
 

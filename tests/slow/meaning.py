@@ -57,7 +57,7 @@ def _result(host, name, test):
     if name not in host.results:
         if turned("tests-need-a-result"):
             return False
-        raise Undefined
+        raise Undefined(name)
     result = host.results[name]
     if test == "succeeded":
         return not result.failed and not (result.skipped and turned("skipped-is-succeeded"))

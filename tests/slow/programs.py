@@ -5,12 +5,15 @@ A script of `sh -c` is a few simple commands behind each other; `shells.py` star
 
 import re
 
-from results import NOT_STARTED, Outcome
+from results import Outcome
 from rules import turned
 
 KEPT = 65_536
 PLAIN = "[A-Za-z0-9_.,@%+/-]"
-ABSENT = {"", "/no/such/program", "no-such-program", "/dev/null", "/"}
+# What can't be started, and what the system says of it.
+ABSENT = {name: "No such file or directory (os error 2)" for name in ("", "/no/such/program", "no-such-program")}
+ABSENT |= {name: "Permission denied (os error 13)" for name in ("/dev/null", "/")}
+NUL = "nul byte found in provided data"
 
 
 class Unmodelled(Exception):
@@ -19,8 +22,10 @@ class Unmodelled(Exception):
 
 def outcome(words):
     """How a program ends that is started with these words."""
-    if any("\0" in word for word in words) or words[0] in ABSENT:
-        return NOT_STARTED
+    if any("\0" in word for word in words):
+        return Outcome("not-started", why=NUL)
+    if words[0] in ABSENT:
+        return Outcome("not-started", why=ABSENT[words[0]])
     name, arguments = words[0].removeprefix("/bin/"), words[1:]
     if any(word in ("--help", "--version") for word in arguments):
         raise Unmodelled(words)
@@ -36,7 +41,8 @@ def outcome(words):
 
 def _ended(rc, out, errors):
     """An outcome as it is kept: so many bytes of each output, as text, without the ends of lines behind them."""
-    return Outcome("ran", -1 if rc < 0 and not turned("signals-are-minus-one") else rc, _kept(out), _kept(errors))
+    signal = -rc if rc < 0 else None
+    return Outcome("ran", -1 if rc < 0 and not turned("signals-are-minus-one") else rc, _kept(out), _kept(errors), signal)
 
 
 def _kept(raw):

@@ -9,6 +9,14 @@ from texts import as_text, listed, plan_text
 
 LONGEST_LINE = 65_536
 MOST_BYTES = 16_777_216
+HELP = """advance NAMES  the next batch is over; these hosts failed in it (no names: none)
+undo           take the last advance back
+plan           the plan of the hosts that still wait
+show           the state of each host, and the end of the play
+hosts GROUP    the state of each host of a group, and its batch in the plan
+help, ?        this list
+quit           end the session
+"""
 
 
 class Rehearsal:
@@ -27,16 +35,15 @@ class Rehearsal:
 
     def answer(self, line):
         """The lines that answer a line; nothing to one without words."""
-        words = line.replace(b"\t", b" ").split(b" ")
-        words = [word for word in words if word]
+        words = words_of(line)
         if not words:
             return []
         if words[0] == b"advance":
             return [self.advance(words[1:])]
-        if words in ([b"undo"], [b"plan"], [b"show"]):
-            return getattr(self, words[0].decode())()
-        if turned("no-words-behind-a-command") and words[0] in (b"undo", b"plan", b"show"):
-            return getattr(self, words[0].decode())()
+        if words[0] == b"hosts" and len(words) == 2:
+            return self.hosts(words[1])
+        if words[0] in ALONE and (len(words) == 1 or turned("no-words-behind-a-command")):
+            return ALONE[words[0]](self)
         return [refused(Fault(905, "BadCommand"))]
 
     def advance(self, names):
@@ -101,6 +108,38 @@ class Rehearsal:
         lines = [f"{host} {status}" for host, status in state.items() if status != "idle" or status in listed_too]
         return [*lines, end_line(end)]
 
+    def hosts(self, name):
+        """The status of each host of a group, and the number of the batch in which the plan has it."""
+        group = next((place for place in self.fleet.places if place.name.encode() == name), None)
+        members = self.fleet.members[group.number] if group else []
+        if turned("a-host-is-no-group") and not group:
+            members = [host for host in self.fleet.hosts if host.encode() == name]
+        if not group and not members:
+            return [refused(Fault(304, "NoSuchName", name=name))]
+        state = self.stack[-1][0]
+        found = self.stack[0 if turned("batches-as-the-plan-stands") else -1][1]
+        batches = enumerate(getattr(found, "batches", []), 1)
+        numbers = {host: number for number, batch in batches for host in batch}
+        passed_over = ("idle",) if turned("hosts-lists-idle-hosts") else ()
+        listed_hosts = [host for host in self.fleet.hosts if host in members and state[host] not in passed_over]
+        return [f"{host} state={state[host]} batch={numbers.get(host, '-')}" for host in listed_hosts]
+
+
+# The commands behind which nothing stands.
+ALONE = {
+    b"undo": Rehearsal.undo,
+    b"plan": Rehearsal.plan,
+    b"show": Rehearsal.show,
+    b"help": lambda rehearsal: HELP.splitlines(),
+    b"?": lambda rehearsal: HELP.splitlines(),
+    b"quit": lambda rehearsal: [],
+}
+
+
+def words_of(line):
+    """The words of a line, which spaces and tabs part."""
+    return [word for word in line.replace(b"\t", b" ").split(b" ") if word]
+
 
 def refused(fault):
     """The answer to a line that is refused."""
@@ -117,7 +156,10 @@ def rehearse(rehearsal, typed):
         if len(line) > LONGEST_LINE + turned("longest-line"):
             return out, Fault(906, "LongLine")
         if ended or not too_many:
-            out += as_text(rehearsal.answer(_without_return(line, ended)))
+            line = _without_return(line, ended)
+            out += as_text(rehearsal.answer(line))
+            if words_of(line) == [b"quit"] and not turned("quit-ends-a-session"):
+                return out, None
     return out, Fault(903, "InputTooLarge") if too_many else None
 
 

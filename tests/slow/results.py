@@ -3,16 +3,21 @@
 from dataclasses import dataclass, replace
 
 from rules import turned
+from words import Undefined
 
 
 @dataclass(frozen=True)
 class Outcome:
-    """How a step ended: ran (with return code and texts), not-started, skipped or undefined."""
+    """How a step ended: ran (with return code and texts, and the signal, where one ended the program), not-started (with what the system says, where a program was
+    tried), skipped, or undefined (with the name that has no value)."""
 
     kind: str
     rc: int | None = None
     stdout: str = ""
     stderr: str = ""
+    signal: int | None = None
+    why: str | None = None
+    name: str | None = None
 
 
 @dataclass(frozen=True)
@@ -32,8 +37,7 @@ class Result:
 
 
 SKIPPED = Outcome("skipped")
-UNDEFINED = Outcome("undefined")
-NOT_STARTED = Outcome("not-started")
+TOO_LONG = Outcome("not-started")
 
 
 def row(outcome):
@@ -52,32 +56,33 @@ def row(outcome):
 
 
 def judge(step, outcome, evaluated):
-    """The replaced row, and skipped, ok, ignored or failed. `evaluated(conditions, result)` is their value, or None where undefined."""
-    result = row(outcome)
-    undefined = outcome.kind == "undefined"
+    """The replaced row; skipped, ok, ignored or failed; and the name that wanted a value, or None. `evaluated(conditions, result)` is their value, or Undefined is raised."""
+    result, wanted = row(outcome), outcome.name
     if outcome.kind == "ran" or turned("conditions-on-results-of-programs"):
-        result, undefined = _replaced(step, result, evaluated, undefined)
+        result, undefined = _replaced(step, result, evaluated)
+        wanted = undefined or wanted
     if result.skipped:
-        return result, "skipped"
+        return result, "skipped", wanted
     if not result.failed:
-        return result, "ok"
-    covered = step.ignore_errors and (not undefined or turned("undefined-is-not-ignored"))
-    return result, "ignored" if covered else "failed"
+        return result, "ok", wanted
+    covered = step.ignore_errors and (wanted is None or turned("undefined-is-not-ignored"))
+    return result, "ignored" if covered else "failed", wanted
 
 
-def _replaced(step, before, evaluated, undefined):
-    """Both conditions see the row of the table; an undefined one makes the result failed, and ends the evaluation."""
+def _replaced(step, before, evaluated):
+    """Both conditions see the row of the table; an undefined one makes the result failed, and ends the evaluation: its name comes with the row."""
     result = before
-    if step.changed_when is not None and not (turned("changed-when-of-failures") and before.failed):
-        changed = evaluated(step.changed_when, before)
-        if changed is None:
-            return replace(result, failed=not turned("undefined-changed-when-fails")), True
-        result = replace(result, changed=changed)
-    if step.failed_when is not None:
-        failed = evaluated(step.failed_when, result if turned("failed-when-sees-the-table") else before)
-        if turned("failed-when-replaces") and failed is not None:
-            failed = failed or before.failed
-        if failed is None:
-            return replace(result, failed=not turned("undefined-failed-when-fails")), True
-        result = replace(result, failed=failed)
-    return result, undefined
+    try:
+        if step.changed_when is not None and not (turned("changed-when-of-failures") and before.failed):
+            result = replace(result, changed=evaluated(step.changed_when, before))
+    except Undefined as undefined:
+        return replace(result, failed=not turned("undefined-changed-when-fails")), undefined.name
+    try:
+        if step.failed_when is not None:
+            failed = evaluated(step.failed_when, result if turned("failed-when-sees-the-table") else before)
+            if turned("failed-when-replaces"):
+                failed = failed or before.failed
+            result = replace(result, failed=failed)
+    except Undefined as undefined:
+        return replace(result, failed=not turned("undefined-failed-when-fails")), undefined.name
+    return result, None

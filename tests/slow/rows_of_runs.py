@@ -298,6 +298,16 @@ REHEARSALS = [
         0,
     ),
     ("a name that no host has", RACKS, play(), "advance x", "refused 304 NoSuchName name=x", "", 0),
+    (
+        "the hosts of a group, and nothing behind an end that is asked for",
+        RACKS,
+        play(),
+        "hosts r1 / advance / hosts all / hosts a / quit / undo",
+        "a state=waiting batch=1 / b state=waiting batch=2 / c state=waiting batch=3 / advanced: a d / a state=updated batch=- / b state=waiting batch=1 / "
+        "c state=waiting batch=2 / d state=updated batch=- / e state=waiting batch=1 / refused 304 NoSuchName name=a",
+        "",
+        0,
+    ),
     ("an advance behind the end", RACKS, play(), "advance a / advance a", "advanced: a d / refused 832 Over", "", 0),
     ("a word that is no command", RACKS, play(), "jump", "refused 905 BadCommand", "", 0),
     (

@@ -15,5 +15,6 @@ RULES = {
     **runs.STEPS,
     **runs.BATCHES,
     **runs.PLAYS,
+    **runs.TELLING,
     **runs.REHEARSALS,
 }

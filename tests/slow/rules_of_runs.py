@@ -1,4 +1,4 @@
-"""The rules of plans, programs, steps, batches, plays, recaps and rehearsals, each as it is while it isn't turned."""
+"""The rules of plans, programs, steps, batches, plays, recaps, of what a run tells, and of rehearsals, each as it is while it isn't turned."""
 
 PLANS = {
     "batches-rounded-up": "The number of batches is rounded up.",
@@ -106,18 +106,46 @@ PLAYS = {
     "sizes-begin-anew": "Each play begins with its first size.",
 }
 
+TELLING = {
+    "told-beginnings-of-programs": "That a program begins is told only where one does.",
+    "told-characters-that-show": "What would move a terminal about is shown as a question mark.",
+    "told-halted-by-themselves": "Hosts of a closed batch that were halted aren't counted among the failed.",
+    "told-held-before-the-batch": "Hosts set aside are told before the batch that is opened.",
+    "told-held-behind-the-last-batch": "Hosts set aside are told also where no batch is opened any more.",
+    "told-ignored-before-changed": "An ignored failure that changed something is told as ignored.",
+    "told-names-of-conditions-on-results": "The name without a value is told of changed_when and failed_when too.",
+    "told-nothing-behind-the-halt": "Behind a halt nothing is told of the batch but its end.",
+    "told-output-before-errors": "The output stands before the errors.",
+    "told-outputs-by-the-verdict": "Outputs stand where the verdict is failed or ignored, whatever the return code.",
+    "told-outputs-of-what-is-ignored": "Outputs stand behind an ignored failure too.",
+    "told-play-numbers": "In a file of several plays the first is told by its number too.",
+    "told-signals": "The signal that ended a program is told.",
+    "told-skipped-steps": "A skipped step is told.",
+    "told-verdict-by-the-code": "A verdict is that of the recap, whatever the return code.",
+    "told-waiting-behind-the-batch": "Of the hosts that wait those of the opened batch are none.",
+    "told-word-that-was-not-started": "Of a program that isn't started the first word is told, before what the system says.",
+    "why-by-the-last-row": "Why a host failed is told by its last row, not by its first.",
+    "why-names-conditions": "Of a failure that conditions judged they are named.",
+    "why-only-where-not-all-is-done": "Where a run finished and no host has failed nothing follows it.",
+    "why-outermost-group": "Of a host that waits the outermost group without room is told.",
+}
+
 REHEARSALS = {
+    "a-host-is-no-group": "`hosts` takes a group's name alone, and not a host's.",
     "a-rehearsal-may-halt": "A rehearsal halts as the play does.",
+    "batches-as-the-plan-stands": "`hosts` numbers the batches of the plan where the rehearsal stands.",
     "carriage-return-before-its-line-end": "A carriage return is cut only before a line feed.",
     "carriage-returns-are-cut": "A carriage return before the line feed is cut.",
     "first-host-outside": "Of several hosts outside the batch the first named is told.",
     "groups-are-no-hosts-to-fail": "A group's name is no host to fail.",
+    "hosts-lists-idle-hosts": "`hosts` lists hosts that aren't targeted too.",
     "idle-hosts-are-not-shown": "Hosts that aren't targeted are not shown.",
     "later-sizes-in-a-rehearsal": "A rehearsal takes the next size of a list too.",
     "longest-line": "A line of 65,536 bytes is accepted.",
-    "no-words-behind-a-command": "undo, plan and show have nothing behind them.",
+    "no-words-behind-a-command": "undo, plan, show, help and quit have nothing behind them.",
     "over-before-outside": "That all is over is told before a host outside the batch.",
     "plan-behind-an-end": "A plan is printed also behind an end.",
+    "quit-ends-a-session": "Behind a line `quit` nothing is answered.",
     "undo-takes-the-end-back": "undo takes the end back.",
     "unknown-before-over": "An unknown name is told before that all is over.",
 }

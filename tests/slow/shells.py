@@ -3,6 +3,8 @@
 `python3 shells.py [SEED [CASES]]` needs no built program: what is tried is the slow program's knowledge of shells.
 """
 
+import errno
+import os
 import subprocess
 import sys
 import tempfile
@@ -10,8 +12,8 @@ import tempfile
 import track
 from cases import draw_case
 from gate import CASES, SEED
-from programs import outcome
-from results import NOT_STARTED, Outcome
+from programs import NUL, outcome
+from results import Outcome
 
 KEPT = 65_536
 
@@ -51,10 +53,14 @@ def started(words, folder):
     """How a program really ends."""
     try:
         done = subprocess.run(words, stdin=subprocess.DEVNULL, capture_output=True, cwd=folder, check=False)
-    except (OSError, ValueError):
-        return NOT_STARTED
+    except OSError as error:
+        # Python looks for a program without a name in each folder of PATH, and finds the folder.
+        number = error.errno if words[0] else errno.ENOENT
+        return Outcome("not-started", why=f"{os.strerror(number)} (os error {number})")
+    except ValueError:
+        return Outcome("not-started", why=NUL)
     texts = [raw[:KEPT].decode(errors="replace").rstrip("\r\n") for raw in (done.stdout, done.stderr)]
-    return Outcome("ran", max(done.returncode, -1), *texts)
+    return Outcome("ran", max(done.returncode, -1), *texts, -done.returncode if done.returncode < 0 else None)
 
 
 if __name__ == "__main__":

@@ -4,18 +4,23 @@ from dataclasses import dataclass
 
 from meaning import holds
 from programs import outcome
-from results import NOT_STARTED, SKIPPED, UNDEFINED, Result, judge
+from results import SKIPPED, TOO_LONG, Outcome, Result, judge
 from rules import turned
 from words import TooLong, Undefined, render
 
 
 @dataclass
 class Row:
-    """A step's number, how it was judged, and its result."""
+    """A step's number, how it was judged, and its result; and what is told of it: the step, the words of its program, if there was one, how it ended, and which name
+    wanted a value."""
 
     step: int
     judged: str
     result: Result
+    of: object
+    words: list | None
+    ended: Outcome
+    wanted: str | None
 
 
 def track(play, host):
@@ -48,8 +53,10 @@ def _due(handlers, notified):
 
 def _taken(step, host, rows, notified):
     """Adds a step's row; whether the host goes on behind it."""
-    result, judged = judge(step, _outcome(step, host), lambda conditions, seen: _evaluated(conditions, step, host, seen))
-    rows.append(Row(step.number, judged, result))
+    words = _asked(step, host)
+    ended = words if isinstance(words, Outcome) else outcome(words)
+    result, judged, wanted = judge(step, ended, lambda conditions, seen: _evaluated(conditions, step, host, seen))
+    rows.append(Row(step.number, judged, result, step, None if ended is words else words, ended, wanted))
     if judged == "ok" and (result.changed or turned("only-changed-notifies")):
         notified += step.notify
     if judged == "ignored" and result.changed and turned("ignored-notifies-nobody"):
@@ -70,8 +77,8 @@ def _register(step, host, result, judged):
     host.results[step.register] = result
 
 
-def _outcome(step, host):
-    """Skipped where `when` is false, undefined where it has no value; else the first word that can't be made decides; else the program."""
+def _asked(step, host):
+    """Skipped where `when` is false, undefined where it has no value; else the first word that can't be made decides; else the words of the program."""
     if turned("when-before-words"):
         unrendered = _rendered(step, host)
         if not isinstance(unrendered, list):
@@ -79,10 +86,9 @@ def _outcome(step, host):
     try:
         if step.when is not None and not holds(step.when, host):
             return SKIPPED
-    except Undefined:
-        return SKIPPED if turned("undefined-when-fails") else UNDEFINED
-    words = _rendered(step, host)
-    return outcome(words) if isinstance(words, list) else words
+    except Undefined as undefined:
+        return SKIPPED if turned("undefined-when-fails") else Outcome("undefined", name=undefined.name)
+    return _rendered(step, host)
 
 
 def _rendered(step, host):
@@ -91,23 +97,21 @@ def _rendered(step, host):
     for word in step.words:
         try:
             words.append(render(word, host))
-        except Undefined:
-            return UNDEFINED if not turned("undefined-words-fail") else NOT_STARTED
+        except Undefined as undefined:
+            return Outcome("undefined", name=undefined.name) if not turned("undefined-words-fail") else TOO_LONG
         except TooLong:
             if not turned("first-word-decides"):
-                return NOT_STARTED
+                return TOO_LONG
             too_long = True
-    return NOT_STARTED if too_long else words
+    return TOO_LONG if too_long else words
 
 
 def _evaluated(conditions, step, host, seen):
-    """The value of `changed_when` or `failed_when`, which see the result under the step's own name; None where undefined."""
+    """The value of `changed_when` or `failed_when`, which see the result under the step's own name."""
     before = dict(host.results)
     if step.register is not None and not turned("conditions-see-their-result"):
         host.results[step.register] = seen
     try:
         return holds(conditions, host)
-    except Undefined:
-        return None
     finally:
         host.results = before

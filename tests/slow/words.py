@@ -98,7 +98,11 @@ def is_ref(name, field):
 
 
 class Undefined(Exception):
-    """A name that has no value was evaluated."""
+    """A name that has no value was evaluated; of a field it is the name before the dot."""
+
+    def __init__(self, name):
+        super().__init__(name)
+        self.name = name
 
 
 class TooLong(Exception):
@@ -107,7 +111,7 @@ class TooLong(Exception):
 
 def render(word, host):
     """What a word says for a host. A name without a value goes before the length."""
-    text = "".join(part if isinstance(part, str) else _shown(host.value(part)) for part in parts(word))
+    text = "".join(part if isinstance(part, str) else _shown(part.name, host.value(part)) for part in parts(word))
     if turned("replaced-text-is-not-read-again") and "{{" in text and text != word:
         return render(text, host)
     if len(text.encode()) > LONGEST - turned("word-longest"):
@@ -115,12 +119,12 @@ def render(word, host):
     return text
 
 
-def _shown(value):
-    """A text as it is, a number in decimal, a truth value as True or False; a whole result has no text."""
+def _shown(name, value):
+    """A text as it is, a number in decimal, a truth value as True or False; a whole result, which has this name, has no text."""
     if isinstance(value, bool):
         return str(value).lower() if turned("truth-values-in-words") else str(value)
     if isinstance(value, (str, int)):
         return str(value)
     if turned("whole-results-in-words"):
         return value.stdout
-    raise Undefined
+    raise Undefined(name)

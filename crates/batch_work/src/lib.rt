@@ -2,6 +2,7 @@
 #![tactic(auto)]
 
 mod asked;
+mod entered;
 mod given;
 mod line;
 mod room;
@@ -10,6 +11,7 @@ mod taken;
 mod turn;
 mod work;
 
+pub use entered::Entered;
 pub use given::Given;
 pub use stage::Stage;
 pub use taken::Taken;

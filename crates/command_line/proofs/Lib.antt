@@ -1,4 +1,5 @@
 pub mod AcceptedLemmas
+pub mod FlagLemmas
 pub mod ForksLemmas
 pub mod FoundLemmas
 pub mod OptionLemmas
@@ -7,4 +8,3 @@ pub mod RunLemmas
 pub mod RunLevel
 pub mod RunShapes
 pub mod RunWordsLemmas
-pub mod VerboseLemmas

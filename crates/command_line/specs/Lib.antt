@@ -1,5 +1,6 @@
 pub mod Answers
 pub mod Faults
+pub mod Flags
 pub mod Forks
 pub mod Messages
 pub mod Operands
@@ -7,5 +8,4 @@ pub mod Options
 pub mod Runs
 pub mod StopFiles
 pub mod Syntax
-pub mod Verbose
 pub mod Words

@@ -24,9 +24,13 @@ forks_argument = record (new_rule (codes "forks")) {
   defaults = default_text ∷ [];
 }
 
--- the flag that asks a run to tell of itself
+-- the flag that asks a run to tell of itself, or a plan
 abbrev pub verbose_argument : Rule
 verbose_argument = record (new_rule (codes "verbose")) { short = Some 118; long = Some (codes "verbose"); action = Some SetTrue }
+
+-- the flag that asks a run to tell nothing unasked
+abbrev pub quiet_argument : Rule
+quiet_argument = record (new_rule (codes "quiet")) { long = Some (codes "quiet"); action = Some SetTrue }
 
 -- the option that names the file which ends a run
 abbrev pub stop_file_argument : Rule
@@ -36,11 +40,16 @@ abbrev pub limits_command : App
 limits_command = with_rule (new_app (codes "limits")) inventory_argument
 
 abbrev pub plan_command : App
-plan_command = with_rule (with_rule (new_app (codes "plan")) inventory_argument) playbook_argument
+plan_command =
+    with_rule (with_rule (with_rule (new_app (codes "plan")) inventory_argument) playbook_argument) verbose_argument
 
 abbrev pub run_command : App
 run_command =
-    with_rule (with_rule (with_rule (with_rule (with_rule (new_app (codes "run")) inventory_argument) playbook_argument) forks_argument) verbose_argument) stop_file_argument
+    with_rule
+    (with_rule
+    (with_rule (with_rule (with_rule (with_rule (new_app (codes "run")) inventory_argument) playbook_argument) forks_argument) verbose_argument)
+    quiet_argument)
+    stop_file_argument
 
 abbrev pub rehearse_command : App
 rehearse_command = with_rule (with_rule (new_app (codes "rehearse")) inventory_argument) playbook_argument

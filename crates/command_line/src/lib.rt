@@ -3,14 +3,15 @@
 
 pub mod command;
 mod fault;
+mod flags;
 mod forks;
 mod message;
 mod option_words;
 mod reading;
+mod request;
 mod run_words;
 mod stop_file;
 mod syntax;
-mod verbose;
 mod words;
 
 pub use command::Source;
@@ -18,4 +19,4 @@ pub use fault::LineFault;
 pub use forks::Forks;
 pub use message::Message;
 pub use reading::line;
-pub use verbose::{Request, request_of};
+pub use request::{Request, request_of};

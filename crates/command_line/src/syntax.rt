@@ -18,6 +18,8 @@ const FORKS: &str = "forks";
 
 const VERBOSE: &str = "verbose";
 
+const QUIET: &str = "quiet";
+
 const STOP_FILE: &str = "stop-file";
 
 const INVENTORY_HELP: &str =
@@ -28,8 +30,13 @@ const PLAYBOOK_HELP: &str =
 
 const FORKS_HELP: &str = "How many hosts are worked on at once, 1 to 64";
 
-const VERBOSE_HELP: &str =
-    "Tells on standard error of each batch that opens and each program that ends";
+const PLAN_VERBOSE_HELP: &str =
+    "Tells on standard error which hosts of the play are down already, and left out";
+
+const RUN_VERBOSE_HELP: &str =
+    "Tells on standard error of each batch, and of each step of each host";
+
+const QUIET_HELP: &str = "Tells nothing unasked, also at a terminal; beside -v it changes nothing";
 
 const STOP_FILE_HELP: &str = "Ends the run before the next batch once this file is there";
 
@@ -89,7 +96,8 @@ fn plan<'a>(alloc: Global) -> Result<Command<'a>, AllocError>
             "Prints the fewest batches that update the hosts of a play, and what forces their number",
         )
         .arg(inventory(alloc))?
-        .arg(playbook(alloc))
+        .arg(playbook(alloc))?
+        .arg(verbose(alloc, PLAN_VERBOSE_HELP))
 }
 
 fn run<'a>(alloc: Global) -> Result<Command<'a>, AllocError>
@@ -101,7 +109,8 @@ fn run<'a>(alloc: Global) -> Result<Command<'a>, AllocError>
         .arg(inventory(alloc))?
         .arg(playbook(alloc))?
         .arg(forks(alloc))?
-        .arg(verbose(alloc))?
+        .arg(verbose(alloc, RUN_VERBOSE_HELP))?
+        .arg(quiet(alloc))?
         .arg(stop_file(alloc))
 }
 
@@ -147,7 +156,7 @@ fn forks<'a>(alloc: Global) -> Arg<'a>
 }
 
 /// It stands in the help. The words that clap reads are without it.
-fn verbose<'a>(alloc: Global) -> Arg<'a>
+fn verbose<'a>(alloc: Global, help: &'a str) -> Arg<'a>
     ensures rule { rule_of result ≡ spec.verbose_argument }
     ensures local { result.global ≡ false }
 {
@@ -155,7 +164,18 @@ fn verbose<'a>(alloc: Global) -> Arg<'a>
         .short('v')
         .long(VERBOSE)
         .action(ArgAction::SetTrue)
-        .help(VERBOSE_HELP)
+        .help(help)
+}
+
+/// It stands in the help. The words that clap reads are without it.
+fn quiet<'a>(alloc: Global) -> Arg<'a>
+    ensures rule { rule_of result ≡ spec.quiet_argument }
+    ensures local { result.global ≡ false }
+{
+    Arg::new(alloc, QUIET)
+        .long(QUIET)
+        .action(ArgAction::SetTrue)
+        .help(QUIET_HELP)
 }
 
 /// It stands in the help, and clap says what is wrong where its file is wanting. The words that clap reads are without any that has one.

@@ -4,7 +4,7 @@ ghost use Rattle.std.specs.Prelude.{◌≡◌};
 use crate::rolled::{one_fails, roll};
 use fork_pool::Script;
 use group_tree::{GroupId, HostId};
-use roll_core::{Board, HoldFault, OpenFault, Status};
+use roll_core::{Board, HoldFault, OpenFault, Status, Unwatched};
 use sample_fleets::{board_of, set_up, two_racks};
 use std::alloc::Global;
 use std::marker::Brand;
@@ -28,7 +28,7 @@ fn group_id(index: usize) -> GroupId {
 fn one_batch<'s, L: Ledger, H: Threads + Wait + Processes<Started = SystemProcess> + Abort + Sync>(
     rt: &H,
     alloc: Global,
-    board: &mut Board<'s, Script, L>,
+    board: &mut Board<'s, Script, L, Unwatched>,
 ) -> Result<(), Fail> {
     assert_eq!(rt;
         board.open(alloc, &[host(3), host(0), host(1), host(4)]),
@@ -43,7 +43,7 @@ fn one_batch<'s, L: Ledger, H: Threads + Wait + Processes<Started = SystemProces
 }
 
 /// The hosts behind that batch.
-fn are_left_so<L: Ledger, H: Abort>(rt: &H, board: &Board<'_, Script, L>) {
+fn are_left_so<L: Ledger, H: Abort>(rt: &H, board: &Board<'_, Script, L, Unwatched>) {
     let left = [
         Status::Failed,
         Status::Waiting,
@@ -60,7 +60,7 @@ fn are_left_so<L: Ledger, H: Abort>(rt: &H, board: &Board<'_, Script, L>) {
 fn behind_it<'s, L: Ledger, H: Abort>(
     rt: &H,
     alloc: Global,
-    board: &mut Board<'s, Script, L>,
+    board: &mut Board<'s, Script, L, Unwatched>,
 ) -> Result<(), Fail> {
     assert_eq!(rt;
         board.open(alloc, &[host(0)]),

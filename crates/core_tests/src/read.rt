@@ -4,7 +4,7 @@ ghost use Rattle.std.specs.Prelude.{◌≡◌};
 use crate::rolled::{one_fails, roll};
 use fork_pool::{Script, batches_end_by_their_script};
 use group_tree::{GroupId, HostId};
-use roll_core::{Board, Status};
+use roll_core::{Board, Status, Unwatched};
 use sample_fleets::{board_of, limited_again, set_up};
 use std::alloc::Global;
 use std::marker::Brand;
@@ -22,7 +22,7 @@ const SIX: [&str; 6] = ["a", "b", "c", "d", "e", "f"];
 /// The hosts of the batch, its failures, and which of the six are down.
 fn is_told<L: Ledger, H: Abort>(
     rt: &H,
-    board: &Board<'_, Script, L>,
+    board: &Board<'_, Script, L, Unwatched>,
     batch: &[HostId],
     failures: usize,
     down: u32,

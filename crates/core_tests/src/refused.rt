@@ -7,7 +7,9 @@ ghost use Rattle.roll_logs.specs.Rolls.{is_of_program};
 use crate::rolled::{move_on, report};
 use fork_pool::Script;
 use group_tree::{Group, GroupFault, HostId};
-use roll_core::{Board, Claimed, Done, HoldFault, OpenFault, Outcome, Runner, Stage, Status};
+use roll_core::{
+    Board, Claimed, Done, HoldFault, OpenFault, Outcome, Runner, Stage, Status, Unwatched,
+};
 use sample_fleets::{Setting, board_of, group, set_up, with};
 use std::alloc::{AllocError, Global};
 use std::marker::Brand;
@@ -64,14 +66,20 @@ fn script_again(alloc: Global) -> Result<Script, AllocError> {
     }
 }
 
-fn open_again<L: Ledger>(board: &mut Board<'_, Script, L>, alloc: Global) -> Result<(), OpenFault> {
+fn open_again<L: Ledger>(
+    board: &mut Board<'_, Script, L, Unwatched>,
+    alloc: Global,
+) -> Result<(), OpenFault> {
     match board.open(alloc, &BATCH) {
         Err(OpenFault::Memory) if board.log().len() == 1 => board.open(alloc, &BATCH),
         answer => answer,
     }
 }
 
-fn hold_again<L: Ledger>(board: &mut Board<'_, Script, L>, alloc: Global) -> Result<(), HoldFault> {
+fn hold_again<L: Ledger>(
+    board: &mut Board<'_, Script, L, Unwatched>,
+    alloc: Global,
+) -> Result<(), HoldFault> {
     match board.hold(alloc, &SHUT_OUT) {
         Err(HoldFault::Memory) if board.log().len() == 0 => board.hold(alloc, &SHUT_OUT),
         answer => answer,
@@ -80,7 +88,7 @@ fn hold_again<L: Ledger>(board: &mut Board<'_, Script, L>, alloc: Global) -> Res
 
 /// Where memory is refused, the board is as before, and claims again.
 fn claim_again<'s, L: Ledger>(
-    board: &mut Board<'s, Script, L>,
+    board: &mut Board<'s, Script, L, Unwatched>,
     alloc: Global,
 ) -> Result<Option<Claimed<'s, Script>>, AllocError>
     ensures { IfOk result (λ out. IfSome out HasItsGo) }
@@ -106,7 +114,7 @@ enum Turn {
 fn take<'s, L: Ledger, H: Threads + Wait + Processes<Started = SystemProcess> + Sync>(
     rt: &H,
     alloc: Global,
-    board: &mut Board<'s, Script, L>,
+    board: &mut Board<'s, Script, L, Unwatched>,
 ) -> Result<Turn, Fail> {
     let script = board.runner();
     let done = match claim_again(board, alloc)? {
@@ -135,7 +143,7 @@ fn take<'s, L: Ledger, H: Threads + Wait + Processes<Started = SystemProcess> + 
 fn work<'s, L: Ledger, H: Threads + Wait + Processes<Started = SystemProcess> + Sync>(
     rt: &H,
     alloc: Global,
-    board: &mut Board<'s, Script, L>,
+    board: &mut Board<'s, Script, L, Unwatched>,
 ) -> Result<Option<HostId>, Fail> {
     let mut stranded = None;
     for _turn in 0..100u32 {
@@ -154,7 +162,7 @@ fn work<'s, L: Ledger, H: Threads + Wait + Processes<Started = SystemProcess> + 
 
 /// A host that was stranded is waited for; where nobody was, the hosts are counted.
 fn ends_so<L: Ledger>(
-    board: &mut Board<'_, Script, L>,
+    board: &mut Board<'_, Script, L, Unwatched>,
     stranded: Option<HostId>,
 ) -> Result<(), Fail> {
     match stranded {
@@ -165,7 +173,7 @@ fn ends_so<L: Ledger>(
     }
 }
 
-fn is_awaited<L: Ledger>(board: &mut Board<'_, Script, L>, host: HostId) -> bool {
+fn is_awaited<L: Ledger>(board: &mut Board<'_, Script, L, Unwatched>, host: HostId) -> bool {
     if board.out() != 1 || board.status(host) != Status::Running {
         return false;
     }
@@ -175,7 +183,7 @@ fn is_awaited<L: Ledger>(board: &mut Board<'_, Script, L>, host: HostId) -> bool
     }
 }
 
-fn are_counted<L: Ledger>(board: &Board<'_, Script, L>) -> bool {
+fn are_counted<L: Ledger>(board: &Board<'_, Script, L, Unwatched>) -> bool {
     for host in BATCH {
         let counts = board.counts(host);
         let shown = (counts.ok, counts.changed, counts.failed, counts.skipped);
@@ -189,7 +197,7 @@ fn are_counted<L: Ledger>(board: &Board<'_, Script, L>) -> bool {
 fn run_batch<L: Ledger, H: Threads + Wait + Processes<Started = SystemProcess> + Sync>(
     rt: &H,
     alloc: Global,
-    board: &mut Board<'_, Script, L>,
+    board: &mut Board<'_, Script, L, Unwatched>,
 ) -> Result<(), Fail> {
     hold_again(board, alloc)?;
     open_again(board, alloc)?;
@@ -213,7 +221,7 @@ fn rolled<L: Ledger, H: Threads + Wait + Processes<Started = SystemProcess> + Sy
         return Ok(false);
     };
     run_batch(rt, alloc, &mut board)?;
-    let left = board.finish();
+    let (left, _watch) = board.finish();
     if left.statuses.len() != 3 || left.vars.len() != 3 || left.counts.len() != 3 {
         return Err(Fail::new("not one of each a host"));
     }

@@ -3,7 +3,7 @@ ghost use Rattle.roll_core.specs.Givings.{HasItsGo};
 
 use fork_pool::Script;
 use group_tree::HostId;
-use roll_core::{Board, Claimed, Done, Outcome, Runner, Stage};
+use roll_core::{Board, Claimed, Done, Outcome, Runner, Stage, Unwatched};
 use std::alloc::Global;
 use std::process::{Processes, SystemProcess};
 use std::sync::Wait;
@@ -46,7 +46,7 @@ pub fn done_of<'s, H: Threads + Wait + Processes<Started = SystemProcess> + Sync
 
 /// Reports it in a tally of its own.
 pub fn report<'s, L: Ledger>(
-    board: &mut Board<'s, Script, L>,
+    board: &mut Board<'s, Script, L, Unwatched>,
     done: Done<'s, Script>,
 ) -> Result<(), Fail> {
     if board.tallies() > 0 {
@@ -67,7 +67,7 @@ pub fn report<'s, L: Ledger>(
 fn step_on<'s, L: Ledger, H: Threads + Wait + Processes<Started = SystemProcess> + Sync>(
     rt: &H,
     alloc: Global,
-    board: &mut Board<'s, Script, L>,
+    board: &mut Board<'s, Script, L, Unwatched>,
 ) -> Result<bool, Fail> {
     let script = board.runner();
     let mut all = Vec::new(alloc);
@@ -85,7 +85,7 @@ fn step_on<'s, L: Ledger, H: Threads + Wait + Processes<Started = SystemProcess>
 }
 
 /// Passes the step, or closes the batch.
-pub fn move_on<L: Ledger>(board: &mut Board<'_, Script, L>) -> Result<(), Fail> {
+pub fn move_on<L: Ledger>(board: &mut Board<'_, Script, L, Unwatched>) -> Result<(), Fail> {
     match board.stage() {
         Stage::Between => Ok(()),
         Stage::Working(_) => match board.barrier() {
@@ -103,7 +103,7 @@ pub fn move_on<L: Ledger>(board: &mut Board<'_, Script, L>) -> Result<(), Fail> 
 pub fn roll<'s, L: Ledger, H: Threads + Wait + Processes<Started = SystemProcess> + Sync>(
     rt: &H,
     alloc: Global,
-    board: &mut Board<'s, Script, L>,
+    board: &mut Board<'s, Script, L, Unwatched>,
 ) -> Result<(), Fail> {
     for _turn in 0..1000u32 {
         if board.stage() == Stage::Between {

@@ -8,7 +8,7 @@ use crate::fault::StepFault;
 use crate::front::Front;
 use crate::making::pool;
 use crate::worker_end::{WorkerEnd, serve};
-use roll_core::{Board, Runner};
+use roll_core::{Board, Runner, Watch};
 use std::alloc::Global;
 use std::process::{Processes, SystemProcess};
 use std::sync::Wait;
@@ -23,13 +23,14 @@ pub fn run_step<
     R: Runner,
     L: Ledger,
     H: Threads + Wait + Processes<Started = SystemProcess> + Sync,
+    W: Watch,
 >(
     rt: &H,
     alloc: Global,
-    board: Board<'f, R, L>,
+    board: Board<'f, R, L, W>,
     runner: &'f R,
     forks: usize,
-) -> Result<Board<'f, R, L>, (StepFault, Board<'f, R, L>)>
+) -> Result<Board<'f, R, L, W>, (StepFault, Board<'f, R, L, W>)>
     requires forks { board.kernel.forks ≡ forks }
     requires tallies { board.tallies ≡ 0 }
     ensures done { IfOk result IsStepDone }
@@ -57,14 +58,15 @@ fn with_workers<
     R: Runner,
     L: Ledger,
     H: Threads + Wait + Processes<Started = SystemProcess> + Sync,
+    W: Watch,
 >(
     rt: &H,
     alloc: Global,
     front: Front<'f, R>,
     ends: Vec<WorkerEnd<'f, R>>,
-    board: Board<'f, R, L>,
+    board: Board<'f, R, L, W>,
     runner: &'f R,
-) -> Result<Board<'f, R, L>, (StepFault, Board<'f, R, L>)>
+) -> Result<Board<'f, R, L, W>, (StepFault, Board<'f, R, L, W>)>
     requires forks { front.forks ≡ board.kernel.forks }
     requires workers { vec_len ends ≡ min front.forks (hosts_due board) }
     requires tallies { board.tallies ≡ 0 }
@@ -77,7 +79,7 @@ fn with_workers<
     thread::scope(
         thread::scope_env(),
         rt,
-        move |scope| -> Result<Board<'_, R, L>, (StepFault, Board<'_, R, L>)>
+        move |scope| -> Result<Board<'_, R, L, W>, (StepFault, Board<'_, R, L, W>)>
             requires forks { front.forks ≡ board.kernel.forks }
             requires tallies { board.tallies ≡ 0 }
             ensures done { IfOk result IsStepDone }
@@ -102,12 +104,12 @@ fn with_workers<
 }
 
 /// A step on a board that lives as long as the pool.
-fn step_alone<'f, R: Runner, L: Ledger, H: Wait>(
+fn step_alone<'f, R: Runner, L: Ledger, H: Wait, W: Watch>(
     rt: &H,
     alloc: Global,
     front: &mut Front<'f, R>,
-    board: Board<'f, R, L>,
-) -> Result<Board<'f, R, L>, (StepFault, Board<'f, R, L>)>
+    board: Board<'f, R, L, W>,
+) -> Result<Board<'f, R, L, W>, (StepFault, Board<'f, R, L, W>)>
     requires forks { front.old.forks ≡ board.kernel.forks }
     requires tallies { board.tallies ≡ 0 }
     ensures done { IfOk result IsStepDone }
@@ -120,9 +122,9 @@ fn step_alone<'f, R: Runner, L: Ledger, H: Wait>(
 }
 
 /// The board, whichever way the step ended.
-fn board_of<'f, R: Runner, L: Ledger>(
-    answer: Result<Board<'f, R, L>, (StepFault, Board<'f, R, L>)>,
-) -> Board<'f, R, L>
+fn board_of<'f, R: Runner, L: Ledger, W: Watch>(
+    answer: Result<Board<'f, R, L, W>, (StepFault, Board<'f, R, L, W>)>,
+) -> Board<'f, R, L, W>
     ensures { result ≡ board_in answer.entry }
 {
     match answer {

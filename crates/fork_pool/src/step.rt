@@ -11,20 +11,20 @@ use crate::given::Given;
 use crate::notes::Notes;
 use crate::reply::Reply;
 use crate::ticket::Ticket;
-use roll_core::{Board, Claim, Claimed, Done, Runner, Tally};
+use roll_core::{Board, Claim, Claimed, Done, Runner, Tally, Watch};
 use std::alloc::Global;
 use std::sync::ledger::Ledger;
 
 /// A board on whose step workers are at work. One tally counts its reports: the coordinator makes them all.
-pub(crate) struct Step<'b, R: Runner, L: Ledger> {
-    board: Board<'b, R, L>,
+pub(crate) struct Step<'b, R: Runner, L: Ledger, W: Watch> {
+    board: Board<'b, R, L, W>,
     tally: Tally<L>,
     notes: Notes,
     ghost under_way: { IsUnderWay board notes },
 }
 
-impl<'b, R: Runner, L: Ledger> Step<'b, R, L> {
-    pub(crate) fn begin(mut board: Board<'b, R, L>) -> Step<'b, R, L>
+impl<'b, R: Runner, L: Ledger, W: Watch> Step<'b, R, L, W> {
+    pub(crate) fn begin(mut board: Board<'b, R, L, W>) -> Step<'b, R, L, W>
         requires { board.tallies ≡ 0 }
         ensures board { result.board ≡ record board.entry { tallies = 1 } }
         ensures notes { result.notes ≡ nothing_yet (board.entry.kernel.forks - 1) }
@@ -149,7 +149,7 @@ impl<'b, R: Runner, L: Ledger> Step<'b, R, L> {
 
     /// The board, with its tally back. The coordinator's want of memory goes before that of a worker, and this before a host that has not
     /// reported.
-    pub(crate) fn end(self) -> Result<Board<'b, R, L>, (StepFault, Board<'b, R, L>)>
+    pub(crate) fn end(self) -> Result<Board<'b, R, L, W>, (StepFault, Board<'b, R, L, W>)>
         requires { IsOver self.board self.notes }
         ensures done { IfOk result IsStepDone }
         ensures clean { OnOk result ((self.entry.notes.wants ≡ false) × (self.entry.notes.told ≡ false)) }

@@ -3,7 +3,7 @@ ghost use Rattle.std.specs.Prelude.{◌≡◌, ◌≤◌, suc, IfErr, IfOk, Matc
 
 use crate::fault::WorkFault;
 use crate::ticket::Ticket;
-use roll_core::{Board, Claimed, Done, Runner, Tally};
+use roll_core::{Board, Claimed, Done, Runner, Tally, Watch};
 use std::alloc::Global;
 use std::process::{Processes, SystemProcess};
 use std::sync::ledger::Ledger;
@@ -17,10 +17,11 @@ pub fn work<
     R: Runner,
     L: Ledger,
     H: Threads + Wait + Processes<Started = SystemProcess> + Sync,
+    W: Watch,
 >(
     rt: &H,
     alloc: Global,
-    board: &Mutex<Board<'f, R, L>>,
+    board: &Mutex<Board<'f, R, L, W>>,
     runner: &'f R,
     mut tally: Tally<L>,
 ) -> Result<Tally<L>, (WorkFault, Tally<L>)>
@@ -43,10 +44,11 @@ fn take_one<
     R: Runner,
     L: Ledger,
     H: Threads + Wait + Processes<Started = SystemProcess> + Sync,
+    W: Watch,
 >(
     rt: &H,
     alloc: Global,
-    board: &Mutex<Board<'f, R, L>>,
+    board: &Mutex<Board<'f, R, L, W>>,
     runner: &'f R,
     tally: &mut Tally<L>,
 ) -> Result<bool, WorkFault>
@@ -71,9 +73,9 @@ fn take_one<
     Ok(true)
 }
 
-fn report<'f, R: Runner, L: Ledger, H: Wait>(
+fn report<'f, R: Runner, L: Ledger, H: Wait, W: Watch>(
     rt: &H,
-    board: &Mutex<Board<'f, R, L>>,
+    board: &Mutex<Board<'f, R, L, W>>,
     done: Done<'f, R>,
     tally: &mut Tally<L>,
 ) -> Result<(), WorkFault>

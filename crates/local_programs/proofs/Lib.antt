@@ -1,4 +1,2 @@
 mod KeepLemmas
-mod OptionLemmas
-mod ShownLemmas
 mod TextLemmas

@@ -1,10 +1,12 @@
 -- How a program of this machine ends.
-use Rattle.std.specs.Prelude.{ℕ, List, ℤ, pos, negsuc, ◌≤ℤ◌, unwrap_or}
+use Rattle.std.specs.Prelude.{ℕ, List, ℤ, pos, negsuc, ◌≤ℤ◌, Option, Some, None, unwrap_or}
 use Rattle.std.specs.Process.{exit_code}
 use Rattle.std.specs.declared.process.ExitStatus.{ExitStatus}
 use Rattle.outcome_results.specs.Endings.{Ending, ran, not_started, lost, skipped, undefined}
 use Rattle.local_programs.specs.Keeping.{KeptView}
 use Rattle.local_programs.specs.Texts.{IsTextOfOutput, text_in}
+use Rattle.local_programs.specs.declared.remark.Remark.{Remark}
+use Rattle.local_programs.specs.declared.remark.Remark.TheVariants.{Nothing, Signal}
 
 -- what a program gave back; -1 where a signal ended it
 abbrev pub code_of : ExitStatus → ℤ
@@ -13,6 +15,11 @@ code_of status = unwrap_or (exit_code status) (negsuc 0)
 -- it ended so, and this is kept of its outputs
 abbrev pub ran_to : ExitStatus → KeptView → KeptView → Ending
 ran_to status out err = ran (code_of status) (text_in out.bytes) (text_in err.bytes)
+
+-- what there is to tell of a program that this signal ended, or none
+abbrev pub remark_in : Option ℤ → Remark
+remark_in None = Nothing
+remark_in (Some number) = Signal number
 
 -- one of a program that ended by itself, or -1
 pub record IsReturnCode (code : ℤ) : Type 0 where

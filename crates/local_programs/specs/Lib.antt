@@ -2,6 +2,3 @@ pub mod Keeping
 pub mod Reads
 pub mod Texts
 pub mod Ends
-pub mod Shown
-pub mod Options
-pub mod Lines

@@ -3,7 +3,7 @@ use libc::net::poll;
 use libc::types::timespec;
 
 /// Milliseconds of a clock that only goes forward, from some moment on; none where the system has none.
-pub(crate) fn milliseconds() -> Option<u64> {
+pub fn milliseconds() -> Option<u64> {
     let mut time = timespec {
         tv_sec: 0,
         tv_nsec: 0,
@@ -26,7 +26,7 @@ pub(crate) fn wait(milliseconds: i32) {
 }
 
 /// How many milliseconds have gone by since then; 0 where there is no clock.
-pub(crate) fn milliseconds_since(then: Option<u64>) -> u64 {
+pub fn milliseconds_since(then: Option<u64>) -> u64 {
     match (then, milliseconds()) {
         (Some(then), Some(now)) => now.saturating_sub(then),
         (_, _) => 0,

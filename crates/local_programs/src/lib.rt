@@ -1,4 +1,4 @@
-//! A runner that runs the programs of a roll on this machine, and tells of them.
+//! A runner that runs the programs of a roll on this machine, and leaves notes of them for whoever tells of the roll.
 #![tactic(auto)]
 
 mod clock;
@@ -6,26 +6,21 @@ mod command;
 mod descriptors;
 mod ending;
 mod gate;
-mod integers;
 mod kept;
 mod limits;
-mod lines;
-mod marks;
-mod names;
-mod options;
+mod notes;
 mod output;
 mod outputs;
 mod patience;
 mod remark;
 mod running;
-mod screen;
-mod shown;
 mod starting;
 mod text;
-mod watching;
 mod worker_count;
 
+pub use clock::{milliseconds, milliseconds_since};
 pub use descriptors::occupy_standard;
+pub use notes::{Note, Notes};
+pub use remark::Remark;
 pub use running::LocalPrograms;
-pub use watching::Tell;
 pub use worker_count::workers;

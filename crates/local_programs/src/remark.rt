@@ -1,20 +1,20 @@
 //! What is told of a program beside how it ended.
 ghost use Rattle.std.specs.Prelude.{◌≡◌, IfOk};
 ghost use Rattle.std.specs.Process.{exit_signal};
-ghost use Rattle.local_programs.specs.Lines.{remark_in};
+ghost use Rattle.local_programs.specs.Ends.{remark_in};
 
 use std::alloc::{AllocError, Global};
 use std::io;
 use std::os::unix::process::ExitStatusExt;
 use std::process::ExitStatus;
 
-/// What the lines of a run tell of a program beside its outcome.
+/// What there is to tell of a program beside its outcome.
 #[derive(Debug, Drop)]
-pub(crate) enum Remark {
+pub enum Remark {
     Nothing,
     /// The signal that ended it.
     Signal(i32),
-    /// What the system said when it was to be started.
+    /// Its first word, and what the system said when it was to be started.
     Refused(String),
 }
 
@@ -31,20 +31,22 @@ pub(crate) fn remark_of(waited: &io::Result<ExitStatus>) -> Remark
     }
 }
 
-/// What is told of a start that was refused so; nothing where memory is wanting for it.
-pub(crate) fn refusal_of(alloc: Global, error: &Option<io::Error>) -> Remark {
-    match error {
-        Some(error) => match text_of(alloc, error) {
+/// What is told of a start of these words that was refused so; nothing where memory is wanting for it.
+pub(crate) fn refusal_of(alloc: Global, words: &[String], error: &Option<io::Error>) -> Remark {
+    match (words.first(), error) {
+        (Some(program), Some(error)) => match text_of(alloc, program.as_str(), error) {
             Ok(text) => Remark::Refused(text),
             Err(_refused) => Remark::Nothing,
         },
-        None => Remark::Nothing,
+        (_, _) => Remark::Nothing,
     }
 }
 
 /// What the system says of a program that it doesn't start. Of a file that it can't run it doesn't say what to do.
-fn text_of(alloc: Global, error: &io::Error) -> Result<String, AllocError> {
-    let mut text = error.to_string(alloc)?;
+fn text_of(alloc: Global, program: &str, error: &io::Error) -> Result<String, AllocError> {
+    let mut text = String::from_str(alloc, program)?;
+    text.push_str(": ")?;
+    text.push_str(error.to_string(alloc)?.as_str())?;
     if error.raw_os_error() == Some(libc::ENOEXEC) {
         text.push_str(" (a script needs a first line with #!)")?;
     }

@@ -8,37 +8,35 @@ ghost use Rattle.local_programs.specs.Ends.{IsLocalEnd};
 use crate::clock::{milliseconds, milliseconds_since};
 use crate::ending::outcome_of;
 use crate::gate::Gate;
-use crate::lines::End;
+use crate::notes::{Note, Notes};
 use crate::outputs::read_both;
 use crate::remark::{Remark, refusal_of, remark_of};
-use crate::screen::Screen;
 use crate::starting::{Started, start};
 use roll_core::{Go, Job, Outcome, Runner};
 use std::alloc::{AllocError, Global};
-use std::io::Stderr;
 use std::process::{Child, Processes, SystemProcess};
 use std::sync::Wait;
 use std::thread::Threads;
 
 /// Runs each program on this machine: the first word with the others as its arguments and no shell, in this program's folder and environment,
 /// with nothing to read, and no more of them at once than this process may have descriptors for. What it may tell is every end of a program.
-/// Where it watches a run beside that, it tells of it on standard error.
+/// It leaves a note of each.
 #[derive(Drop)]
-pub struct LocalPrograms {
-    pub(crate) screen: Screen,
+pub struct LocalPrograms<'a> {
+    notes: &'a Notes,
     gate: Gate,
 }
 
-impl LocalPrograms {
-    pub fn new(alloc: Global, errors: Stderr) -> LocalPrograms {
+impl<'a> LocalPrograms<'a> {
+    pub fn new(notes: &'a Notes) -> LocalPrograms<'a> {
         LocalPrograms {
-            screen: Screen::new(alloc, errors),
+            notes,
             gate: Gate::new(),
         }
     }
 }
 
-impl Runner for LocalPrograms {
+impl Runner for LocalPrograms<'_> {
     ghost may = { λ runner work ending. Unit {0} };
 
     ghost alike = { λ one other. Unit {0} };
@@ -52,24 +50,24 @@ impl Runner for LocalPrograms {
     ) -> Result<Outcome, AllocError>
         requires { IsGoOf go job.now }
         ensures program { IfOk result (λ outcome. is_of_program (ending_of outcome) ≡ true) }
+        ensures allowed { IfOk result (λ _. Unit {0}) }
         ensures local { IfOk result (λ outcome. IsLocalEnd (ending_of outcome)) }
     {
         if self.gate.is_full(rt) {
-            self.screen.tell_gate(rt, self.gate.bounds());
+            self.notes.gate_is_full(rt, self.gate.bounds());
         }
         self.gate.enter(rt);
         let begin = milliseconds();
         let ended = run_program(rt, alloc, &self.gate, go, job)?;
-        let end = End {
-            outcome: &ended.0,
-            remark: &ended.1,
+        let note = Note {
+            remark: ended.1,
             milliseconds: milliseconds_since(begin),
         };
-        self.screen.tell_end(rt, job, &end);
+        self.notes.leave(rt, job.host(), note);
         Ok(ended.0)
     }
 
-    fn same(&self, _other: &LocalPrograms) -> bool {
+    fn same(&self, _other: &Self) -> bool {
         true
     }
 
@@ -99,7 +97,7 @@ fn run_program<H: Wait + Processes<Started = SystemProcess>>(
         }
         Ok(Started::Refused(error)) => {
             gate.leave(rt, false);
-            Ok((Outcome::NotStarted, refusal_of(alloc, &error)))
+            Ok((Outcome::NotStarted, refusal_of(alloc, job.words(), &error)))
         }
         Err(refused) => {
             gate.leave(rt, false);

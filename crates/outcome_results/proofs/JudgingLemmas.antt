@@ -7,6 +7,7 @@ use Rattle.outcome_results.specs.Hosts.{Known, known_of, with_result, environmen
 use Rattle.outcome_results.specs.Endings.{Ending, ran, ending_of, table_row}
 use Rattle.outcome_results.specs.Judging.{register_of, flags_of_run, flags_of}
 use Rattle.outcome_results.specs.Trials.{name_of, row_of_trial, environment_of_trial}
+use Rattle.outcome_results.specs.Undefined.{undefined_by, undefined_in}
 use Rattle.outcome_results.specs.declared.flags.Flags.{Flags}
 use Rattle.outcome_results.specs.declared.trial.Trial.{Trial}
 
@@ -21,3 +22,15 @@ pub flags_in_trial : (trial : Trial) (step : Step) (rc : ℤ) (stdout stderr : L
 flags_in_trial trial step rc stdout stderr named is =
     ap (λ (n : Option Name). flags_with (known_of trial.vars.now) step n (ending_of trial.outcome.now)) named
     ∙ ap (flags_with (known_of trial.vars.now) step (register_of step)) is ∙ sym (ap (flags_of (known_of trial.vars.now) step) is)
+
+abbrev undefined_with : Known → Step → Option Name → Ending → Option Name
+undefined_with known step name ending =
+    undefined_by (environment_in (with_result name (table_row ending) known)) step (table_row ending)
+
+-- the same of the name that a condition wants
+pub undefined_in_trial : (trial : Trial) (step : Step) (rc : ℤ) (stdout stderr : List ℕ) → name_of trial ≡ register_of step
+    → ending_of trial.outcome.now ≡ ran rc stdout stderr
+    → undefined_by (environment_of_trial trial) step (row_of_trial trial) ≡ undefined_in (known_of trial.vars.now) step (ending_of trial.outcome.now)
+undefined_in_trial trial step rc stdout stderr named is =
+    ap (λ (n : Option Name). undefined_with (known_of trial.vars.now) step n (ending_of trial.outcome.now)) named
+    ∙ ap (undefined_with (known_of trial.vars.now) step (register_of step)) is ∙ sym (ap (undefined_in (known_of trial.vars.now) step) is)

@@ -3,3 +3,4 @@ pub mod Endings
 pub mod Judging
 pub mod Trials
 pub mod Counting
+pub mod Undefined

@@ -69,7 +69,7 @@ fn without_program(failed: bool, undefined: bool) -> Flags
 }
 
 /// The name under which the step registers its result.
-fn register_of(step: &Step) -> Option<&str>
+pub(crate) fn register_of(step: &Step) -> Option<&str>
     ensures { option_map (λ name. name.now) result ≡ spec.register_of step.now }
 {
     step.register.as_ref().map(String::as_str)
@@ -101,7 +101,7 @@ fn flags_of_run(step: &Step, trial: &Trial<'_>) -> Flags
 }
 
 // What the condition says, where there is one.
-fn decided<'c, E: Env>(
+pub(crate) fn decided<'c, E: Env>(
     condition: &'c Option<Cond>,
     env: &E,
     stays: bool,

@@ -8,9 +8,11 @@ mod judged;
 mod judging;
 mod outcome;
 mod trial;
+mod undefined;
 
 pub use counts::Counts;
 pub use finding::Finding;
 pub use judged::Judged;
 pub use judging::judge;
 pub use outcome::Outcome;
+pub use undefined::undefined_name;

@@ -4,7 +4,7 @@ ghost use Rattle.std.specs.Prelude.{◌≡◌, ◌<◌, ◌≤◌};
 use crate::faults::opened;
 use fork_pool::{Front, StepFault, WorkerEnd, pool};
 use group_tree::HostId;
-use roll_core::{Board, Go, Job, Outcome, Runner};
+use roll_core::{Board, Go, Job, Outcome, Runner, Unwatched};
 use sample_fleets::{limited_again, set_up};
 use std::alloc::{AllocError, Global};
 use std::marker::Brand;
@@ -158,8 +158,8 @@ fn step_alone<'f, L: Ledger, H: Wait>(
     rt: &H,
     alloc: Global,
     front: &mut Front<'f, Hands>,
-    board: Board<'f, Hands, L>,
-) -> Result<Board<'f, Hands, L>, (StepFault, Board<'f, Hands, L>)>
+    board: Board<'f, Hands, L, Unwatched>,
+) -> Result<Board<'f, Hands, L, Unwatched>, (StepFault, Board<'f, Hands, L, Unwatched>)>
     requires forks { front.old.forks ≡ board.kernel.forks }
     requires tallies { board.tallies ≡ 0 }
 {
@@ -173,16 +173,19 @@ fn with_hands<'f, L: Ledger, H: Threads + Wait + Processes<Started = SystemProce
     front: Front<'f, Hands>,
     first: WorkerEnd<'f, Hands>,
     second: WorkerEnd<'f, Hands>,
-    board: Board<'f, Hands, L>,
+    board: Board<'f, Hands, L, Unwatched>,
     hands: &'f Hands,
-) -> Result<Board<'f, Hands, L>, (StepFault, Board<'f, Hands, L>)>
+) -> Result<Board<'f, Hands, L, Unwatched>, (StepFault, Board<'f, Hands, L, Unwatched>)>
     requires forks { front.forks ≡ board.kernel.forks }
     requires tallies { board.tallies ≡ 0 }
 {
     thread::scope(
         thread::scope_env(),
         rt,
-        move |scope| -> Result<Board<'_, Hands, L>, (StepFault, Board<'_, Hands, L>)>
+        move |scope| -> Result<
+            Board<'_, Hands, L, Unwatched>,
+            (StepFault, Board<'_, Hands, L, Unwatched>),
+        >
             requires forks { front.forks ≡ board.kernel.forks }
             requires tallies { board.tallies ≡ 0 }
         {
@@ -202,7 +205,7 @@ fn with_hands<'f, L: Ledger, H: Threads + Wait + Processes<Started = SystemProce
 
 /// Want of memory is told of this place, so many claims are out, and so many hosts have reported.
 fn is_told<L: Ledger>(
-    answer: Result<Board<'_, Hands, L>, (StepFault, Board<'_, Hands, L>)>,
+    answer: Result<Board<'_, Hands, L, Unwatched>, (StepFault, Board<'_, Hands, L, Unwatched>)>,
     place: usize,
     out: usize,
     reports: usize,

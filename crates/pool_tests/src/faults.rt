@@ -4,7 +4,7 @@ ghost use Rattle.std.specs.Prelude.{◌≡◌, ◌<◌, ◌≤◌, IfOk};
 use crate::rows::{BATCHES, SIX, one_more_row, script_again, six_hosts};
 use fork_pool::{Script, StepFault, pool, run_step};
 use group_tree::HostId;
-use roll_core::{Board, Go, Job, Outcome, Runner};
+use roll_core::{Board, Go, Job, Outcome, Runner, Unwatched};
 use sample_fleets::{Setting, board_of, limited_again, set_up};
 use std::alloc::{AllocError, Global};
 use std::marker::Brand;
@@ -72,7 +72,7 @@ pub fn opened<'s, R: Runner, L: Ledger>(
     forks: usize,
     batch: &[HostId],
     blank: Blank,
-) -> Result<Board<'s, R, L>, Fail>
+) -> Result<Board<'s, R, L, Unwatched>, Fail>
     requires some { 0 < forks }
     requires few { forks ≤ 64 }
     requires name { blank.name ≡ L.name }
@@ -93,7 +93,7 @@ pub fn opened<'s, R: Runner, L: Ledger>(
 
 /// The board came back with this fault, and with so many claims out.
 fn came_back<R: Runner, L: Ledger>(
-    answer: Result<Board<'_, R, L>, (StepFault, Board<'_, R, L>)>,
+    answer: Result<Board<'_, R, L, Unwatched>, (StepFault, Board<'_, R, L, Unwatched>)>,
     fault: StepFault,
     out: usize,
 ) -> Result<(), Fail> {

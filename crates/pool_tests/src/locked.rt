@@ -4,7 +4,7 @@ ghost use Rattle.std.specs.Prelude.{◌≡◌};
 use crate::faults::{Wanting, opened};
 use crate::rows::{BATCHES, one_more_row, script_again, six_hosts};
 use fork_pool::{Script, WorkFault, work};
-use roll_core::{Board, Runner, Tally};
+use roll_core::{Board, Runner, Tally, Unwatched};
 use sample_fleets::board_of;
 use std::alloc::Global;
 use std::marker::Brand;
@@ -17,7 +17,7 @@ use std::thread::Threads;
 /// A tally of the board, if one can be had.
 fn tally_of<R: Runner, L: Ledger, H: Wait>(
     rt: &H,
-    board: &Mutex<Board<'_, R, L>>,
+    board: &Mutex<Board<'_, R, L, Unwatched>>,
 ) -> Option<Tally<L>> {
     let mut board = board.lock(rt);
     if board.tallies() < 128 {
@@ -33,7 +33,7 @@ fn work_and_join<
     R: Runner,
     L: Ledger,
     H: Threads + Wait + Processes<Started = SystemProcess> + Sync,
->(rt: &H, alloc: Global, board: &Mutex<Board<'s, R, L>>, runner: &'s R) -> usize {
+>(rt: &H, alloc: Global, board: &Mutex<Board<'s, R, L, Unwatched>>, runner: &'s R) -> usize {
     let Some(tally) = tally_of(rt, board) else {
         return 0;
     };

@@ -3,7 +3,7 @@ ghost use Rattle.std.specs.Prelude.{◌≡◌, vec_len};
 
 use fork_pool::{Front, StepFault, WorkerEnd, pool, run_step, serve};
 use group_tree::HostId;
-use roll_core::{Board, OpenFault, Runner, Stage};
+use roll_core::{Board, OpenFault, Runner, Stage, Unwatched};
 use std::alloc::Global;
 use std::process::{Processes, SystemProcess};
 use std::sync::Wait;
@@ -15,9 +15,9 @@ use std::thread::Threads;
 /// How a roll went.
 #[derive(Drop)]
 pub enum Rolled<'s, R: Runner, L: Ledger> {
-    ToItsEnd(Board<'s, R, L>),
+    ToItsEnd(Board<'s, R, L, Unwatched>),
     /// A step did not come to its end.
-    Stopped(StepFault, Board<'s, R, L>),
+    Stopped(StepFault, Board<'s, R, L, Unwatched>),
     /// There was no memory for a pool or for a batch.
     NoMemory,
 }
@@ -33,7 +33,7 @@ type Batch<'b> = &'b [HostId];
 
 fn move_on<'s, R: Runner, L: Ledger>(
     alloc: Global,
-    board: &mut Board<'s, R, L>,
+    board: &mut Board<'s, R, L, Unwatched>,
     batches: &[Batch<'_>],
     opened: &mut usize,
 ) -> Result<Turn, Fail> {
@@ -73,7 +73,7 @@ pub fn roll_apart<
 >(
     rt: &H,
     alloc: Global,
-    mut board: Board<'s, R, L>,
+    mut board: Board<'s, R, L, Unwatched>,
     batches: &[Batch<'_>],
 ) -> Result<Rolled<'s, R, L>, Fail> {
     let mut opened = 0;
@@ -101,7 +101,7 @@ pub fn roll_on<'f, 's, R: Runner, L: Ledger, H: Wait>(
     rt: &H,
     alloc: Global,
     front: &mut Front<'f, R>,
-    mut board: Board<'s, R, L>,
+    mut board: Board<'s, R, L, Unwatched>,
     batches: &[Batch<'_>],
 ) -> Result<Rolled<'s, R, L>, Fail>
 where
@@ -130,7 +130,7 @@ fn roll_once<'s, R: Runner, L: Ledger, H: Wait>(
     rt: &H,
     alloc: Global,
     front: &mut Front<'s, R>,
-    board: Board<'s, R, L>,
+    board: Board<'s, R, L, Unwatched>,
     batches: &[Batch<'_>],
 ) -> Result<Rolled<'s, R, L>, Fail> {
     roll_on(rt, alloc, front, board, batches)
@@ -145,7 +145,7 @@ pub fn roll_together<
 >(
     rt: &H,
     alloc: Global,
-    board: Board<'s, R, L>,
+    board: Board<'s, R, L, Unwatched>,
     batches: &'s [Batch<'s>],
 ) -> Result<Rolled<'s, R, L>, Fail> {
     let runner = board.runner();
@@ -165,7 +165,7 @@ fn with_workers<
     alloc: Global,
     front: Front<'s, R>,
     ends: Vec<WorkerEnd<'s, R>>,
-    board: Board<'s, R, L>,
+    board: Board<'s, R, L, Unwatched>,
     runner: &'s R,
     batches: &'s [Batch<'s>],
 ) -> Result<Rolled<'s, R, L>, Fail> {

@@ -4,7 +4,7 @@ ghost use Rattle.std.specs.Prelude.{◌≡◌, ◌<◌, ◌≤◌};
 use crate::rolling::{Rolled, roll_apart, roll_together};
 use fork_pool::{Script, StepFault};
 use group_tree::HostId;
-use roll_core::{Board, Counts, Outcome, Runner, Status};
+use roll_core::{Board, Counts, Outcome, Runner, Status, Unwatched};
 use sample_fleets::{Setting, board_of, limited_again, set_up};
 use std::alloc::{AllocError, Global};
 use std::marker::Brand;
@@ -67,7 +67,7 @@ fn is_row(counts: Counts, rows: (u32, u32, u32)) -> bool {
 }
 
 /// Each host has its rows and its status, and each report is counted.
-pub fn is_as_worked<R: Runner, L: Ledger>(board: &Board<'_, R, L>) -> bool {
+pub fn is_as_worked<R: Runner, L: Ledger>(board: &Board<'_, R, L, Unwatched>) -> bool {
     for index in 0..SIX.len() {
         let host = HostId { index };
         let (rows, status) = if host == FAILS {

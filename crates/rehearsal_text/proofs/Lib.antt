@@ -1,3 +1,4 @@
 pub mod WordLemmas
+pub mod BatchLemmas
 pub mod NameLemmas
 pub mod StageLemmas

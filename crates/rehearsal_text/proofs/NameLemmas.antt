@@ -1,7 +1,7 @@
--- The hosts of names.
+-- The hosts and the groups of names.
 use Rattle.std.proofs.Common.{◌≡◌, ℕ, ◌<◌, ◌≤◌, Bool, true, false, ◌&&◌, not, cond, nat_eq, Option, None, Some, List, [], ◌∷◌, length, get_or, sym, refl, ap, ◌∙◌, subst, arith}
-use Rattle.std.specs.Prelude.{MatchOption}
-use Rattle.std.specs.List.{find, list_any, position_or_len}
+use Rattle.std.specs.Prelude.{MatchOption, if◌then◌else◌}
+use Rattle.std.specs.List.{find, list_any, position, position_or_len}
 use Rattle.std.specs.Str.{IsUtf8, is_utf8}
 use Rattle.std.proofs.lemmas.Bool.Decides.{nat_tests}
 use Rattle.std.proofs.lemmas.List.Folds.{list_any_at}
@@ -11,7 +11,7 @@ use Rattle.inventory_model.specs.Names.{Name, is_among, same_name}
 use Rattle.group_tree.specs.declared.ids.HostId.{HostId}
 use Rattle.domains.specs.FleetViews.{FleetView}
 use Rattle.domains.specs.Numbered.{host_at}
-use Rattle.rehearsal_text.specs.Names.{first_nobody, host_named, hosts_named, is_nobody}
+use Rattle.rehearsal_text.specs.Names.{first_nobody, group_named, host_named, hosts_named, is_nobody}
 
 -- what `Fleet::host` says of the host that it finds
 abbrev IsHostOf : FleetView → Name → HostId → Type 0
@@ -60,3 +60,16 @@ pub found_host : (fleet : FleetView) (name text : Name) (found : Option HostId) 
 found_host fleet name text None same utf8 found = no_host fleet name (ap (λ n. is_among n fleet.hosts) (sym same) ∙ found)
 found_host fleet name text (Some host) same utf8 found =
     is_host fleet name host utf8 (subst (λ (n : Name). IsHostOf fleet n host) same found)
+
+-- what `Fleet::group` finds for a name that is text
+pub found_group : (fleet : FleetView) (name text : Name) (found : Option ℕ) → text ≡ name → IsUtf8 name → found ≡ position (same_name text) fleet.groups → found ≡ group_named fleet name
+found_group fleet name text found same utf8 is =
+    is ∙ ap (λ n. position (same_name n) fleet.groups) same
+    ∙ sym (ap (λ b. if b then position (same_name name) fleet.groups else None) (is_utf8-from_IsUtf8 name utf8))
+
+pub no_group : (fleet : FleetView) (name : Name) → (IsUtf8 name → ⊥) → None ≡ group_named fleet name
+no_group fleet name not_utf8 = by_case (is_utf8 name) refl
+  where
+    by_case : (b : Bool) → is_utf8 name ≡ b → None ≡ group_named fleet name
+    by_case true e = absurd (not_utf8 (IsUtf8-from_is_utf8 name e))
+    by_case false e = sym (ap (λ b. if b then position (same_name name) fleet.groups else None) e)

@@ -4,6 +4,7 @@ use Rattle.std.specs.List.{range_with_len}
 use Rattle.std.specs.Option.{option_or}
 use Rattle.inventory_model.specs.Names.{Name}
 use Rattle.group_tree.specs.declared.ids.HostId.{HostId}
+use Rattle.fleet_numbers.specs.NumberLists.{list_at}
 use Rattle.domains.specs.FleetViews.{FleetView}
 use Rattle.domains.specs.Numbered.{host_at}
 use Rattle.fleet_states.specs.declared.status.Status.{Status}
@@ -16,8 +17,10 @@ use Rattle.recap.specs.Printable.{printed}
 use Rattle.run_recap.specs.RecapText.{ended_line, state_word}
 use Rattle.rehearsal.specs.declared.stage.Stage.{Stage}
 use Rattle.rehearsal.specs.Stacks.{IsAdvanced, IsUndone, RehearsalView, first_outside, top}
-use Rattle.rehearsal_text.specs.Commands.{Command, advance, command_in, nothing, plan, show, undo, unknown}
-use Rattle.rehearsal_text.specs.Names.{first_nobody, hosts_named}
+use Rattle.rehearsal_text.specs.Commands.{Command, advance, command_in, help, hosts, nothing, plan, quit, show, undo, unknown}
+use Rattle.rehearsal_text.specs.Help.{help_text}
+use Rattle.rehearsal_text.specs.Hosts.{member_lines}
+use Rattle.rehearsal_text.specs.Names.{first_nobody, group_named, hosts_named}
 
 -- `refused 304 NoSuchName name=NAME`
 abbrev pub nobody_line : Name → List ℕ
@@ -66,6 +69,11 @@ end_so_far fleet None = codes "end none\n"
 abbrev pub show_text : FleetView → Stage → List ℕ
 show_text fleet stage = status_lines fleet stage.boundary.statuses.items ++ end_so_far fleet stage.end
 
+-- the lines of the group's hosts, by name; where no group has the name, the line that tells it
+abbrev pub hosts_text : FleetView → Stage → Name → Option ℕ → List ℕ
+hosts_text fleet stage name (Some group) = member_lines fleet stage (list_at fleet.members group)
+hosts_text fleet stage name None = nobody_line name
+
 -- what is answered where so many stages can be undone
 abbrev pub undo_line : List Stage → List ℕ
 undo_line [] = codes "nothing to undo\n"
@@ -78,6 +86,9 @@ answer_to before (advance names) = unwrap_or (refusal before names) (advanced_li
 answer_to before undo = undo_line before.above
 answer_to before plan = plan_text before.rules.fleet (top before).boundary.answer []
 answer_to before show = show_text before.rules.fleet (top before)
+answer_to before (hosts name) = hosts_text before.rules.fleet (top before) name (group_named before.rules.fleet name)
+answer_to before help = help_text
+answer_to before quit = []
 answer_to before unknown = codes "refused 905 BadCommand\n"
 
 -- where a rehearsal comes that is to advance: nowhere, where it is refused
@@ -97,6 +108,9 @@ LeadsTo before (advance names) after = AdvancesTo before names (refusal before n
 LeadsTo before undo after = GoesBackTo before before.above after
 LeadsTo before plan after = after ≡ before
 LeadsTo before show after = after ≡ before
+LeadsTo before (hosts name) after = after ≡ before
+LeadsTo before help after = after ≡ before
+LeadsTo before quit after = after ≡ before
 LeadsTo before unknown after = after ≡ before
 
 -- a line is answered by the text, and leads from one rehearsal to the other

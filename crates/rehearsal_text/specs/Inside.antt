@@ -21,6 +21,9 @@ asked (says.Advance names) = commands.advance (words_of names.now)
 asked says.Undo = commands.undo
 asked says.Plan = commands.plan
 asked says.Show = commands.show
+asked (says.Hosts group) = commands.hosts group.now
+asked says.Help = commands.help
+asked says.Quit = commands.quit
 asked says.Unknown = commands.unknown
 
 -- these are the hosts of the names, or this is the first name that is no host's

@@ -1,4 +1,6 @@
 pub mod Commands
 pub mod Names
+pub mod Hosts
+pub mod Help
 pub mod Answers
 pub mod Inside

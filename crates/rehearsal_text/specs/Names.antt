@@ -1,5 +1,5 @@
--- The hosts of names.
-use Rattle.std.specs.Prelude.{ℕ, Bool, ◌&&◌, not, Option, List, map}
+-- The hosts and the groups of names.
+use Rattle.std.specs.Prelude.{ℕ, Bool, ◌&&◌, not, Option, None, List, map, position, if◌then◌else◌}
 use Rattle.std.specs.List.{find, position_or_len}
 use Rattle.std.specs.Str.{is_utf8}
 use Rattle.inventory_model.specs.Names.{Name, is_among, same_name}
@@ -20,3 +20,7 @@ host_named fleet name = record { index = position_or_len (same_name name) fleet.
 
 abbrev pub hosts_named : FleetView → List Name → List HostId
 hosts_named fleet names = map (host_named fleet) names
+
+-- the group of a name; what is no UTF-8 is no group's name, and a host's name isn't looked up
+abbrev pub group_named : FleetView → Name → Option ℕ
+group_named fleet name = if is_utf8 name then position (same_name name) fleet.groups else None

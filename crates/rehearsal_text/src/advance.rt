@@ -1,11 +1,11 @@
 //! Going on by a batch in which hosts fail.
 ghost use Rattle.std.specs.Prelude.{◌≡◌, IfOk, OnErr, OnOk, []};
 ghost use Rattle.bounded_io.specs.Writing.{Writes};
-ghost use Rattle.rehearsal_text.specs.Answers.{AdvancesTo, answer_to, nobody_line, outside_line, refusal};
+ghost use Rattle.rehearsal_text.specs.Answers.{AdvancesTo, answer_to, outside_line, refusal};
 ghost use Rattle.rehearsal_text.specs.Commands.{advance, words_of};
 ghost use Rattle.rehearsal_text.specs.Inside.{refused_line, IsSettled};
 
-use crate::names::{Named, find_hosts};
+use crate::names::{Named, find_hosts, write_nobody};
 use bounded_io::TextWriter;
 use domains::Fleet;
 use group_tree::HostId;
@@ -45,15 +45,6 @@ fn advance_by<'l>(
         Err(AdvanceFault::NotInBatch { host }) => Ok(Some(Refusal::NotInBatch(host))),
         Err(AdvanceFault::Memory) => Err(AllocError),
     }
-}
-
-#[tactic(auto, using(bounded_io::proofs::Pieces::pieces_of_text))]
-fn write_nobody<W: Write>(text: &mut TextWriter<'_, W>, name: &[u8])
-    ensures { Writes W.contents text.old text.new (nobody_line name.now) }
-{
-    text.write_str("refused 304 NoSuchName name=");
-    write_printable(text, name);
-    text.write_str("\n");
 }
 
 #[tactic(auto, using(bounded_io::proofs::Pieces::pieces_of_text))]

@@ -1,10 +1,12 @@
 //! What a line asks for.
-ghost use Rattle.std.specs.Prelude.{◌≡◌, ◌∷◌};
+ghost use Rattle.std.specs.Prelude.{◌≡◌, ◌∷◌, is_some};
+ghost use Rattle.std.specs.ControlFlow.{break_value};
 ghost use Rattle.rehearsal_text.specs.Commands as spec;
-ghost use Rattle.rehearsal_text.specs.Commands.{command_in, command_of, words_of};
+ghost use Rattle.rehearsal_text.specs.Commands.{command_in, command_of, ends_session, words_of};
 ghost use Rattle.rehearsal_text.specs.Inside.{asked};
 
 use crate::words::cut_word;
+use std::ops::ControlFlow;
 
 /// What a line asks for.
 #[derive(Clone, Copy)]
@@ -15,7 +17,24 @@ pub(crate) enum Command<'l> {
     Undo,
     Plan,
     Show,
+    /// The hosts of the group of this name.
+    Hosts(&'l [u8]),
+    Help,
+    /// The end of the session.
+    Quit,
     Unknown,
+}
+
+impl Command<'_> {
+    /// Whether the session goes on behind the command.
+    pub(crate) fn flow(self) -> ControlFlow<()>
+        ensures { is_some (break_value result) ≡ ends_session (asked self.entry) }
+    {
+        match self {
+            Command::Quit => ControlFlow::Break(()),
+            _ => ControlFlow::Continue(()),
+        }
+    }
 }
 
 /// The command that the line says.
@@ -44,7 +63,26 @@ fn command_named<'l>(word: &[u8], rest: &'l [u8]) -> Command<'l>
     if word == b"show".as_slice() {
         return alone(Command::Show, rest);
     }
+    if word == b"hosts".as_slice() {
+        return hosts_of(rest);
+    }
+    if word == b"help".as_slice() || word == b"?".as_slice() {
+        return alone(Command::Help, rest);
+    }
+    if word == b"quit".as_slice() {
+        return alone(Command::Quit, rest);
+    }
     Command::Unknown
+}
+
+/// The command that asks for the hosts of a group, where just its name stands there.
+fn hosts_of(rest: &[u8]) -> Command<'_>
+    ensures { asked result ≡ spec.hosts_of (words_of rest.now) }
+{
+    match cut_word(rest) {
+        Some((group, behind)) => alone(Command::Hosts(group), behind),
+        None => Command::Unknown,
+    }
 }
 
 /// The command, where no word stands behind it.

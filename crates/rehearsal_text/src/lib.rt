@@ -2,7 +2,10 @@
 #![tactic(auto)]
 
 mod advance;
+mod batch;
 mod command;
+mod help;
+mod hosts;
 mod line;
 mod names;
 mod show;

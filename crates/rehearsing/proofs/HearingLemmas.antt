@@ -1,14 +1,16 @@
 -- Hearing lines one after the other.
-use Rattle.std.proofs.Common.{◌≡◌, ℕ, ◌+◌, ◌<◌, ◌≤◌, None, Some, Option, List, [], ◌∷◌, ◌++◌, length, take, drop, sym, refl, ap, ◌∙◌, subst, arith, append_assoc, append-nil, length-append, length-take}
+use Rattle.std.proofs.Common.{◌≡◌, ℕ, ◌+◌, ◌<◌, ◌≤◌, true, false, None, Some, Option, List, [], ◌∷◌, ◌++◌, length, take, drop, sym, refl, ap, ◌∙◌, subst, arith, append_assoc, append-nil, length-append, length-take}
 use Rattle.bounded_io.specs.Writing.{Writes}
 use Rattle.bounded_io.specs.declared.text_writer.TextWriter.{TextWriter}
 use Rattle.bounded_io.proofs.WritingLemmas.{writes_none, writes_two}
 use Rattle.rehearsal.specs.Stacks.{RehearsalView}
-use Rattle.rehearsal_text.specs.Answers.{Answers}
+use Rattle.rehearsal_text.specs.Answers.{Answers, LeadsTo, answer_to}
+use Rattle.rehearsal_text.specs.Commands.{Command, advance, command_in, ends_session, help, hosts, nothing, plan, quit, show, undo, unknown}
 use Rattle.rehearsing.specs.declared.fault.RehearseFault.{RehearseFault}
 use Rattle.rehearsing.specs.declared.fault.RehearseFault.TheVariants.{Refused, Memory, File, TooLarge, LongLine, Write}
-use Rattle.rehearsing.specs.Inside.{HasNoRoom, Hears, HearsUntil, StopsAt}
+use Rattle.rehearsing.specs.Inside.{HasNoRoom, Hears, HearsEnd, HearsUntil, StopsAt}
 use Rattle.rehearsing.specs.Lines.{HasNoFeed, IsCut, IsLine, max_line, without_return}
+use Rattle.rehearsing.specs.Sessions.{quits}
 use Rattle.rehearsing.proofs.FeedLemmas.{feedless_both, long_in_front}
 use Rattle.rehearsing.proofs.SessionLemmas.{heard_none, heard_on, heard_one}
 
@@ -20,6 +22,18 @@ stops_there front behind File e room = absurd room
 stops_there front behind TooLarge e room = absurd room
 stops_there front behind (Refused fault) e room = absurd room
 stops_there front behind (Write fault) e room = absurd room
+
+-- a command that ends the session is answered by nothing, and leads nowhere
+ends_there : (before : RehearsalView) (command : Command) (after : RehearsalView) → ends_session command ≡ true → LeadsTo before command after → (answer_to before command ≡ []) × (after ≡ before)
+ends_there before nothing after ends to = absurd (cc)
+ends_there before (advance names) after ends to = absurd (cc)
+ends_there before undo after ends to = absurd (cc)
+ends_there before plan after ends to = absurd (cc)
+ends_there before show after ends to = absurd (cc)
+ends_there before (hosts group) after ends to = absurd (cc)
+ends_there before help after ends to = absurd (cc)
+ends_there before quit after ends to = (refl, to)
+ends_there before unknown after ends to = absurd (cc)
 
 -- how far bytes were heard: those before `left`
 pub record Hearing {W : Type 0} (contents : W → Option (List ℕ)) (before : RehearsalView) (line bytes left now : List ℕ) (after : RehearsalView) (old new : TextWriter W) : Type 0 where
@@ -60,14 +74,14 @@ module _ {W : Type 0} (contents : W → Option (List ℕ)) where
     whole = append_assoc line hearing.taken left ∙ ap (λ l. line ++ l) (sym hearing.parts)
 
     -- a line more
-    pub hears_line : (front behind answer : List ℕ) → IsCut left front behind → length now + length front ≤ max_line
+    pub hears_line : (front behind answer : List ℕ) → IsCut left front behind → length now + length front ≤ max_line → quits (now ++ front) ≡ false
         → Answers between (without_return (now ++ front)) answer after → Writes contents t1 t2 answer → Hearing contents before line bytes behind [] after t0 t2
-    hears_line front behind answer cut within answers written =
+    hears_line front behind answer cut within goes_on answers written =
         let feedless : HasNoFeed (now ++ front) = feedless_both now front hearing.is_line.feedless cut.feedless in
         let one : Hears contents between (now ++ (front ++ 10 ∷ [])) [] after t1 t2 = record {
           text = answer;
           heard = heard_one between (now ++ front) (now ++ (front ++ 10 ∷ [])) answer after (record { feedless = feedless; within = omega (arith, within, length-append now front) })
-              (sym (append_assoc now front (10 ∷ []))) answers;
+              goes_on (sym (append_assoc now front (10 ∷ []))) answers;
           written = written;
         } in
         let more : List ℕ = front ++ 10 ∷ [] in
@@ -78,6 +92,24 @@ module _ {W : Type 0} (contents : W → Option (List ℕ)) where
           hears = subst (λ (l : List ℕ). Hears contents before l [] after t0 t2) (append_assoc line hearing.taken more)
               (hears_on before (line ++ hearing.taken) now between more [] after t0 t1 t2 hearing.hears one);
           is_line = record { feedless = refl; within = omega arith };
+        }
+
+    -- a line that ends the session
+    pub hears_end : (front behind answer : List ℕ) → IsCut left front behind → length now + length front ≤ max_line → quits (now ++ front) ≡ true
+        → Answers between (without_return (now ++ front)) answer after → Writes contents t1 t2 answer → HearsEnd contents before line bytes after t0 t2
+    hears_end front behind answer cut within is_quit answers written =
+        let ends = ends_there between (command_in (without_return (now ++ front))) after is_quit answers.leads in
+        let parts : now ++ left ≡ (now ++ front) ++ 10 ∷ behind = ap (λ l. now ++ l) cut.parts ∙ sym (append_assoc now front (10 ∷ behind)) in
+        let silent : Writes contents t1 t2 [] = subst (Writes contents t1 t2) (answers.text_is ∙ ends.0) written in
+        let heard : Hears contents before (line ++ bytes) (now ++ left) after t0 t2 = subst (λ (l : List ℕ). Hears contents before l (now ++ left) after t0 t2) whole
+        (hears_silence before (line ++ hearing.taken) now between left after t0 t1 t2 hearing.hears ends.1 silent) in
+        record {
+          line = now ++ front;
+          behind = behind;
+          hears = subst (λ (l : List ℕ). Hears contents before (line ++ bytes) l after t0 t2) parts heard;
+          is_line = record { feedless = feedless_both now front hearing.is_line.feedless cut.feedless; within = omega (arith, within, length-append now front) };
+          is_quit = is_quit;
+          fewer = omega (arith, ap length hearing.parts, length-append hearing.taken left, ap length cut.parts, length-append front (10 ∷ behind));
         }
 
     -- no memory for a line more, or no room

@@ -9,7 +9,7 @@ use Rattle.rehearsal.specs.Plays.{IsRehearsalOf}
 use Rattle.rehearsal.specs.Stacks.{IsAdvanced, IsBehind, IsRehearsal, IsUndone, RehearsalView, pushed, top}
 use Rattle.rehearsal.proofs.StackLemmas.{above-pop, above-push}
 use Rattle.rehearsal_text.specs.Answers.{AdvancesTo, GoesBackTo, LeadsTo, refusal}
-use Rattle.rehearsal_text.specs.Commands.{Command, advance, command_in, nothing, plan, show, undo, unknown}
+use Rattle.rehearsal_text.specs.Commands.{Command, advance, command_in, help, hosts, nothing, plan, quit, show, undo, unknown}
 use Rattle.rehearsing.specs.Laws.{SessionsRehearse}
 use Rattle.rehearsing.specs.Sessions.{Session}
 
@@ -52,6 +52,9 @@ module _ (fleet : FleetView) (play : Play) (statuses : List Status) where
   leads before undo after to is = goes_back before before.above after to is
   leads before plan after to is = subst Is (sym to) is
   leads before show after to is = subst Is (sym to) is
+  leads before (hosts group) after to is = subst Is (sym to) is
+  leads before help after to is = subst Is (sym to) is
+  leads before quit after to is = subst Is (sym to) is
   leads before unknown after to is = subst Is (sym to) is
 
   stays : (before : RehearsalView) (lines : List (List ℕ)) (text : List ℕ) (after : RehearsalView) → Session before lines text after → Is before → Is after

@@ -1,3 +1,4 @@
+pub mod FlowLemmas
 pub mod FeedLemmas
 pub mod SessionLemmas
 pub mod HearingLemmas

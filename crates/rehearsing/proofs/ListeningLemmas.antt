@@ -1,6 +1,5 @@
 -- Hearing what a reader gives, one read after the other.
-use Rattle.std.proofs.Common.{◌≡◌, ℕ, ◌+◌, ◌<◌, ◌≤◌, Bool, false, Some, Option, List, [], ◌∷◌, ◌++◌, length, Result, Ok, Err, sym, refl, ap, ◌∙◌, subst, arith, append_assoc, append-nil, length-append}
-use Rattle.std.specs.Prelude.{OnOk}
+use Rattle.std.proofs.Common.{◌≡◌, ℕ, ◌+◌, ◌<◌, ◌≤◌, Bool, false, Some, Option, List, [], ◌∷◌, ◌++◌, length, sym, refl, ap, ◌∙◌, subst, inl, inr, arith, append_assoc, append-nil, length-append}
 use Rattle.std.specs.Io.KnownBytes.{Consumes, IsAtEnd, Keeps}
 use Rattle.std.proofs.KnownBytes.{Consumes-kept, Consumes-nil, Consumes-trans}
 use Rattle.std.proofs.lemmas.List.{take-append-le}
@@ -11,8 +10,8 @@ use Rattle.bounded_io.proofs.WritingLemmas.{writes_two}
 use Rattle.rehearsal.specs.Stacks.{RehearsalView}
 use Rattle.rehearsing.specs.declared.fault.RehearseFault.{RehearseFault}
 use Rattle.rehearsing.specs.declared.fault.RehearseFault.TheVariants.{Refused, Memory, File, TooLarge, LongLine, Write}
-use Rattle.rehearsing.specs.Inside.{Hears, HearsUntil, LastAnswer, ListensInVain, ListensToAll, ListensUntil, StopsAt, Unheard}
-use Rattle.rehearsing.specs.Lines.{HasNoFeed, IsLine, IsLong, max_line}
+use Rattle.rehearsing.specs.Inside.{Hears, HearsEnd, HearsUntil, LastAnswer, ListensInVain, ListensToEnd, ListensUntil, StopsAt, Unheard}
+use Rattle.rehearsing.specs.Lines.{HasNoFeed, IsLine, IsLong, joined, max_line, max_read}
 use Rattle.rehearsing.specs.Sessions.{Heard}
 use Rattle.rehearsal_text.specs.Answers.{Answers}
 use Rattle.rehearsing.proofs.SessionLemmas.{session_of}
@@ -100,10 +99,10 @@ module _ {W : Type 0} (contents : W → Option (List ℕ)) (before : RehearsalVi
       consumed_all : Consumes old new so_far.bytes
       consumed_all = subst (Consumes old new) (append-nil so_far.bytes) (Consumes-trans old mid new so_far.bytes [] so_far.consumed none)
 
-      pub to_all : (after : RehearsalView) (t2 : TextWriter W) → IsAtEnd new → LastAnswer contents between line after t1 t2 → ListensToAll contents before old new t0 t2
+      pub to_all : (after : RehearsalView) (t2 : TextWriter W) → IsAtEnd new → LastAnswer contents between line after t1 t2 → ListensToEnd contents before old new t0 t2
       to_all after t2 end last = record {
         text = so_far.hears.text ++ last.text;
-        whole = record {
+        over = inl (record {
           bytes = so_far.bytes;
           rest = line;
           first = so_far.hears.text;
@@ -117,7 +116,7 @@ module _ {W : Type 0} (contents : W → Option (List ℕ)) (before : RehearsalVi
           line = so_far.is_line;
           last_answer = last.answers;
           text_is = refl;
-        };
+        });
         written = writes_two contents t0 t1 t2 so_far.hears.text last.text (so_far.hears.text ++ last.text) so_far.hears.written last.written refl;
       }
 
@@ -164,6 +163,7 @@ module _ {W : Type 0} (contents : W → Option (List ℕ)) (before : RehearsalVi
                 lines = all.heard.lines;
                 parts = sym (append_assoc so_far.bytes chunk (byte ∷ [])) ∙ ap (λ l. l ++ byte ∷ []) all.heard.parts ∙ append_assoc _ now (byte ∷ []);
                 are_lines = all.heard.are_lines;
+                go_on = all.heard.go_on;
                 answers = all.heard.answers;
               };
               ends = (
@@ -171,6 +171,38 @@ module _ {W : Type 0} (contents : W → Option (List ℕ)) (before : RehearsalVi
                 omega (arith, length-append so_far.bytes (chunk ++ byte ∷ []), length-append chunk (byte ∷ []), so_far.many, many),
               );
             };
+            written = all.written;
+          }
+
+      -- a line of the chunk ended the session; perhaps a byte past the bound came behind the chunk
+      pub to_line : (chunk past : List ℕ) → Consumes mid new (chunk ++ past) → length (chunk ++ past) ≤ max_read → given + length (chunk ++ past) ≤ max_input + 1 → given + length chunk ≤ max_input
+          → HearsEnd contents between line chunk after t1 t2 → ListensToEnd contents before old new t0 t2
+      to_line chunk past read short few within hears =
+          let bytes : List ℕ = so_far.bytes ++ (chunk ++ past) in
+          let rest : List ℕ = hears.line ++ 10 ∷ hears.behind in
+          let all : Hears contents before (so_far.bytes ++ chunk) rest after t0 t2 = hears_on contents before so_far.bytes line between chunk rest after t0 t1 t2 so_far.hears hears.hears in
+          record {
+            text = all.text;
+            over = inr (record {
+              bytes = bytes;
+              line = hears.line;
+              behind = hears.behind ++ past;
+              after = after;
+              consumed = Consumes-trans old mid new so_far.bytes (chunk ++ past) so_far.consumed read;
+              heard = record {
+                lines = all.heard.lines;
+                parts = sym (append_assoc so_far.bytes chunk past) ∙ ap (λ l. l ++ past) all.heard.parts ∙ append_assoc _ rest past
+                    ∙ ap (λ l. joined all.heard.lines ++ l) (append_assoc hears.line (10 ∷ hears.behind) past);
+                are_lines = all.heard.are_lines;
+                go_on = all.heard.go_on;
+                answers = all.heard.answers;
+              };
+              is_line = hears.is_line;
+              is_quit = hears.is_quit;
+              line_within = omega (arith, length-append so_far.bytes (chunk ++ past), length-append chunk past, length-append hears.behind past, so_far.many, within);
+              within = omega (arith, length-append so_far.bytes (chunk ++ past), so_far.many, few);
+              one_read = omega (arith, length-append chunk past, length-append hears.behind past, hears.fewer, short);
+            });
             written = all.written;
           }
 
@@ -187,6 +219,7 @@ module _ {W : Type 0} (contents : W → Option (List ℕ)) (before : RehearsalVi
               lines = all.heard.lines;
               parts = sym (append_assoc so_far.bytes chunk behind) ∙ ap (λ l. l ++ behind) all.heard.parts ∙ append_assoc _ hears.rest behind;
               are_lines = all.heard.are_lines;
+              go_on = all.heard.go_on;
               answers = all.heard.answers;
             },
             all.written,
@@ -232,9 +265,8 @@ module _ {W : Type 0} (contents : W → Option (List ℕ)) (before : RehearsalVi
       until_fault is_reliable chunk behind (Write fault) read few within hears = absurd hears.stops
 
 -- the last line was answered
-pub last_told : {W T E : Type 0} (contents : W → Option (List ℕ)) (before : RehearsalView) (line answer : List ℕ) (after : RehearsalView) (t0 t1 : TextWriter W) (told : Result T E) → 0 < length line
-    → OnOk told (Answers before line answer after) → OnOk told (Writes contents t0 t1 answer) → OnOk told (LastAnswer contents before line after t0 t1)
-last_told contents before [] answer after t0 t1 told some is written = absurd (omega (arith, some))
-last_told contents before (byte ∷ bytes) answer after t0 t1 (Ok done) some is written =
+pub last_told : {W : Type 0} (contents : W → Option (List ℕ)) (before : RehearsalView) (line answer : List ℕ) (after : RehearsalView) (t0 t1 : TextWriter W) → 0 < length line
+    → Answers before line answer after → Writes contents t0 t1 answer → LastAnswer contents before line after t0 t1
+last_told contents before [] answer after t0 t1 some is written = absurd (omega (arith, some))
+last_told contents before (byte ∷ bytes) answer after t0 t1 some is written =
     record { text = answer; answers = session_of before (byte ∷ bytes) answer after is; written = written }
-last_told contents before (byte ∷ bytes) answer after t0 t1 (Err refused) some is written = tt

@@ -13,7 +13,7 @@ use Rattle.rehearsal.specs.Stacks.{IsRehearsal, RehearsalView, Rules}
 use Rattle.rehearsing.specs.declared.fault.RehearseFault.{RehearseFault}
 use Rattle.rehearsing.specs.declared.fault.RehearseFault.TheVariants.{Refused, Memory, File, TooLarge, LongLine, Write}
 use Rattle.rehearsing.specs.declared.opening.Opening.{Opening}
-use Rattle.rehearsing.specs.Inside.{IsOpeningOfTexts, ListensToAll, ListensUntil, RefusesOpening, Unheard, rules_in}
+use Rattle.rehearsing.specs.Inside.{IsOpeningOfTexts, ListensToEnd, ListensUntil, RefusesOpening, Unheard, rules_in}
 use Rattle.rehearsing.specs.Openings.{IsOpeningIn}
 use Rattle.rehearsing.specs.RehearseTexts.{BreaksSession, EndsSession, HoldsSession, IsTrueFault, IsTrueOfSession, Rehearses}
 
@@ -47,7 +47,7 @@ same_rules fleet mode other caps others share part e f h =
 
 -- the answers broke off, in the session or when it was over
 pub broken_session : {W : Type 0} (contents : W → Option (List ℕ)) (is_reliable : Bool) (before : RehearsalView) (old new out_old out_new : Option (List ℕ)) (t0 t1 : TextWriter W) (count : ℕ)
-    (told : Result (Unit {0}) RehearseFault) → OnOk told (ListensToAll contents before old new t0 t1) → IfErr told (Unheard contents is_reliable before old new t0 t1)
+    (told : Result (Unit {0}) RehearseFault) → OnOk told (ListensToEnd contents before old new t0 t1) → IfErr told (Unheard contents is_reliable before old new t0 t1)
     → ((text : List ℕ) → Writes contents t0 t1 text → SendsFirst out_old out_new text count) → BreaksSession before old new out_old out_new count
 broken_session contents is_reliable before old new out_old out_new t0 t1 count told ok err sends = by_result told ok err
   where
@@ -59,9 +59,9 @@ broken_session contents is_reliable before old new out_old out_new t0 t1 count t
       written = sends all.text all.written;
     }
 
-    by_result : (r : Result (Unit {0}) RehearseFault) → OnOk r (ListensToAll contents before old new t0 t1) → IfErr r (Unheard contents is_reliable before old new t0 t1)
+    by_result : (r : Result (Unit {0}) RehearseFault) → OnOk r (ListensToEnd contents before old new t0 t1) → IfErr r (Unheard contents is_reliable before old new t0 t1)
         → BreaksSession before old new out_old out_new count
-    by_result (Ok done) all none = record { text = all.text; heard = inr all.whole; written = sends all.text all.written }
+    by_result (Ok done) all none = record { text = all.text; heard = inr all.over; written = sends all.text all.written }
     by_result (Err Memory) none all = until Memory all all.ended.ends
     by_result (Err File) none all = until File all (omega (arith, all.ended.ends.2))
     by_result (Err TooLarge) none all = until TooLarge all (omega (arith, all.ended.ends.1))
@@ -97,7 +97,7 @@ IsTold is_reliable before old new out_old out_new ended =
 
 -- a session ended, and its text did
 pub session_ends : {W : Type 0} (contents : W → Option (List ℕ)) (is_reliable : Bool) (before : RehearsalView) (old new : Option (List ℕ)) (out : MutBor W) (out_new : Option (List ℕ)) (t0 t1 : TextWriter W)
-    (told ended : Result (Unit {0}) RehearseFault) (sent : Result (Unit {0}) WriteFault) → Begins out t0 → OnOk told (ListensToAll contents before old new t0 t1)
+    (told ended : Result (Unit {0}) RehearseFault) (sent : Result (Unit {0}) WriteFault) → Begins out t0 → OnOk told (ListensToEnd contents before old new t0 t1)
     → IfErr told (Unheard contents is_reliable before old new t0 t1) → Finishes contents t1 out_new sent → IfSome (fault_of t1) (λ fault. sent ≡ Err fault)
     → MatchResult sent (λ _. ended ≡ told) (λ fault. ended ≡ Err (Write fault))
     → IsTold is_reliable before old new (contents out.now) out_new ended
@@ -110,8 +110,8 @@ session_ends contents is_reliable before old new out out_new t0 t1 told ended (O
     until : (fault : RehearseFault) → ListensUntil contents is_reliable before old new t0 t1 fault → EndsSession is_reliable before old new (contents out.now) out_new fault
     until fault all = record { text = all.text; ended = all.ended; written = finishes out t0 all.text begins all.written }
 
-    by_told : (r : Result (Unit {0}) RehearseFault) → OnOk r (ListensToAll contents before old new t0 t1) → IfErr r (Unheard contents is_reliable before old new t0 t1) → IsTold is_reliable before old new (contents out.now) out_new r
-    by_told (Ok whole) all none = (record { text = all.text; whole = all.whole; written = finishes out t0 all.text begins all.written }, tt)
+    by_told : (r : Result (Unit {0}) RehearseFault) → OnOk r (ListensToEnd contents before old new t0 t1) → IfErr r (Unheard contents is_reliable before old new t0 t1) → IsTold is_reliable before old new (contents out.now) out_new r
+    by_told (Ok whole) all none = (record { text = all.text; over = all.over; written = finishes out t0 all.text begins all.written }, tt)
     by_told (Err Memory) none all = (tt, until Memory all)
     by_told (Err File) none all = (tt, until File all)
     by_told (Err TooLarge) none all = (tt, until TooLarge all)

@@ -1,5 +1,5 @@
 -- Sessions one behind the other.
-use Rattle.std.proofs.Common.{◌≡◌, ℕ, List, [], ◌∷◌, ◌++◌, map, sym, refl, ap, ◌∙◌, subst, append_assoc, append-nil}
+use Rattle.std.proofs.Common.{◌≡◌, ℕ, false, List, [], ◌∷◌, ◌++◌, map, sym, refl, ap, ◌∙◌, subst, append_assoc, append-nil}
 use Rattle.std.specs.Prelude.{All}
 use Rattle.std.specs.List.{flat_map}
 use Rattle.std.proofs.lemmas.List.{map-append}
@@ -9,7 +9,10 @@ use Rattle.rehearsal.specs.Stacks.{RehearsalView}
 use Rattle.rehearsal_text.specs.Answers.{Answers, LeadsTo, answer_to}
 use Rattle.rehearsal_text.specs.Commands.{command_in}
 use Rattle.rehearsing.specs.Lines.{IsLine, joined, without_return}
-use Rattle.rehearsing.specs.Sessions.{Heard, Session}
+use Rattle.rehearsing.specs.Sessions.{Heard, Session, quits}
+
+abbrev GoesOn : List ℕ → Type 0
+GoesOn line = quits line ≡ false
 
 -- two sessions, one behind the other
 pub session_on : (before : RehearsalView) (lines : List (List ℕ)) (text : List ℕ) (between : RehearsalView) (more : List (List ℕ)) (later : List ℕ) (after : RehearsalView)
@@ -31,14 +34,16 @@ session_of before line text after is =
 
 -- nothing was heard yet of what stands there
 pub heard_none : (before : RehearsalView) (rest : List ℕ) → Heard before rest rest [] before
-heard_none before rest = record { lines = []; parts = refl; are_lines = All-nil IsLine; answers = (refl, refl) }
+heard_none before rest = record { lines = []; parts = refl; are_lines = All-nil IsLine; go_on = All-nil GoesOn; answers = (refl, refl) }
 
 -- one line was heard
-pub heard_one : (before : RehearsalView) (line bytes text : List ℕ) (after : RehearsalView) → IsLine line → bytes ≡ line ++ 10 ∷ [] → Answers before (without_return line) text after → Heard before bytes [] text after
-heard_one before line bytes text after is parts answers = record {
+pub heard_one : (before : RehearsalView) (line bytes text : List ℕ) (after : RehearsalView) → IsLine line → quits line ≡ false → bytes ≡ line ++ 10 ∷ []
+    → Answers before (without_return line) text after → Heard before bytes [] text after
+heard_one before line bytes text after is goes_on parts answers = record {
   lines = line ∷ [];
   parts = parts ∙ sym (append-nil (line ++ 10 ∷ [])) ∙ sym (append-nil ((line ++ 10 ∷ []) ++ []));
   are_lines = All-cons IsLine line [] is (All-nil IsLine);
+  go_on = All-cons GoesOn line [] goes_on (All-nil GoesOn);
   answers = session_of before (without_return line) text after answers;
 }
 
@@ -50,6 +55,7 @@ heard_on before bytes rest text between more left later after one two = record {
   parts = ap (λ l. l ++ more) one.parts ∙ append_assoc (joined one.lines) rest more ∙ ap (λ l. joined one.lines ++ l) two.parts
       ∙ sym (append_assoc (joined one.lines) (joined two.lines) left) ∙ ap (λ l. l ++ left) (sym (flat_map-append (λ line. line ++ 10 ∷ []) one.lines two.lines));
   are_lines = All-append IsLine one.lines two.lines one.are_lines two.are_lines;
+  go_on = All-append GoesOn one.lines two.lines one.go_on two.go_on;
   answers = subst (λ (l : List (List ℕ)). Session before l (text ++ later) after) (sym (map-append without_return one.lines two.lines))
       (session_on before (map without_return one.lines) text between (map without_return two.lines) later after one.answers two.answers);
 }

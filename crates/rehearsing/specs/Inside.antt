@@ -1,5 +1,5 @@
 -- What the steps of a session have to give.
-use Rattle.std.specs.Prelude.{◌≡◌, ℕ, ◌+◌, ◌<◌, ◌≤◌, Bool, Some, Option, List, length}
+use Rattle.std.specs.Prelude.{◌≡◌, ℕ, ◌+◌, ◌<◌, ◌≤◌, Bool, true, Some, Option, List, ◌∷◌, ◌++◌, length}
 use Rattle.std.specs.Io.KnownBytes.{Consumes, IsAtEnd}
 use Rattle.bounded_io.specs.Writing.{Writes, fault_of}
 use Rattle.bounded_io.specs.declared.text_writer.TextWriter.{TextWriter}
@@ -12,10 +12,10 @@ use Rattle.rehearsal.specs.Stacks.{RehearsalView, Rules}
 use Rattle.rehearsing.specs.declared.opening.Opening.{Opening}
 use Rattle.rehearsing.specs.declared.fault.RehearseFault.{RehearseFault}
 use Rattle.rehearsing.specs.declared.fault.RehearseFault.TheVariants.{Refused, Memory, File, TooLarge, LongLine, Write}
-use Rattle.rehearsing.specs.Lines.{IsLong, last_line, max_line}
+use Rattle.rehearsing.specs.Lines.{IsLine, IsLong, last_line, max_line}
 use Rattle.rehearsing.specs.Openings.{IsFirstPlay}
 use Rattle.rehearsing.specs.RehearseTexts.{RefusesTexts}
-use Rattle.rehearsing.specs.Sessions.{Heard, IsEndedBy, IsHeard, IsWhole, Session}
+use Rattle.rehearsing.specs.Sessions.{Heard, IsEndedBy, IsHeard, IsOver, Session, quits}
 
 -- so many bytes are more than a line, or there was no memory for them
 abbrev pub HasNoRoom : ℕ → RehearseFault → Type 0
@@ -41,16 +41,25 @@ pub record Hears {W : Type 0} (contents : W → Option (List ℕ)) (before : Reh
   pub heard : Heard before bytes rest text after
   pub written : Writes contents old new text
 
+-- with these bytes behind those of a line that has begun, a line ended the session
+pub record HearsEnd {W : Type 0} (contents : W → Option (List ℕ)) (before : RehearsalView) (begun bytes : List ℕ) (after : RehearsalView) (old new : TextWriter W) : Type 0 where
+  pub line : List ℕ
+  pub behind : List ℕ
+  pub hears : Hears contents before (begun ++ bytes) (line ++ 10 ∷ behind) after old new
+  pub is_line : IsLine line
+  pub is_quit : quits line ≡ true
+  pub fewer : length behind < length bytes
+
 -- the bytes were heard as far as the fault let
 pub record HearsUntil {W : Type 0} (contents : W → Option (List ℕ)) (before : RehearsalView) (bytes : List ℕ) (after : RehearsalView) (old new : TextWriter W) (fault : RehearseFault) : Type 0 where
   pub rest : List ℕ
   pub hears : Hears contents before bytes rest after old new
   pub stops : StopsAt rest fault
 
--- all commands were heard, and a text writer was given their answers
-pub record ListensToAll {W : Type 0} (contents : W → Option (List ℕ)) (before : RehearsalView) (old new : Option (List ℕ)) (text_old text_new : TextWriter W) : Type 0 where
+-- commands were heard until the session was over, and a text writer was given their answers
+pub record ListensToEnd {W : Type 0} (contents : W → Option (List ℕ)) (before : RehearsalView) (old new : Option (List ℕ)) (text_old text_new : TextWriter W) : Type 0 where
   pub text : List ℕ
-  pub whole : IsWhole before old new text
+  pub over : IsOver before old new text
   pub written : Writes contents text_old text_new text
 
 -- commands were heard until the fault

@@ -37,6 +37,10 @@ joined lines = flat_map (λ line. line ++ 10 ∷ []) lines
 abbrev pub without_return : List ℕ → List ℕ
 without_return line = if bytes_eq (drop (length line - 1) line) (codes "\r") then take (length line - 1) line else line
 
+-- the most bytes of a single read
+abbrev pub max_read : ℕ
+max_read = 65536
+
 -- what stands behind the last line feed, as a line of its own; no bytes are no line
 abbrev pub last_line : List ℕ → List (List ℕ)
 last_line [] = []

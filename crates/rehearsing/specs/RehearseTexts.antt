@@ -6,14 +6,14 @@ use Rattle.planning.specs.PlanTexts.{IsRefusedAfter, IsUnread}
 use Rattle.planning.specs.declared.fault.PlanFault.{PlanFault}
 use Rattle.rehearsal.specs.Stacks.{RehearsalView}
 use Rattle.rehearsing.specs.Openings.{IsOpeningIn}
-use Rattle.rehearsing.specs.Sessions.{IsEndedBy, IsHeard, IsWhole}
+use Rattle.rehearsing.specs.Sessions.{IsEndedBy, IsHeard, IsOver}
 use Rattle.rehearsing.specs.declared.fault.RehearseFault.{RehearseFault}
 use Rattle.rehearsing.specs.declared.fault.RehearseFault.TheVariants.{Refused, Memory, File, TooLarge, LongLine, Write}
 
--- all commands of the reader were answered, and their answers went out, and nothing else
+-- all commands of the reader were answered, as far as a line that ended the session, and their answers went out, and nothing else
 pub record HoldsSession (before : RehearsalView) (old new out_old out_new : Option (List ℕ)) : Type 0 where
   pub text : List ℕ
-  pub whole : IsWhole before old new text
+  pub over : IsOver before old new text
   pub written : Appends out_old out_new text
 
 -- a fault ended the session, and the answers before it went out, and nothing else
@@ -25,7 +25,7 @@ pub record EndsSession (is_reliable : Bool) (before : RehearsalView) (old new ou
 -- the answers broke off after so many bytes
 pub record BreaksSession (before : RehearsalView) (old new out_old out_new : Option (List ℕ)) (count : ℕ) : Type 0 where
   pub text : List ℕ
-  pub heard : IsHeard before old new text ⊎ IsWhole before old new text
+  pub heard : IsHeard before old new text ⊎ IsOver before old new text
   pub written : SendsFirst out_old out_new text count
 
 -- what a fault says of a session

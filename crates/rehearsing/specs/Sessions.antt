@@ -1,13 +1,13 @@
 -- A session: lines of commands are answered as they come.
-use Rattle.std.specs.Prelude.{◌≡◌, ℕ, ◌+◌, ◌<◌, ◌≤◌, All, Bool, false, Option, List, [], ◌∷◌, ◌++◌, length, map}
+use Rattle.std.specs.Prelude.{◌≡◌, ◌⊎◌, ℕ, ◌+◌, ◌<◌, ◌≤◌, All, Bool, true, false, Option, List, [], ◌∷◌, ◌++◌, length, map}
 use Rattle.std.specs.Io.KnownBytes.{Consumes, IsAtEnd}
 use Rattle.bounded_io.specs.Reading.{max_input}
 use Rattle.rehearsal.specs.Stacks.{RehearsalView}
 use Rattle.rehearsal_text.specs.Answers.{LeadsTo, answer_to}
-use Rattle.rehearsal_text.specs.Commands.{command_in}
+use Rattle.rehearsal_text.specs.Commands.{command_in, ends_session}
 use Rattle.rehearsing.specs.declared.fault.RehearseFault.{RehearseFault}
 use Rattle.rehearsing.specs.declared.fault.RehearseFault.TheVariants.{Refused, Memory, File, TooLarge, LongLine, Write}
-use Rattle.rehearsing.specs.Lines.{IsLine, IsLong, joined, last_line, max_line, without_return}
+use Rattle.rehearsing.specs.Lines.{IsLine, IsLong, joined, last_line, max_line, max_read, without_return}
 
 -- the text is the answers to these lines in their order, each from the rehearsal that the one before it left
 abbrev pub Session : RehearsalView → List (List ℕ) → List ℕ → RehearsalView → Type 0
@@ -16,11 +16,16 @@ Session before (line ∷ lines) text after =
     (between : RehearsalView) × (later : List ℕ) × LeadsTo before (command_in line) between × Session between lines later after
     × (text ≡ answer_to before (command_in line) ++ later)
 
--- the bytes are lines, each with its line feed, and a rest; the lines were answered, without the carriage returns before their line feeds
+-- the line, without the carriage return before its line feed, ends the session
+abbrev pub quits : List ℕ → Bool
+quits line = ends_session (command_in (without_return line))
+
+-- the bytes are lines, each with its line feed, none of which ends the session, and a rest; the lines were answered, without the carriage returns before their line feeds
 pub record Heard (before : RehearsalView) (bytes rest text : List ℕ) (after : RehearsalView) : Type 0 where
   pub lines : List (List ℕ)
   pub parts : bytes ≡ joined lines ++ rest
   pub are_lines : All IsLine lines
+  pub go_on : All (λ line. quits line ≡ false) lines
   pub answers : Session before (map without_return lines) text after
 
 -- the reader gave bytes, of which so much was heard, and no more than one past the bound of an input
@@ -47,6 +52,24 @@ pub record IsWhole (before : RehearsalView) (old new : Option (List ℕ)) (text 
   pub line : IsLine rest
   pub last_answer : Session between (last_line rest) last after
   pub text_is : text ≡ first ++ last
+
+-- a line ended the session: the lines before it were answered, and nothing more; of what stands behind it all came with its line feed, in a single read
+pub record IsEndedByLine (before : RehearsalView) (old new : Option (List ℕ)) (text : List ℕ) : Type 0 where
+  pub bytes : List ℕ
+  pub line : List ℕ
+  pub behind : List ℕ
+  pub after : RehearsalView
+  pub consumed : Consumes old new bytes
+  pub heard : Heard before bytes (line ++ 10 ∷ behind) text after
+  pub is_line : IsLine line
+  pub is_quit : quits line ≡ true
+  pub line_within : length bytes ≤ max_input + length behind
+  pub within : length bytes ≤ max_input + 1
+  pub one_read : length behind < max_read
+
+-- the session is over: the reader had no more, or a line ended it
+abbrev pub IsOver : RehearsalView → Option (List ℕ) → Option (List ℕ) → List ℕ → Type 0
+IsOver before old new text = IsWhole before old new text ⊎ IsEndedByLine before old new text
 
 -- a line, and the byte with which the commands have more bytes than an input has
 pub record IsPastLine (rest : List ℕ) : Type 0 where

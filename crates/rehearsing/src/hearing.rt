@@ -1,11 +1,13 @@
 //! Answering the lines among bytes.
-ghost use Rattle.std.specs.Prelude.{◌≡◌, ◌≤◌, ◌+◌, ◌++◌, [], IfErr, OnErr, OnOk, length};
+ghost use Rattle.std.specs.Prelude.{◌≡◌, ◌≤◌, ◌+◌, ◌++◌, [], IfErr, IfOk, OnErr, OnOk, is_some, length};
+ghost use Rattle.std.specs.ControlFlow.{MatchControlFlow, break_value};
 ghost use Rattle.bounded_io.specs.Writing.{Writes};
 ghost use Rattle.rehearsal_text.specs.Answers.{Answers, answer_to};
 ghost use Rattle.rehearsal_text.specs.Commands.{command_in};
 ghost use Rattle.rehearsing.specs.Lines as spec;
 ghost use Rattle.rehearsing.specs.Lines.{IsLine};
-ghost use Rattle.rehearsing.specs.Inside.{HasNoRoom, Hears, HearsUntil};
+ghost use Rattle.rehearsing.specs.Inside.{HasNoRoom, Hears, HearsEnd, HearsUntil};
+ghost use Rattle.rehearsing.specs.Sessions.{quits};
 
 use crate::fault::RehearseFault;
 use crate::lines::{cut_line, grow, without_return};
@@ -14,52 +16,57 @@ use rehearsal::Rehearsal;
 use rehearsal_text::answer;
 use std::alloc::Global;
 use std::io::Write;
+use std::ops::ControlFlow;
 
-/// Ends a line with these bytes and answers it; then the next one begins. Whatever refuses it, nothing is answered.
+/// Ends a line with these bytes and answers it; then the next one begins, where the session goes on. Whatever refuses it, nothing is answered.
 fn end_line<W: Write>(
     alloc: Global,
     rehearsal: &mut Rehearsal<'_>,
     line: &mut Vec<u8>,
     bytes: &[u8],
     text: &mut TextWriter<'_, W>,
-) -> Result<(), RehearseFault>
+) -> Result<ControlFlow<()>, RehearseFault>
     requires { length line.old.items ≤ spec.max_line }
     ensures within { OnOk result (length line.old.items + length bytes.now ≤ spec.max_line) }
     ensures next { OnOk result (line.new.items ≡ []) }
     ensures writes { OnOk result (Writes W.contents text.old text.new (answer_to rehearsal.old (command_in (spec.without_return (line.old.items ++ bytes.now))))) }
     ensures answers { OnOk result (Answers rehearsal.old (spec.without_return (line.old.items ++ bytes.now)) (answer_to rehearsal.old (command_in (spec.without_return (line.old.items ++ bytes.now)))) rehearsal.new) }
+    ensures flow { IfOk result (λ flow. is_some (break_value flow) ≡ quits (line.old.items ++ bytes.now)) }
     ensures err { IfErr result (HasNoRoom (length line.old.items + length bytes.now)) }
     ensures unchanged { OnErr result (rehearsal.new ≡ rehearsal.old) }
     ensures silent { OnErr result (Writes W.contents text.old text.new []) }
 {
     grow(line, bytes)?;
-    answer(alloc, rehearsal, without_return(line.as_slice()), text)?;
+    let flow = answer(alloc, rehearsal, without_return(line.as_slice()), text)?;
     line.clear();
-    Ok(())
+    Ok(flow)
 }
 
-/// Answers the lines that end among these bytes, of which the first one has begun. Behind it the line stands that has begun then.
+/// Answers the lines that end among these bytes, of which the first one has begun, as far as one that ends the session. Where none does, the line stands behind it
+/// that has begun then.
 pub(crate) fn hear<W: Write>(
     alloc: Global,
     rehearsal: &mut Rehearsal<'_>,
     line: &mut Vec<u8>,
     bytes: &[u8],
     text: &mut TextWriter<'_, W>,
-) -> Result<(), RehearseFault>
+) -> Result<ControlFlow<()>, RehearseFault>
     requires { IsLine line.old.items }
-    ensures hears { OnOk result (Hears W.contents rehearsal.old (line.old.items ++ bytes.now) line.new.items rehearsal.new text.old text.new) }
-    ensures line { OnOk result (IsLine line.new.items) }
+    ensures hears { IfOk result (λ flow. MatchControlFlow flow
+        (λ _. Hears W.contents rehearsal.old (line.old.items ++ bytes.now) line.new.items rehearsal.new text.old text.new × IsLine line.new.items)
+        (λ _. HearsEnd W.contents rehearsal.old line.old.items bytes.now rehearsal.new text.old text.new)) }
     ensures err { IfErr result (HearsUntil W.contents rehearsal.old (line.old.items ++ bytes.now) rehearsal.new text.old text.new) }
 {
     let mut left = bytes;
     while let Some((front, behind)) = cut_line(left) {
-        if let Err(fault) = end_line(alloc, rehearsal, line, front, text) {
-            return Err(fault);
+        match end_line(alloc, rehearsal, line, front, text) {
+            Ok(ControlFlow::Continue(())) => left = behind,
+            Ok(ControlFlow::Break(())) => return Ok(ControlFlow::Break(())),
+            Err(fault) => return Err(fault),
         }
-        left = behind;
     }
     match grow(line, left) {
-        Ok(()) => Ok(()),
+        Ok(()) => Ok(ControlFlow::Continue(())),
         Err(fault) => Err(fault),
     }
 }

@@ -1,7 +1,7 @@
 //! Hearing the commands of a reader as they come.
 ghost use Rattle.std.specs.Prelude.{◌≡◌, IfErr, MatchResult, OnErr, OnOk, []};
 ghost use Rattle.bounded_io.specs.Writing.{Writes};
-ghost use Rattle.rehearsing.specs.Inside.{LastAnswer, ListensToAll, Unheard};
+ghost use Rattle.rehearsing.specs.Inside.{LastAnswer, ListensToEnd, Unheard};
 ghost use Rattle.rehearsing.specs.RehearseTexts.{HoldsSession, IsTrueOfSession};
 
 use crate::fault::RehearseFault;
@@ -12,6 +12,7 @@ use rehearsal::Rehearsal;
 use rehearsal_text::answer;
 use std::alloc::{AllocError, Global};
 use std::io::Write;
+use std::ops::ControlFlow;
 
 /// How much a single read asks for.
 const CHUNK: usize = 65_536;
@@ -30,11 +31,12 @@ fn answer_last<W: Write>(
     if line.is_empty() {
         return Ok(());
     }
-    answer(alloc, rehearsal, line, text)
+    answer(alloc, rehearsal, line, text)?;
+    Ok(())
 }
 
 /// Answers the commands of the reader as they come: whatever is answered is sent, and `prompt` is told, before the next read. It never asks the reader for more than
-/// one byte past the bound of an input. Where the text breaks off nothing more is read.
+/// one byte past the bound of an input. Behind a line that ends the session, and where the text breaks off, nothing more is read.
 fn listen<P: Prompt, I: Input, W: Write>(
     alloc: Global,
     rehearsal: &mut Rehearsal<'_>,
@@ -42,7 +44,7 @@ fn listen<P: Prompt, I: Input, W: Write>(
     input: &mut I,
     text: &mut TextWriter<'_, W>,
 ) -> Result<(), RehearseFault>
-    ensures ok { OnOk result (ListensToAll W.contents rehearsal.old (I.remaining input.old) (I.remaining input.new) text.old text.new) }
+    ensures ok { OnOk result (ListensToEnd W.contents rehearsal.old (I.remaining input.old) (I.remaining input.new) text.old text.new) }
     ensures err { IfErr result (Unheard W.contents (I.is_reliable input.old) rehearsal.old (I.remaining input.old) (I.remaining input.new) text.old text.new) }
 {
     let mut line = Vec::new(alloc);
@@ -67,8 +69,10 @@ fn listen<P: Prompt, I: Input, W: Write>(
             };
         }
         let (kept, _past) = room.split_at(count.min(left));
-        if let Err(fault) = hear(alloc, rehearsal, &mut line, kept, text) {
-            return Err(fault);
+        match hear(alloc, rehearsal, &mut line, kept, text) {
+            Ok(ControlFlow::Continue(())) => {}
+            Ok(ControlFlow::Break(())) => return Ok(()),
+            Err(fault) => return Err(fault),
         }
         if count > left {
             return Err(RehearseFault::TooLarge);

@@ -13,7 +13,8 @@ use std::io::Write;
 
 /// Rehearses the first play of a playbook on the fleet of an inventory, each given as the bytes of its text: answers the lines of commands that the reader gives, each
 /// as it comes. No command is read, and nothing goes out, before both texts were accepted: first the inventory's faults are told, then the playbook's,
-/// then the first part of a pattern, of any play, that names nothing. Answers are sent, and `prompt` is told, before each read. A line of more than `MAX_LINE` bytes, more commands than an
+/// then the first part of a pattern, of any play, that names nothing. Answers are sent, and `prompt` is told, before each read. A line `quit` ends the session, as the end of the
+/// commands does. A line of more than `MAX_LINE` bytes, more commands than an
 /// input has bytes, a failed read and want of memory end the session behind the answers to the lines before. Where a write fails, exactly the
 /// first bytes of all answers went out, as many as the fault says.
 pub fn rehearse_text<P: Prompt, I: Input, W: Write>(

@@ -1,2 +1,3 @@
 mod GrowLemmas
 mod GivingLemmas
+mod HearLemmas

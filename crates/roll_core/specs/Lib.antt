@@ -3,4 +3,5 @@ pub mod Dones
 pub mod Leaves
 pub mod Givings
 pub mod Reports
+pub mod Tellings
 pub mod Inside

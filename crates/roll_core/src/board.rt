@@ -12,6 +12,7 @@ mod reporting;
 mod tallying;
 
 use crate::runner::Runner;
+use crate::watch::Watch;
 use domains::Fleet;
 use fleet_states::Status;
 use host_vars::Vars;
@@ -23,9 +24,9 @@ use std::sync::ledger::{Blank, Book, Ledger, Share};
 
 /// A roll of one play over a fleet, whose programs one runner runs. Its log is legal, at no moment of it is a group over its limit, and
 /// what it tells of a program is what the runner may tell of it. Up to 128 workers count the reports that they make, each in its tally;
-/// `L` names the ledger that ties these to the board.
+/// `L` names the ledger that ties these to the board. Its watcher has heard what is told of its log, and nothing else.
 #[derive(Drop)]
-pub struct Board<'f, R: Runner, L: Ledger> {
+pub struct Board<'f, R: Runner, L: Ledger, W: Watch> {
     kernel: Kernel<'f>,
     runner: &'f R,
     reports: Book<L>,
@@ -33,14 +34,16 @@ pub struct Board<'f, R: Runner, L: Ledger> {
     rest: Share<L>,
     tallies: usize,
     joined: usize,
+    watch: W,
 }
 
-impl<'f, R: Runner, L: Ledger> Model for Board<'f, R, L> {
+impl<'f, R: Runner, L: Ledger, W: Watch> Model for Board<'f, R, L, W> {
     ghost use Rattle.std.specs.Coded.{codes};
     ghost use Rattle.host_vars.specs.contracts.vars.Vars as variables;
     ghost use Rattle.play_model.specs.contracts.play.Play as plays;
     ghost use Rattle.roll_core.specs.Boards.{BoardView};
     ghost use Rattle.roll_core.specs.Inside.{IsKept};
+    ghost use Rattle.roll_core.specs.Tellings.{IsTold};
 
     ghost Value = { BoardView R };
 
@@ -48,12 +51,12 @@ impl<'f, R: Runner, L: Ledger> Model for Board<'f, R, L> {
 
     ghost view = { λ b. record { kernel = b.kernel; runner = b.runner.now; tallies = b.tallies; joined = b.joined } };
 
-    ghost invariant = { λ b. IsKept (R.may b.runner.now) b.kernel b.tallies b.reports.total L.parts b.rest.parts b.rest.amount b.joined };
+    ghost invariant = { λ b. IsKept (R.may b.runner.now) b.kernel b.tallies b.reports.total L.parts b.rest.parts b.rest.amount b.joined × IsTold W.hears b.kernel b.watch };
 }
 
-impl<'f, R: Runner, L: Ledger> Board<'f, R, L> {
+impl<'f, R: Runner, L: Ledger, W: Watch> Board<'f, R, L, W> {
     /// A roll at its first boundary: each host begins with its status and its variables. At most `forks` claims are out at once, 1 to 64. `blank`
-    /// is of 129 parts: one for each tally that may be out, and one for the board.
+    /// is of 129 parts: one for each tally that may be out, and one for the board. Want of memory drops `watch`.
     #[allow(clippy::too_many_arguments)]
     pub fn new(
         alloc: Global,
@@ -64,7 +67,8 @@ impl<'f, R: Runner, L: Ledger> Board<'f, R, L> {
         start: &'f [Status],
         vars: &'f [Vars],
         blank: Blank,
-    ) -> Result<Board<'f, R, L>, AllocError>
+        watch: W,
+    ) -> Result<Board<'f, R, L, W>, AllocError>
         requires all { length start.now ≡ length fleet.now.hosts }
         requires each { length vars.now ≡ length fleet.now.hosts }
         requires at_rest { NobodyRuns start.now }
@@ -91,6 +95,7 @@ impl<'f, R: Runner, L: Ledger> Board<'f, R, L> {
             rest,
             tallies: 0,
             joined: 0,
+            watch,
         })
     }
 }

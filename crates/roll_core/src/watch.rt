@@ -1,18 +1,38 @@
-//! Whoever watches a run.
+//! Whoever watches a roll.
+ghost use Rattle.domains.specs.FleetViews.{FleetView};
+ghost use Rattle.play_model.specs.declared.play.Play as plays;
+ghost use Rattle.roll_core.specs.Tellings.{Telling, telling_of};
+
+use crate::news::News;
 use domains::Fleet;
-use fleet_states::Status;
-use group_tree::HostId;
 use play_model::Play;
-use std::alloc::Global;
-use std::sync::Wait;
 
-/// Is told of a run while it goes on. What it makes of that changes nothing of the run.
-pub trait Watch {
-    /// A play begins.
-    fn play_begins<H: Wait>(&self, rt: &H, alloc: Global, fleet: &Fleet, play: &Play);
+/// Is told of rolls while they go on, of each event as it is entered in the log, and of what else there is to tell of them. What it makes of that
+/// changes nothing of them.
+pub trait Watch: Drop {
+    /// From the first moment to the second it heard this of a play over a fleet.
+    ghost hears: { Self → Self → FleetView → plays.Play → Telling → Type 0 };
 
-    /// A batch was opened: the hosts have these statuses now.
-    fn batch_opens<H: Wait>(&self, rt: &H, fleet: &Fleet, batch: &[HostId], statuses: &[Status]);
+    fn hear(&mut self, fleet: &Fleet, play: &Play, news: &News<'_>)
+        ensures { hears self.old self.new fleet.now play.now (telling_of news.now) };
+
+    /// Of so many plays the first is to begin.
+    fn plays_begin(&mut self, plays: usize);
+
+    /// The next play begins.
+    fn play_begins(&mut self);
+
+    /// The plays are over. What is printed of them comes next.
+    fn plays_end(&mut self);
+
+    /// Whether anybody is told anything.
+    fn is_told(&self) -> bool;
+
+    /// These lines are to be told now.
+    fn note(&mut self, lines: &[u8]);
+
+    /// These lines are to be told behind everything else.
+    fn keep(&mut self, lines: Vec<u8>);
 }
 
 /// Nobody watches.
@@ -20,13 +40,53 @@ pub trait Watch {
 pub struct Unwatched;
 
 impl Watch for Unwatched {
-    fn play_begins<H: Wait>(&self, _rt: &H, _alloc: Global, _fleet: &Fleet, _play: &Play) {}
+    ghost hears = { λ before after fleet play telling. Unit {0} };
 
-    fn batch_opens<H: Wait>(
-        &self,
-        _rt: &H,
-        _fleet: &Fleet,
-        _batch: &[HostId],
-        _statuses: &[Status],
-    ) {}
+    fn hear(&mut self, _fleet: &Fleet, _play: &Play, _news: &News<'_>) {}
+
+    fn plays_begin(&mut self, _plays: usize) {}
+
+    fn play_begins(&mut self) {}
+
+    fn plays_end(&mut self) {}
+
+    fn is_told(&self) -> bool {
+        false
+    }
+
+    fn note(&mut self, _lines: &[u8]) {}
+
+    fn keep(&mut self, _lines: Vec<u8>) {}
+}
+
+impl<W: Watch> Watch for &mut W {
+    ghost hears = { λ before after fleet play telling. W.hears before.now after.now fleet play telling };
+
+    fn hear(&mut self, fleet: &Fleet, play: &Play, news: &News<'_>) {
+        (**self).hear(fleet, play, news);
+    }
+
+    fn plays_begin(&mut self, plays: usize) {
+        (**self).plays_begin(plays);
+    }
+
+    fn play_begins(&mut self) {
+        (**self).play_begins();
+    }
+
+    fn plays_end(&mut self) {
+        (**self).plays_end();
+    }
+
+    fn is_told(&self) -> bool {
+        (**self).is_told()
+    }
+
+    fn note(&mut self, lines: &[u8]) {
+        (**self).note(lines);
+    }
+
+    fn keep(&mut self, lines: Vec<u8>) {
+        (**self).keep(lines);
+    }
 }

@@ -16,7 +16,7 @@ mod trial;
 mod way;
 
 pub use batch::Batch;
-pub use batch_work::Stage;
+pub use batch_work::{Entered, Stage};
 pub use claim::{Claim, Handed};
 pub use completion::Completion;
 pub use event::Event;

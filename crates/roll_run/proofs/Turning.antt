@@ -39,7 +39,8 @@ use Rattle.fork_pool.specs.declared.fault.StepFault.TheVariants.{Mem, WorkerMem,
 use Rattle.fork_pool.specs.Faults.{IsFaultOf}
 use Rattle.roll_run.specs.declared.fault.Break.{Break}
 use Rattle.roll_run.specs.Runs.{IsBreakIn, IsFaultIn}
-use Rattle.roll_run.specs.Inside.{HasRun, IsAt, IsBehind, IsBetween, IsSameRoll, halt_in}
+use Rattle.roll_run.specs.Inside.{HasRun, IsAt, IsBehind, IsBetween, IsSameRoll}
+use Rattle.roll_core.specs.Tellings.{halt_in}
 use Rattle.roll_run.proofs.Lengths.{as_many}
 use Rattle.roll_run.proofs.Closing.{closes, others_same}
 

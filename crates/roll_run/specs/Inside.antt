@@ -41,12 +41,6 @@ opens (reported host step ending) = false
 opens (passed step) = false
 opens closed = false
 
--- the step at which a batch halted that has ended so
-abbrev pub halt_in : Phase → Option ℕ
-halt_in between = None
-halt_in (working step) = None
-halt_in (ended halt) = halt
-
 abbrev pub setting_by : Columns → KernelView → Setting
 setting_by columns kernel = setting_of kernel.fleet (roll_of kernel) columns
 

@@ -1,11 +1,11 @@
 //! Whoever attends a run.
 ghost use Rattle.std.specs.Prelude.{◌≡◌, Bool, false, true};
 
-use roll_core::{Unwatched, Watch};
+use roll_core::Unwatched;
 use std::sync::Wait;
 
-/// Watches a run, may have it end at a boundary, and takes what is left of a recap that can't be written.
-pub trait Attend: Watch {
+/// May have a run end at a boundary.
+pub trait Attend {
     /// Whether the end may be asked for.
     ghost asks: { Self → Bool };
 
@@ -13,8 +13,8 @@ pub trait Attend: Watch {
     fn goes_on<H: Wait>(&self, rt: &H) -> bool
         ensures { result ≡ false → asks self.now ≡ true };
 
-    /// The recap can't be written whole: these are its lines of the hosts that are down.
-    fn recap_is_lost<H: Wait>(&self, rt: &H, lines: Vec<u8>);
+    /// A batch is next, and the plan has so many from here on, that one among them.
+    fn plans<H: Wait>(&self, rt: &H, ahead: usize);
 }
 
 impl Attend for Unwatched {
@@ -24,5 +24,5 @@ impl Attend for Unwatched {
         true
     }
 
-    fn recap_is_lost<H: Wait>(&self, _rt: &H, _lines: Vec<u8>) {}
+    fn plans<H: Wait>(&self, _rt: &H, _ahead: usize) {}
 }

@@ -12,18 +12,18 @@ use crate::attend::Attend;
 use crate::fault::Break;
 use fork_pool::{Front, StepFault};
 use group_tree::HostId;
-use roll_core::{Board, Next, Runner};
+use roll_core::{Board, Next, Runner, Watch};
 use std::alloc::Global;
 use std::sync::Wait;
 use std::sync::ledger::Ledger;
 
 /// Works on the present step of the open batch, and passes it.
-fn pass_step<'f, 'b, R: Runner, L: Ledger, H: Wait>(
+fn pass_step<'f, 'b, R: Runner, L: Ledger, H: Wait, W: Watch>(
     rt: &H,
     alloc: Global,
     front: &mut Front<'f, R>,
-    board: Board<'b, R, L>,
-) -> Result<(Next, Board<'b, R, L>), (StepFault, Board<'b, R, L>)>
+    board: Board<'b, R, L, W>,
+) -> Result<(Next, Board<'b, R, L, W>), (StepFault, Board<'b, R, L, W>)>
 where
     'f: 'b,
     requires forks { front.old.forks ≡ board.kernel.forks }
@@ -44,12 +44,12 @@ where
 }
 
 /// Works on the steps of the open batch, one after the other, until it is over.
-fn pass_steps<'f, 'b, R: Runner, L: Ledger, H: Wait>(
+fn pass_steps<'f, 'b, R: Runner, L: Ledger, H: Wait, W: Watch>(
     rt: &H,
     alloc: Global,
     front: &mut Front<'f, R>,
-    mut board: Board<'b, R, L>,
-) -> Result<Board<'b, R, L>, (StepFault, Board<'b, R, L>)>
+    mut board: Board<'b, R, L, W>,
+) -> Result<Board<'b, R, L, W>, (StepFault, Board<'b, R, L, W>)>
 where
     'f: 'b,
     requires forks { front.old.forks ≡ board.kernel.forks }
@@ -72,14 +72,13 @@ where
 }
 
 /// Opens a batch, and works on it until it is over. Where it isn't opened, nothing has changed.
-fn work_off<'f, 'b, R: Runner, L: Ledger, H: Wait, A: Attend>(
+fn work_off<'f, 'b, R: Runner, L: Ledger, H: Wait, W: Watch>(
     rt: &H,
     alloc: Global,
-    attend: &A,
     front: &mut Front<'f, R>,
-    mut board: Board<'b, R, L>,
+    mut board: Board<'b, R, L, W>,
     batch: &[HostId],
-) -> Result<Board<'b, R, L>, (StepFault, Board<'b, R, L>)>
+) -> Result<Board<'b, R, L, W>, (StepFault, Board<'b, R, L, W>)>
 where
     'f: 'b,
     requires forks { front.old.forks ≡ board.kernel.forks }
@@ -91,23 +90,20 @@ where
     ensures forks { front.new.forks ≡ front.old.forks }
 {
     match board.open(alloc, batch) {
-        Ok(()) => {
-            attend.batch_opens(rt, board.fleet(), batch, board.statuses());
-            pass_steps(rt, alloc, front, board)
-        }
+        Ok(()) => pass_steps(rt, alloc, front, board),
         Err(_refused) => Err((StepFault::Mem, board)),
     }
 }
 
 /// Opens a batch where whoever attends the run lets it go on, and works on it until it is over. Where it isn't opened, nothing has changed.
-pub(crate) fn run_batch<'f, 'b, R: Runner, L: Ledger, H: Wait, A: Attend>(
+pub(crate) fn run_batch<'f, 'b, R: Runner, L: Ledger, H: Wait, A: Attend, W: Watch>(
     rt: &H,
     alloc: Global,
     attend: &A,
     front: &mut Front<'f, R>,
-    board: Board<'b, R, L>,
+    board: Board<'b, R, L, W>,
     batch: &[HostId],
-) -> Result<Board<'b, R, L>, (Break, Board<'b, R, L>)>
+) -> Result<Board<'b, R, L, W>, (Break, Board<'b, R, L, W>)>
 where
     'f: 'b,
     requires forks { front.old.forks ≡ board.kernel.forks }
@@ -124,7 +120,7 @@ where
     if !attend.goes_on(rt) {
         return Err((Break::Asked, board));
     }
-    match work_off(rt, alloc, attend, front, board, batch) {
+    match work_off(rt, alloc, front, board, batch) {
         Ok(board) => Ok(board),
         Err((why, board)) => Err((Break::Fault(why), board)),
     }

@@ -16,7 +16,7 @@ use fleet_states::{Status, status_of};
 use group_tree::HostId;
 use play_course::Boundary;
 use play_plan::list_aside_over;
-use roll_core::{Board, Runner};
+use roll_core::{Board, Runner, Watch};
 use std::alloc::{AllocError, Allocator, Global};
 use std::sync::ledger::Ledger;
 
@@ -47,9 +47,9 @@ pub(crate) fn tell<A: Allocator>(
 }
 
 /// Sets these hosts aside, and counts them so. Want of memory leaves everything as it was.
-fn hold<A: Allocator, R: Runner, L: Ledger>(
+fn hold<A: Allocator, R: Runner, L: Ledger, W: Watch>(
     alloc: Global,
-    board: &mut Board<'_, R, L>,
+    board: &mut Board<'_, R, L, W>,
     domains: &mut Domains<'_, A>,
     held: &[HostId],
 ) -> Result<(), AllocError>
@@ -70,9 +70,9 @@ fn hold<A: Allocator, R: Runner, L: Ledger>(
 }
 
 /// The same, where any are to be set aside.
-fn set_aside<A: Allocator, R: Runner, L: Ledger>(
+fn set_aside<A: Allocator, R: Runner, L: Ledger, W: Watch>(
     alloc: Global,
-    board: &mut Board<'_, R, L>,
+    board: &mut Board<'_, R, L, W>,
     domains: &mut Domains<'_, A>,
     held: &[HostId],
 ) -> Result<(), AllocError>
@@ -97,9 +97,9 @@ fn count(boundaries: &[Boundary]) -> u32
 
 /// Comes to the next boundary: hosts are set aside where they are not to stop the play, and the rest is planned anew over the counts
 /// that stand. Want of memory adds no boundary.
-pub(crate) fn come_to_boundary<A: Allocator, R: Runner, L: Ledger>(
+pub(crate) fn come_to_boundary<A: Allocator, R: Runner, L: Ledger, W: Watch>(
     alloc: Global,
-    board: &mut Board<'_, R, L>,
+    board: &mut Board<'_, R, L, W>,
     domains: &mut Domains<'_, A>,
     boundaries: &mut Vec<Boundary>,
     targeted: u32,

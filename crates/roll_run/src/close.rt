@@ -1,39 +1,27 @@
 //! A batch is over.
-ghost use Rattle.std.specs.Prelude.{◌≡◌, ℕ, Option, length, true};
+ghost use Rattle.std.specs.Prelude.{◌≡◌, length, true};
 ghost use Rattle.domains.specs.Ids.{host_numbers};
 ghost use Rattle.batch_plan.specs.Places.{told_places};
 ghost use Rattle.play_course.specs.Courses.{end_with};
 ghost use Rattle.roll_logs.specs.Events.{closed};
 ghost use Rattle.roll_logs.specs.Logs.{IsLegal};
 ghost use Rattle.roll_logs.specs.States.{ended, failures, start_state};
-ghost use Rattle.batch_work.specs.Works.{phase_of};
 ghost use Rattle.roll_kernel.specs.Barriers.{is_over};
 ghost use Rattle.roll_kernel.specs.Views.{roll_of, state_of};
 ghost use Rattle.roll_core.specs.Boards.{with_event};
-ghost use Rattle.roll_run.specs.Inside.{halt_in};
+ghost use Rattle.roll_core.specs.Tellings.{halt_in};
 
 use crate::boundary::tell;
 use domain_counts::Domains;
 use group_tree::HostId;
 use play_course::{End, end_with};
-use roll_core::{Board, Runner, Stage};
+use roll_core::{Board, Runner, Watch, halt_of};
 use std::alloc::Allocator;
 use std::sync::ledger::Ledger;
 
-/// The step at which a batch halted, if it did.
-fn halt_of(stage: Stage) -> Option<usize>
-    ensures { result ≡ halt_in (phase_of stage) }
-{
-    match stage {
-        Stage::Between => None,
-        Stage::Working(_) => None,
-        Stage::Ended(halt) => halt,
-    }
-}
-
 /// Closes a batch that is over, counts its hosts as they are now, and tells whether it ended the play, and how.
-pub(crate) fn close_batch<A: Allocator, R: Runner, L: Ledger>(
-    board: &mut Board<'_, R, L>,
+pub(crate) fn close_batch<A: Allocator, R: Runner, L: Ledger, W: Watch>(
+    board: &mut Board<'_, R, L, W>,
     domains: &mut Domains<'_, A>,
     batch: &[HostId],
 ) -> Option<End>

@@ -22,5 +22,5 @@ pub use laws::{no_worker_fails_at_boundaries, runs_are_courses};
 pub use play::run_play;
 pub use play_course::{Boundary, End};
 pub use pool::run_plays;
-pub use roll_core::{Unwatched, Watch};
+pub use roll_core::{News, Unwatched, Watch};
 pub use run::Run;

@@ -20,7 +20,7 @@ use fork_pool::Front;
 use host_vars::Vars;
 use play_course::{Boundary, End};
 use play_model::Play;
-use roll_core::{Board, Event, Runner};
+use roll_core::{Board, Event, Runner, Watch};
 use std::alloc::{AllocError, Global};
 use std::sync::Wait;
 use std::sync::ledger::{Blank, Ledger};
@@ -39,8 +39,8 @@ fn count_opened(log: &[Event]) -> usize
 }
 
 /// What is left of a run that came to its end, or that a fault broke off.
-fn leave<R: Runner, L: Ledger>(
-    board: Board<'_, R, L>,
+fn leave<R: Runner, L: Ledger, W: Watch>(
+    board: Board<'_, R, L, W>,
     boundaries: Vec<Boundary>,
     gone: Result<End, Break>,
 ) -> Result<Run, RunFault>
@@ -49,7 +49,7 @@ fn leave<R: Runner, L: Ledger>(
     ensures err { IfErr result (IsBrokenOff (R.may board.entry.runner) board.entry.kernel.fleet (roll_of board.entry.kernel)) }
     ensures why { IfErr result (λ fault. gone ≡ Err fault.why) }
 {
-    let left = board.finish();
+    let (left, _watch) = board.finish();
     match gone {
         Ok(end) => Ok(Run {
             boundaries,
@@ -84,10 +84,11 @@ fn count_targets(alloc: Global, fleet: &Fleet, play: &Play) -> Result<u32, Alloc
 /// A run of the play with the workers of a pool. The counts of the fleet stay in an arena of the coordinator's own. Where memory is wanting before there
 /// is a board, only that is told.
 #[allow(clippy::too_many_arguments)]
-pub(crate) fn run_on<'f, 'b, R: Runner, L: Ledger, H: Wait, A: Attend>(
+pub(crate) fn run_on<'f, 'b, 'w, R: Runner, L: Ledger, H: Wait, A: Attend, W: Watch>(
     rt: &H,
     alloc: Global,
     attend: &A,
+    watch: &'w mut W,
     front: &mut Front<'f, R>,
     fleet: &'b Fleet,
     play: &'b Play,
@@ -118,7 +119,9 @@ where
     let targeted = count_targets(alloc, fleet, play)?;
     let arena = Bump::new(alloc);
     let mut domains = counted(&arena, fleet, statuses)?;
-    let board = Board::<R, L>::new(alloc, fleet, play, runner, forks, statuses, vars, blank)?;
+    let board = Board::<R, L, &mut W>::new(
+        alloc, fleet, play, runner, forks, statuses, vars, blank, watch,
+    )?;
     let mut boundaries = Vec::new(alloc);
     let (gone, board) = go_on(
         rt,

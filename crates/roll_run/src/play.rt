@@ -14,7 +14,7 @@ use domains::Fleet;
 use fleet_states::Status;
 use host_vars::Vars;
 use play_model::Play;
-use roll_core::Runner;
+use roll_core::{Runner, Watch};
 use std::alloc::Global;
 use std::process::{Processes, SystemProcess};
 use std::slice;
@@ -23,17 +23,19 @@ use std::thread::Threads;
 
 /// Runs a play on the hosts of its pattern, with `forks` workers, 1 to 64: at each boundary with the shortest plan that there is, and with
 /// that plan's first batch. At no moment is a group over its limit, whatever the programs answer and however many run at once. Want of
-/// memory breaks it off with what it came to, and so does `attend` before a batch; where a worker can't be started, nothing is opened. `attend` is told
-/// of each batch.
+/// memory breaks it off with what it came to, and so does `attend` before a batch; where a worker can't be started, nothing is opened. `watch` is told
+/// of it.
 #[allow(clippy::too_many_arguments)]
 pub fn run_play<
     R: Runner,
     H: Threads + Wait + Processes<Started = SystemProcess> + Sync,
     A: Attend,
+    W: Watch,
 >(
     rt: &H,
     alloc: Global,
     attend: &A,
+    watch: &mut W,
     fleet: &Fleet,
     play: &Play,
     statuses: Vec<Status>,
@@ -56,6 +58,7 @@ pub fn run_play<
         rt,
         alloc,
         attend,
+        watch,
         fleet,
         slice::from_ref(play),
         statuses,

@@ -19,7 +19,7 @@ use fork_pool::Front;
 use host_vars::Vars;
 use play_course::End;
 use play_model::Play;
-use roll_core::Runner;
+use roll_core::{Runner, Watch};
 use std::alloc::{AllocError, Global};
 use std::marker::Brand;
 use std::sync::Wait;
@@ -27,10 +27,11 @@ use std::sync::ledger::Blank;
 
 /// A run of a play on the workers of a pool.
 #[allow(clippy::too_many_arguments)]
-fn run_one<'f, R: Runner, H: Wait, A: Attend>(
+fn run_one<'f, R: Runner, H: Wait, A: Attend, W: Watch>(
     rt: &H,
     alloc: Global,
     attend: &A,
+    watch: &mut W,
     front: &mut Front<'f, R>,
     fleet: &Fleet,
     play: &Play,
@@ -52,11 +53,12 @@ fn run_one<'f, R: Runner, H: Wait, A: Attend>(
     ensures asked { IfErr result (λ fault. MayBreak (A.asks attend.now) fault.why) }
     ensures forks { front.new.forks ≡ front.old.forks }
 {
-    attend.play_begins(rt, alloc, fleet, play);
-    let answer = run_on::<R, Brand, H, A>(
+    watch.play_begins();
+    let answer = run_on::<R, Brand, H, A, W>(
         rt,
         alloc,
         attend,
+        watch,
         front,
         fleet,
         play,
@@ -82,10 +84,11 @@ fn is_finished(end: End) -> bool
 /// Runs the plays after a run, each where the one before it ended, until one ends otherwise than finished, and puts that run and theirs with those that are done.
 /// `room` is for as many statuses as there are hosts, for a play that can't begin.
 #[allow(clippy::too_many_arguments)]
-fn run_later<'f, R: Runner, H: Wait, A: Attend>(
+fn run_later<'f, R: Runner, H: Wait, A: Attend, W: Watch>(
     rt: &H,
     alloc: Global,
     attend: &A,
+    watch: &mut W,
     front: &mut Front<'f, R>,
     fleet: &Fleet,
     plays: &[Play],
@@ -123,6 +126,7 @@ fn run_later<'f, R: Runner, H: Wait, A: Attend>(
                 rt,
                 alloc,
                 attend,
+                watch,
                 front,
                 fleet,
                 play,
@@ -132,7 +136,7 @@ fn run_later<'f, R: Runner, H: Wait, A: Attend>(
                 forks,
             ) {
                 Ok(run) => run_later(
-                    rt, alloc, attend, front, fleet, rest, runner, forks, run, done, room,
+                    rt, alloc, attend, watch, front, fleet, rest, runner, forks, run, done, room,
                 ),
                 Err(fault) => Err(fault),
             }
@@ -157,10 +161,11 @@ fn places(alloc: Global, runs: usize, hosts: usize) -> Result<(Vec<Run>, Vec<Sta
 
 /// Runs the plays, one after the other, on the workers of a pool.
 #[allow(clippy::too_many_arguments)]
-pub(crate) fn run_each<'f, R: Runner, H: Wait, A: Attend>(
+pub(crate) fn run_each<'f, R: Runner, H: Wait, A: Attend, W: Watch>(
     rt: &H,
     alloc: Global,
     attend: &A,
+    watch: &mut W,
     front: &mut Front<'f, R>,
     fleet: &Fleet,
     plays: &[Play],
@@ -189,10 +194,10 @@ pub(crate) fn run_each<'f, R: Runner, H: Wait, A: Attend>(
         return Err(RunsFault::before_a_log(alloc, statuses));
     };
     match run_one(
-        rt, alloc, attend, front, fleet, first, statuses, vars, runner, forks,
+        rt, alloc, attend, watch, front, fleet, first, statuses, vars, runner, forks,
     ) {
         Ok(run) => match run_later(
-            rt, alloc, attend, front, fleet, later, runner, forks, run, &mut done, room,
+            rt, alloc, attend, watch, front, fleet, later, runner, forks, run, &mut done, room,
         ) {
             Ok(()) => Ok(done),
             Err(last) => Err(RunsFault { done, last }),

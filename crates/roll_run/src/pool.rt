@@ -16,7 +16,7 @@ use fleet_states::Status;
 use fork_pool::{Front, WorkerEnd, pool, serve};
 use host_vars::Vars;
 use play_model::Play;
-use roll_core::Runner;
+use roll_core::{Runner, Watch};
 use std::alloc::Global;
 use std::process::{Processes, SystemProcess};
 use std::sync::Wait;
@@ -25,10 +25,11 @@ use std::thread::Threads;
 
 /// Runs the plays, unless a worker is missing.
 #[allow(clippy::too_many_arguments)]
-fn run_with_all<'f, R: Runner, H: Wait, A: Attend>(
+fn run_with_all<'f, R: Runner, H: Wait, A: Attend, W: Watch>(
     rt: &H,
     alloc: Global,
     attend: &A,
+    watch: &mut W,
     missing: bool,
     front: &mut Front<'f, R>,
     fleet: &Fleet,
@@ -55,7 +56,7 @@ fn run_with_all<'f, R: Runner, H: Wait, A: Attend>(
         return Err(RunsFault::before_a_log(alloc, statuses));
     }
     run_each(
-        rt, alloc, attend, front, fleet, plays, statuses, vars, runner, forks,
+        rt, alloc, attend, watch, front, fleet, plays, statuses, vars, runner, forks,
     )
 }
 
@@ -63,13 +64,16 @@ fn run_with_all<'f, R: Runner, H: Wait, A: Attend>(
 #[allow(clippy::too_many_arguments)]
 fn with_workers<
     'f,
+    'w,
     R: Runner,
     H: Threads + Wait + Processes<Started = SystemProcess> + Sync,
     A: Attend,
+    W: Watch,
 >(
     rt: &H,
     alloc: Global,
     attend: &'f A,
+    watch: &'w mut W,
     front: Front<'f, R>,
     ends: Vec<WorkerEnd<'f, R>>,
     fleet: &'f Fleet,
@@ -116,7 +120,8 @@ fn with_workers<
                 missing |= started.is_err();
             }
             run_with_all(
-                rt, alloc, attend, missing, &mut front, fleet, plays, statuses, vars, runner, forks,
+                rt, alloc, attend, watch, missing, &mut front, fleet, plays, statuses, vars,
+                runner, forks,
             )
         },
     )
@@ -125,16 +130,18 @@ fn with_workers<
 /// Runs plays one after the other, with `forks` workers, 1 to 64, who stand throughout: each play as `run_play` does, the first one from these statuses and
 /// variables, each next one where the one before it ended and with the results that were registered before. A play that ends otherwise than finished is the last.
 /// Want of memory breaks the run off, and so does `attend` before a batch: the runs before it come back, with what the last one came to; where a worker
-/// can't be started, nothing is opened. `attend` is told of each play and batch.
+/// can't be started, nothing is opened. `watch` is told of each play.
 #[allow(clippy::too_many_arguments)]
 pub fn run_plays<
     R: Runner,
     H: Threads + Wait + Processes<Started = SystemProcess> + Sync,
     A: Attend,
+    W: Watch,
 >(
     rt: &H,
     alloc: Global,
     attend: &A,
+    watch: &mut W,
     fleet: &Fleet,
     plays: &[Play],
     statuses: Vec<Status>,
@@ -156,7 +163,7 @@ pub fn run_plays<
 {
     match pool(alloc, forks) {
         Ok((front, ends)) => with_workers(
-            rt, alloc, attend, front, ends, fleet, plays, statuses, vars, runner, forks,
+            rt, alloc, attend, watch, front, ends, fleet, plays, statuses, vars, runner, forks,
         ),
         Err(_refused) => Err(RunsFault::before_a_log(alloc, statuses)),
     }

@@ -12,10 +12,11 @@ use crate::batch::run_batch;
 use crate::boundary::come_to_boundary;
 use crate::close::close_batch;
 use crate::fault::Break;
+use batch_plan::Answer;
 use domain_counts::Domains;
 use fork_pool::{Front, StepFault};
 use play_course::{Boundary, End};
-use roll_core::{Board, Runner};
+use roll_core::{Board, Runner, Watch};
 use std::alloc::{Allocator, Global};
 use std::sync::Wait;
 use std::sync::ledger::Ledger;
@@ -41,18 +42,28 @@ fn end_at(before: Option<End>, boundary: &Boundary) -> Option<End>
     }
 }
 
+/// How many batches the plan has.
+fn ahead(answer: &Answer) -> usize
+    ensures { result ≡ length (courses.batches_of answer.now) }
+{
+    match answer {
+        Answer::Planned(plan) => plan.batches.len(),
+        Answer::Blocked { .. } => 0,
+    }
+}
+
 /// Ends the play at the last boundary, or runs its batch.
 #[allow(clippy::too_many_arguments)]
-fn pass<'f, 'b, A: Allocator, R: Runner, L: Ledger, H: Wait, W: Attend>(
+fn pass<'f, 'b, A: Allocator, R: Runner, L: Ledger, H: Wait, E: Attend, W: Watch>(
     rt: &H,
     alloc: Global,
-    attend: &W,
+    attend: &E,
     front: &mut Front<'f, R>,
-    board: Board<'b, R, L>,
+    board: Board<'b, R, L, W>,
     domains: &mut Domains<'_, A>,
     boundaries: &[Boundary],
     before: Option<End>,
-) -> (Turn, Board<'b, R, L>)
+) -> (Turn, Board<'b, R, L, W>)
 where
     'f: 'b,
     requires forks { front.old.forks ≡ board.kernel.forks }
@@ -60,7 +71,7 @@ where
     requires counts { AreCountsOf (state_of board.kernel).statuses domains.old }
     requires noted { IsNoted board.kernel boundaries.now before }
     ensures turned { HasTurned boundaries.now domains.new result.1 result.0 }
-    ensures asked { MayTurn (W.asks attend.now) result.0 }
+    ensures asked { MayTurn (E.asks attend.now) result.0 }
     ensures same { IsSameRoll board.entry result.1 }
     ensures fleet { domains.new.fleet ≡ domains.old.fleet }
     ensures forks { front.new.forks ≡ front.old.forks }
@@ -68,29 +79,32 @@ where
     let boundary = &boundaries[boundaries.len() - 1];
     match end_at(before, boundary) {
         Some(end) => (Turn::Ended(end), board),
-        None => match run_batch(rt, alloc, attend, front, board, boundary.next_batch()) {
-            Ok(mut board) => {
-                let end = close_batch(&mut board, domains, boundary.next_batch());
-                (Turn::Behind(end), board)
+        None => {
+            attend.plans(rt, ahead(&boundary.answer));
+            match run_batch(rt, alloc, attend, front, board, boundary.next_batch()) {
+                Ok(mut board) => {
+                    let end = close_batch(&mut board, domains, boundary.next_batch());
+                    (Turn::Behind(end), board)
+                }
+                Err((why, board)) => (Turn::Broken(why), board),
             }
-            Err((why, board)) => (Turn::Broken(why), board),
-        },
+        }
     }
 }
 
 /// Comes to the next boundary, and ends the play there or runs its batch.
 #[allow(clippy::too_many_arguments)]
-fn move_on<'f, 'b, A: Allocator, R: Runner, L: Ledger, H: Wait, W: Attend>(
+fn move_on<'f, 'b, A: Allocator, R: Runner, L: Ledger, H: Wait, E: Attend, W: Watch>(
     rt: &H,
     alloc: Global,
-    attend: &W,
+    attend: &E,
     front: &mut Front<'f, R>,
-    mut board: Board<'b, R, L>,
+    mut board: Board<'b, R, L, W>,
     domains: &mut Domains<'_, A>,
     boundaries: &mut Vec<Boundary>,
     before: Option<End>,
     targeted: u32,
-) -> (Turn, Board<'b, R, L>)
+) -> (Turn, Board<'b, R, L, W>)
 where
     'f: 'b,
     requires forks { front.old.forks ≡ board.kernel.forks }
@@ -100,7 +114,7 @@ where
     requires targeted { targeted ≡ length (targets board.kernel.fleet board.kernel.play) }
     requires between { IsBetween board.kernel boundaries.old.items before }
     ensures turned { HasTurned boundaries.new.items domains.new result.1 result.0 }
-    ensures asked { MayTurn (W.asks attend.now) result.0 }
+    ensures asked { MayTurn (E.asks attend.now) result.0 }
     ensures same { IsSameRoll board.entry result.1 }
     ensures fleet { domains.new.fleet ≡ domains.old.fleet }
     ensures forks { front.new.forks ≡ front.old.forks }
@@ -122,16 +136,16 @@ where
 
 /// From the present boundary to the end of the play, or until it is broken off.
 #[allow(clippy::too_many_arguments)]
-pub(crate) fn go_on<'f, 'b, A: Allocator, R: Runner, L: Ledger, H: Wait, W: Attend>(
+pub(crate) fn go_on<'f, 'b, A: Allocator, R: Runner, L: Ledger, H: Wait, E: Attend, W: Watch>(
     rt: &H,
     alloc: Global,
-    attend: &W,
+    attend: &E,
     front: &mut Front<'f, R>,
-    mut board: Board<'b, R, L>,
+    mut board: Board<'b, R, L, W>,
     domains: &mut Domains<'_, A>,
     boundaries: &mut Vec<Boundary>,
     targeted: u32,
-) -> (Result<End, Break>, Board<'b, R, L>)
+) -> (Result<End, Break>, Board<'b, R, L, W>)
 where
     'f: 'b,
     requires forks { front.old.forks ≡ board.kernel.forks }
@@ -141,7 +155,7 @@ where
     requires targeted { targeted ≡ length (targets board.kernel.fleet board.kernel.play) }
     requires between { IsBetween board.kernel boundaries.old.items None }
     ensures gone { HasGone boundaries.new.items result.1.kernel result.0 }
-    ensures asked { IfErr result.0 (MayBreak (W.asks attend.now)) }
+    ensures asked { IfErr result.0 (MayBreak (E.asks attend.now)) }
     ensures same { IsSameRoll board.entry result.1 }
     ensures forks { front.new.forks ≡ front.old.forks }
 {

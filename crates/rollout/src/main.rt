@@ -2,6 +2,7 @@
 #![tactic(auto)]
 
 mod attendant;
+mod awaited;
 mod children;
 mod commands;
 mod detail;
@@ -16,30 +17,36 @@ mod status;
 mod system;
 mod words;
 
+use crate::awaited::tell_what_is_awaited;
 use crate::run::run;
 use crate::system::Host;
 use bounded_io::Fallible;
-use local_programs::{LocalPrograms, Tell, occupy_standard};
+use local_programs::{LocalPrograms, Notes, occupy_standard};
 use std::io;
 use std::io::{IsTerminal, Stderr, Stdin, Stdout};
 use std::process::ExitCode;
+use telling::{Tell, Teller};
 
 fn main(rt: HostRuntime) -> ExitCode {
     occupy_standard();
     let errors = rt.stderr();
-    let programs = LocalPrograms::new(rt.alloc(), errors);
+    tell_what_is_awaited(&rt, rt.stdin(), errors);
+    let notes = Notes::new(rt.alloc());
+    let programs = LocalPrograms::new(&notes);
+    let mut teller = Teller::new(&rt, rt.alloc(), &notes, io::writer(&errors));
     let prompts = prompts_of(rt.stdin(), rt.stdout(), errors);
     let code = run(
-        &Host::new(&rt, prompts),
+        &Host::new(&rt, errors, prompts),
         &rt,
         rt.alloc(),
         &programs,
-        &programs,
+        &notes,
+        &mut teller,
         &mut Fallible(rt.reader()),
         &mut io::writer(&rt),
         &mut io::writer(&errors),
     );
-    programs.run_ends(&rt);
+    teller.run_ends();
     code
 }
 

@@ -14,14 +14,15 @@ use crate::words::{words_fault, words_of};
 use bounded_io::Input;
 use command_line::command::Line;
 use command_line::{Request, request_of};
-use local_programs::Tell;
-use roll_core::Runner;
+use local_programs::Notes;
+use roll_core::{Runner, Watch};
 use roll_run::Attend;
 use std::alloc::Global;
 use std::io::Write;
 use std::process::{ExitCode, Processes, SystemProcess};
 use std::sync::Wait;
 use std::thread::Threads;
+use telling::Tell;
 
 /// Does what the words say; a fault is reported on `errors`, and the exit status tells of it too. `tell` is told of a run, and whether the words
 /// ask for its lines.
@@ -39,7 +40,8 @@ pub fn run<
     rt: &H,
     alloc: Global,
     runner: &R,
-    tell: &T,
+    notes: &Notes,
+    tell: &mut T,
     input: &mut I,
     out: &mut O,
     errors: &mut E,
@@ -47,7 +49,7 @@ pub fn run<
     ensures { Runs (R.may runner.now) (S.words system.now) (sources_of (S.files system.now) (I.is_reliable input.old))
         (I.remaining input.old) (I.remaining input.new) (O.contents out.old) (O.contents out.new) (E.contents errors.old) (E.contents errors.new) (exit_status result) }
 {
-    let outcome = perform(system, rt, alloc, runner, tell, input, out);
+    let outcome = perform(system, rt, alloc, runner, notes, tell, input, out);
     exit_code(conclude(outcome, errors))
 }
 
@@ -64,7 +66,8 @@ fn perform<
     rt: &H,
     alloc: Global,
     runner: &R,
-    tell: &T,
+    notes: &Notes,
+    tell: &mut T,
     input: &mut I,
     out: &mut O,
 ) -> Result<Status, Fault>
@@ -77,6 +80,7 @@ fn perform<
             rt,
             alloc,
             runner,
+            notes,
             tell,
             words_of(args.as_slice()),
             input,
@@ -100,7 +104,8 @@ fn attempt<
     rt: &H,
     alloc: Global,
     runner: &R,
-    tell: &T,
+    notes: &Notes,
+    tell: &mut T,
     words: &[String],
     input: &mut I,
     out: &mut O,
@@ -113,14 +118,30 @@ fn attempt<
             Request {
                 line,
                 is_verbose,
+                is_quiet,
                 stop_file,
             },
         ) => {
-            tell.run_begins(rt, is_verbose);
-            let attend = Attendant::new(system, tell, stop_file);
-            follow(system, rt, alloc, runner, &attend, line, input, out)
+            begin_telling(system, tell, &line, is_verbose, is_quiet);
+            let attend = Attendant::new(system, notes, stop_file);
+            follow(system, rt, alloc, runner, &attend, tell, line, input, out)
         }
         Err(fault) => Err(Fault::Line(fault)),
+    }
+}
+
+/// From now on a run is told of, and a plan, which has more to tell of than what it prints.
+fn begin_telling<S: System, T: Tell>(
+    system: &S,
+    tell: &mut T,
+    line: &Line,
+    is_verbose: bool,
+    is_quiet: bool,
+) {
+    match line {
+        Line::Run { .. } => tell.run_begins(system.seen(is_verbose, is_quiet, true)),
+        Line::Plan { .. } => tell.run_begins(system.seen(is_verbose, is_quiet, false)),
+        Line::Limits { .. } | Line::Rehearse { .. } | Line::Print(_) => {}
     }
 }
 
@@ -130,6 +151,7 @@ fn follow<
     H: Threads + Wait + Processes<Started = SystemProcess> + Sync,
     R: Runner,
     A: Attend,
+    T: Watch,
     I: Input,
     O: Write,
 >(
@@ -138,6 +160,7 @@ fn follow<
     alloc: Global,
     runner: &R,
     attend: &A,
+    watch: &mut T,
     line: Line,
     input: &mut I,
     out: &mut O,
@@ -150,13 +173,13 @@ fn follow<
         Line::Plan {
             inventory,
             playbook,
-        } => plan(system, alloc, inventory, playbook, input, out),
+        } => plan(system, alloc, watch, inventory, playbook, input, out),
         Line::Run {
             inventory,
             playbook,
             forks,
         } => roll(
-            system, rt, alloc, runner, attend, inventory, playbook, forks, input, out,
+            system, rt, alloc, runner, attend, watch, inventory, playbook, forks, input, out,
         ),
         Line::Rehearse {
             inventory,

@@ -1,12 +1,14 @@
 //! The command `run`: from the bytes of an inventory and of a playbook to the recap of what the plays did.
 #![tactic(auto)]
 
+mod behind;
 mod down;
 mod end;
 mod fault;
 mod hosts;
 mod inputs;
 mod laws;
+mod left;
 mod printing;
 mod recaps;
 

@@ -3,16 +3,15 @@ ghost use Rattle.std.specs.Prelude.{◌≡◌, ◌<◌, ◌≤◌, IfErr, IfOk, 
 ghost use Rattle.running.specs.Recaps as model;
 ghost use Rattle.running.specs.RunTexts.{IsTrueFault, MayBreakText, TellsBroken, TellsRuns, WritesRecap};
 
-use crate::down::down_lines;
+use crate::behind::{tell_behind, tell_left_out};
 use crate::end::{RunEnd, end_of_runs};
 use crate::fault::RunTextFault;
 use crate::inputs::{Inputs, read_inputs};
+use crate::left::Left;
 use crate::recaps::{send_broken, send_runs};
 use domains::Fleet;
-use fleet_states::Status;
-use outcome_results::Counts;
 use play_model::Play;
-use roll_core::Runner;
+use roll_core::{Runner, Watch};
 use roll_run::{Attend, Run, RunsFault, run_plays};
 use std::alloc::Global;
 use std::io::Write;
@@ -58,56 +57,24 @@ fn tell_broken<W: Write>(
     }
 }
 
-/// Gives whoever attends the run the lines of the hosts that are down, where memory suffices for them.
-fn hand_on<H: Wait, A: Attend>(
-    rt: &H,
-    alloc: Global,
-    attend: &A,
-    fleet: &Fleet,
-    statuses: &[Status],
-    counts: &[Counts],
-) {
-    if let Ok(lines) = down_lines(alloc, fleet, statuses, counts) {
-        attend.recap_is_lost(rt, lines);
-    }
-}
-
-/// The same of the last of these runs.
-fn hand_on_last<H: Wait, A: Attend>(
-    rt: &H,
-    alloc: Global,
-    attend: &A,
-    fleet: &Fleet,
-    runs: &[Run],
-) {
-    if let Some(run) = runs.last() {
-        hand_on(
-            rt,
-            alloc,
-            attend,
-            fleet,
-            run.statuses.as_slice(),
-            run.counts.as_slice(),
-        );
-    }
-}
-
 /// Runs the plays of a playbook on the fleet of an inventory, each given as the bytes of its text, with `forks` workers, 1 to 64, and
 /// writes the recap when the runs have ended: of each play that was begun, under its number where the file has several. Nothing is run, and
 /// nothing goes out, before both were accepted: first the inventory's faults are told, then the playbook's, then the first part of a
 /// pattern, of any play, that names nothing. Where a fault breaks the runs off, the recap of what they came to goes out, and then the answer
 /// is that fault. Where a write fails, exactly the first bytes of the text went out, as many as the fault says. Writing takes no memory.
-/// `attend` is told of each play and batch, may have the run end before a batch, and is given the lines of the hosts that are down where a write fails.
+/// `watch` is told of the plays, of hosts that they leave out, and behind the recap why hosts are down; `attend` may have the run end before a batch.
 #[allow(clippy::too_many_arguments)]
 pub fn run_text<
     R: Runner,
     H: Threads + Wait + Processes<Started = SystemProcess> + Sync,
     A: Attend,
+    T: Watch,
     W: Write,
 >(
     rt: &H,
     alloc: Global,
     attend: &A,
+    watch: &mut T,
     inventory: &[u8],
     playbook: &[u8],
     forks: usize,
@@ -131,29 +98,30 @@ pub fn run_text<
     };
     let listed = plays.as_slice();
     let several = are_several(listed);
+    tell_left_out(alloc, watch, &fleet, listed);
+    watch.plays_begin(listed.len());
     match run_plays(
-        rt, alloc, attend, &fleet, listed, statuses, vars, runner, forks,
+        rt, alloc, attend, watch, &fleet, listed, statuses, vars, runner, forks,
     ) {
         Ok(runs) => {
+            watch.plays_end();
             let told = tell_runs(&fleet, several, runs.as_slice(), out);
-            if told.is_err() {
-                hand_on_last(rt, alloc, attend, &fleet, runs.as_slice());
-            }
+            let left = Left {
+                done: runs.as_slice(),
+                broken: None,
+            };
+            tell_behind(alloc, watch, &fleet, listed, &left, told.is_ok());
             told
         }
         Err(fault) => {
+            watch.plays_end();
             let told = tell_broken(&fleet, several, &fault, out);
-            if let RunTextFault::Write(_) = told {
-                let last = &fault.last;
-                hand_on(
-                    rt,
-                    alloc,
-                    attend,
-                    &fleet,
-                    last.statuses.as_slice(),
-                    last.counts.as_slice(),
-                );
-            }
+            let is_whole = !matches!(told, RunTextFault::Write(_));
+            let left = Left {
+                done: fault.done.as_slice(),
+                broken: Some(&fault.last),
+            };
+            tell_behind(alloc, watch, &fleet, listed, &left, is_whole);
             Err(told)
         }
     }

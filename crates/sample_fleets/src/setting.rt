@@ -7,7 +7,7 @@ use domains::Fleet;
 use group_tree::{Group, Tree};
 use host_vars::Vars;
 use play_model::Play;
-use roll_core::{Board, Runner, Status};
+use roll_core::{Board, Runner, Status, Unwatched};
 use std::alloc::{AllocError, Global};
 use std::sync::ledger::{Blank, Ledger};
 use std::test::Fail;
@@ -69,7 +69,7 @@ pub fn board_of<'s, R: Runner, L: Ledger>(
     runner: &'s R,
     forks: usize,
     blank: Blank,
-) -> Result<Board<'s, R, L>, AllocError>
+) -> Result<Board<'s, R, L, Unwatched>, AllocError>
     requires some { 0 < forks }
     requires few { forks ≤ 64 }
     requires name { blank.name ≡ L.name }
@@ -87,5 +87,6 @@ pub fn board_of<'s, R: Runner, L: Ledger>(
         setting.statuses.as_slice(),
         setting.vars.as_slice(),
         blank,
+        Unwatched,
     )
 }

@@ -11,19 +11,27 @@ ghost use Rattle.roll_logs.specs.Rolls.{Roll};
 ghost use Rattle.roll_logs.specs.Events.{reported};
 ghost use Rattle.roll_logs.specs.States.{State};
 ghost use Rattle.roll_logs.specs.Logs.{MayReport, next};
+ghost use Rattle.batch_work.specs.Rows.{IsFoundAt};
 ghost use Rattle.batch_work.specs.Works.{IsWorkOf};
 
+use crate::entered::Entered;
 use crate::turn::Turn;
 use crate::work::BatchWork;
 use group_tree::HostId;
 use host_track::step_at;
-use outcome_results::Outcome;
+use outcome_results::{Outcome, undefined_name};
 use registered_results::Registered;
 
 impl<'p> BatchWork<'p> {
-    /// Enters the row of a host that is out: the step ended so on it. `copy` is the outcome's row. It answers whether the host has
-    /// failed, and takes no memory.
-    pub fn enter(&mut self, host: HostId, step: usize, outcome: &Outcome, copy: Registered) -> bool
+    /// Enters the row of a host that is out: the step ended so on it. `copy` is the outcome's row. It answers what was found of it, and
+    /// takes no memory.
+    pub fn enter(
+        &mut self,
+        host: HostId,
+        step: usize,
+        outcome: &Outcome,
+        copy: Registered,
+    ) -> Entered<'p>
         requires within { host.index < length self.old.summaries.items }
         requires step { step < length self.old.play.now.steps.items }
         requires out { 0 < self.old.out }
@@ -33,14 +41,20 @@ impl<'p> BatchWork<'p> {
         ensures work { (roll : Roll) (state : State) → IsWorkOf roll state self.old → MayReport roll state host.index step (ending_of outcome.now)
             → IsWorkOf roll (next roll state (reported host.index step (ending_of outcome.now))) self.new }
         ensures failed { (roll : Roll) (state : State) → IsWorkOf roll state self.old → MayReport roll state host.index step (ending_of outcome.now)
-            → result ≡ spec.has_failed ((next roll state (reported host.index step (ending_of outcome.now))).rows host.index) }
+            → result.failed ≡ spec.has_failed ((next roll state (reported host.index step (ending_of outcome.now))).rows host.index) }
+        ensures found { (roll : Roll) (state : State) → IsWorkOf roll state self.old → IsFoundAt roll state host.index step (ending_of outcome.now) result }
     {
         let task = step_at(self.play, step);
         let summary = &mut self.summaries[host.index];
-        let _finding = summary.enter(task, outcome, Some(copy));
+        let undefined = undefined_name(task, summary.vars(), outcome);
+        let finding = summary.enter(task, outcome, Some(copy));
         let failed = summary.has_failed();
         self.turns[host.index] = Turn::Over;
         self.out -= 1;
-        failed
+        Entered {
+            judged: finding.judged,
+            undefined,
+            failed,
+        }
     }
 }

@@ -8,18 +8,18 @@ use crate::front::Front;
 use crate::given::Given;
 use crate::step::Step;
 use crate::ticket::Ticket;
-use roll_core::Runner;
+use roll_core::{Runner, Watch};
 use std::alloc::Global;
 use std::sync::Wait;
 use std::sync::ledger::Ledger;
 
 impl<'f, R: Runner> Front<'f, R> {
     /// Puts a ticket for each host that can be claimed now.
-    pub(crate) fn give_out<L: Ledger, H: Wait>(
+    pub(crate) fn give_out<L: Ledger, H: Wait, W: Watch>(
         &mut self,
         rt: &H,
         alloc: Global,
-        step: &mut Step<'_, R, L>,
+        step: &mut Step<'_, R, L, W>,
     )
         ensures board { Continues step.old.board step.new.board }
         ensures given { IsGivenOut step.new.board step.new.notes }
@@ -36,11 +36,11 @@ impl<'f, R: Runner> Front<'f, R> {
     }
 
     /// False is told where nothing is left to give out.
-    fn give_one<L: Ledger, H: Wait>(
+    fn give_one<L: Ledger, H: Wait, W: Watch>(
         &mut self,
         rt: &H,
         alloc: Global,
-        step: &mut Step<'_, R, L>,
+        step: &mut Step<'_, R, L, W>,
     ) -> bool
         ensures board { Continues step.old.board step.new.board }
         ensures given { result ≡ false → IsGivenOut step.new.board step.new.notes }
@@ -59,7 +59,12 @@ impl<'f, R: Runner> Front<'f, R> {
     }
 
     /// The line has room for as many tickets as may be out. One for which there was none is stranded.
-    fn put<L: Ledger, H: Wait>(&mut self, rt: &H, step: &mut Step<'_, R, L>, ticket: Ticket)
+    fn put<L: Ledger, H: Wait, W: Watch>(
+        &mut self,
+        rt: &H,
+        step: &mut Step<'_, R, L, W>,
+        ticket: Ticket,
+    )
         requires { 0 < step.old.notes.out }
         ensures board { step.new.board ≡ step.old.board }
         ensures put { IsPut self.old.tickets.put self.new.tickets.put ticket step.old.notes step.new.notes }
@@ -73,10 +78,10 @@ impl<'f, R: Runner> Front<'f, R> {
     }
 
     /// Where something went wrong, the tickets come back that no worker has taken.
-    pub(crate) fn call_back_if_stopped<L: Ledger, H: Wait>(
+    pub(crate) fn call_back_if_stopped<L: Ledger, H: Wait, W: Watch>(
         &mut self,
         rt: &H,
-        step: &mut Step<'_, R, L>,
+        step: &mut Step<'_, R, L, W>,
     )
         ensures board { step.new.board ≡ step.old.board }
         ensures notes { HasLost step.old.notes step.new.notes }
@@ -90,7 +95,11 @@ impl<'f, R: Runner> Front<'f, R> {
     }
 
     /// Takes the tickets back that no worker has taken.
-    pub(crate) fn call_back<L: Ledger, H: Wait>(&mut self, rt: &H, step: &mut Step<'_, R, L>)
+    pub(crate) fn call_back<L: Ledger, H: Wait, W: Watch>(
+        &mut self,
+        rt: &H,
+        step: &mut Step<'_, R, L, W>,
+    )
         ensures board { step.new.board ≡ step.old.board }
         ensures notes { HasLost step.old.notes step.new.notes }
         ensures back { step.new.notes.out ≡ step.old.notes.out - (length self.new.tickets.taken - length self.old.tickets.taken) }

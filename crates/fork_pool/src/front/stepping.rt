@@ -8,7 +8,7 @@ ghost use Rattle.fork_pool.specs.Steps.{Continues, FrontsHaveFewOut, IsAtRest, I
 use crate::fault::StepFault;
 use crate::front::Front;
 use crate::step::Step;
-use roll_core::{Board, Runner};
+use roll_core::{Board, Runner, Watch};
 use std::alloc::Global;
 use std::sync::Wait;
 use std::sync::ledger::Ledger;
@@ -16,12 +16,12 @@ use std::sync::ledger::Ledger;
 impl<'f, R: Runner> Front<'f, R> {
     /// Works on the present step of the board until each host on which it is due has reported it, with the workers of the pool. The pool may
     /// outlive the board.
-    pub fn step<'b, L: Ledger, H: Wait>(
+    pub fn step<'b, L: Ledger, H: Wait, W: Watch>(
         &mut self,
         rt: &H,
         alloc: Global,
-        board: Board<'b, R, L>,
-    ) -> Result<Board<'b, R, L>, (StepFault, Board<'b, R, L>)>
+        board: Board<'b, R, L, W>,
+    ) -> Result<Board<'b, R, L, W>, (StepFault, Board<'b, R, L, W>)>
     where
         'f: 'b,
         requires forks { self.old.forks ≡ board.kernel.forks }
@@ -40,7 +40,12 @@ impl<'f, R: Runner> Front<'f, R> {
     }
 
     /// Until nothing is left to put, and each ticket that was put has come back, or no reply can come any more.
-    fn go_on<'b, L: Ledger, H: Wait>(&mut self, rt: &H, alloc: Global, step: &mut Step<'b, R, L>)
+    fn go_on<'b, L: Ledger, H: Wait, W: Watch>(
+        &mut self,
+        rt: &H,
+        alloc: Global,
+        step: &mut Step<'b, R, L, W>,
+    )
     where
         'f: 'b,
         ensures board { Continues step.old.board step.new.board }
@@ -58,11 +63,11 @@ impl<'f, R: Runner> Front<'f, R> {
     }
 
     /// Puts what can be put, and enters one reply. False is told where none is to come.
-    fn turn<'b, L: Ledger, H: Wait>(
+    fn turn<'b, L: Ledger, H: Wait, W: Watch>(
         &mut self,
         rt: &H,
         alloc: Global,
-        step: &mut Step<'b, R, L>,
+        step: &mut Step<'b, R, L, W>,
     ) -> bool
     where
         'f: 'b,
@@ -81,7 +86,11 @@ impl<'f, R: Runner> Front<'f, R> {
     }
 
     /// Waits for a reply, and enters it. False is told where no worker is left to reply: the tickets that are left come back.
-    fn receive<'b, L: Ledger, H: Wait>(&mut self, rt: &H, step: &mut Step<'b, R, L>) -> bool
+    fn receive<'b, L: Ledger, H: Wait, W: Watch>(
+        &mut self,
+        rt: &H,
+        step: &mut Step<'b, R, L, W>,
+    ) -> bool
     where
         'f: 'b,
         requires { 0 < step.old.notes.out }

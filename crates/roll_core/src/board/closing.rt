@@ -10,11 +10,14 @@ ghost use Rattle.roll_kernel.specs.Views.{roll_of, state_of};
 ghost use Rattle.roll_core.specs.Boards.{with_event};
 
 use crate::board::Board;
+use crate::news::{News, halt_of};
 use crate::runner::Runner;
+use crate::telling::tell;
+use crate::watch::Watch;
 use roll_kernel::{Busy, Next};
 use std::sync::ledger::Ledger;
 
-impl<'f, R: Runner, L: Ledger> Board<'f, R, L> {
+impl<'f, R: Runner, L: Ledger, W: Watch> Board<'f, R, L, W> {
     /// Passes the present step once each host of the batch on which it is due has reported it; else names the first that has not, and
     /// changes nothing. Time linear in the batch; it takes no memory.
     pub fn barrier(&mut self) -> Result<Next, Busy>
@@ -39,6 +42,12 @@ impl<'f, R: Runner, L: Ledger> Board<'f, R, L> {
         ensures statuses { (columns : Columns) (halt : Option ℕ) → Tells columns (roll_of self.old.kernel) self.old.kernel.log → (state_of self.old.kernel).phase ≡ ended halt
             → (state_of self.new.kernel).statuses ≡ statuses_after halt (fails_by (roll_of self.old.kernel) columns) (state_of self.old.kernel).batch (state_of self.old.kernel).opening }
     {
+        let news = News::Closing {
+            batch: self.kernel.batch(),
+            statuses: self.kernel.statuses(),
+            halt: halt_of(self.kernel.stage()),
+        };
+        tell(&mut self.watch, &self.kernel, &news);
         self.kernel.close();
     }
 }

@@ -5,23 +5,27 @@ ghost use Rattle.roll_logs.specs.States.{start_state};
 ghost use Rattle.roll_kernel.specs.Leavings.{AreCounted, AreKnown};
 ghost use Rattle.roll_kernel.specs.Views.{FrontsAreSafe, RestsAtBoundaries, events_of, roll_of, state_of};
 ghost use Rattle.roll_logs.specs.Told.{AreTold};
+ghost use Rattle.roll_core.specs.Tellings.{IsTold};
 
 use crate::board::Board;
 use crate::runner::Runner;
+use crate::watch::Watch;
 use roll_kernel::Finished;
 use std::sync::ledger::Ledger;
 
-impl<'f, R: Runner, L: Ledger> Board<'f, R, L> {
-    /// Hands out the log and what is left of each host, also while a batch is open: its hosts are down then. It takes no memory.
-    pub fn finish(self) -> Finished
-        ensures log { events_of result.log.items ≡ self.entry.kernel.log }
+impl<'f, R: Runner, L: Ledger, W: Watch> Board<'f, R, L, W> {
+    /// Hands out the log and what is left of each host, also while a batch is open: its hosts are down then. The watcher, which comes back,
+    /// has heard what is told of the log from some moment on, and nothing else since. It takes no memory.
+    pub fn finish(self) -> (Finished, W)
+        ensures log { events_of result.0.log.items ≡ self.entry.kernel.log }
         ensures legal { IsLegal (roll_of self.entry.kernel) (start_state (roll_of self.entry.kernel)) self.entry.kernel.log }
         ensures safe { FrontsAreSafe (roll_of self.entry.kernel) self.entry.kernel.log }
         ensures rests { RestsAtBoundaries (roll_of self.entry.kernel) self.entry.kernel.log }
         ensures told { AreTold (R.may self.entry.runner) (roll_of self.entry.kernel) (start_state (roll_of self.entry.kernel)) self.entry.kernel.log }
-        ensures statuses { result.statuses.items ≡ (state_of self.entry.kernel).statuses }
-        ensures vars { AreKnown (roll_of self.entry.kernel) (state_of self.entry.kernel) result.vars.items }
-        ensures counts { AreCounted (roll_of self.entry.kernel) (state_of self.entry.kernel) result.counts.items }
+        ensures statuses { result.0.statuses.items ≡ (state_of self.entry.kernel).statuses }
+        ensures vars { AreKnown (roll_of self.entry.kernel) (state_of self.entry.kernel) result.0.vars.items }
+        ensures counts { AreCounted (roll_of self.entry.kernel) (state_of self.entry.kernel) result.0.counts.items }
+        ensures watched { IsTold W.hears self.entry.kernel result.1 }
     {
         let Board {
             kernel,
@@ -30,7 +34,8 @@ impl<'f, R: Runner, L: Ledger> Board<'f, R, L> {
             rest: _,
             tallies: _,
             joined: _,
+            watch,
         } = self;
-        kernel.finish()
+        (kernel.finish(), watch)
     }
 }

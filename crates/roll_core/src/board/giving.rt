@@ -5,11 +5,13 @@ ghost use Rattle.roll_core.specs.Givings.{HasItsGo, IsGiving};
 use crate::board::Board;
 use crate::claimed::{Claimed, given_out};
 use crate::runner::Runner;
+use crate::telling::tell_begin;
+use crate::watch::Watch;
 use roll_kernel::Claim;
 use std::alloc::{AllocError, Global};
 use std::sync::ledger::Ledger;
 
-impl<'f, R: Runner, L: Ledger> Board<'f, R, L> {
+impl<'f, R: Runner, L: Ledger, W: Watch> Board<'f, R, L, W> {
     /// Hands out the next host of the batch on which the present step is due and that nobody has taken, with its share, its job and the
     /// leave to run it once, or with how the step ended where no program is to run; none where there is no such host, where no batch is
     /// at a step, or where as many claims are out as there are forks. Want of memory leaves everything as it was.
@@ -22,6 +24,7 @@ impl<'f, R: Runner, L: Ledger> Board<'f, R, L> {
         let Some(handed) = self.kernel.claim(alloc)? else {
             return Ok(None);
         };
+        tell_begin(&mut self.watch, &self.kernel, &handed);
         Ok(Some(given_out(handed, runner)))
     }
 

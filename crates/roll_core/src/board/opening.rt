@@ -10,13 +10,16 @@ ghost use Rattle.roll_kernel.specs.Views.{roll_of, state_of};
 ghost use Rattle.roll_core.specs.Boards.{with_event};
 
 use crate::board::Board;
+use crate::news::News;
 use crate::runner::Runner;
+use crate::telling::tell;
+use crate::watch::Watch;
 use group_tree::HostId;
 use roll_kernel::{HoldFault, OpenFault};
 use std::alloc::Global;
 use std::sync::ledger::Ledger;
 
-impl<'f, R: Runner, L: Ledger> Board<'f, R, L> {
+impl<'f, R: Runner, L: Ledger, W: Watch> Board<'f, R, L, W> {
     /// Begins a batch at the first step: its hosts are down from now on, and the closing brings those up that neither failed nor were halted. A refusal
     /// leaves everything as it was.
     pub fn open(&mut self, alloc: Global, hosts: &[HostId]) -> Result<(), OpenFault>
@@ -27,7 +30,17 @@ impl<'f, R: Runner, L: Ledger> Board<'f, R, L> {
         ensures err { IfErr result (IsRefusalOf (roll_of self.old.kernel) (state_of self.old.kernel) (host_numbers hosts.now)) }
         ensures unchanged { OnErr result (self.new ≡ self.old) }
     {
-        self.kernel.open(alloc, hosts)
+        match self.kernel.open(alloc, hosts) {
+            Ok(()) => {
+                let news = News::Opening {
+                    batch: hosts,
+                    statuses: self.kernel.statuses(),
+                };
+                tell(&mut self.watch, &self.kernel, &news);
+                Ok(())
+            }
+            Err(fault) => Err(fault),
+        }
     }
 
     /// Sets hosts aside: they are up, and wait no more. A refusal leaves everything as it was.
@@ -38,6 +51,12 @@ impl<'f, R: Runner, L: Ledger> Board<'f, R, L> {
         ensures err { IfErr result (IsHoldRefusalOf (roll_of self.old.kernel) (state_of self.old.kernel) (host_numbers hosts.now)) }
         ensures unchanged { OnErr result (self.new ≡ self.old) }
     {
-        self.kernel.hold(alloc, hosts)
+        match self.kernel.hold(alloc, hosts) {
+            Ok(()) => {
+                tell(&mut self.watch, &self.kernel, &News::Aside { hosts });
+                Ok(())
+            }
+            Err(fault) => Err(fault),
+        }
     }
 }

@@ -13,6 +13,7 @@ ghost use Rattle.roll_logs.specs.Told.{AreTold};
 
 use crate::board::Board;
 use crate::runner::Runner;
+use crate::watch::Watch;
 use domains::Fleet;
 use fleet_states::Status;
 use group_tree::{GroupId, HostId};
@@ -22,7 +23,7 @@ use play_model::Play;
 use roll_kernel::{Event, Stage};
 use std::sync::ledger::Ledger;
 
-impl<'f, R: Runner, L: Ledger> Board<'f, R, L> {
+impl<'f, R: Runner, L: Ledger, W: Watch> Board<'f, R, L, W> {
     /// All events, the oldest first.
     pub fn log(&self) -> &[Event]
         ensures value { events_of result.now ≡ self.now.kernel.log }

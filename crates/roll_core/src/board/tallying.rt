@@ -5,9 +5,10 @@ ghost use Rattle.roll_core.specs.Boards.{reports_in};
 use crate::board::Board;
 use crate::runner::Runner;
 use crate::tally::Tally;
+use crate::watch::Watch;
 use std::sync::ledger::Ledger;
 
-impl<'f, R: Runner, L: Ledger> Board<'f, R, L> {
+impl<'f, R: Runner, L: Ledger, W: Watch> Board<'f, R, L, W> {
     /// A tally of no report, for a worker.
     pub fn split_tally(&mut self) -> Tally<L>
         requires { self.old.tallies < 128 }

@@ -1,8 +1,9 @@
 //! A worker gives a host back.
-ghost use Rattle.std.specs.Prelude.{◌≡◌, ◌<◌, ◌^◌, Decides, IfErr, OnErr, OnOk, cond, length};
+ghost use Rattle.std.specs.Prelude.{◌≡◌, ◌<◌, ◌^◌, Decides, IfErr, IfOk, OnErr, OnOk, cond, length};
 ghost use Rattle.fleet_states.specs.declared.status.Status.TheVariants.{Failed, Running};
 ghost use Rattle.roll_logs.specs.Rolls.{Roll};
 ghost use Rattle.roll_logs.specs.States.{State};
+ghost use Rattle.batch_work.specs.Rows.{IsFoundAt};
 ghost use Rattle.batch_work.specs.Works.{IsWorkOf};
 ghost use Rattle.roll_kernel.specs.Claims.{IsOut, IsStranger, event_in};
 ghost use Rattle.roll_kernel.specs.Inside.{IsGivenOut};
@@ -12,15 +13,17 @@ use crate::completion::Completion;
 use crate::event::Event;
 use crate::kernel::{Kernel, keep};
 use crate::way::is_asked;
-use batch_work::{BatchWork, Stage};
+use batch_work::{BatchWork, Entered, Stage};
 use fleet_states::Status;
 
 impl<'f> Kernel<'f> {
     /// Enters how a step ended on a host, whose share rests until the batch is closed. Where no claim of this host and step with these
-    /// words, or this settled outcome, is out, it hands the `Completion` back and changes nothing. It takes no memory.
-    pub fn report(&mut self, completion: Completion) -> Result<(), Completion>
+    /// words, or this settled outcome, is out, it hands the `Completion` back and changes nothing. It answers what was found of the row, and
+    /// takes no memory.
+    pub fn report(&mut self, completion: Completion) -> Result<Entered<'f>, Completion>
         ensures ok { OnOk result (self.new ≡ with_event self.old (event_in completion)) }
         ensures allowed { OnOk result (IsOut (roll_of self.old) (state_of self.old) completion) }
+        ensures found { IfOk result (IsFoundAt (roll_of self.old) (state_of self.old) completion.host completion.step completion.ending) }
         ensures err { IfErr result (IsStranger (roll_of self.old) (state_of self.old) completion) }
         ensures few { OnOk result (length self.new.log < 2 ^ 63) }
         ensures unchanged { OnErr result (self.new ≡ self.old) }
@@ -36,10 +39,10 @@ impl<'f> Kernel<'f> {
         } = completion;
         let host = share.host();
         let outcome = way.into_outcome();
-        let failed = self.work.enter(host, step, &outcome, row);
-        self.roster.rest(share, status_after(failed));
+        let entered = self.work.enter(host, step, &outcome, row);
+        self.roster.rest(share, status_after(entered.failed));
         keep(&mut self.log, Event::Report(host, step, outcome));
-        Ok(())
+        Ok(entered)
     }
 }
 

@@ -7,16 +7,19 @@ use crate::fault::Fault;
 use crate::inputs::read_both;
 use crate::status::Status;
 use crate::system::System;
+use aftermath::left_out_lines;
 use bounded_io::Input;
 use command_line::Source;
-use planning::plan_text;
+use planning::{plan_text, read_fleet, read_known_plays};
+use roll_core::Watch;
 use std::alloc::Global;
 use std::io::Write;
 
-/// Reads the inventory and the playbook, and writes the plan of the playbook's first play.
-pub fn plan<S: System, I: Input, W: Write>(
+/// Reads the inventory and the playbook, and writes the plan of the playbook's first play. `watch` is told of the hosts that it leaves out.
+pub fn plan<S: System, T: Watch, I: Input, W: Write>(
     system: &S,
     alloc: Global,
+    watch: &mut T,
     inventory: Source,
     playbook: Source,
     input: &mut I,
@@ -27,7 +30,15 @@ pub fn plan<S: System, I: Input, W: Write>(
 {
     match read_both(system, alloc, inventory, playbook, input) {
         Ok((inventory, playbook)) => {
-            print_plan(alloc, inventory.as_slice(), playbook.as_slice(), out)
+            let printed = print_plan(alloc, inventory.as_slice(), playbook.as_slice(), out);
+            tell_behind_plan(
+                alloc,
+                watch,
+                printed.is_ok(),
+                inventory.as_slice(),
+                playbook.as_slice(),
+            );
+            printed
         }
         Err(fault) => Err(fault),
     }
@@ -46,5 +57,32 @@ fn print_plan<W: Write>(
     match plan_text(alloc, inventory, playbook, out) {
         Ok(end) => Ok(Status::from(end)),
         Err(fault) => Err(Fault::from(fault)),
+    }
+}
+
+/// Behind a plan that was printed, and where somebody is told, tells of the hosts that it leaves out.
+fn tell_behind_plan<T: Watch>(
+    alloc: Global,
+    watch: &mut T,
+    is_printed: bool,
+    inventory: &[u8],
+    playbook: &[u8],
+) {
+    if is_printed && watch.is_told() {
+        tell_left_out(alloc, watch, inventory, playbook);
+    }
+}
+
+/// Tells of the hosts that the first play names and that stay down. The texts are read once more for it.
+fn tell_left_out<T: Watch>(alloc: Global, watch: &mut T, inventory: &[u8], playbook: &[u8]) {
+    let Ok(fleet) = read_fleet(alloc, inventory) else {
+        return;
+    };
+    let Ok(plays) = read_known_plays(alloc, &fleet, playbook) else {
+        return;
+    };
+    let first = &plays.as_slice()[..plays.len().min(1)];
+    if let Ok(lines) = left_out_lines(alloc, &fleet, first) {
+        watch.note(lines.as_slice());
     }
 }

@@ -12,7 +12,7 @@ use crate::system::System;
 use bounded_io::Input;
 use command_line::{Forks, Source};
 use local_programs::workers;
-use roll_core::Runner;
+use roll_core::{Runner, Watch};
 use roll_run::Attend;
 use running::run_text;
 use std::alloc::Global;
@@ -21,14 +21,15 @@ use std::process::{Processes, SystemProcess};
 use std::sync::Wait;
 use std::thread::Threads;
 
-/// Runs the playbook's plays with so many workers, where the ends of programs can be had, and writes the recap of the run. `attend` is told of
-/// it while it goes on, and may have it end before a batch.
+/// Runs the playbook's plays with so many workers, where the ends of programs can be had, and writes the recap of the run. `watch` is told of
+/// it while it goes on, and `attend` may have it end before a batch.
 #[allow(clippy::too_many_arguments)]
 pub fn roll<
     S: System,
     H: Threads + Wait + Processes<Started = SystemProcess> + Sync,
     R: Runner,
     A: Attend,
+    T: Watch,
     I: Input,
     W: Write,
 >(
@@ -37,6 +38,7 @@ pub fn roll<
     alloc: Global,
     runner: &R,
     attend: &A,
+    watch: &mut T,
     inventory: Source,
     playbook: Source,
     forks: Forks,
@@ -51,7 +53,7 @@ pub fn roll<
         None => {
             let forks = workers(rt, forks.number());
             roll_inputs(
-                system, rt, alloc, runner, attend, inventory, playbook, forks, input, out,
+                system, rt, alloc, runner, attend, watch, inventory, playbook, forks, input, out,
             )
         }
     }
@@ -64,6 +66,7 @@ fn roll_inputs<
     H: Threads + Wait + Processes<Started = SystemProcess> + Sync,
     R: Runner,
     A: Attend,
+    T: Watch,
     I: Input,
     W: Write,
 >(
@@ -72,6 +75,7 @@ fn roll_inputs<
     alloc: Global,
     runner: &R,
     attend: &A,
+    watch: &mut T,
     inventory: Source,
     playbook: Source,
     forks: usize,
@@ -88,7 +92,9 @@ fn roll_inputs<
         Ok((inventory, playbook)) => {
             let inventory = inventory.as_slice();
             let playbook = playbook.as_slice();
-            print_recap(rt, alloc, runner, attend, inventory, playbook, forks, out)
+            print_recap(
+                rt, alloc, runner, attend, watch, inventory, playbook, forks, out,
+            )
         }
         Err(fault) => Err(fault),
     }
@@ -100,12 +106,14 @@ fn print_recap<
     H: Threads + Wait + Processes<Started = SystemProcess> + Sync,
     R: Runner,
     A: Attend,
+    T: Watch,
     W: Write,
 >(
     rt: &H,
     alloc: Global,
     runner: &R,
     attend: &A,
+    watch: &mut T,
     inventory: &[u8],
     playbook: &[u8],
     forks: usize,
@@ -117,7 +125,9 @@ fn print_recap<
     ensures err { IfErr result (BreaksOff (R.may runner.now) inventory.now playbook.now forks (W.contents out.old) (W.contents out.new)) }
     ensures stops { result ≡ Err Stopped → A.asks attend.now ≡ true }
 {
-    match run_text(rt, alloc, attend, inventory, playbook, forks, runner, out) {
+    match run_text(
+        rt, alloc, attend, watch, inventory, playbook, forks, runner, out,
+    ) {
         Ok(end) => Ok(Status::from(end)),
         Err(fault) => Err(Fault::from(fault)),
     }

@@ -1,9 +1,21 @@
 use Rattle.std.proofs.Common.{◌≡◌, true, map, string_bytes, ap, refl, subst, ◌∙◌}
-use Rattle.std.proofs.lemmas.Result.{IfErr-weaker}
-use Rattle.clap.specs.Words.{App, FailsBy, fault_of, is_simple_and_free, takes}
+use Rattle.std.proofs.lemmas.Result.{IfErr-weaker, IfOk-weaker}
+use Rattle.clap.specs.Words.{App, FailsBy, fault_of, is_simple, is_simple_and_free, subcommand_of, takes}
 use Rattle.clap.proofs.OnLiterals.{clap_on_literals}
 use Rattle.command_line.specs.Syntax.{rollout}
 use Rattle.command_line.proofs.syntax.matches.Goals as goal
+
+-- the words below the program's syntax give the matches
+has_matches : is_simple rollout ≡ true
+unfolding clap_on_literals
+has_matches = refl
+
+pub returns-clause-ok : goal.returns-clause-ok
+returns-clause-ok c =
+    let words = map string_bytes c.args.words.now in
+    IfOk-weaker c.try_get_matches_from.result _ _
+    (λ m has. (has (ap is_simple c.in_ok-rollout.ensures ∙ has_matches)).1 ∙ ap (λ (app : App). subcommand_of app words) c.in_ok-rollout.ensures)
+    c.try_get_matches_from.ensures.matches
 
 pub returns-clause-err : goal.returns-clause-err
 returns-clause-err c =

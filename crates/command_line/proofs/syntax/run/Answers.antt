@@ -16,7 +16,8 @@ returns-clause-app c =
     let second = c.in_ok-arg-2.ensures.shape c.playbook.ensures.local ∙ ap₂ with_rule first c.playbook.ensures.rule in
     let third = c.in_ok-arg-3.ensures.shape c.forks.ensures.local ∙ ap₂ with_rule second c.forks.ensures.rule in
     let fourth = c.in_ok-arg-4.ensures.shape c.verbose.ensures.local ∙ ap₂ with_rule third c.verbose.ensures.rule in
-    IfOk-weaker c.arg-5.result _ _ (λ r h. h.shape c.stop_file.ensures.local ∙ ap₂ with_rule fourth c.stop_file.ensures.rule) c.arg-5.ensures
+    let fifth = c.in_ok-arg-5.ensures.shape c.quiet.ensures.local ∙ ap₂ with_rule fourth c.quiet.ensures.rule in
+    IfOk-weaker c.arg-6.result _ _ (λ r h. h.shape c.stop_file.ensures.local ∙ ap₂ with_rule fifth c.stop_file.ensures.rule) c.arg-6.ensures
 
 pub returns-clause-local : goal.returns-clause-local
 returns-clause-local c =
@@ -25,4 +26,5 @@ returns-clause-local c =
     let second = c.in_ok-arg-2.ensures.globals ∙ ap₂ (λ (a b : Bool). a || b) first c.playbook.ensures.local in
     let third = c.in_ok-arg-3.ensures.globals ∙ ap₂ (λ (a b : Bool). a || b) second c.forks.ensures.local in
     let fourth = c.in_ok-arg-4.ensures.globals ∙ ap₂ (λ (a b : Bool). a || b) third c.verbose.ensures.local in
-    IfOk-weaker c.arg-5.result _ _ (λ r h. h.globals ∙ ap₂ (λ (a b : Bool). a || b) fourth c.stop_file.ensures.local) c.arg-5.ensures
+    let fifth = c.in_ok-arg-5.ensures.globals ∙ ap₂ (λ (a b : Bool). a || b) fourth c.quiet.ensures.local in
+    IfOk-weaker c.arg-6.result _ _ (λ r h. h.globals ∙ ap₂ (λ (a b : Bool). a || b) fifth c.stop_file.ensures.local) c.arg-6.ensures

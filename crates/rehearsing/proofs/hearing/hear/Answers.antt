@@ -1,6 +1,7 @@
 use Rattle.std.proofs.Common.{ℕ, List, refl, sym, subst}
 use Rattle.bounded_io.proofs.WritingLemmas.{writes_none}
-use Rattle.rehearsing.proofs.HearingLemmas.{Hearing, begins_hearing, hears_line, hears_no_line, hears_no_rest}
+use Rattle.rehearsing.proofs.FlowLemmas.{breaks_off, goes_on}
+use Rattle.rehearsing.proofs.HearingLemmas.{Hearing, begins_hearing, hears_end, hears_line, hears_no_line, hears_no_rest}
 use Rattle.rehearsing.proofs.hearing.hear.Goals as goal
 
 pub loop-front-init : goal.loop-front-init
@@ -11,13 +12,19 @@ pub returns-in-Err-clause-err : goal.returns-in-Err-clause-err
 returns-in-Err-clause-err g c =
     hears_no_line _ _ _ _ _ _ _ _ _ _ _ c.loop-front.invariant c.in-Some.front.now c.in-Some.behind.now c.in-Err.fault c.in-Some.ensures.cut c.in-Err.ensures.err c.in-Err.ensures.unchanged c.in-Err.ensures.silent
 
+pub returns-in-Ok-Break-clause-hears : goal.returns-in-Ok-Break-clause-hears
+returns-in-Ok-Break-clause-hears g c =
+    hears_end _ _ _ _ _ _ _ _ _ _ _ c.loop-front.invariant c.in-Some.front.now c.in-Some.behind.now _ c.in-Some.ensures.cut c.in-Ok-Break.ensures.within
+    (breaks_off c.in-Ok-Break.field-0 _ _ c.in-Ok-Break.field-0-is c.in-Ok-Break.ensures.flow) c.in-Ok-Break.ensures.answers c.in-Ok-Break.ensures.writes
+
 pub loop-front-preserved : goal.loop-front-preserved
 loop-front-preserved g c =
     subst
     (λ (now : List ℕ). Hearing g.W.Write.contents c.args.rehearsal.now c.args.line.now.items c.args.bytes.now c.in-Some.behind.now now c.end_line.new.rehearsal c.args.text.now c.end_line.new.text)
-    (sym c.in_default-end_line.ensures.next)
-    (hears_line _ _ _ _ _ _ _ _ _ _ _ c.loop-front.invariant c.in-Some.front.now c.in-Some.behind.now _ c.in-Some.ensures.cut c.in_default-end_line.ensures.within
-    c.in_default-end_line.ensures.answers c.in_default-end_line.ensures.writes)
+    (sym c.in-Ok-Continue.ensures.next)
+    (hears_line _ _ _ _ _ _ _ _ _ _ _ c.loop-front.invariant c.in-Some.front.now c.in-Some.behind.now _ c.in-Some.ensures.cut c.in-Ok-Continue.ensures.within
+    (goes_on c.in-Ok-Continue.field-0 _ _ c.in-Ok-Continue.field-0-is c.in-Ok-Continue.ensures.flow)
+    c.in-Ok-Continue.ensures.answers c.in-Ok-Continue.ensures.writes)
 
 pub returns-in-Err-grow-clause-err : goal.returns-in-Err-grow-clause-err
 returns-in-Err-grow-clause-err g c =

@@ -1,7 +1,8 @@
 use Rattle.std.proofs.Common.{◌≡◌, ℕ, ◌+◌, ◌<◌, ◌≤◌, ◌++◌, ◌∷◌, [], List, length, take, drop, get_or, refl, sym, ap, ◌∙◌, subst, arith, length-take, length-drop}
 use Rattle.std.specs.Io.KnownBytes.{Consumes}
 use Rattle.rehearsing.specs.Inside.{LastAnswer}
-use Rattle.rehearsing.proofs.ListeningLemmas.{in_vain, one_read_more, still_listening, to_all, until_fault, until_file, until_memory, until_too_large}
+use Rattle.rehearsing.proofs.FlowLemmas.{where_off, where_on}
+use Rattle.rehearsing.proofs.ListeningLemmas.{in_vain, one_read_more, still_listening, to_all, to_line, until_fault, until_file, until_memory, until_too_large}
 use Rattle.rehearsing.proofs.ReadLemmas.{read_all, read_one_more, read_parts}
 use Rattle.rehearsing.proofs.listening.listen.Goals as goal
 use Rattle.rehearsing.proofs.listening.listen.Goals.{in-Ok, in-Err}
@@ -48,8 +49,22 @@ returns-in-Err-hear-clause-err g c =
     (omega (arith, ap length parts, length-take {A = ℕ}, c.in-Some-read_some.ensures.bound, c.min-most.ensures, c.reads.invariant.so_far.within))
     (omega (arith, c.split_at.ensures.front_len, c.min.ensures, c.reads.invariant.so_far.within)) c.in-Err-hear.ensures.err
 
+pub returns-in-Ok-Break-clause-ok : goal.returns-in-Ok-Break-clause-ok
+returns-in-Ok-Break-clause-ok g c =
+    let count : ℕ = c.in-Some-read_some.count in
+    let room : List ℕ = c.read_some.new.room in
+    let part : List ℕ = c.split_at.result.0.now in
+    let parts : take count room ≡ part ++ drop c.min.result (take count room) = read_parts count c.min.result room part (omega (arith, c.min.ensures)) c.split_at.ensures.front in
+    to_line _ _ _ _ _ _ _ _ _ (still_listening _ _ _ _ _ _ _ _ _ c.reads.invariant.so_far c.flush.new.self c.flush.ensures.writes) (g.I.Read.remaining c.read_some.new.self)
+    c.hear.new.rehearsal c.hear.new.text part (drop c.min.result (take count room))
+    (subst (Consumes (g.I.Read.remaining c.reads.input) (g.I.Read.remaining c.read_some.new.self)) parts c.in-Some-read_some.ensures.read)
+    (omega (arith, ap length parts, length-take {A = ℕ}, c.in-Some-read_some.ensures.bound, c.min-most.ensures))
+    (omega (arith, ap length parts, length-take {A = ℕ}, c.in-Some-read_some.ensures.bound, c.min-most.ensures, c.reads.invariant.so_far.within))
+    (omega (arith, c.split_at.ensures.front_len, c.min.ensures, c.reads.invariant.so_far.within)) (where_off c.in-Ok-Break.field-0 _ _ _ c.in-Ok-Break.field-0-is c.in-Ok-Break.ensures.hears)
+
 pub returns-then-count-left-clause-err : goal.returns-then-count-left-clause-err
 returns-then-count-left-clause-err g c =
+    let heard = where_on c.in-Ok-Continue.field-0 _ _ _ c.in-Ok-Continue.field-0-is c.in-Ok-Continue.ensures.hears in
     let count : ℕ = c.in-Some-read_some.count in
     let room : List ℕ = c.read_some.new.room in
     let part : List ℕ = c.split_at.result.0.now in
@@ -58,10 +73,11 @@ returns-then-count-left-clause-err g c =
     until_too_large _ _ _ _ _ _ _ _ _ (still_listening _ _ _ _ _ _ _ _ _ c.reads.invariant.so_far c.flush.new.self c.flush.ensures.writes) (g.I.Read.remaining c.read_some.new.self)
     c.hear.new.rehearsal c.hear.new.text (g.I.Input.is_reliable c.args.input.now) part c.hear.new.line.items (get_or room c.min.result 0)
     (subst (Consumes (g.I.Read.remaining c.reads.input) (g.I.Read.remaining c.read_some.new.self)) parts c.in-Some-read_some.ensures.read)
-    (omega (arith, c.split_at.ensures.front_len, c.min.ensures, c.if-count-left.true, c.reads.invariant.so_far.within)) c.in_default-hear.ensures.hears c.in_default-hear.ensures.line
+    (omega (arith, c.split_at.ensures.front_len, c.min.ensures, c.if-count-left.true, c.reads.invariant.so_far.within)) heard.0 heard.1
 
 pub reads-preserved : goal.reads-preserved
 reads-preserved g c =
+    let heard = where_on c.in-Ok-Continue.field-0 _ _ _ c.in-Ok-Continue.field-0-is c.in-Ok-Continue.ensures.hears in
     let count : ℕ = c.in-Some-read_some.count in
     let room : List ℕ = c.read_some.new.room in
     let part : List ℕ = c.split_at.result.0.now in
@@ -70,6 +86,6 @@ reads-preserved g c =
       so_far = one_read_more _ _ _ _ _ _ _ _ _ (still_listening _ _ _ _ _ _ _ _ _ c.reads.invariant.so_far c.flush.new.self c.flush.ensures.writes) (g.I.Read.remaining c.read_some.new.self)
           c.hear.new.rehearsal c.hear.new.text part c.hear.new.line.items count
           (subst (Consumes (g.I.Read.remaining c.reads.input) (g.I.Read.remaining c.read_some.new.self)) (read_all count c.min.result room part all c.split_at.ensures.front) c.in-Some-read_some.ensures.read)
-          (omega (arith, c.split_at.ensures.front_len, all)) (omega (arith, c.if-count-left.false, c.reads.invariant.so_far.within)) c.in_default-hear.ensures.hears c.in_default-hear.ensures.line;
+          (omega (arith, c.split_at.ensures.front_len, all)) (omega (arith, c.if-count-left.false, c.reads.invariant.so_far.within)) heard.0 heard.1;
       reliable = c.in-Some-read_some.ensures.stays ∙ c.reads.invariant.reliable;
     }

@@ -4,7 +4,7 @@ use Rattle.roll_logs.specs.Logs.{IsLegal}
 use Rattle.roll_logs.specs.States.{start_state}
 use Rattle.roll_kernel.specs.Views.{roll_of}
 use Rattle.roll_core.specs.Boards.{BoardView}
-use Rattle.roll_run.specs.Inside.{halt_in}
+use Rattle.roll_core.specs.Tellings.{halt_in}
 use Rattle.roll_run.proofs.Turning.{halts_early}
 use Rattle.roll_run.proofs.close.close_batch.Goals as goal
 

@@ -7,7 +7,8 @@ use Rattle.play_course.specs.declared.boundary.Boundary.{Boundary}
 use Rattle.play_course.specs.Courses.{end_here, end_with, next_batch}
 use Rattle.roll_logs.specs.States.{failures}
 use Rattle.roll_kernel.specs.Views.{KernelView, state_of}
-use Rattle.roll_run.specs.Inside.{HasBroken, HasRun, grown, halt_in}
+use Rattle.roll_run.specs.Inside.{HasBroken, HasRun, grown}
+use Rattle.roll_core.specs.Tellings.{halt_in}
 use Rattle.roll_run.proofs.Counting.{told_fleet}
 use Rattle.roll_run.proofs.Ending.{asked_at, broken_at, ends_here}
 use Rattle.roll_run.proofs.Turning.{is_behind, last_is, opens_some, same_behind, same_by, still_so}

@@ -6,8 +6,10 @@ use Rattle.roll_kernel.specs.Views.{KernelView}
 use Rattle.roll_core.specs.Boards.{BoardView}
 use Rattle.roll_core.specs.Givings.{IsGiven}
 use Rattle.roll_core.specs.Inside.{IsKept}
+use Rattle.roll_core.specs.Tellings.{HasHeard, Hears, IsTold, begun_by}
 use Rattle.roll_core.proofs.GivingLemmas.{of_no_program}
 use Rattle.roll_core.proofs.GrowLemmas.{kept_quiet}
+use Rattle.roll_core.proofs.HearLemmas.{claim_told, told_more}
 use Rattle.roll_core.proofs.board.Board.claim.Goals as goal
 
 pub given_out-requires : goal.given_out-requires
@@ -18,8 +20,17 @@ given_out-requires g c =
 pub invariant_of-self-2 : goal.invariant_of-self-2
 invariant_of-self-2 g c =
     let out : IsHandedOut c.self.inside.kernel c.claim.new.self c.in-Some.handed = subst (λ (o : Option Handed). IsClaim c.self.inside.kernel c.claim.new.self o) c.in-Some.is c.in_ok-handed.ensures.ok in
-    let kept = kept_quiet (g.R.Runner.may c.self.inside.runner.now) c.self.inside.kernel c.self.inside.tallies c.self.inside.reports.total g.L.Ledger.parts c.self.inside.rest.parts c.self.inside.rest.amount c.self.inside.joined c.self.invariant (claimed out.host out.step) tt refl in
-    subst (λ (k : KernelView). IsKept (g.R.Runner.may c.self.inside.runner.now) k c.self.inside.tallies c.self.inside.reports.total g.L.Ledger.parts c.self.inside.rest.parts c.self.inside.rest.amount c.self.inside.joined) (sym out.grown) kept
+    let kept = kept_quiet (g.R.Runner.may c.self.inside.runner.now) c.self.inside.kernel c.self.inside.tallies c.self.inside.reports.total g.L.Ledger.parts c.self.inside.rest.parts c.self.inside.rest.amount c.self.inside.joined c.self.invariant.0 (claimed out.host out.step) tt refl in
+    let hears = g.W.Watch.hears in
+    let before = c.self.inside.watch in
+    let now = c.tell_begin.new.watch in
+    let heard = subst (λ (k : KernelView). HasHeard (Hears hears k) before now (begun_by c.in-Some.handed)) out.grown c.tell_begin.ensures in
+    let as_told = subst (HasHeard (Hears hears c.self.inside.kernel) before now) (claim_told c.self.inside.kernel c.claim.new.self c.in-Some.handed out) heard in
+    let told = told_more hears c.self.inside.kernel before now c.self.invariant.1 (claimed out.host out.step) as_told in
+    let may = g.R.Runner.may c.self.inside.runner.now in
+    let rest = c.self.inside.rest in
+    let Now : KernelView → Type 0 = λ k. IsKept may k c.self.inside.tallies c.self.inside.reports.total g.L.Ledger.parts rest.parts rest.amount c.self.inside.joined × IsTold hears k now in
+    subst Now (sym out.grown) (kept, told)
 
 pub returns-clause-ok : goal.returns-clause-ok
 returns-clause-ok g c =

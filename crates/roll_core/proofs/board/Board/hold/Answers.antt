@@ -1,18 +1,24 @@
-use Rattle.std.proofs.Common.{subst, refl}
-use Rattle.std.specs.Prelude.{IfErr}
+use Rattle.std.proofs.Common.{[], ◌∷◌, sym, subst, refl}
 use Rattle.domains.specs.Ids.{host_numbers}
 use Rattle.roll_logs.specs.Events.{set_aside}
-use Rattle.roll_kernel.specs.HoldRefusals.{IsHoldRefusalOf}
-use Rattle.roll_kernel.specs.Views.{roll_of, state_of}
-use Rattle.roll_core.specs.Boards.{BoardView}
-use Rattle.roll_core.proofs.GrowLemmas.{kept_either}
+use Rattle.roll_kernel.specs.Views.{KernelView}
+use Rattle.roll_core.specs.Inside.{IsKept}
+use Rattle.roll_core.specs.Tellings.{HasHeard, Hears, IsTold, aside}
+use Rattle.roll_core.proofs.GrowLemmas.{kept_quiet}
+use Rattle.roll_core.proofs.HearLemmas.{told_more}
 use Rattle.roll_core.proofs.board.Board.hold.Goals as goal
 
 pub invariant_of-self : goal.invariant_of-self
 invariant_of-self g c =
-    kept_either (g.R.Runner.may c.self.inside.runner.now) c.self.inside.kernel c.self.inside.tallies c.self.inside.reports.total g.L.Ledger.parts c.self.inside.rest.parts c.self.inside.rest.amount c.self.inside.joined c.self.invariant
-    c.hold.result (set_aside (host_numbers c.args.hosts.now)) c.hold.new.self tt refl c.hold.ensures.ok c.hold.ensures.unchanged
-
-pub returns-clause-err : goal.returns-clause-err
-returns-clause-err g c =
-    subst (λ (v : BoardView g.row.R.Denot). IfErr c.hold.result (IsHoldRefusalOf (roll_of v.kernel) (state_of v.kernel) (host_numbers c.args.hosts.now))) c.self.view_is c.hold.ensures.err
+    let old = c.self.inside in
+    let may = g.R.Runner.may old.runner.now in
+    let hears = g.W.Watch.hears in
+    let now = c.tell.new.watch in
+    let hosts = host_numbers c.args.hosts.now in
+    let grown = c.in-Ok.ensures.ok in
+    let kept = kept_quiet may old.kernel old.tallies old.reports.total g.L.Ledger.parts old.rest.parts old.rest.amount old.joined c.self.invariant.0 (set_aside hosts) tt refl in
+    let heard : HasHeard (Hears hears c.hold.new.self) old.watch now (aside hosts ∷ []) = (now, (c.tell.ensures, refl)) in
+    let of_old = subst (λ (k : KernelView). HasHeard (Hears hears k) old.watch now (aside hosts ∷ [])) grown heard in
+    let told = told_more hears old.kernel old.watch now c.self.invariant.1 (set_aside hosts) of_old in
+    let Now : KernelView → Type 0 = λ k. IsKept may k old.tallies old.reports.total g.L.Ledger.parts old.rest.parts old.rest.amount old.joined × IsTold hears k now in
+    subst Now (sym grown) (kept, told)

@@ -1,4 +1,4 @@
-use Rattle.std.proofs.Common.{◌≡◌, ◌<◌, ◌∙◌, length, sym, ap, subst, refl, inr, ◌⊎◌}
+use Rattle.std.proofs.Common.{◌≡◌, ◌<◌, ◌∙◌, [], ◌∷◌, length, sym, ap, subst, refl, inr, ◌⊎◌}
 use Rattle.roll_kernel.specs.Claims.{event_in}
 use Rattle.roll_kernel.specs.Views.{KernelView, roll_of, state_of}
 use Rattle.roll_kernel.specs.Ways.{Completed}
@@ -6,7 +6,10 @@ use Rattle.roll_core.specs.Boards.{BoardView}
 use Rattle.roll_core.specs.Dones.{DoneView}
 use Rattle.roll_core.specs.Reports.{IsStranger}
 use Rattle.roll_core.specs.Inside.{IsKept}
+use Rattle.batch_work.specs.Rows.{undefined_name}
+use Rattle.roll_core.specs.Tellings.{HasHeard, Hears, IsTold, row, wanted}
 use Rattle.roll_core.proofs.GrowLemmas.{end_by, kept_report, tells}
+use Rattle.roll_core.proofs.HearLemmas.{report_told, told_more}
 use Rattle.roll_core.proofs.board.Board.report.Goals as goal
 
 pub invariant_of-self-2 : goal.invariant_of-self-2
@@ -22,9 +25,17 @@ invariant_of-self-2 g c =
     let counted = c.count_one.ensures in
     let now = c.count_one.new in
     let few = subst (λ (k : KernelView). length k.log < 9223372036854775808) c.in-Ok.ensures.ok c.in-Ok.ensures.few in
-    let by_report = kept_report may old.kernel old.tallies old.reports.total g.L.Ledger.parts old.rest.parts old.rest.amount old.joined c.self.invariant in
+    let by_report = kept_report may old.kernel old.tallies old.reports.total g.L.Ledger.parts old.rest.parts old.rest.amount old.joined c.self.invariant.0 in
     let kept = by_report (event_in completion) now.reports.total now.rest.parts now.rest.amount told refl counted.total counted.parts counted.amount counted.apart few in
-    subst (λ (k : KernelView). IsKept may k old.tallies now.reports.total g.L.Ledger.parts now.rest.parts now.rest.amount old.joined) (sym c.in-Ok.ensures.ok) kept
+    let hears = g.W.Watch.hears in
+    let watch = c.tell_row.new.watch in
+    let entered = c.in-Ok.entered in
+    let row_heard = c.tell_row.ensures old.kernel.log completion.host completion.step completion.ending (ap (λ (k : KernelView). k.log) c.in-Ok.ensures.ok) in
+    let of_old = subst (λ (k : KernelView). HasHeard (Hears hears k) old.watch watch (row completion.host completion.step completion.ending (wanted completion.ending (undefined_name entered)) entered.judged ∷ [])) c.in-Ok.ensures.ok row_heard in
+    let same = report_told old.kernel completion entered c.in-Ok.ensures.allowed c.in-Ok.ensures.found in
+    let told_now = told_more hears old.kernel old.watch watch c.self.invariant.1 (event_in completion) (subst (HasHeard (Hears hears old.kernel) old.watch watch) same of_old) in
+    let Now : KernelView → Type 0 = λ k. IsKept may k old.tallies now.reports.total g.L.Ledger.parts now.rest.parts now.rest.amount old.joined × IsTold hears k watch in
+    subst Now (sym c.in-Ok.ensures.ok) (kept, told_now)
 
 pub returns-in-Err-clause-err : goal.returns-in-Err-clause-err
 returns-in-Err-clause-err g c =

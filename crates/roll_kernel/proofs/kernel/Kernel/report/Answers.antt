@@ -21,10 +21,11 @@ use Rattle.roll_kernel.proofs.KeptLemmas.{kept_at_work, kept_grown}
 use Rattle.roll_kernel.proofs.PlaceLemmas.{owed_reported}
 use Rattle.roll_kernel.proofs.ReportLemmas.{held_reported}
 use Rattle.roll_kernel.proofs.StepLemmas.{ends_as, may_report, out_given}
+use Rattle.batch_work.specs.Rows.{IsFoundAt}
 use Rattle.roll_kernel.proofs.kernel.Kernel.report.Goals as goal
 
-pub enter-failed-requires-clause-place : goal.enter-failed-requires-clause-place
-enter-failed-requires-clause-place c =
+pub enter-entered-requires-clause-place : goal.enter-entered-requires-clause-place
+enter-entered-requires-clause-place c =
     let work = c.self.inside.work in
     let kernel : KernelView = view_of c.self.inside.roster c.self.inside.play.now c.self.inside.forks c.self.inside.start.now c.self.inside.vars.now c.self.inside.log.items in
     let works = c.self.invariant.held.works in
@@ -64,17 +65,17 @@ invariant_of-self c =
     let reports = may_report (roll_of kernel) (state_of kernel) mine (ends_as way c.completion.invariant.ends) out in
     let of_host = subst (λ (h : HostId). MayReport (roll_of kernel) (state_of kernel) h.index step (ending_of (outcome_in way))) (sym c.host-host.ensures) reports in
     let may = subst (λ (o : Outcome). MayReport (roll_of kernel) (state_of kernel) host.index step (ending_of o)) (sym c.into_outcome-outcome.ensures) of_host in
-    let entered = c.enter-failed.ensures.work (roll_of kernel) (state_of kernel) kept.held.works may in
-    let failed = c.enter-failed.ensures.failed (roll_of kernel) (state_of kernel) kept.held.works may in
-    let shown : c.rest.new.self ≡ with_host old host.index (cond c.enter-failed.result Failed Running) true =
+    let entered = c.enter-entered.ensures.work (roll_of kernel) (state_of kernel) kept.held.works may in
+    let failed = c.enter-entered.ensures.failed (roll_of kernel) (state_of kernel) kept.held.works may in
+    let shown : c.rest.new.self ≡ with_host old host.index (cond c.enter-entered.result.failed Failed Running) true =
     c.rest.ensures ∙ ap (λ (h : HostId). with_host old h.index c.status_after.result true) (sym c.host-host.ensures)
     ∙ ap (λ (s : Status). with_host old host.index s true) c.status_after.ensures in
     let owes = owed_reported (roll_of kernel) (state_of kernel) host.index step (ending_of outcome) kept.held.works.single may.claimed in
     kept_grown old c.rest.new.self c.self.inside.play.now c.self.inside.forks c.self.inside.start.now c.self.inside.vars.now log c.keep.new.log.items
-    (Report host step outcome) (reported host.index step (ending_of outcome)) work c.enter-failed.new.self _ _ kept refl
+    (Report host step outcome) (reported host.index step (ending_of outcome)) work c.enter-entered.new.self _ _ kept refl
     (ap (λ (r : RosterView). r.fleet) c.rest.ensures) c.keep.ensures.items may
     (held_reported (roll_of kernel) (state_of kernel) old work kept.held (kept_at_work kernel old work _ kept) host.index step (ending_of outcome)
-    may c.enter-failed.result c.rest.new.self c.enter-failed.new.self failed shown entered)
+    may c.enter-entered.result.failed c.rest.new.self c.enter-entered.new.self failed shown entered)
     (omega (arith, owes, kept.places, length-map log event_of, c.keep.ensures.capacity))
 
 pub returns-clause-allowed : goal.returns-clause-allowed
@@ -82,3 +83,17 @@ returns-clause-allowed c =
     let kernel : KernelView = view_of c.self.inside.roster c.self.inside.play.now c.self.inside.forks c.self.inside.start.now c.self.inside.vars.now c.self.inside.log.items in
     let out : IsOut (roll_of kernel) (state_of kernel) c.args.completion = (c.is_out_for.ensures (roll_of kernel) (state_of kernel) c.self.invariant.held.works).0 c.if-not-is_out_for.false in
     subst (λ (v : KernelView). IsOut (roll_of v) (state_of v) c.args.completion) c.self.view_is out
+
+pub returns-clause-found : goal.returns-clause-found
+returns-clause-found c =
+    let kernel : KernelView = view_of c.self.inside.roster c.self.inside.play.now c.self.inside.forks c.self.inside.start.now c.self.inside.vars.now c.self.inside.log.items in
+    let roll = roll_of kernel in
+    let state = state_of kernel in
+    let inside = c.completion.inside in
+    let mine : Completed = completed inside.share.host.index inside.step inside.way in
+    let entered = c.enter-entered.result in
+    let found = c.enter-entered.ensures.found roll state c.self.invariant.held.works in
+    let of_host = subst (λ (h : HostId). IsFoundAt roll state h.index inside.step (ending_of c.into_outcome-outcome.result) entered) c.host-host.ensures found in
+    let of_way = subst (λ (o : Outcome). IsFoundAt roll state inside.share.host.index inside.step (ending_of o) entered) c.into_outcome-outcome.ensures of_host in
+    let of_given = subst (λ (m : Completed). IsFoundAt roll state m.host m.step m.ending entered) c.completion.view_is of_way in
+    subst (λ (v : KernelView). IsFoundAt (roll_of v) (state_of v) c.args.completion.host c.args.completion.step c.args.completion.ending entered) c.self.view_is of_given

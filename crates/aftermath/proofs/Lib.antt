@@ -1,0 +1,4 @@
+pub mod FullLemmas
+pub mod NamedLemmas
+pub mod RowLemmas
+pub mod TextLemmas

@@ -1,0 +1,49 @@
+-- Hosts that plays name and that are down from the start.
+use Rattle.std.specs.Prelude.{ℕ, ◌-◌, ◌&&◌, nat_lt, Bool, true, false, if◌then◌else◌, List, [], ◌∷◌, ◌++◌, codes, length, slice_index_or, take}
+use Rattle.std.specs.List.{list_any}
+use Rattle.fleet_numbers.specs.NumberLists.{has_number, numbers_where}
+use Rattle.domains.specs.FleetViews.{FleetView}
+use Rattle.play_model.specs.declared.play.Play.{Play}
+use Rattle.play_plan.specs.PlayPlans.{targets}
+use Rattle.recap.specs.LimitsText.{field_text}
+use Rattle.recap.specs.PlanText.{names_text}
+
+-- one of the plays names the host
+abbrev pub is_named : FleetView → List Play → ℕ → Bool
+is_named fleet plays host = list_any (λ play. has_number host (targets fleet play)) plays
+
+-- the hosts that are off and that one of the plays names, by name, each once
+abbrev pub left_out : FleetView → List Play → List ℕ
+left_out fleet plays = numbers_where (λ host. slice_index_or fleet.off host false && is_named fleet plays host) (length fleet.hosts)
+
+-- ` +N`, where there are more than ten
+abbrev pub more_text : ℕ → List ℕ
+more_text count = if nat_lt 10 count then field_text (codes " +") (count - 10) else []
+
+abbrev pub plays_text : Bool → List ℕ
+plays_text true = codes "plays"
+plays_text false = codes "play"
+
+abbrev pub one_text : Bool → List ℕ
+one_text several = codes " is down and stays down: 1 host of the " ++ (plays_text several ++ codes " is left out\n")
+
+abbrev pub many_text : Bool → ℕ → List ℕ
+many_text several count =
+    field_text (codes " are down and stay down: ") count ++ (codes " hosts of the " ++ (plays_text several ++ codes " are left out\n"))
+
+-- what is said of so many hosts of one play, or of several
+abbrev pub stay_text : Bool → ℕ → List ℕ
+stay_text several count = if nat_lt 1 count then many_text several count else one_text several
+
+-- `note: NAME NAME .. are down and stay down: N hosts of the play are left out`: the first ten of them by their names
+abbrev pub note_text : FleetView → Bool → List ℕ → List ℕ
+note_text fleet several hosts =
+    codes "note:" ++ (names_text fleet (take 10 hosts) ++ (more_text (length hosts) ++ stay_text several (length hosts)))
+
+-- nothing is said where nobody is left out
+abbrev pub note_of : FleetView → Bool → List ℕ → List ℕ
+note_of fleet several [] = []
+note_of fleet several (host ∷ hosts) = note_text fleet several (host ∷ hosts)
+
+abbrev pub left_out_text : FleetView → List Play → List ℕ
+left_out_text fleet plays = note_of fleet (nat_lt 1 (length plays)) (left_out fleet plays)

@@ -1,8 +1,0 @@
-use Rattle.std.proofs.Common.{◌≡◌, ◌∷◌, ◌++◌, drop, map, string_bytes}
-use Rattle.command_line.specs.Verbose.{without_flags}
-use Rattle.command_line.proofs.VerboseLemmas.{left}
-use Rattle.command_line.proofs.verbose.without_flags.Given as goal
-
-abbrev pub invariant-loop-word : goal.invariant-loop-word
-invariant-loop-word l =
-    map string_bytes l.plain.items ++ left l.in_front (drop l.word-index (map string_bytes l.words)) ≡ string_bytes l.command ∷ without_flags (map string_bytes l.words)

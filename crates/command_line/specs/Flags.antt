@@ -1,0 +1,48 @@
+-- The flags that ask a command to tell of itself, or to be quiet.
+use Rattle.std.specs.Prelude.{Bool, false, ◌&&◌, ◌||◌, if◌then◌else◌, List, [], ◌∷◌, codes}
+use Rattle.std.specs.Str.{bytes_eq}
+use Rattle.command_line.specs.declared.flags.Flags.{Flags}
+use Rattle.command_line.specs.declared.flags.Flags.TheVariants.{Either, Quiet, Verbose}
+use Rattle.command_line.specs.Operands.{Word, dashes}
+use Rattle.command_line.specs.StopFiles.{without_stops}
+
+abbrev pub is_verbose_flag : Word → Bool
+is_verbose_flag word = bytes_eq word (codes "-v") || bytes_eq word (codes "--verbose")
+
+abbrev pub is_quiet_flag : Word → Bool
+is_quiet_flag word = bytes_eq word (codes "--quiet")
+
+abbrev pub has_flag : Flags → Word → Bool
+has_flag Verbose word = is_verbose_flag word
+has_flag Quiet word = is_quiet_flag word
+has_flag Either word = is_verbose_flag word || is_quiet_flag word
+
+-- one of the words is such a flag; behind the word that ends options none is
+abbrev pub asks : Flags → List Word → Bool
+asks flags [] = false
+asks flags (word ∷ words) = if bytes_eq word dashes then false else (has_flag flags word || asks flags words)
+
+-- the words without such flags
+abbrev pub without_flags : Flags → List Word → List Word
+without_flags flags [] = []
+without_flags flags (word ∷ words) =
+    if bytes_eq word dashes then word ∷ words else (if has_flag flags word then without_flags flags words else word ∷ without_flags flags words)
+
+-- the words of a line without the stop files and the flags of a run, and without the flag of a plan; the file of a stop file is no flag
+abbrev pub plain : List Word → List Word
+plain [] = []
+plain (command ∷ words) =
+    if bytes_eq command (codes "run") then command ∷ without_flags Either (without_stops words)
+    else (if bytes_eq command (codes "plan") then command ∷ without_flags Verbose words else command ∷ words)
+
+-- the words ask a run to tell of itself, or a plan
+abbrev pub is_verbose : List Word → Bool
+is_verbose [] = false
+is_verbose (command ∷ words) =
+    if bytes_eq command (codes "run") then asks Verbose (without_stops words)
+    else (bytes_eq command (codes "plan") && asks Verbose words)
+
+-- the words ask a run to tell nothing unasked
+abbrev pub is_quiet : List Word → Bool
+is_quiet [] = false
+is_quiet (command ∷ words) = bytes_eq command (codes "run") && asks Quiet (without_stops words)

@@ -1,0 +1,116 @@
+//! A line, with what it says of being told.
+ghost use Rattle.std.specs.Prelude.{◌≡◌, ◌∷◌, IfErr, IfOk, None, false, map, string_bytes};
+ghost use Rattle.std.specs.List.{last_or};
+ghost use Rattle.std.specs.Option.{option_map};
+ghost use Rattle.command_line.specs.Flags as spec;
+ghost use Rattle.command_line.specs.StopFiles as stops;
+ghost use Rattle.command_line.specs.Words.{Refuses, Says};
+ghost use Rattle.command_line.specs.declared.flags.Flags.TheVariants.{Either, Quiet, Verbose};
+
+use crate::command::Line;
+use crate::fault::LineFault;
+use crate::flags::{Flags, asks, without_flags};
+use crate::reading::line;
+use crate::stop_file::without_stops;
+use crate::words::is_word;
+use std::alloc::Global;
+
+/// A line, and what beside it concerns a plan or a run alone.
+#[derive(Debug, Drop)]
+pub struct Request {
+    pub line: Line,
+    /// Whether a run is told of while it goes on, and of a plan who is left out of it.
+    pub is_verbose: bool,
+    /// Whether a run tells nothing unasked, also at a terminal. Where it is verbose too, that goes before.
+    pub is_quiet: bool,
+    /// The file that ends the run before its next batch, once it is there.
+    pub stop_file: Option<String>,
+}
+
+/// What the words ask for, the program's name left out. The stop files and the flags of a run, and the flag of a plan, may stand anywhere before the
+/// word that ends options, and more than once. They are taken out before clap reads the words: what clap makes of the others is the same wherever they
+/// stood.
+pub fn request_of(alloc: Global, words: &[String]) -> Result<Request, LineFault>
+    ensures ok { IfOk result (λ asked. Says (spec.plain (map string_bytes words.now)) asked.line) }
+    ensures verbose { IfOk result (λ asked. asked.is_verbose ≡ spec.is_verbose (map string_bytes words.now)) }
+    ensures quiet { IfOk result (λ asked. asked.is_quiet ≡ spec.is_quiet (map string_bytes words.now)) }
+    ensures stop_file { IfOk result (λ asked. option_map string_bytes asked.stop_file ≡ stops.stop_file (map string_bytes words.now)) }
+    ensures err { IfErr result (Refuses (spec.plain (map string_bytes words.now))) }
+{
+    match words {
+        [command, rest @ ..] if is_word(command, "run") => run_request(alloc, command, rest),
+        [command, rest @ ..] if is_word(command, "plan") => plan_request(alloc, command, rest),
+        _ => match line(alloc, words) {
+            Ok(line) => Ok(Request {
+                line,
+                is_verbose: false,
+                is_quiet: false,
+                stop_file: None,
+            }),
+            Err(fault) => Err(fault),
+        },
+    }
+}
+
+/// What the words of a plan ask for.
+fn plan_request(alloc: Global, command: &String, words: &[String]) -> Result<Request, LineFault>
+    ensures ok { IfOk result (λ asked. Says (string_bytes command.now ∷ spec.without_flags Verbose (map string_bytes words.now)) asked.line) }
+    ensures verbose { IfOk result (λ asked. asked.is_verbose ≡ spec.asks Verbose (map string_bytes words.now)) }
+    ensures quiet { IfOk result (λ asked. asked.is_quiet ≡ false) }
+    ensures stop_file { IfOk result (λ asked. asked.stop_file ≡ None) }
+    ensures err { IfErr result (Refuses (string_bytes command.now ∷ spec.without_flags Verbose (map string_bytes words.now))) }
+{
+    let Ok(plain) = without_flags(alloc, Flags::Verbose, command, words) else {
+        return Err(LineFault::Memory);
+    };
+    match line(alloc, plain.as_slice()) {
+        Ok(line) => Ok(Request {
+            line,
+            is_verbose: asks(Flags::Verbose, words),
+            is_quiet: false,
+            stop_file: None,
+        }),
+        Err(fault) => Err(fault),
+    }
+}
+
+/// What the words of a run ask for.
+fn run_request(alloc: Global, command: &String, words: &[String]) -> Result<Request, LineFault>
+    ensures ok { IfOk result (λ asked. Says (string_bytes command.now ∷ spec.without_flags Either (stops.without_stops (map string_bytes words.now))) asked.line) }
+    ensures verbose { IfOk result (λ asked. asked.is_verbose ≡ spec.asks Verbose (stops.without_stops (map string_bytes words.now))) }
+    ensures quiet { IfOk result (λ asked. asked.is_quiet ≡ spec.asks Quiet (stops.without_stops (map string_bytes words.now))) }
+    ensures stop_file { IfOk result (λ asked. option_map string_bytes asked.stop_file ≡ last_or None (stops.stop_files (map string_bytes words.now))) }
+    ensures err { IfErr result (Refuses (string_bytes command.now ∷ spec.without_flags Either (stops.without_stops (map string_bytes words.now)))) }
+{
+    let Ok((others, file)) = without_stops(alloc, words) else {
+        return Err(LineFault::Memory);
+    };
+    flagged_request(alloc, command, others.as_slice(), file)
+}
+
+/// What the words of a run without their stop files ask for, with the last of these.
+fn flagged_request(
+    alloc: Global,
+    command: &String,
+    words: &[String],
+    stop_file: Option<String>,
+) -> Result<Request, LineFault>
+    ensures ok { IfOk result (λ asked. Says (string_bytes command.now ∷ spec.without_flags Either (map string_bytes words.now)) asked.line) }
+    ensures verbose { IfOk result (λ asked. asked.is_verbose ≡ spec.asks Verbose (map string_bytes words.now)) }
+    ensures quiet { IfOk result (λ asked. asked.is_quiet ≡ spec.asks Quiet (map string_bytes words.now)) }
+    ensures stop_file { IfOk result (λ asked. asked.stop_file ≡ stop_file) }
+    ensures err { IfErr result (Refuses (string_bytes command.now ∷ spec.without_flags Either (map string_bytes words.now))) }
+{
+    let Ok(plain) = without_flags(alloc, Flags::Either, command, words) else {
+        return Err(LineFault::Memory);
+    };
+    match line(alloc, plain.as_slice()) {
+        Ok(line) => Ok(Request {
+            line,
+            is_verbose: asks(Flags::Verbose, words),
+            is_quiet: asks(Flags::Quiet, words),
+            stop_file,
+        }),
+        Err(fault) => Err(fault),
+    }
+}

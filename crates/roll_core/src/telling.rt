@@ -1,0 +1,57 @@
+//! A watcher is told of what was entered.
+ghost use Rattle.std.specs.Prelude.{◌≡◌, ℕ, List, [], ◌∷◌, ◌++◌, option_map};
+ghost use Rattle.outcome_results.specs.Endings.{Ending, ending_of};
+ghost use Rattle.roll_logs.specs.Events as events;
+ghost use Rattle.batch_work.specs.Rows.{undefined_name};
+ghost use Rattle.roll_core.specs.Tellings as spec;
+ghost use Rattle.roll_core.specs.Tellings.{HasHeard, Hears, begun_by, row, telling_of};
+
+use crate::news::News;
+use crate::watch::Watch;
+use outcome_results::Outcome;
+use roll_kernel::{Entered, Event, Handed, Kernel};
+
+pub(crate) fn tell<W: Watch>(watch: &mut W, kernel: &Kernel<'_>, news: &News<'_>)
+    ensures { W.hears watch.old watch.new kernel.now.fleet kernel.now.play (telling_of news.now) }
+{
+    watch.hear(kernel.fleet(), kernel.play(), news);
+}
+
+/// A program is to begin, if what was handed out has one.
+pub(crate) fn tell_begin<W: Watch>(watch: &mut W, kernel: &Kernel<'_>, handed: &Handed)
+    ensures { HasHeard (Hears W.hears kernel.now) watch.old watch.new (begun_by handed.now) }
+{
+    match handed {
+        Handed::Run(claim) => tell(watch, kernel, &News::Begin { job: claim.job() }),
+        Handed::Settled(_completion) => {}
+    }
+}
+
+/// The name without a value that the step wanted, if it wanted one.
+fn wanted<'a>(outcome: &'a Outcome, entered: &Entered<'a>) -> Option<&'a str>
+    ensures { option_map (λ name. name.now) result ≡ spec.wanted (ending_of outcome.now) (undefined_name entered.now) }
+{
+    match outcome {
+        Outcome::Undefined { name } => Some(name.as_str()),
+        Outcome::Ran { .. } | Outcome::NotStarted | Outcome::Lost | Outcome::Skipped => {
+            entered.undefined
+        }
+    }
+}
+
+/// The last event of the log is a report, of which this was found.
+pub(crate) fn tell_row<W: Watch>(watch: &mut W, kernel: &Kernel<'_>, entered: &Entered<'_>)
+    ensures { (log : List events.Event) (host step : ℕ) (ending : Ending) → kernel.now.log ≡ log ++ events.reported host step ending ∷ []
+        → HasHeard (Hears W.hears kernel.now) watch.old watch.new (row host step ending (spec.wanted ending (undefined_name entered.now)) entered.now.judged ∷ []) }
+{
+    if let Some(Event::Report(host, step, outcome)) = kernel.log().last() {
+        let news = News::Row {
+            host: *host,
+            step: *step,
+            outcome,
+            undefined: wanted(outcome, entered),
+            judged: entered.judged,
+        };
+        tell(watch, kernel, &news);
+    }
+}

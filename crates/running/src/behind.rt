@@ -1,0 +1,60 @@
+//! What is told beside the recap.
+use crate::down::down_lines;
+use crate::left::Left;
+use aftermath::{has_why, left_out_lines, why_lines};
+use domains::Fleet;
+use play_model::Play;
+use roll_core::Watch;
+use std::alloc::{AllocError, Global};
+
+/// Tells of the hosts that the plays name and that stay down, where anybody is told anything and there is memory for it.
+pub(crate) fn tell_left_out<T: Watch>(alloc: Global, watch: &mut T, fleet: &Fleet, plays: &[Play]) {
+    if !watch.is_told() {
+        return;
+    }
+    if let Ok(lines) = left_out_lines(alloc, fleet, plays) {
+        watch.note(lines.as_slice());
+    }
+}
+
+/// What is to be told behind the recap: why hosts are down, or, where the recap couldn't be written whole, its lines of those hosts.
+fn lines_behind(
+    alloc: Global,
+    fleet: &Fleet,
+    plays: &[Play],
+    left: &Left<'_>,
+    is_whole: bool,
+) -> Result<Vec<u8>, AllocError> {
+    if !is_whole {
+        return down_lines(alloc, fleet, left.statuses(), left.counts());
+    }
+    if !has_why(left.end(), left.statuses()) {
+        return Ok(Vec::new(alloc));
+    }
+    let played = left.played(alloc, plays)?;
+    why_lines(
+        alloc,
+        fleet,
+        plays.len() > 1,
+        played.as_slice(),
+        left.statuses(),
+    )
+}
+
+/// Tells behind a recap, which was written whole or not, what there is to tell of the runs, where anybody is told anything and there is memory
+/// for it.
+pub(crate) fn tell_behind<T: Watch>(
+    alloc: Global,
+    watch: &mut T,
+    fleet: &Fleet,
+    plays: &[Play],
+    left: &Left<'_>,
+    is_whole: bool,
+) {
+    if !watch.is_told() {
+        return;
+    }
+    if let Ok(lines) = lines_behind(alloc, fleet, plays, left, is_whole) {
+        watch.keep(lines);
+    }
+}

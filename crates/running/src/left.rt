@@ -1,0 +1,69 @@
+//! What runs have left.
+use aftermath::Played;
+use fleet_states::Status;
+use outcome_results::Counts;
+use play_course::End;
+use play_model::Play;
+use roll_core::Event;
+use roll_run::{Run, RunFault};
+use std::alloc::{AllocError, Global};
+
+/// The runs of the first plays of a file, and behind them the one that was broken off, if one was.
+#[derive(Clone, Copy)]
+pub(crate) struct Left<'r> {
+    pub(crate) done: &'r [Run],
+    pub(crate) broken: Option<&'r RunFault>,
+}
+
+impl<'r> Left<'r> {
+    /// How the last play ended, if it came to its end.
+    pub(crate) fn end(&self) -> Option<End> {
+        match (self.broken, self.done.last()) {
+            (None, Some(run)) => Some(run.end),
+            (_, _) => None,
+        }
+    }
+
+    /// The status of each host at the end.
+    pub(crate) fn statuses(&self) -> &'r [Status] {
+        match (self.broken, self.done.last()) {
+            (Some(fault), _) => fault.statuses.as_slice(),
+            (None, Some(run)) => run.statuses.as_slice(),
+            (None, None) => &[],
+        }
+    }
+
+    /// How the rows of each host were judged in the last play.
+    pub(crate) fn counts(&self) -> &'r [Counts] {
+        match (self.broken, self.done.last()) {
+            (Some(fault), _) => fault.counts.as_slice(),
+            (None, Some(run)) => run.counts.as_slice(),
+            (None, None) => &[],
+        }
+    }
+
+    /// The log of the play at this place, from 0; of one that wasn't begun it is empty.
+    fn log(&self, place: usize) -> &'r [Event] {
+        match (self.done.get(place), self.broken) {
+            (Some(run), _) => run.log.as_slice(),
+            (None, Some(fault)) if place == self.done.len() => fault.log.as_slice(),
+            (None, _) => &[],
+        }
+    }
+
+    /// The plays with their logs.
+    pub(crate) fn played(
+        &self,
+        alloc: Global,
+        plays: &'r [Play],
+    ) -> Result<Vec<Played<'r>>, AllocError> {
+        let mut played = Vec::with_capacity(alloc, plays.len())?;
+        for place in 0..plays.len() {
+            played.push(Played {
+                play: &plays[place],
+                log: self.log(place),
+            })?;
+        }
+        Ok(played)
+    }
+}

@@ -1,0 +1,3 @@
+mod HearingLemmas
+mod OptionLemmas
+mod ShownLemmas

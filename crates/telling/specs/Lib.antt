@@ -1,0 +1,13 @@
+pub mod Shown
+pub mod Options
+pub mod Integers
+pub mod Rows
+pub mod Batches
+pub mod Tellings
+pub mod Modes
+pub mod Spans
+pub mod Counting
+pub mod StatusLines
+pub mod Screens
+pub mod Above
+pub mod Hearing

@@ -1,0 +1,18 @@
+-- How much is told of a run.
+use Rattle.std.specs.Prelude.{Bool, true, false, not, ◌&&◌, if◌then◌else◌}
+use Rattle.telling.specs.declared.mode.Mode.{Mode}
+use Rattle.telling.specs.declared.mode.Mode.TheVariants.{Nothing, OneLine, AllLines}
+use Rattle.telling.specs.declared.mode.Seen.{Seen}
+
+-- somebody is there to see it
+abbrev pub sees_one_line : Seen → Bool
+sees_one_line seen = seen.is_terminal && not seen.is_quiet
+
+abbrev pub mode_of : Seen → Mode
+mode_of seen = if seen.is_verbose then AllLines else (if sees_one_line seen then OneLine else Nothing)
+
+-- anything is told
+abbrev pub tells : Mode → Bool
+tells Nothing = false
+tells OneLine = true
+tells AllLines = true

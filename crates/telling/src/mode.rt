@@ -1,0 +1,42 @@
+//! How much is told of a run.
+ghost use Rattle.std.specs.Prelude.{◌≡◌};
+ghost use Rattle.telling.specs.Modes as spec;
+
+/// Nothing; failures and warnings, and below them one line that is written over, where the terminal can go back in one; or a line for each thing that
+/// happens.
+#[derive(Clone, Copy, Debug, PartialEq, Eq)]
+pub(crate) enum Mode {
+    Nothing,
+    OneLine,
+    AllLines,
+}
+
+/// What is wanted of the lines, and who sees them: whether the words ask for all of them or for none; whether standard error is a terminal,
+/// whether it is one that can't go back in a line, and how many columns it has.
+#[derive(Clone, Copy, Debug, PartialEq, Eq)]
+pub struct Seen {
+    pub is_verbose: bool,
+    pub is_quiet: bool,
+    pub is_terminal: bool,
+    pub is_dumb: bool,
+    pub width: usize,
+}
+
+/// How much is told where it is seen so.
+pub(crate) fn mode_of(seen: &Seen) -> Mode
+    ensures { result ≡ spec.mode_of seen.now }
+{
+    if seen.is_verbose {
+        Mode::AllLines
+    } else if sees_one_line(seen) {
+        Mode::OneLine
+    } else {
+        Mode::Nothing
+    }
+}
+
+fn sees_one_line(seen: &Seen) -> bool
+    ensures { result ≡ spec.sees_one_line seen.now }
+{
+    seen.is_terminal && !seen.is_quiet
+}

@@ -1,0 +1,69 @@
+//! Where texts are told.
+ghost use Rattle.std.specs.Prelude.{◌≡◌, ◌++◌, option_map};
+ghost use Rattle.bounded_io.specs.Sending.{SendsText};
+ghost use Rattle.roll_core.specs.Tellings.{telling_of};
+ghost use Rattle.telling.specs.Above.{told_above};
+ghost use Rattle.telling.specs.Screens.{over_text, wiped_text};
+ghost use Rattle.telling.specs.Tellings.{play_text, told_text};
+
+use crate::given::Given;
+use crate::screen::Over;
+use crate::sending::{send_lines, send_over, send_play, send_told};
+use bounded_io::WriteFault;
+use domains::Fleet;
+use play_model::Play;
+use roll_core::News;
+use std::io::Write;
+
+/// A writer, and how the text that was told last went out: whole, or its first bytes alone where a write failed. Only a text that is given out here
+/// changes that, so nobody can leave one out and have it that a write failed.
+#[derive(Drop)]
+pub(crate) struct Outlet<E> {
+    out: E,
+    sent: Result<(), WriteFault>,
+}
+
+impl<E: Write> Outlet<E> {
+    pub(crate) fn new(out: E) -> Outlet<E>
+        ensures { result.out ≡ out }
+    {
+        Outlet { out, sent: Ok(()) }
+    }
+
+    /// Gives out what is told of what happened.
+    pub(crate) fn tell(&mut self, fleet: &Fleet, play: &Play, news: &News<'_>, given: &Given)
+        ensures { SendsText (E.contents self.old.out) (E.contents self.new.out) (told_text fleet.now play.now (telling_of news.now) given.now) self.new.sent }
+    {
+        self.sent = send_told(&mut self.out, fleet, play, news, given);
+    }
+
+    /// Gives out what is told above the one line, and that line.
+    pub(crate) fn draw(
+        &mut self,
+        over: &Over,
+        fleet: &Fleet,
+        play: &Play,
+        news: &News<'_>,
+        given: &Given,
+    )
+        ensures { SendsText (E.contents self.old.out) (E.contents self.new.out)
+            (over_text over.now.wipes over.now.width (option_map (λ line. line.items) over.now.line) (told_above fleet.now play.now (telling_of news.now) given.now))
+            self.new.sent }
+    {
+        self.sent = send_over(&mut self.out, over, fleet, play, news, given);
+    }
+
+    /// Gives out the number of the play that begins, where there are several.
+    pub(crate) fn tell_play(&mut self, number: u64, plays: u64)
+        ensures { SendsText (E.contents self.old.out) (E.contents self.new.out) (play_text number plays) self.new.sent }
+    {
+        self.sent = send_play(&mut self.out, number, plays);
+    }
+
+    /// Gives these lines out, and wipes the one line away before them where it is to be.
+    pub(crate) fn tell_lines(&mut self, wipes: bool, lines: &[u8])
+        ensures { SendsText (E.contents self.old.out) (E.contents self.new.out) (wiped_text wipes ++ lines.now) self.new.sent }
+    {
+        self.sent = send_lines(&mut self.out, wipes, lines);
+    }
+}
