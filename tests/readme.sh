@@ -1,5 +1,5 @@
 #!/bin/bash
-# Runs the lines of README.md, docs/ and examples/README.md that begin with `$ `, at the top of the repository, and compares what each
+# Runs the lines of README.md, docs/, examples/README.md and bench/README.md that begin with `$ `, at the top of the repository, and compares what each
 # prints, both outputs together, with the lines behind it, up to the next `$ ` or the end of the block (fenced, or indented by four
 # blanks). A command that ends in a backslash goes on in the next line. `rollout` is the built program, or ROLLOUT; the commands of one block run in
 # one shell. A block whose first line is a comment `# needs NAME` is run only where NAME is among the script's words, as in
@@ -146,7 +146,7 @@ check_links() {
     done < <(grep -o '](\([^)]*\))' "$page" | sed 's/^](//; s/)$//' | sort -u)
 }
 
-for page in README.md docs/*.md examples/README.md; do
+for page in README.md docs/*.md examples/README.md bench/README.md; do
     run_page "$page"
     check_links "$page"
 done

@@ -11,6 +11,7 @@ import sys
 
 import made
 import tree
+from sources import items_of
 
 HANDLES = "Handles allowed: Threads, Wait, Processes.\n"
 # Numbers of papers, theorems and issues; the repository stands alone.
@@ -99,37 +100,75 @@ def compare_crates(count, crates):
             count.row(below in words, f"crates.txt: {name} stands on {below}, which no file of it names")
 
 
-def compare_table_of_crates(count, crates, named):
-    """README has one row for each crate; what a row names in brackets are public functions of its crates."""
-    text = tree.read("README.md")
-    start = text.find("\n## What is proved today, crate by crate")
-    table = text[start : text.find("\n## ", start + 1)] if start >= 0 else ""
-    seen = {}
-    for cells in made.rows_of(table):
-        own = [name for name in ticks(cells[0])]
-        for name in own:
-            seen[name] = seen.get(name, 0) + 1
-            count.row(name in crates, f"README.md: a row for {name}, which is no crate")
-        for brackets in re.findall(r"\(([^()]*`[^()]*)\)", " ".join(cells[1:])):
-            for call in ticks(brackets):
-                if re.fullmatch(r"[\w:]+", call):
-                    holds = any(call in named[name].public for name in own if name in named)
-                    count.row(holds or call in named or is_key(call), f"README.md: no public function {call} in {', '.join(own)}")
+def section(text, heading):
+    """What stands under a heading of the second level, up to the next one."""
+    start = text.find(f"\n## {heading}\n")
+    return text[start : text.find("\n## ", start + 1)] if start >= 0 else ""
+
+
+def places_in(cell):
+    """Of each part of a cell, up to a semicolon: the files that it names in backticks, and the names that have to stand there."""
+    for part in cell.split(";"):
+        words = ticks(part)
+        files = [word for word in words if re.match(r"crates/\w+/", word)]
+        yield files, [word for word in words if word not in files and re.fullmatch(r"\w+", word)]
+
+
+def is_defined(name, path):
+    """Whether a function, a type or a definition of this name stands in the file."""
+    stands_as = r"\b(?:fn|struct|enum|trait)" if path.endswith(".rt") else r"^\s*(?:(?:abbrev|pub|record|data|unfoldable|mutual|opaque)\s+)*(?:abbrev|pub|record|data)"
+    return bool(re.search(rf"{stands_as}\s+{name}\b", tree.read(path), re.M)) if stands(path) and os.path.isfile(os.path.join(tree.TOP, path)) else False
+
+
+def compare_rules(count):
+    """Each row of ARCHITECTURE's table of rules names files, and what it names beside them is defined there."""
+    rows = made.rows_of(section(tree.read("docs/ARCHITECTURE.md"), "Where a rule stands"))
+    count.row(rows, "docs/ARCHITECTURE.md: no table of where a rule stands")
+    for rule, *cells in rows:
+        count.row(len(cells) == 2 and any(files for cell in cells for files, _ in places_in(cell)), f"docs/ARCHITECTURE.md: no file for '{rule}'")
+        for files, names in (place for cell in cells for place in places_in(cell)):
+            for name in names:
+                count.row(any(is_defined(name, path) for path in files), f"docs/ARCHITECTURE.md: {rule}: no {name} in {', '.join(files) or 'any file'}")
+
+
+def compare_promises(count):
+    """README has a row of promises for each command; each call that carries one is public, in the file that stands beside it."""
+    rows = made.rows_of(section(tree.read("README.md"), "What is promised, by command"))
+    of = {re.match(r"`(\w+)`", cells[0])[1] for cells in rows if cells[0].startswith("`")}
+    for path in tree.found("crates/rollout/src/commands/*.rt"):
+        for command in re.findall(r"^//! The command `(\w+)`", tree.read(path), re.M):
+            count.row(command in of, f"README.md: no promise of `{command}`")
+    for cells in rows:
+        calls = [(name, path) for files, names in places_in(cells[-1]) for name in names for path in files]
+        count.row(calls, f"README.md: no call carries the promise of {cells[0]}")
+        for name, path in calls:
+            holds = stands(path) and re.search(rf"^\s*pub fn {name}\b", tree.read(path), re.M)
+            count.row(holds, f"README.md: no public function {name} in {path}")
+
+
+def has_code(name):
+    """Whether a crate has a function, but for worked ones of definitions."""
+    sources = [path for path in tree.found(f"crates/{name}/src/**/*.rt") if not path.endswith("/worked.rt")]
+    return any(item.kind == "fn" for path in sources for item in items_of(tree.read(path)))
+
+
+def compare_crates_of_proved(count, crates):
+    """PROVED has contracts of each crate that has code, or says in words that it has none."""
+    said = section(tree.read("docs/PROVED.md"), "Contracts, crate by crate")
+    words = {cells[0].strip("`") for cells in made.rows_of(said)} | set(ticks(re.sub(r"^\|.*\n", "", said, flags=re.M)))
     for name in crates:
-        count.row(seen.get(name) == 1, f"README.md: {seen.get(name, 0)} rows for {name}")
-
-
-def is_key(word):
-    """A key or a word of a playbook or an inventory, as FORMATS has it."""
-    return f"`{word}`" in tree.read("docs/FORMATS.md")
+        count.row(name in words or not has_code(name), f"docs/PROVED.md has no contracts of {name}")
 
 
 def compare_table_of_contracts(count, named):
-    """Each call of a row of PROVED's table of contracts stands in the crate of that row."""
+    """Each call of a row of PROVED's tables of contracts stands in the crate of that row; each crate has a row there, or is said to have none."""
     text = tree.read("docs/PROVED.md")
     start = text.find("\n## Contracts, crate by crate")
+    text = text[start : text.find("\n## ", start + 1)] if start >= 0 else ""
+    for name in named:
+        count.row(f"`{name}`" in text, f"docs/PROVED.md: no contracts of {name}")
     crate = ""
-    for cells in made.rows_of(text[start : text.find("\n## ", start + 1)]):
+    for cells in made.rows_of(text):
         crate = cells[0].strip("`") or crate
         count.row(crate in named, f"docs/PROVED.md: contracts of {crate}, which is no crate")
         for call in ticks(cells[1]):
@@ -190,6 +229,26 @@ def compare_paths(count):
             count.row(target in targets, f"{path}: the Makefile has no target {target}")
     for target in targets - {"build"}:
         count.row(target in named, f"no page names `make {target}`")
+
+
+def anchors_of(path):
+    """The anchors of a page's headings."""
+    text = re.sub(r"^```.*?^```", "", tree.read(path), flags=re.S | re.M)
+    return {re.sub(r"[^\w\- ]", "", heading.lower()).replace(" ", "-") for heading in re.findall(r"^#+ (.*)$", text, re.M)}
+
+
+def compare_links(count):
+    """Each link of a page leads to a file, and its anchor to a heading there."""
+    for path in tree.pages():
+        text = re.sub(r"^```.*?^```", "", tree.read(path), flags=re.S | re.M)
+        for link in sorted(set(re.findall(r"\]\(([^)\s]+)\)", text))):
+            if "://" in link:
+                continue
+            name, _, anchor = link.partition("#")
+            to = os.path.normpath(os.path.join(os.path.dirname(path), name)) if name else path
+            count.row(stands(to), f"{path}: no file {link}")
+            if anchor and to.endswith(".md") and stands(to):
+                count.row(anchor in anchors_of(to), f"{path}: no heading of {link}")
 
 
 def compare_files_of_crates(count, crates):
@@ -296,11 +355,14 @@ def main():
     compare_made_parts(count)
     compare_edits(count)
     compare_crates(count, crates)
-    compare_table_of_crates(count, crates, named)
+    compare_rules(count)
+    compare_promises(count)
+    compare_crates_of_proved(count, crates)
     compare_table_of_contracts(count, named)
     compare_definitions(count, crates)
     compare_counts(count, crates)
     compare_paths(count)
+    compare_links(count)
     compare_files_of_crates(count, crates)
     compare_names(count, crates, named)
     compare_scripts(count)

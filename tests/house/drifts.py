@@ -14,6 +14,7 @@ import sys
 import tempfile
 from concurrent.futures import ThreadPoolExecutor
 
+import compare
 import made
 import tree
 
@@ -51,17 +52,30 @@ def page_of(part):
 def row_in(part, place=3):
     """A row of a made part, with its page."""
     path, body = page_of(part)
-    return path, [line for line in body.split("\n") if line.startswith("| ")][place] + "\n"
+    head = body.split("\n|--")[0].split("\n")[-1]
+    return path, [line for line in body.split("\n") if line.startswith("| ") and line != head][place] + "\n"
 
 
 def a_crate_left_out_of_architecture(copy):
     copy.change(*row_in("crates"), "")
 
 
-def a_crate_left_out_of_readme(copy):
-    text = copy.read("README.md")
-    row = re.search(r"crate by crate\n.*?^(\| `\w+` \|[^\n]*\n)", text, re.M | re.S)[1]
-    copy.write("README.md", text.replace(row, ""))
+def a_crate_left_out_of_proved(copy):
+    text = copy.read("docs/PROVED.md")
+    said = compare.section(text, "Contracts, crate by crate")
+    in_words = re.sub(r"^\|.*\n", "", said, flags=re.M)
+    rows = next(found for found in re.finditer(r"^\| `(\w+)` \|.*\n(?:\| \|.*\n)*", said, re.M) if f"`{found[1]}`" not in in_words and compare.has_code(found[1]))
+    copy.write("docs/PROVED.md", text.replace(rows[0], ""))
+
+
+def a_command_without_a_promise(copy):
+    said = compare.section(tree.read("README.md"), "What is promised, by command")
+    copy.change("README.md", re.search(r"^\| `rehearse` \|.*\n", said, re.M)[0], "")
+
+
+def a_crate_left_out_of_proved(copy):
+    name = list(tree.crates())[0]
+    copy.change("docs/PROVED.md", f"`{name}`", "", -1)
 
 
 def a_crate_that_is_gone(copy):
@@ -82,16 +96,28 @@ def a_count_of_bugs_off_by_one(copy):
 
 
 def a_function_renamed(copy):
-    text = tree.read("README.md")
-    row, name = re.search(r"^\| `(\w+)` \|[^\n]*?\(`(?:\w+::)?(\w+)`\)", text[text.index("crate by crate") :], re.M).groups()
+    said = compare.section(tree.read("README.md"), "What is promised, by command")
+    name, crate = re.search(r"`(\w+)` in `crates/(\w+)/", said).groups()
     changed = False
-    for path in tree.found(f"crates/{row}/src/**/*.rt"):
+    for path in tree.found(f"crates/{crate}/src/**/*.rt"):
         source = copy.read(path)
         anew = re.sub(rf"\b{name}\b", name + "_anew", source)
         changed |= anew != source
         copy.write(path, anew)
     if not changed:
-        raise ValueError(f"{row} has no {name}")
+        raise ValueError(f"{crate} has no {name}")
+
+
+def a_rule_that_stands_elsewhere(copy):
+    said = compare.section(tree.read("docs/ARCHITECTURE.md"), "Where a rule stands")
+    path, name = re.search(r"`(crates/\w+/specs/\w+\.antt)`: `(\w+)`", said).groups()
+    copy.write(path, re.sub(rf"(?<!\w){name}(?!\w)", name + "Anew", copy.read(path)))
+
+
+def a_rule_without_a_file(copy):
+    said = compare.section(tree.read("docs/ARCHITECTURE.md"), "Where a rule stands")
+    rule = re.search(r"^\| ([^|]*) \| `crates/.*\n", said, re.M)
+    copy.change("docs/ARCHITECTURE.md", rule[0], f"| {rule[1]} | | |\n")
 
 
 def an_edit_without_a_row(copy):
@@ -150,6 +176,12 @@ def a_stale_file_name(copy):
     path = re.search(r"`(crates/\w+/(?:src|specs)/\w+\.\w+)`", tree.read("docs/ARCHITECTURE.md"))[1]
     folder, name = os.path.split(path)
     copy.move(path, f"{folder}/x{name}")
+
+
+def a_heading_renamed(copy):
+    path, anchor = re.search(r"\]\((docs/\w+\.md)#([\w-]+)\)", tree.read("README.md")).groups()
+    heading = next(line for line in copy.read(path).split("\n") if line.startswith("#") and re.sub(r"[^\w\- ]", "", line.lstrip("# ").lower()).replace(" ", "-") == anchor)
+    copy.change(path, heading, heading + " anew")
 
 
 def a_definition_renamed(copy):

@@ -41,21 +41,34 @@ def in_words(name):
 
 
 def made_crates(_said):
-    """Each crate, lowest first, with the paragraph at its top and what it stands on."""
-    crates = tree.crates()
-    rows = [(f"`{name}`", tree.purpose(name), ", ".join(f"`{below}`" for below in below_it)) for name, below_it in crates.items()]
-    return f"{len(crates)} crates.\n\n" + table(("Crate", "What it is for", "Stands on"), rows)
+    """Each crate, lowest first, with the paragraph at its top and what it stands on: under the heading of its family, where crates.txt has families."""
+    crates, families = tree.crates(), tree.families()
+    placed = {name for own in families.values() for name in own}
+    lists = {"": [name for name in crates if name not in placed], **{family: [name for name in crates if name in own] for family, own in families.items()}}
+    head = ("Crate", "What it is for", "Stands on")
+    parts = [f"{len(crates)} crates."]
+    for family, own in lists.items():
+        rows = [(f"`{name}`", tree.purpose(name), ", ".join(f"`{below}`" for below in crates[name])) for name in own]
+        if family:
+            parts.append(f"### {family}")
+        if rows:
+            parts.append(table(head, rows).rstrip("\n"))
+    return "\n\n".join(parts) + "\n"
 
 
 def made_families(said):
-    """The families, each with its crates that are there, lowest first; a crate of none stands in a row of its own, for somebody to say."""
-    crates = list(tree.crates())
+    """The families, each with its crates that are there, lowest first: by crates.txt where that has families, else by what is said here. What a family is about is
+    taken over by its name. A crate of none stands in a row of its own, for somebody to say."""
+    crates, families = list(tree.crates()), tree.families()
+    about = {cells[0]: cells[1] for cells in rows_of(said)}
+    if not families:
+        families = {cells[0]: re.findall(r"`(\w+)`", cells[2]) for cells in rows_of(said) if cells[0]}
     rows, placed = [], set()
-    for cells in rows_of(said):
-        own = [name for name in crates if f"`{name}`" in cells[2] and name not in placed]
+    for family, members in families.items():
+        own = [name for name in crates if name in members and name not in placed]
         placed.update(own)
         if own:
-            rows.append((*cells[:2], ", ".join(f"`{name}`" for name in own)))
+            rows.append((family, about.get(family, ""), ", ".join(f"`{name}`" for name in own)))
     lost = [name for name in crates if name not in placed]
     return table(("Family", "What it is about", "Crates"), rows + [("", "", f"`{name}`") for name in lost])
 
@@ -110,14 +123,28 @@ def _telling(by):
 
 
 def made_rules(said):
-    """Each rule of the slow program, with the case that tells it from the turned one."""
-    rules = tree.rules()
-    first = {cells[0].strip("`"): cells[1] for cells in rows_of(said) if len(cells) == 3}
-    rows = [(f"`{name}`", first.get(name, ""), rule) for name, rule in rules.items()]
-    return f"{len(rules)} rules:\n\n" + table(("Turned rule", "First case that tells it", "The rule"), rows)
+    """The rules of the slow program by the command whose cases tell each from the turned one, each with the first such case; a rule of which nobody said it stands in a
+    row without a command. What a rule says stands beside its name in the sources."""
+    first = {name: (cells[0].strip("`"), case) for cells in rows_of(said) for name, case in re.findall(r"`([\w-]+)` (\d+)", cells[1])}
+    told = {}
+    for name in tree.rules():
+        command, case = first.get(name, ("", ""))
+        told.setdefault(command, []).append(f"`{name}` {case}".strip())
+    rows = [(f"`{command}`" if command else "", ", ".join(told[command])) for command in sorted(told)]
+    return f"{len(tree.rules())} rules:\n\n" + table(("Cases of", "Turned rules, each with the first case that tells it"), rows)
 
 
-MAKERS = {"families": made_families, "crates": made_crates, "edits": made_edits, "edit_counts": made_edit_counts, "bugs": made_bugs, "rules": made_rules}
+def made_chain(_said):
+    """The longest chain of crates below the program, each standing on the one before it; of several the first."""
+    crates = tree.crates()
+    chains = {}
+    for name, below in crates.items():
+        chains[name] = max((chains[other] for other in below if other in chains), key=len, default=[]) + [name]
+    chain = chains.get("rollout", [])
+    return f"{len(chain)} of them: " + ", ".join(f"`{name}`" for name in chain) + ".\n"
+
+
+MAKERS = {"families": made_families, "crates": made_crates, "chain": made_chain, "edits": made_edits, "edit_counts": made_edit_counts, "bugs": made_bugs, "rules": made_rules}
 
 
 def made_pages():

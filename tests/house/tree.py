@@ -43,6 +43,19 @@ def crates():
     return {name: stands_on[name] for name in order}
 
 
+def families():
+    """The crates of each family, in the order of crates.txt, where lines `# NAME` stand above them; none where no such line stands."""
+    families, own = {}, []
+    for line in read("crates.txt").split("\n"):
+        heading = re.fullmatch(r"# (\w+)", line.strip())
+        name, colon, _ = line.partition("#")[0].partition(":")
+        if heading:
+            own = families.setdefault(heading[1], [])
+        elif colon:
+            own.append(name.split()[0])
+    return families
+
+
 def purpose(crate):
     """What the root of a crate says first of it: the paragraph at its top."""
     root = next((path for path in (f"crates/{crate}/src/{name}.rt" for name in ("lib", "main")) if os.path.exists(os.path.join(TOP, path))), None)
