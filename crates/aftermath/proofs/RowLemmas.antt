@@ -7,9 +7,9 @@ use Rattle.std.proofs.lemmas.Bool.{cases_eq, eq-eqb, ne_eqb}
 use Rattle.std.proofs.lemmas.List.{append_assoc, append-nil, get_or-map, length-map, length-take-le, take_more}
 use Rattle.std.proofs.lemmas.List.Elements.{filter_map-append}
 use Rattle.play_model.specs.declared.step.Step.{Step}
-use Rattle.roll_logs.specs.Events.{Event}
-use Rattle.roll_kernel.specs.Views.{event_of, events_of}
-use Rattle.roll_kernel.specs.declared.event.Event.{Event as Entry}
+use Rattle.event_log.specs.Events.{Event}
+use Rattle.roll_core.specs.Views.{event_of, events_of}
+use Rattle.roll_core.specs.declared.event.Event.{Event as Entry}
 use Rattle.aftermath.specs.Rows.{LastRow, PlayedView, row_told, rows_told, rows_in, shown}
 use Rattle.aftermath.specs.declared.rows.Played.{Played}
 

@@ -4,7 +4,7 @@ use Rattle.std.specs.List.{list_any}
 use Rattle.fleet_numbers.specs.NumberLists.{has_number, numbers_where}
 use Rattle.domains.specs.FleetViews.{FleetView}
 use Rattle.play_model.specs.declared.play.Play.{Play}
-use Rattle.play_plan.specs.PlayPlans.{targets}
+use Rattle.play_course.specs.PlayPlans.{targets}
 use Rattle.recap.specs.LimitsText.{field_text}
 use Rattle.recap.specs.PlanText.{names_text}
 

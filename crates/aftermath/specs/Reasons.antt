@@ -1,18 +1,13 @@
 -- Why a step failed on a host, in words.
 use Rattle.std.specs.Prelude.{ℕ, ℤ, pos, ◌+◌, ◌&&◌, min, Bool, true, false, is_some, if◌then◌else◌, Option, None, Some, option_map, string_bytes}
-use Rattle.std.specs.Prelude.{List, [], ◌++◌, codes, decimal, int_lt, unsigned_abs}
+use Rattle.std.specs.Prelude.{List, [], ◌++◌, codes}
 use Rattle.std.specs.Ordering.{int_eq}
-use Rattle.outcome_results.specs.Endings.{Ending, ran, not_started, lost, skipped, undefined}
+use Rattle.host_track.specs.Endings.{Ending, ran, not_started, lost, skipped, undefined}
 use Rattle.play_model.specs.declared.step.Step.{Step}
+use Rattle.recap.specs.Integers.{integer_text}
 use Rattle.recap.specs.LimitsText.{field_text}
 use Rattle.recap.specs.Printable.{printed}
 use Rattle.aftermath.specs.Rows.{LastRow}
-
-abbrev pub sign_text : ℤ → List ℕ
-sign_text number = if int_lt number (pos 0) then codes "-" else []
-
-abbrev pub integer_text : ℤ → List ℕ
-integer_text number = sign_text number ++ decimal (unsigned_abs number)
 
 -- what beside its return code judges a program that failed: `changed_when` and `failed_when`, where the step has them. Where it ended well and the step has no
 -- `failed_when`, only a name without a value can have failed it

@@ -1,10 +1,10 @@
 -- The last row of each host in the logs of a run.
 use Rattle.std.specs.Prelude.{ℕ, ◌+◌, nat_eq, if◌then◌else◌, Option, None, Some, option_map, List, [], ◌∷◌, ◌++◌, slice_get, slice_index_or}
 use Rattle.std.specs.List.{filter_map, last_or}
-use Rattle.outcome_results.specs.Endings.{Ending, ending_of}
+use Rattle.host_track.specs.Endings.{Ending, ending_of}
 use Rattle.play_model.specs.declared.step.Step.{Step}
-use Rattle.roll_logs.specs.Events.{Event, set_aside, opened, claimed, reported, passed, closed}
-use Rattle.roll_kernel.specs.Views.{events_of}
+use Rattle.event_log.specs.Events.{Event, set_aside, opened, claimed, reported, passed, closed}
+use Rattle.roll_core.specs.Views.{events_of}
 use Rattle.aftermath.specs.declared.rows.Played.{Played}
 use Rattle.aftermath.specs.declared.rows.Row.{Row}
 

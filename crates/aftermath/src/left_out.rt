@@ -2,7 +2,7 @@
 ghost use Rattle.std.specs.Prelude.{◌≡◌, ℕ, ◌<◌, ◌||◌, ◌&&◌, ◌++◌, ◌∷◌, [], cond, false, true, IfOk, OnOk, length, slice_index_or};
 ghost use Rattle.fleet_numbers.specs.NumberLists.{has_number, numbers_where};
 ghost use Rattle.domains.specs.Ids.{host_numbers};
-ghost use Rattle.play_plan.specs.PlayPlans.{targets};
+ghost use Rattle.play_course.specs.PlayPlans.{targets};
 ghost use Rattle.aftermath.specs.LeftOut as spec;
 
 use domains::Fleet;

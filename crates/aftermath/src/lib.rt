@@ -3,7 +3,6 @@
 
 mod down;
 mod full;
-mod integers;
 mod left_out;
 mod notes;
 mod reasons;

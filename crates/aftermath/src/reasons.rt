@@ -1,17 +1,16 @@
-//! Why a step failed on a host, in words.
+//! Why a step failed on a host, in the words that follow a recap.
 ghost use Rattle.std.specs.Prelude.{◌≡◌, ◌+◌, min, option_map, pos, string_bytes};
 ghost use Rattle.std.specs.Ordering.{int_eq};
 ghost use Rattle.bounded_io.specs.Writing.{Writes};
-ghost use Rattle.outcome_results.specs.Endings.{ending_of};
+ghost use Rattle.host_track.specs.Endings.{ending_of};
 ghost use Rattle.aftermath.specs.Reasons as spec;
 ghost use Rattle.aftermath.specs.Rows.{seen};
 
-use crate::integers::write_integer;
 use crate::rows::Row;
 use bounded_io::TextWriter;
-use outcome_results::Outcome;
+use host_track::Outcome;
 use play_model::Step;
-use recap::{write_field, write_printable};
+use recap::{write_field, write_integer, write_printable};
 use std::io::Write;
 
 /// Which conditions judge a program that failed.

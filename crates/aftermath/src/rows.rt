@@ -2,13 +2,13 @@
 ghost use Rattle.std.specs.Prelude.{◌≡◌, ℕ, ◌<◌, Some, IfOk, length, map, option_map, slice_get};
 ghost use Rattle.std.specs.List.{last_or};
 ghost use Rattle.std.specs.Option.{option_to_list};
-ghost use Rattle.roll_kernel.specs.Views.{event_of, events_of};
+ghost use Rattle.roll_core.specs.Views.{event_of, events_of};
 ghost use Rattle.aftermath.specs.Rows.{last_row, row_told, rows_told, seen, seen_at, shown};
 
 use group_tree::HostId;
-use outcome_results::Outcome;
+use host_track::Outcome;
 use play_model::{Play, Step};
-use roll_kernel::Event;
+use roll_core::Event;
 use std::alloc::{AllocError, Global};
 
 /// A play that was begun, and the log of its run, the oldest event first.

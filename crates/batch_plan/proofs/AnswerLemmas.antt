@@ -3,7 +3,7 @@ use Rattle.std.proofs.Common.{◌≡◌, ℕ, ◌<◌, true, false, Some, Option
 use Rattle.std.specs.List.{range_with_len}
 use Rattle.std.proofs.lemmas.List.{length-map}
 use Rattle.domains.specs.FleetViews.{IsSound}
-use Rattle.domain_counts.specs.Counts.{Counted}
+use Rattle.batch_plan.specs.Counts.{Counted}
 use Rattle.fleet_states.specs.declared.status.Status.{Status}
 use Rattle.fleet_states.specs.Groups.{FleetGroup, group_at, groups_of}
 use Rattle.batch_plan.specs.declared.needs.Need.{Need}

@@ -11,10 +11,10 @@ use Rattle.group_tree.specs.declared.ids.HostId.{HostId}
 use Rattle.fleet_numbers.specs.NumberLists.{list_at}
 use Rattle.domains.specs.Ids.{host_numbers}
 use Rattle.domains.specs.FleetViews.{FleetView, IsSound}
-use Rattle.domain_counts.specs.declared.place.Place.{Place}
-use Rattle.domain_counts.specs.declared.place.Place.TheVariants.{Up}
-use Rattle.domain_counts.specs.Counts.{Counted, down_in, place_at, waiting_in}
-use Rattle.domain_counts.specs.Places as counts
+use Rattle.batch_plan.specs.declared.place.Place.{Place}
+use Rattle.batch_plan.specs.declared.place.Place.TheVariants.{Up}
+use Rattle.batch_plan.specs.Counts.{Counted, down_in, place_at, waiting_in}
+use Rattle.batch_plan.specs.CountPlaces as counts
 use Rattle.fleet_states.specs.declared.status.Status.{Status}
 use Rattle.fleet_states.specs.declared.status.Status.TheVariants.{Idle, Waiting, Running, Updated, Failed, Halted, Off, Held}
 use Rattle.fleet_states.specs.Statuses.{is_down, is_waiting, status_at, down_count, waiting_count}

@@ -8,7 +8,7 @@ use Rattle.std.proofs.lemmas.List.Folds.{Any-from_list_any, list_any_at}
 use Rattle.fleet_numbers.specs.Chains.{is_limited}
 use Rattle.fleet_numbers.specs.NumberLists.{has_number, list_at}
 use Rattle.fleet_numbers.proofs.RisingLemmas.{has_number-numbers_where}
-use Rattle.domain_counts.proofs.WhereLemmas.{both}
+use Rattle.batch_plan.proofs.WhereLemmas.{both}
 use Rattle.domains.specs.FleetViews.{FleetView, IsSound}
 use Rattle.domains.specs.Starts.{exceeds}
 use Rattle.fleet_states.specs.declared.status.Status.{Status}

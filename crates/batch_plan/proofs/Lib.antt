@@ -1,3 +1,15 @@
+pub mod RiseLemmas
+pub mod TreeLemmas
+pub mod FindLemmas
+pub mod LeaveLemmas
+pub mod ChangeLemmas
+pub mod ShapeLemmas
+pub mod WhereLemmas
+pub mod PathLemmas
+pub mod RisingCounts
+pub mod FoundLemmas
+pub mod FleetLemmas
+pub mod GrowLemmas
 pub mod CountLemmas
 pub mod CeilLemmas
 pub mod LeastLemmas

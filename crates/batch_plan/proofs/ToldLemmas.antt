@@ -8,8 +8,8 @@ use Rattle.std.proofs.lemmas.List.FromFn.{get_or-map-range_with_len, length-map-
 use Rattle.fleet_numbers.specs.NumberLists.{has_number}
 use Rattle.fleet_numbers.specs.Chains.{is_limited}
 use Rattle.fleet_numbers.proofs.RisingLemmas.{has_number-numbers_where}
-use Rattle.domain_counts.specs.Nodes.{Node, Subtree, nodes_of, own_node, side_by_side, under}
-use Rattle.domain_counts.specs.Counts.{Counted, down_in, limited_groups, node_at, nodes_at, waiting_in}
+use Rattle.batch_plan.specs.Nodes.{Node, Subtree, nodes_of, own_node, side_by_side, under}
+use Rattle.batch_plan.specs.Counts.{Counted, down_in, limited_groups, node_at, nodes_at, waiting_in}
 use Rattle.batch_plan.specs.declared.needs.Need.{Need}
 use Rattle.batch_plan.specs.Inside.{counted_need, told, told_by}
 

@@ -1,8 +1,8 @@
 -- Words of the proofs' steps: the needs of groups as their counts tell them, the best bound so far, a play's hosts.
 use Rattle.std.specs.Prelude.{◌≡◌, ℕ, ◌<◌, ◌≤◌, ◌-◌, Bool, false, cond, nat_eq, None, Option, Some, List, [], ◌∷◌, filter, option_map, slice_index_or}
-use Rattle.domain_counts.specs.Counts.{Counted, down_in, place_at, waiting_in}
-use Rattle.domain_counts.specs.Nodes.{Node}
-use Rattle.domain_counts.specs.Places.{waits}
+use Rattle.batch_plan.specs.Counts.{Counted, down_in, place_at, waiting_in}
+use Rattle.batch_plan.specs.Nodes.{Node}
+use Rattle.batch_plan.specs.CountPlaces.{waits}
 use Rattle.fleet_states.specs.declared.status.Status.{Status}
 use Rattle.fleet_states.specs.declared.status.Status.TheVariants.{Idle, Waiting, Running, Updated, Failed, Halted, Off, Held}
 use Rattle.batch_plan.specs.declared.answers.Bound.{Bound}

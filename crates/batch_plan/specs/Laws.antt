@@ -7,7 +7,7 @@ use Rattle.fleet_states.specs.declared.status.Status.{Status}
 use Rattle.fleet_states.specs.declared.status.Status.TheVariants.{Updated}
 use Rattle.fleet_states.specs.Statuses.{are_ready, changed}
 use Rattle.fleet_states.specs.Groups.{FleetGroup, Fits, group_at, groups_of, is_stuck}
-use Rattle.domain_counts.specs.Counts.{Counted}
+use Rattle.batch_plan.specs.Counts.{Counted}
 use Rattle.batch_plan.specs.declared.answers.Bound.{Bound}
 use Rattle.batch_plan.specs.Needs.{is_blocked, need_of, needs_of}
 use Rattle.batch_plan.specs.Plans.{IsPlan}

@@ -1,3 +1,9 @@
+pub mod CountPlaces
+pub mod Nodes
+pub mod Changes
+pub mod Finds
+pub mod Shapes
+pub mod Counts
 pub mod Needs
 pub mod Plans
 pub mod Bounds

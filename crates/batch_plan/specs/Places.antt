@@ -1,9 +1,9 @@
 -- What a host's status counts as.
 use Rattle.std.specs.Prelude.{◌≡◌, ℕ, false, List, [], ◌∷◌, map, length}
 use Rattle.fleet_numbers.specs.NumberLists.{has_number}
-use Rattle.domain_counts.specs.declared.place.Place.{Place}
-use Rattle.domain_counts.specs.declared.place.Place.TheVariants.{Up, Waits, Down}
-use Rattle.domain_counts.specs.Counts.{Counted, moved}
+use Rattle.batch_plan.specs.declared.place.Place.{Place}
+use Rattle.batch_plan.specs.declared.place.Place.TheVariants.{Up, Waits, Down}
+use Rattle.batch_plan.specs.Counts.{Counted, moved}
 use Rattle.fleet_states.specs.declared.status.Status.{Status}
 use Rattle.fleet_states.specs.declared.status.Status.TheVariants.{Idle, Waiting, Running, Updated, Failed, Halted, Off, Held}
 use Rattle.fleet_states.specs.Statuses.{status_at}

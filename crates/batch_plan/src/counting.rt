@@ -3,13 +3,15 @@ ghost use Rattle.std.specs.Prelude.{◌≡◌, ℕ, ◌<◌, ◌++◌, ◌∷◌
 ghost use Rattle.std.specs.List.{range_with_len};
 ghost use Rattle.domains.specs.Ids.{host_numbers};
 ghost use Rattle.domains.specs.FleetViews.{IsSound};
-ghost use Rattle.domain_counts.specs.Nodes.{own_node, side_by_side};
-ghost use Rattle.domain_counts.specs.Places.{waits};
+ghost use Rattle.batch_plan.specs.Nodes.{own_node, side_by_side};
+ghost use Rattle.batch_plan.specs.CountPlaces.{waits};
 ghost use Rattle.batch_plan.specs.Places as model;
 ghost use Rattle.batch_plan.specs.Inside.{counted_need, counted_order, node_need, told, told_by};
 
+use crate::counts::Domains;
 use crate::needs::Need;
-use domain_counts::{DomTree, Domains, Place};
+use crate::node::DomTree;
+use crate::place::Place;
 use domains::Fleet;
 use fleet_states::Status;
 use group_tree::{GroupId, HostId};

@@ -11,9 +11,9 @@ ghost use Rattle.batch_plan.specs.Places.{AreCountsOf};
 ghost use Rattle.batch_plan.specs.Inside as inside;
 
 use crate::counting::{counted, list_needs};
+use crate::counts::Domains;
 use crate::naming::first_blocked;
 use crate::needs::Need;
-use domain_counts::Domains;
 use domains::Fleet;
 use fleet_states::{Status, status_of};
 use group_tree::{GroupId, HostId};

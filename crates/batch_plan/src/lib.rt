@@ -1,26 +1,33 @@
-//! The planner: the fewest batches in which all waiting hosts can go while no limit is passed, and why they are not fewer.
+//! The planner: counts of limited groups, the fewest batches over them, why they are not fewer, and the check of a plan from elsewhere.
 #![tactic(auto)]
 
 pub mod answers;
 mod batches;
 mod beginnings;
+mod changes;
 mod checker;
 mod counting;
+mod counts;
 mod dealing;
+mod finds;
 mod holding;
 mod laws;
 mod marks;
 mod naming;
 mod needs;
+mod node;
+mod place;
 mod places_left;
 mod planner;
 mod rooms;
+mod shape;
 
 pub use answers::{Answer, Bound};
 pub use batches::Batches;
 pub use beginnings::{restart, start};
 pub use checker::check_plan;
 pub use counting::{counted, place_of};
+pub use counts::Domains;
 pub use fleet_states::Status;
 pub use holding::{held, held_over, set_aside};
 pub use laws::{
@@ -29,5 +36,7 @@ pub use laws::{
     held_hosts_may_be_set_aside, no_host_stands_in_two_batches, one_answer,
     the_first_batch_may_be_opened,
 };
+pub use node::DomTree;
+pub use place::Place;
 pub use planner::{plan, plan_over};
 pub use rooms::{room, waiting};

@@ -6,9 +6,9 @@ ghost use Rattle.batch_plan.specs.Answers.{IsBest, IsDealtAnswer};
 
 use crate::answers::{Answer, Plan};
 use crate::counting::{counted, list_needs, list_waiting};
+use crate::counts::Domains;
 use crate::dealing::deal;
 use crate::naming::{first_blocked, name_bound};
-use domain_counts::Domains;
 use domains::Fleet;
 use fleet_states::Status;
 use std::alloc::{AllocError, Allocator, Global};

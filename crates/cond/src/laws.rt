@@ -1,6 +1,6 @@
 //! The laws of the grammar.
 ghost use Rattle.std.specs.Prelude.{◌≡◌, ℕ, List, true, false};
-ghost use Rattle.word_parts.specs.Words.{is_reserved};
+ghost use Rattle.text_parts.specs.Words.{is_reserved};
 ghost use Rattle.cond.specs.Grammar.{Any, tokens_of};
 ghost use Rattle.cond.specs.Tokens.{Name, token_of_word};
 

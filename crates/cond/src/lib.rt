@@ -31,4 +31,4 @@ pub use group_tree::Scalar;
 pub use laws::{names_are_unreserved, one_reading};
 pub use parsing::parse;
 pub use states::State;
-pub use word_parts::Field;
+pub use text_parts::Field;

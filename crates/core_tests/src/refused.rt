@@ -1,8 +1,8 @@
 //! Want of memory changes nothing, and a worker that finds none strands its claim: this test holds whatever one request is refused.
 ghost use Rattle.std.specs.Prelude.{◌≡◌, IfOk, IfSome, true};
-ghost use Rattle.outcome_results.specs.Endings.{ending_of};
+ghost use Rattle.host_track.specs.Endings.{ending_of};
 ghost use Rattle.roll_core.specs.Givings.{HasItsGo};
-ghost use Rattle.roll_logs.specs.Rolls.{is_of_program};
+ghost use Rattle.event_log.specs.Rolls.{is_of_program};
 
 use crate::rolled::{move_on, report};
 use fork_pool::Script;

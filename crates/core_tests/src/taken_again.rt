@@ -1,15 +1,13 @@
 //! Want of memory passes, and what was lent is as it was: this test holds whatever one request is refused.
 ghost use Rattle.std.specs.Prelude.{IfOk, OnOk};
 ghost use Rattle.host_track.specs.Summaries.{HasPlaceFor, IsCopyFor};
-ghost use Rattle.outcome_results.specs.Endings.{ending_of};
-ghost use Rattle.outcome_results.specs.Judging.{register_of};
+ghost use Rattle.host_track.specs.Endings.{ending_of};
+ghost use Rattle.host_track.specs.Judging.{register_of};
 ghost use Rattle.play_model.specs.Plays.{HasPlainWords};
 
 use crate::hosts::hosts;
-use host_jobs::Asked;
-use host_track::{Summary, copy_for, registers_of, step_at};
+use host_track::{Asked, Outcome, Summary, copy_for, registers_of, step_at};
 use host_vars::{Registered, Registers, Vars};
-use outcome_results::Outcome;
 use play_model::{Play, Step};
 use sample_fleets::play_again;
 use std::alloc::{AllocError, Global};

@@ -2,8 +2,8 @@
 use Rattle.std.proofs.Common.{◌≡◌, ℕ, ◌≤◌, ◌<◌, Bool, Option, List, [], map, length, sym, ap, ◌∙◌}
 use Rattle.std.proofs.Common.{subst, arith}
 use Rattle.std.proofs.lemmas.List.{get_or-map}
-use Rattle.inventory_model.specs.Names.{Name}
-use Rattle.inventory_model.specs.Places.{Place, Inventory}
+use Rattle.group_tree.specs.Names.{Name}
+use Rattle.group_tree.specs.Places.{Place, Inventory}
 use Rattle.domains.specs.Starts.{nowhere, IsFirstOver}
 use Rattle.domains.specs.Nested.{IsLeastCrossing}
 use Rattle.domains.specs.Numbered.{host_at}
@@ -13,7 +13,7 @@ use Rattle.domains.proofs.KnownLists.{AreListsOf}
 use Rattle.domains.proofs.CrossingLemmas as crossings
 use Rattle.domains.proofs.StartLemmas as starts
 use Rattle.std.specs.String.{string_bytes}
-use Rattle.inventory_model.specs.Bounds.{IsWithinBounds}
+use Rattle.group_tree.specs.Bounds.{IsWithinBounds}
 use Rattle.domains.specs.Faults.{IsFaultOf}
 use Rattle.domains.specs.Search.{IsFirstBreach}
 use Rattle.domains.specs.Ids.{group_lists, host_lists}

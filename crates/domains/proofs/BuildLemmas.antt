@@ -6,10 +6,10 @@ use Rattle.std.proofs.lemmas.List.{length-map, get_or-map, get_or_default, get_o
 use Rattle.std.proofs.lemmas.Bool.{cases_lt, eq-eqb}
 use Rattle.std.proofs.lemmas.List.Folds.{list_any_at}
 use Rattle.std.proofs.lemmas.List.FromFn.{length-map-range_with_len}
-use Rattle.inventory_model.specs.Names.{Name, are_distinct}
-use Rattle.inventory_model.specs.Places.{Place, Inventory, is_preorder}
-use Rattle.inventory_model.specs.Bounds.{group_names}
-use Rattle.inventory_model.specs.Limits.{Limit}
+use Rattle.group_tree.specs.Names.{Name, are_distinct}
+use Rattle.group_tree.specs.Places.{Place, Inventory, is_preorder}
+use Rattle.group_tree.specs.Bounds.{group_names}
+use Rattle.group_tree.specs.DownLimits.{Limit}
 use Rattle.fleet_numbers.specs.NumberLists.{has_number, list_at, are_below, IsRising}
 use Rattle.fleet_numbers.specs.GroupPaths.{paths_from}
 use Rattle.fleet_numbers.specs.DealOrder.{IsDealt, numbered_bound}
@@ -31,7 +31,7 @@ use Rattle.domains.proofs.TogetherLemmas as deals
 use Rattle.domains.proofs.SubtreeLemmas as subtrees
 use Rattle.domains.proofs.SoundLemmas as sounds
 use Rattle.std.specs.String.{string_bytes}
-use Rattle.inventory_model.specs.Bounds.{IsWithinBounds}
+use Rattle.group_tree.specs.Bounds.{IsWithinBounds}
 use Rattle.group_tree.specs.Limits.{limit_of}
 use Rattle.domains.specs.Search.{AreChainsNested, AreStartsWithin}
 use Rattle.domains.specs.Ids.{group_lists, host_lists}

@@ -1,11 +1,11 @@
 -- An inventory by the numbers of its groups and hosts: the words of the lemmas.
 use Rattle.std.proofs.Common.{ℕ, ◌<◌, Bool, Option, None, All, List, [], length, get_or, map, option_map}
 use Rattle.std.specs.List.{range_with_len}
-use Rattle.inventory_model.specs.Names.{Name}
-use Rattle.inventory_model.specs.Places.{Place, Row, Inventory, path_of}
-use Rattle.inventory_model.specs.Subtrees.{Host, Subtree}
-use Rattle.inventory_model.specs.Members.{holds}
-use Rattle.inventory_model.specs.Limits.{Limit, allowed}
+use Rattle.group_tree.specs.Names.{Name}
+use Rattle.group_tree.specs.Places.{Place, Row, Inventory, path_of}
+use Rattle.group_tree.specs.Subtrees.{Host, Subtree}
+use Rattle.group_tree.specs.Members.{holds}
+use Rattle.group_tree.specs.DownLimits.{Limit, allowed}
 use Rattle.fleet_numbers.specs.NumberLists.{has_number, list_at, numbers_where, last_where}
 use Rattle.fleet_numbers.specs.GroupPaths.{paths_from, is_member}
 use Rattle.fleet_numbers.proofs.PathLemmas.{path_to, on_path}

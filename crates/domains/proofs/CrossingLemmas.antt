@@ -8,9 +8,9 @@ use Rattle.std.proofs.lemmas.Bool.{cases_order, false≢true, and_parts, ltb-tru
 use Rattle.std.proofs.lemmas.Cmp.{nat_list_cmp_total, tied_itself}
 use Rattle.std.proofs.lemmas.Map.Keys.{Less-from_sorted}
 use Rattle.std.proofs.Math.Bool.{and_comm, or_comm}
-use Rattle.inventory_model.specs.Names.{Name, same_name, is_among, begins}
-use Rattle.inventory_model.specs.Places.{Place, Row, Inventory, path_of, row_path}
-use Rattle.inventory_model.specs.Members.{holds, is_row_of}
+use Rattle.group_tree.specs.Names.{Name, same_name, is_among, begins}
+use Rattle.group_tree.specs.Places.{Place, Row, Inventory, path_of, row_path}
+use Rattle.group_tree.specs.Members.{holds, is_row_of}
 use Rattle.fleet_numbers.specs.SortedNames.{name_cmp}
 use Rattle.fleet_numbers.specs.NumberLists.{has_number, list_at}
 use Rattle.fleet_numbers.specs.Chains.{ends_before, IsNestedChain}

@@ -8,11 +8,11 @@ use Rattle.std.proofs.lemmas.List.Elements.{All-head, All-tail}
 use Rattle.std.proofs.Math.Bool.{and_comm}
 use Rattle.std.proofs.Math.Nat.{zero-add}
 use Rattle.std.proofs.lemmas.List.FromFn.{length-map-range_with_len, get_or-map-range_with_len}
-use Rattle.inventory_model.specs.Names.{Name, are_distinct}
-use Rattle.inventory_model.specs.Places.{Place, Inventory, is_preorder}
-use Rattle.inventory_model.specs.Members.{holds}
-use Rattle.inventory_model.specs.Bounds.{group_names}
-use Rattle.inventory_model.specs.Limits.{Limit}
+use Rattle.group_tree.specs.Names.{Name, are_distinct}
+use Rattle.group_tree.specs.Places.{Place, Inventory, is_preorder}
+use Rattle.group_tree.specs.Members.{holds}
+use Rattle.group_tree.specs.Bounds.{group_names}
+use Rattle.group_tree.specs.DownLimits.{Limit}
 use Rattle.fleet_numbers.specs.NumberLists.{has_number, list_at, numbers_where, last_where, IsRising}
 use Rattle.fleet_numbers.specs.GroupPaths.{is_member}
 use Rattle.fleet_numbers.specs.Chains.{is_limited, ends_before}

@@ -1,8 +1,8 @@
 -- What a fleet's lists of numbers say of its inventory by names.
 use Rattle.std.proofs.Common.{◌≡◌, ℕ, ◌≤◌, ◌<◌, Bool, true, Option, None, All, List, length, get_or, map, is_some}
 use Rattle.std.specs.List.Sorted.{IsStrictlySortedBy}
-use Rattle.inventory_model.specs.Names.{Name}
-use Rattle.inventory_model.specs.Places.{Inventory}
+use Rattle.group_tree.specs.Names.{Name}
+use Rattle.group_tree.specs.Places.{Inventory}
 use Rattle.fleet_numbers.specs.SortedNames.{name_cmp}
 use Rattle.fleet_numbers.specs.NumberLists.{has_number, list_at, IsRising}
 use Rattle.fleet_numbers.specs.Chains.{is_limited, ends_before}

@@ -3,7 +3,7 @@ use Rattle.std.proofs.Common.{◌≡◌, ℕ, ◌+◌, ◌<◌, Bool, true, fals
 use Rattle.std.proofs.Math.Bool.{or-true, or-false}
 use Rattle.std.proofs.lemmas.List.{map-append}
 use Rattle.std.proofs.lemmas.List.Folds.{list_any-append, list_any_more, list_any_at}
-use Rattle.inventory_model.specs.Names.{Name, same_name, is_among}
+use Rattle.group_tree.specs.Names.{Name, same_name, is_among}
 use Rattle.fleet_numbers.specs.SortedNames.{sorted_names}
 use Rattle.fleet_numbers.proofs.SortedNamesLemmas.{same_rising, is_rising-sorted_names, is_among-sorted_names}
 

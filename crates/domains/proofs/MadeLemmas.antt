@@ -4,7 +4,7 @@ use Rattle.std.specs.List.{list_all, range_with_len}
 use Rattle.std.proofs.lemmas.Bool.{and_parts, lt-ltb, ltb-true}
 use Rattle.std.proofs.lemmas.List.FromFn.{length-range_with_len, length-map-range_with_len, get_or-map-range_with_len}
 use Rattle.std.proofs.lemmas.List.Sums.{length-filter, count_by-le-length}
-use Rattle.inventory_model.specs.Limits.{Limit}
+use Rattle.group_tree.specs.DownLimits.{Limit}
 use Rattle.fleet_numbers.specs.NumberLists.{numbers_where, are_below, IsRising}
 use Rattle.fleet_numbers.specs.GroupPaths.{paths_from}
 use Rattle.fleet_numbers.specs.Chains.{is_limited}

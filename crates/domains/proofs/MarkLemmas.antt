@@ -5,7 +5,7 @@ use Rattle.std.proofs.lemmas.Bool.{cases_eq, cases_lt, eq-eqb, ne_eqb, false≢t
 use Rattle.std.proofs.lemmas.List.{get_or-set_same, get_or-set_other, get_or_default, get_or_past, length-set}
 use Rattle.std.proofs.lemmas.List.Folds.{list_any_at}
 use Rattle.std.proofs.Math.Bool.{or-false}
-use Rattle.inventory_model.specs.Names.{Name, same_name, is_among}
+use Rattle.group_tree.specs.Names.{Name, same_name, is_among}
 use Rattle.fleet_numbers.specs.NumberLists.{has_number, list_at, numbers_where, IsRising}
 use Rattle.fleet_numbers.proofs.SortedNamesLemmas.{same_name-itself}
 use Rattle.fleet_numbers.proofs.RisingLemmas.{Ascends-rising, has_number-within, below_at, are_below-rising, numbers_where_more}

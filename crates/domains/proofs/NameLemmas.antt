@@ -7,7 +7,7 @@ use Rattle.std.specs.String.{string_bytes, string_eq}
 use Rattle.std.proofs.lemmas.Bool.{false≢true, lt-ltb, ltb-false, le-ltb}
 use Rattle.std.proofs.lemmas.List.{length-map, map-append, take_more}
 use Rattle.std.proofs.lemmas.List.Quantifiers.{position-Some}
-use Rattle.inventory_model.specs.Names.{Name, same_name, is_among, are_distinct}
+use Rattle.group_tree.specs.Names.{Name, same_name, is_among, are_distinct}
 use Rattle.fleet_numbers.proofs.SortedNamesLemmas.{same_name-true, same_name-itself}
 use Rattle.indexmap.specs.IndexSet.{insert_key}
 use Rattle.domains.proofs.BeginLemmas.{distinct_at}

@@ -11,11 +11,11 @@ use Rattle.std.proofs.lemmas.List.{map-append, get_or_at, length-append, append_
 use Rattle.std.proofs.lemmas.List.Elements.{All-head, All-tail, All-append, All-map, All-weaker}
 use Rattle.std.proofs.lemmas.Map.Keys.{Less-from_sorted}
 use Rattle.std.proofs.lemmas.Simd.{map-map}
-use Rattle.inventory_model.specs.Names.{Name, same_name, is_among}
-use Rattle.inventory_model.specs.Places.{Place, Row, Inventory}
-use Rattle.inventory_model.specs.Subtrees.{Host, Subtree}
-use Rattle.inventory_model.specs.Members.{holds}
-use Rattle.inventory_model.specs.Variables.{value_of}
+use Rattle.group_tree.specs.Names.{Name, same_name, is_among}
+use Rattle.group_tree.specs.Places.{Place, Row, Inventory}
+use Rattle.group_tree.specs.Subtrees.{Host, Subtree}
+use Rattle.group_tree.specs.Members.{holds}
+use Rattle.group_tree.specs.Variables.{value_of}
 use Rattle.group_tree.proofs.MemberLemmas.{list_any-map}
 use Rattle.fleet_numbers.specs.SortedNames.{name_cmp}
 use Rattle.fleet_numbers.specs.GroupPaths.{is_member}

@@ -4,10 +4,10 @@ use Rattle.std.proofs.Common.{map, sym, ap, ◌∙◌, subst, inl, inr, ◌⊎�
 use Rattle.std.specs.List.Sorted.{IsStrictlySortedBy}
 use Rattle.std.proofs.lemmas.Bool.{cases_lt}
 use Rattle.std.proofs.lemmas.List.{length-map, get_or-map, get_or_past}
-use Rattle.inventory_model.specs.Names.{Name, are_distinct}
-use Rattle.inventory_model.specs.Places.{Place, Row, Inventory, is_preorder}
-use Rattle.inventory_model.specs.Bounds.{group_names}
-use Rattle.inventory_model.specs.Limits.{Limit}
+use Rattle.group_tree.specs.Names.{Name, are_distinct}
+use Rattle.group_tree.specs.Places.{Place, Row, Inventory, is_preorder}
+use Rattle.group_tree.specs.Bounds.{group_names}
+use Rattle.group_tree.specs.DownLimits.{Limit}
 use Rattle.fleet_numbers.specs.SortedNames.{name_cmp}
 use Rattle.fleet_numbers.specs.GroupPaths.{is_member}
 use Rattle.fleet_numbers.proofs.SortedNamesLemmas.{is_rising-sorted_names}

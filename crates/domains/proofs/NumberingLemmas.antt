@@ -6,11 +6,11 @@ use Rattle.std.proofs.lemmas.List.{length-map, get_or-map, same_lists, get_or_de
 use Rattle.std.proofs.lemmas.List.Elements.{All-map, All-weaker}
 use Rattle.std.proofs.lemmas.Simd.{map-map}
 use Rattle.std.proofs.Math.Nat.{zero-add}
-use Rattle.inventory_model.specs.Names.{Name}
-use Rattle.inventory_model.specs.Places.{Place, Row, Inventory}
-use Rattle.inventory_model.specs.Subtrees.{Host, Subtree}
-use Rattle.inventory_model.specs.Bounds.{group_names}
-use Rattle.inventory_model.specs.Limits.{Limit}
+use Rattle.group_tree.specs.Names.{Name}
+use Rattle.group_tree.specs.Places.{Place, Row, Inventory}
+use Rattle.group_tree.specs.Subtrees.{Host, Subtree}
+use Rattle.group_tree.specs.Bounds.{group_names}
+use Rattle.group_tree.specs.DownLimits.{Limit}
 use Rattle.fleet_numbers.specs.SortedNames.{name_cmp, sorted_names}
 use Rattle.fleet_numbers.proofs.SortedNamesLemmas.{is_rising-sorted_names}
 use Rattle.domains.specs.Walks.{PlacedGroup, place_of, with_depth, IsWalkOf, rows_from}

@@ -4,8 +4,8 @@ use Rattle.std.proofs.Common.{refl, arith, add-one, inl, inr, ◌⊎◌}
 use Rattle.std.specs.Option.{option_or}
 use Rattle.std.proofs.lemmas.Bool.{cases_eq, eq-eqb, ne_eqb}
 use Rattle.std.proofs.lemmas.List.{get_or-set_same, get_or-set_other}
-use Rattle.inventory_model.specs.Variables.{value_of}
-use Rattle.inventory_model.specs.Subtrees.{Host}
+use Rattle.group_tree.specs.Variables.{value_of}
+use Rattle.group_tree.specs.Subtrees.{Host}
 use Rattle.domains.specs.Hosts.{truth_of, down, last_down_of}
 
 -- what a row says of its own host, and of the host of a number

@@ -4,9 +4,9 @@ use Rattle.std.proofs.Common.{map, sym, ap, ◌∙◌, refl, subst, arith, inl, 
 use Rattle.std.proofs.lemmas.Bool.{cases_lt, eq-eqb, false≢true}
 use Rattle.std.proofs.lemmas.List.{length-map, length-append, length-take, take-map, take-take, take-append-le, take_all, get_or_append_left, get_or-append_right, get_or-take}
 use Rattle.std.proofs.lemmas.List.Folds.{list_any_at}
-use Rattle.inventory_model.specs.Names.{Name, are_distinct, begins}
-use Rattle.inventory_model.specs.Places.{Place, is_preorder}
-use Rattle.inventory_model.specs.Bounds.{group_names}
+use Rattle.group_tree.specs.Names.{Name, are_distinct, begins}
+use Rattle.group_tree.specs.Places.{Place, is_preorder}
+use Rattle.group_tree.specs.Bounds.{group_names}
 use Rattle.fleet_numbers.proofs.RisingLemmas.{Ascends, has_number-within}
 use Rattle.fleet_numbers.proofs.PathLemmas.{path_to, first_path, path_next, path_ascends}
 use Rattle.domains.specs.Starts.{place_at}

@@ -4,9 +4,9 @@ use Rattle.std.proofs.Common.{sym, ap, ◌∙◌, refl, subst, arith, inl, inr, 
 use Rattle.std.proofs.lemmas.Bool.{cases_eq, cases_order, eq-eqb, ne_eqb, false≢true, and_parts, or_left, or_right}
 use Rattle.std.proofs.lemmas.List.{length-map, get_or-map, take-map, map-append}
 use Rattle.std.proofs.lemmas.List.Folds.{list_any-append}
-use Rattle.inventory_model.specs.Names.{Name, same_name, is_among, are_distinct, begins}
-use Rattle.inventory_model.specs.Places.{Place, path_of, goes_on, is_preorder}
-use Rattle.inventory_model.specs.Bounds.{group_names}
+use Rattle.group_tree.specs.Names.{Name, same_name, is_among, are_distinct, begins}
+use Rattle.group_tree.specs.Places.{Place, path_of, goes_on, is_preorder}
+use Rattle.group_tree.specs.Bounds.{group_names}
 use Rattle.fleet_numbers.specs.NumberLists.{has_number, last_where}
 use Rattle.fleet_numbers.proofs.SortedNamesLemmas.{same_name-true, same_name-itself}
 use Rattle.fleet_numbers.proofs.RisingLemmas.{Ascends, has_number-within}

@@ -3,8 +3,8 @@ use Rattle.std.proofs.Common.{◌≡◌, ℕ, ◌≤◌, ◌<◌, Bool, true, fa
 use Rattle.std.proofs.lemmas.Bool.{cases_lt, false≢true, and_parts, lt-ltb, le-ltb, ltb-false}
 use Rattle.std.proofs.lemmas.List.{get_or_past, length-map}
 use Rattle.std.proofs.Math.Bool.{and-false}
-use Rattle.inventory_model.specs.Names.{Name}
-use Rattle.inventory_model.specs.Places.{Place, Inventory}
+use Rattle.group_tree.specs.Names.{Name}
+use Rattle.group_tree.specs.Places.{Place, Inventory}
 use Rattle.fleet_numbers.specs.NumberLists.{has_number, list_at, last_where}
 use Rattle.fleet_numbers.specs.Chains.{is_limited, IsNestedChain}
 use Rattle.fleet_numbers.proofs.RisingLemmas.{has_number-numbers_where}

@@ -5,9 +5,9 @@ use Rattle.std.proofs.lemmas.Bool.{cases_lt}
 use Rattle.std.proofs.lemmas.List.{get_or-map, get_or_past}
 use Rattle.std.proofs.lemmas.List.Sums.{length-filter}
 use Rattle.std.proofs.Math.Nat.{zero-add}
-use Rattle.inventory_model.specs.Names.{Name}
-use Rattle.inventory_model.specs.Places.{Place, Inventory}
-use Rattle.inventory_model.specs.Members.{holds}
+use Rattle.group_tree.specs.Names.{Name}
+use Rattle.group_tree.specs.Places.{Place, Inventory}
+use Rattle.group_tree.specs.Members.{holds}
 use Rattle.fleet_numbers.specs.NumberLists.{list_at}
 use Rattle.domains.specs.Hosts.{is_off}
 use Rattle.domains.specs.Starts.{place_at, nowhere, allowed_of, exceeds, hosts_off, starts_over, StartsWithin, IsFirstOver}

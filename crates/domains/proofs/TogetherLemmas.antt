@@ -4,8 +4,8 @@ use Rattle.std.proofs.Common.{IsPermutation, sym, ap, ◌∙◌, refl, subst, ar
 use Rattle.std.specs.List.{range_with_len}
 use Rattle.std.proofs.lemmas.Bool.{cases_order, eq-eqb, false≢true, and_parts, lt-ltb, le-ltb, ltb-false}
 use Rattle.std.proofs.lemmas.List.{length-map}
-use Rattle.inventory_model.specs.Names.{Name}
-use Rattle.inventory_model.specs.Places.{Place, Inventory}
+use Rattle.group_tree.specs.Names.{Name}
+use Rattle.group_tree.specs.Places.{Place, Inventory}
 use Rattle.fleet_numbers.specs.NumberLists.{has_number, list_at, last_where}
 use Rattle.fleet_numbers.specs.Chains.{is_limited, IsNestedChain}
 use Rattle.fleet_numbers.proofs.RisingLemmas.{Ascends, Ascends-numbers_where, has_number-numbers_where}

@@ -6,9 +6,9 @@ use Rattle.std.proofs.lemmas.Bool.{cases_eq, cases_order, false≢true}
 use Rattle.std.proofs.lemmas.List.{length-map, length-append, get_or-map, get_or_default, same_lists}
 use Rattle.std.proofs.lemmas.List.FromFn.{length-range_with_len}
 use Rattle.std.proofs.lemmas.List.Sorted.{length_permutation}
-use Rattle.inventory_model.specs.Names.{Name, same_name, are_distinct}
-use Rattle.inventory_model.specs.Places.{Place, Inventory, path_of}
-use Rattle.inventory_model.specs.Bounds.{group_names}
+use Rattle.group_tree.specs.Names.{Name, same_name, are_distinct}
+use Rattle.group_tree.specs.Places.{Place, Inventory, path_of}
+use Rattle.group_tree.specs.Bounds.{group_names}
 use Rattle.fleet_numbers.specs.NumberLists.{list_at}
 use Rattle.fleet_numbers.specs.DealOrder.{deal_key, IsDealt}
 use Rattle.fleet_numbers.proofs.DealLemmas as deals

@@ -4,9 +4,9 @@ use Rattle.std.specs.List.{flat_map}
 use Rattle.std.proofs.lemmas.List.{map-append, map-id, length-map, take_more, drop_all, drop_more, append-nil}
 use Rattle.std.proofs.lemmas.Simd.{map-map}
 use Rattle.std.proofs.lemmas.Grind.{flat_map-append}
-use Rattle.inventory_model.specs.Names.{Name}
-use Rattle.inventory_model.specs.Places.{Place, Row, Inventory}
-use Rattle.inventory_model.specs.Subtrees.{Host, Subtree, own_place, own_row, place_under, row_under, places_of, rows_of, inventory_of, side_by_side}
+use Rattle.group_tree.specs.Names.{Name}
+use Rattle.group_tree.specs.Places.{Place, Row, Inventory}
+use Rattle.group_tree.specs.Subtrees.{Host, Subtree, own_place, own_row, place_under, row_under, places_of, rows_of, inventory_of, side_by_side}
 use Rattle.domains.specs.Walks.{PlacedGroup, place_of, row_at, own_rows, with_depth, IsWalkOf, listed_hosts, rows_from}
 use Rattle.domains.proofs.ByNumber.{listed_by}
 

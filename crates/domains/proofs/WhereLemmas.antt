@@ -3,7 +3,7 @@ use Rattle.std.proofs.Common.{◌≡◌, ℕ, suc, ◌+◌, ◌<◌, Bool, true,
 use Rattle.std.specs.List.{range_with_len}
 use Rattle.std.proofs.lemmas.Bool.{lt-ltb}
 use Rattle.std.proofs.Math.Nat.{add-zero}
-use Rattle.inventory_model.specs.Names.{Name}
+use Rattle.group_tree.specs.Names.{Name}
 use Rattle.fleet_numbers.specs.NumberLists.{has_number, numbers_where, IsRising}
 use Rattle.fleet_numbers.proofs.RisingLemmas.{Ascends-numbers_where, rising_is, has_number-numbers_where}
 use Rattle.domains.specs.Numbered.{host_at}

@@ -1,7 +1,7 @@
 -- Why an inventory is no fleet.
 use Rattle.std.specs.Prelude.{ℕ, ◌<◌, ◌≤◌, length}
 use Rattle.std.specs.String.{string_bytes}
-use Rattle.inventory_model.specs.Places.{Inventory}
+use Rattle.group_tree.specs.Places.{Inventory}
 use Rattle.domains.specs.Hosts.{hosts_of}
 use Rattle.domains.specs.Starts.{IsFirstOver}
 use Rattle.domains.specs.Nested.{IsNested, IsLeastCrossing}

@@ -1,7 +1,7 @@
 -- The lists of a fleet as they follow from the numbers on paths and rows.
 use Rattle.std.specs.Prelude.{◌≡◌, ℕ, Option, None, Some, List, [], ◌∷◌, map, filter, length, option_map, slice_index_or}
 use Rattle.std.specs.List.{range_with_len}
-use Rattle.inventory_model.specs.Limits.{Limit, allowed}
+use Rattle.group_tree.specs.DownLimits.{Limit, allowed}
 use Rattle.fleet_numbers.specs.NumberLists.{has_number, list_at, numbers_where, last_where}
 use Rattle.fleet_numbers.specs.GroupPaths.{paths_from, is_member}
 use Rattle.fleet_numbers.specs.Chains.{is_limited}

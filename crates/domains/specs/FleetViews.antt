@@ -2,7 +2,7 @@
 use Rattle.std.specs.Prelude.{◌≡◌, ℕ, ◌<◌, ◌≤◌, Bool, true, false, ◌&&◌, Option, None, Some, List, length, slice_index_or, count_by, All, IsPermutation}
 use Rattle.std.specs.List.{range_with_len}
 use Rattle.std.specs.List.Sorted.{IsStrictlySortedBy}
-use Rattle.inventory_model.specs.Names.{Name, are_distinct}
+use Rattle.group_tree.specs.Names.{Name, are_distinct}
 use Rattle.fleet_numbers.specs.SortedNames.{name_cmp}
 use Rattle.fleet_numbers.specs.NumberLists.{list_at, has_number, IsRising}
 use Rattle.fleet_numbers.specs.Chains.{is_limited}

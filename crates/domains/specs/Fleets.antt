@@ -1,8 +1,8 @@
 -- Which fleet is that of an inventory.
 use Rattle.std.specs.Prelude.{◌≡◌, ℕ, ◌<◌, true, Option, None, Some, List, [], map, length, slice_index_or, All}
-use Rattle.inventory_model.specs.Names.{begins}
-use Rattle.inventory_model.specs.Places.{Place, Inventory, path_of}
-use Rattle.inventory_model.specs.Bounds.{group_names}
+use Rattle.group_tree.specs.Names.{begins}
+use Rattle.group_tree.specs.Places.{Place, Inventory, path_of}
+use Rattle.group_tree.specs.Bounds.{group_names}
 use Rattle.domains.specs.Hosts.{hosts_of, is_off}
 use Rattle.domains.specs.Starts.{place_at, allowed_of, StartsWithin}
 use Rattle.domains.specs.Nested.{IsNested}

@@ -1,11 +1,11 @@
 -- The hosts of an inventory, and which of them are off when a run starts.
 use Rattle.std.specs.Prelude.{ℕ, Bool, false, cond, Option, Some, None, List, [], ◌∷◌, map, codes, unwrap_or, nat_eq}
 use Rattle.std.specs.Option.{option_or}
-use Rattle.inventory_model.specs.Names.{Name}
-use Rattle.inventory_model.specs.Variables.{Scalar, Text, Int, Truth, value_of}
-use Rattle.inventory_model.specs.Places.{Row, Inventory}
-use Rattle.inventory_model.specs.Members.{is_of}
-use Rattle.inventory_model.specs.Subtrees.{Host}
+use Rattle.group_tree.specs.Names.{Name}
+use Rattle.group_tree.specs.Variables.{Scalar, Text, Int, Truth, value_of}
+use Rattle.group_tree.specs.Places.{Row, Inventory}
+use Rattle.group_tree.specs.Members.{is_of}
+use Rattle.group_tree.specs.Subtrees.{Host}
 use Rattle.fleet_numbers.specs.SortedNames.{sorted_names}
 
 -- the names of all hosts, each once, in the order of their bytes

@@ -1,6 +1,6 @@
 -- What holds of the fleets of an inventory.
 use Rattle.std.specs.Prelude.{◌≡◌}
-use Rattle.inventory_model.specs.Places.{Inventory}
+use Rattle.group_tree.specs.Places.{Inventory}
 use Rattle.domains.specs.FleetViews.{FleetView}
 use Rattle.domains.specs.Fleets.{IsFleetOf}
 

@@ -1,8 +1,8 @@
 -- Which hosts a group holds and which limited groups hold a host, by their numbers.
 use Rattle.std.specs.Prelude.{ℕ, List, map, length}
-use Rattle.inventory_model.specs.Names.{Name}
-use Rattle.inventory_model.specs.Places.{Place, Inventory}
-use Rattle.inventory_model.specs.Members.{holds}
+use Rattle.group_tree.specs.Names.{Name}
+use Rattle.group_tree.specs.Places.{Place, Inventory}
+use Rattle.group_tree.specs.Members.{holds}
 use Rattle.fleet_numbers.specs.NumberLists.{numbers_where}
 use Rattle.domains.specs.Starts.{place_at}
 use Rattle.domains.specs.Nested.{is_limited_holder}

@@ -1,9 +1,9 @@
 -- Whether limited groups lie inside each other wherever they share a host.
 use Rattle.std.specs.Prelude.{◌≡◌, ℕ, ◌<◌, ◌≤◌, ◌⊎◌, Bool, true, false, not, ◌&&◌, ◌||◌, is_some}
 use Rattle.std.specs.declared.cmp.Ordering.TheVariants.{Less}
-use Rattle.inventory_model.specs.Names.{Name, begins}
-use Rattle.inventory_model.specs.Places.{Place, Inventory, path_of}
-use Rattle.inventory_model.specs.Members.{holds}
+use Rattle.group_tree.specs.Names.{Name, begins}
+use Rattle.group_tree.specs.Places.{Place, Inventory, path_of}
+use Rattle.group_tree.specs.Members.{holds}
 use Rattle.fleet_numbers.specs.SortedNames.{name_cmp}
 use Rattle.domains.specs.Starts.{place_at}
 

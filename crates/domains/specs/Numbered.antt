@@ -1,9 +1,9 @@
 -- An inventory by the numbers of its hosts, in the order of their names, and of its groups, in preorder.
 use Rattle.std.specs.Prelude.{◌≡◌, ℕ, ◌<◌, Bool, Option, List, [], map, length, slice_index_or, All}
-use Rattle.inventory_model.specs.Names.{Name}
-use Rattle.inventory_model.specs.Places.{Place, Row, Inventory, row_path, path_of}
-use Rattle.inventory_model.specs.Bounds.{group_names}
-use Rattle.inventory_model.specs.Limits.{Limit}
+use Rattle.group_tree.specs.Names.{Name}
+use Rattle.group_tree.specs.Places.{Place, Row, Inventory, row_path, path_of}
+use Rattle.group_tree.specs.Bounds.{group_names}
+use Rattle.group_tree.specs.DownLimits.{Limit}
 use Rattle.domains.specs.Hosts.{hosts_of, is_off}
 use Rattle.domains.specs.Starts.{place_at}
 

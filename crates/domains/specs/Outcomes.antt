@@ -3,9 +3,9 @@ use Rattle.std.specs.Prelude.{◌≡◌, ℕ, Option, List, length, map, option_
 use Rattle.std.specs.String.{string_bytes}
 use Rattle.domains.specs.FleetViews.{FleetView}
 use Rattle.domains.specs.Ids.{host_lists, group_lists}
-use Rattle.inventory_model.specs.Names.{Name}
-use Rattle.inventory_model.specs.Places.{Inventory}
-use Rattle.inventory_model.specs.Limits.{Limit}
+use Rattle.group_tree.specs.Names.{Name}
+use Rattle.group_tree.specs.Places.{Inventory}
+use Rattle.group_tree.specs.DownLimits.{Limit}
 use Rattle.group_tree.specs.Limits.{limit_of}
 use Rattle.domains.specs.Numbered.{IsNumbering, host_at}
 use Rattle.domains.specs.FleetLists.{AreFleetLists}

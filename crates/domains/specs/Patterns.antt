@@ -2,7 +2,7 @@
 use Rattle.std.specs.Prelude.{◌≡◌, ℕ, Bool, true, false, not, ◌||◌, Option, Some, None, List, length, position, slice_index_or}
 use Rattle.std.specs.List.{list_any, find}
 use Rattle.std.specs.String.{string_bytes}
-use Rattle.inventory_model.specs.Names.{Name, same_name, is_among}
+use Rattle.group_tree.specs.Names.{Name, same_name, is_among}
 use Rattle.fleet_numbers.specs.NumberLists.{list_at, has_number, numbers_where}
 use Rattle.domains.specs.Numbered.{host_at}
 use Rattle.domains.specs.FleetViews.{FleetView}

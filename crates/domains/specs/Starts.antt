@@ -1,9 +1,9 @@
 -- How many hosts of a group are off when a run starts, against its limit.
 use Rattle.std.specs.Prelude.{◌≡◌, ℕ, ◌<◌, Bool, false, ◌&&◌, nat_lt, Option, Some, None, List, [], filter, length, option_map, slice_index_or}
-use Rattle.inventory_model.specs.Names.{Name}
-use Rattle.inventory_model.specs.Places.{Place, Inventory}
-use Rattle.inventory_model.specs.Limits.{Limit, allowed}
-use Rattle.inventory_model.specs.Members.{holds}
+use Rattle.group_tree.specs.Names.{Name}
+use Rattle.group_tree.specs.Places.{Place, Inventory}
+use Rattle.group_tree.specs.DownLimits.{Limit, allowed}
+use Rattle.group_tree.specs.Members.{holds}
 use Rattle.domains.specs.Hosts.{hosts_of, is_off}
 
 -- the place of a number, and an unlimited one past the end

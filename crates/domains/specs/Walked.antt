@@ -1,6 +1,6 @@
 -- A walk over a tree's groups and their hosts, as it is listed.
 use Rattle.std.specs.Prelude.{ℕ, List, map}
-use Rattle.inventory_model.specs.Subtrees.{Host, Subtree}
+use Rattle.group_tree.specs.Subtrees.{Host, Subtree}
 use Rattle.domains.specs.declared.rows.HostRow.{HostRow}
 use Rattle.domains.specs.declared.walk.WalkedGroup.{WalkedGroup}
 

@@ -1,9 +1,9 @@
 -- An inventory as its groups in preorder, each with the names above it.
 use Rattle.std.specs.Prelude.{◌≡◌, ℕ, ◌+◌, suc, List, [], ◌∷◌, ◌++◌, map, length}
 use Rattle.std.specs.List.{flat_map}
-use Rattle.inventory_model.specs.Names.{Name}
-use Rattle.inventory_model.specs.Places.{Place, Row, Inventory}
-use Rattle.inventory_model.specs.Subtrees.{Host, Subtree}
+use Rattle.group_tree.specs.Names.{Name}
+use Rattle.group_tree.specs.Places.{Place, Row, Inventory}
+use Rattle.group_tree.specs.Subtrees.{Host, Subtree}
 
 -- a group where it stands
 pub record PlacedGroup : Type 0 where

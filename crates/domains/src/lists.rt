@@ -1,7 +1,7 @@
 //! The lists of a fleet, from the numbers on its groups' paths and its rows.
 ghost use Rattle.std.specs.Prelude.{◌≡◌, ◌<◌, ◌≤◌, ◌^◌, IfOk, All, length, map, option_map};
 ghost use Rattle.std.specs.String.{string_bytes};
-ghost use Rattle.inventory_model.specs.Limits.{allowed};
+ghost use Rattle.group_tree.specs.DownLimits.{allowed};
 ghost use Rattle.group_tree.specs.Limits.{limit_of};
 ghost use Rattle.fleet_numbers.specs.NumberLists.{list_at};
 ghost use Rattle.domains.specs.Ids.{group_lists, group_numbers, host_lists, host_numbers};

@@ -1,7 +1,7 @@
 //! The distinct hosts of a tree, and its rows by the numbers of hosts and groups.
 ghost use Rattle.std.specs.Prelude.{◌≡◌, ℕ, List, ◌<◌, ◌||◌, IfOk, IfSome, IsTrue, OnOk, All, length, map, slice_index_or, []};
 ghost use Rattle.std.specs.String.{string_bytes};
-ghost use Rattle.inventory_model.specs.Names.{Name, same_name, is_among};
+ghost use Rattle.group_tree.specs.Names.{Name, same_name, is_among};
 ghost use Rattle.fleet_numbers.specs.SortedNames.{sorted_names};
 
 use crate::rows::HostRow;

@@ -1,8 +1,8 @@
 //! An inventory by the numbers of its hosts and groups.
 ghost use Rattle.std.specs.Prelude.{◌≡◌, IfOk, IsTrue, map, option_map};
 ghost use Rattle.std.specs.String.{string_bytes};
-ghost use Rattle.inventory_model.specs.Names.{are_distinct};
-ghost use Rattle.inventory_model.specs.Bounds.{IsWithinBounds};
+ghost use Rattle.group_tree.specs.Names.{are_distinct};
+ghost use Rattle.group_tree.specs.Bounds.{IsWithinBounds};
 ghost use Rattle.group_tree.specs.Limits.{limit_of};
 ghost use Rattle.domains.specs.Outcomes.{IsNumberingOf};
 

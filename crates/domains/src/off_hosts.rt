@@ -2,7 +2,7 @@
 ghost use Rattle.std.specs.Prelude.{◌≡◌, ℕ, ◌<◌, IfOk, All, None, length, map, false, slice_index_or, slice_set, unwrap_or};
 ghost use Rattle.std.specs.Option.{option_or};
 ghost use Rattle.domains.specs.Hosts.{truth_of, down, last_down_of};
-ghost use Rattle.inventory_model.specs.Variables as model;
+ghost use Rattle.group_tree.specs.Variables as model;
 
 use crate::rows::HostRow;
 use group_tree::{Host, Scalar};

@@ -1,6 +1,6 @@
 //! The groups of a tree in preorder.
 ghost use Rattle.std.specs.Prelude.{◌≡◌, ℕ, ◌+◌, ◌<◌, ◌^◌, ◌++◌, OnOk, List, length};
-ghost use Rattle.inventory_model.specs.Subtrees.{Subtree, inventory_of};
+ghost use Rattle.group_tree.specs.Subtrees.{Subtree, inventory_of};
 ghost use Rattle.domains.specs.Walks.{IsWalkOf};
 ghost use Rattle.domains.specs.Walked.{walked_groups};
 

@@ -1,2 +1,5 @@
 pub mod Ledgers
 pub mod Inside
+pub mod Unfit
+pub mod Rosters
+pub mod RosterInside

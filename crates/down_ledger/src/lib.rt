@@ -1,9 +1,12 @@
-//! Which hosts of a fleet are down, and who holds the leave to work on each.
+//! Who is down, and the leave to work on a host, which can't be copied.
 #![tactic(auto)]
 
 mod counting;
 mod ledger;
+mod marks;
+mod roster;
 mod share;
 
 pub use ledger::DownLedger;
+pub use roster::Roster;
 pub use share::{Full, Share};

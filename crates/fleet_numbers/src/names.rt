@@ -2,7 +2,7 @@
 ghost use Rattle.std.specs.Prelude.{◌≡◌, ◌<◌, length, map, IsFalse, MatchOption, OnOk, OnErr, slice_index_or, []};
 ghost use Rattle.std.specs.String.{string_bytes};
 ghost use Rattle.std.specs.List.Sorted.{IsStrictlySortedBy};
-ghost use Rattle.inventory_model.specs.Names.{is_among};
+ghost use Rattle.group_tree.specs.Names.{is_among};
 ghost use Rattle.fleet_numbers.specs.SortedNames.{name_cmp, sorted_names};
 
 use std::alloc::AllocError;

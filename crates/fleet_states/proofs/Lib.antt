@@ -7,3 +7,5 @@ pub mod DownLemmas
 pub mod SafetyLemmas
 pub mod GroupLemmas
 pub mod StartLemmas
+pub mod LeastLemmas
+pub mod BatchLaws

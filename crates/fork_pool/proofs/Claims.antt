@@ -1,13 +1,13 @@
 -- What a board hands out is its own.
 use Rattle.std.proofs.Common.{◌≡◌, suc, sym, ap, ◌∙◌, subst, inl, inr}
-use Rattle.roll_logs.specs.Events.{claimed}
-use Rattle.roll_kernel.specs.declared.claim.Handed.{Handed}
-use Rattle.roll_kernel.specs.declared.claim.Handed.TheVariants as handed
-use Rattle.roll_kernel.specs.Claims.{IsOut}
-use Rattle.roll_kernel.specs.Laws.{IsOutAs}
-use Rattle.roll_kernel.specs.Views.{KernelView, roll_of, state_of}
-use Rattle.roll_kernel.specs.Ways.{Completed}
-use Rattle.roll_kernel.proofs.OutLaws.{handed_is_out}
+use Rattle.event_log.specs.Events.{claimed}
+use Rattle.roll_core.specs.declared.claim.Handed.{Handed}
+use Rattle.roll_core.specs.declared.claim.Handed.TheVariants as handed
+use Rattle.roll_core.specs.Claims.{IsOut}
+use Rattle.roll_core.specs.Laws.{IsOutAs}
+use Rattle.roll_core.specs.Views.{KernelView, roll_of, state_of}
+use Rattle.roll_core.specs.Ways.{Completed}
+use Rattle.roll_core.proofs.OutLaws.{handed_is_out}
 use Rattle.roll_core.specs.Boards.{BoardView, with_event}
 use Rattle.roll_core.specs.Dones.{DoneView}
 use Rattle.roll_core.specs.Givings.{IsGiven, IsGivenAs}

@@ -4,8 +4,8 @@ use Rattle.std.specs.Prelude.{Result, Ok, Err, OnErr, OnOk}
 use Rattle.std.specs.List.{list_all}
 use Rattle.std.proofs.lemmas.List.{append-nil}
 use Rattle.std.proofs.lemmas.List.Folds.{list_all-append}
-use Rattle.roll_logs.specs.Events.{Event, is_work}
-use Rattle.roll_kernel.specs.Views.{KernelView}
+use Rattle.event_log.specs.Events.{Event, is_work}
+use Rattle.roll_core.specs.Views.{KernelView}
 use Rattle.roll_core.specs.Boards.{BoardView, with_event}
 use Rattle.fork_pool.specs.Steps.{Continues}
 

@@ -6,17 +6,17 @@ use Rattle.fleet_numbers.specs.NumberLists.{has_number}
 use Rattle.fleet_numbers.proofs.ChainLemmas.{found_none}
 use Rattle.fleet_states.specs.Statuses.{are_distinct}
 use Rattle.fleet_states.proofs.CountLemmas.{count_none_in}
-use Rattle.roll_logs.specs.Rolls.{Roll}
-use Rattle.roll_logs.specs.Events.{Event, set_aside, opened, claimed, reported, passed, closed}
-use Rattle.roll_logs.specs.States.{State, Phase, between, working, ended, start_state}
-use Rattle.roll_logs.specs.Logs.{Allowed, IsLegal, next, closed_state, state_after}
-use Rattle.roll_logs.proofs.GrowthLaws.{after_more}
-use Rattle.batch_work.specs.Works.{is_awaited_in, is_free}
-use Rattle.batch_work.proofs.ListLemmas.{distinct_passed, length_without}
-use Rattle.roll_kernel.specs.Claims.{IsOut, event_in}
-use Rattle.roll_kernel.specs.Ways.{Completed}
-use Rattle.roll_kernel.specs.Views.{KernelView, roll_of, state_of}
-use Rattle.roll_kernel.specs.Views as kernels
+use Rattle.event_log.specs.Rolls.{Roll}
+use Rattle.event_log.specs.Events.{Event, set_aside, opened, claimed, reported, passed, closed}
+use Rattle.event_log.specs.States.{State, Phase, between, working, ended, start_state}
+use Rattle.event_log.specs.Logs.{Allowed, IsLegal, next, closed_state, state_after}
+use Rattle.event_log.proofs.GrowthLaws.{after_more}
+use Rattle.event_log.specs.Works.{is_awaited_in, is_free}
+use Rattle.event_log.proofs.ListLemmas.{distinct_passed, length_without}
+use Rattle.roll_core.specs.Claims.{IsOut, event_in}
+use Rattle.roll_core.specs.Ways.{Completed}
+use Rattle.roll_core.specs.Views.{KernelView, roll_of, state_of}
+use Rattle.roll_core.specs.Views as kernels
 use Rattle.roll_core.specs.Boards.{BoardView, with_event}
 use Rattle.fork_pool.specs.Steps.{claims_out, hosts_due}
 

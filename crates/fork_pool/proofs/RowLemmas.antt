@@ -3,7 +3,7 @@ use Rattle.std.proofs.Common.{◌≡◌, ℕ, zero, suc, ◌<◌, ◌&&◌, nat_
 use Rattle.std.specs.Prelude.{Result, Ok, Err, IfOk, if◌then◌else◌}
 use Rattle.std.specs.List.{list_all}
 use Rattle.std.proofs.lemmas.Bool.{and_parts}
-use Rattle.roll_logs.specs.Rolls.{is_of_program}
+use Rattle.event_log.specs.Rolls.{is_of_program}
 use Rattle.fork_pool.specs.declared.script.row.Row.{Row}
 use Rattle.fork_pool.specs.ScriptLines.{Line, told_by}
 use Rattle.fork_pool.specs.ScriptRows.{AreRun, is_run, line_of, lines_of}

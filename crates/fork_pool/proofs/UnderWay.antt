@@ -3,10 +3,10 @@ use Rattle.std.proofs.Common.{◌≡◌, ℕ, suc, ◌+◌, ◌<◌, ◌≤◌, 
 use Rattle.std.specs.Prelude.{Option, Result, Ok, Err, IfErr, IfOk, OnErr, OnOk}
 use Rattle.std.proofs.lemmas.Bool.{lt-ltb, ltb-true, or_cases, or_left, or_right}
 use Rattle.fleet_states.specs.Statuses.{are_distinct}
-use Rattle.roll_logs.specs.Events.{claimed}
-use Rattle.roll_kernel.specs.Claims.{IsOut, event_in}
-use Rattle.roll_kernel.specs.Ways.{Completed}
-use Rattle.roll_kernel.specs.Views.{roll_of, state_of}
+use Rattle.event_log.specs.Events.{claimed}
+use Rattle.roll_core.specs.Claims.{IsOut, event_in}
+use Rattle.roll_core.specs.Ways.{Completed}
+use Rattle.roll_core.specs.Views.{roll_of, state_of}
 use Rattle.roll_core.specs.Boards.{BoardView, with_event}
 use Rattle.roll_core.specs.Dones.{DoneView}
 use Rattle.roll_core.specs.Givings.{IsGiving}

@@ -1,8 +1,8 @@
 -- What only the proofs need: a step while it is being worked on.
 use Rattle.std.specs.Prelude.{◌≡◌, ℕ, suc, ◌+◌, ◌-◌, ◌<◌, ◌≤◌, min, Bool, true, false, ◌||◌, nat_lt, if◌then◌else◌, ◌⊎◌, None, List, [], ◌∷◌, ◌++◌, find}
-use Rattle.batch_work.specs.Works.{is_free}
-use Rattle.roll_kernel.specs.Claims.{IsOut, event_in}
-use Rattle.roll_kernel.specs.Views.{roll_of, state_of}
+use Rattle.event_log.specs.Works.{is_free}
+use Rattle.roll_core.specs.Claims.{IsOut, event_in}
+use Rattle.roll_core.specs.Views.{roll_of, state_of}
 use Rattle.roll_core.specs.Boards.{BoardView, with_event}
 use Rattle.roll_core.specs.Dones.{DoneView}
 use Rattle.roll_core.specs.declared.claimed.Claimed.{Claimed}

@@ -1,8 +1,8 @@
 -- What a worker answers.
 use Rattle.std.specs.Prelude.{◌≡◌, true}
-use Rattle.outcome_results.specs.Endings.{Ending}
-use Rattle.roll_logs.specs.Rolls.{is_of_program}
-use Rattle.roll_logs.specs.Told.{Work}
+use Rattle.host_track.specs.Endings.{Ending}
+use Rattle.event_log.specs.Rolls.{is_of_program}
+use Rattle.event_log.specs.Told.{Work}
 use Rattle.roll_core.specs.Dones.{DoneView, done_of}
 
 -- the program of the claim ended, as this runner tells

@@ -1,8 +1,8 @@
 -- What holds of every roll whose programs end as a script says.
 use Rattle.std.specs.Prelude.{◌≡◌, ℕ, Option, List}
-use Rattle.roll_logs.specs.States.{ended}
-use Rattle.roll_logs.specs.Columns.{EndsByColumns, Tells}
-use Rattle.roll_kernel.specs.Views.{roll_of, state_of}
+use Rattle.event_log.specs.States.{ended}
+use Rattle.event_log.specs.Columns.{EndsByColumns, Tells}
+use Rattle.roll_core.specs.Views.{roll_of, state_of}
 use Rattle.roll_core.specs.Boards.{BoardView}
 use Rattle.fork_pool.specs.ScriptLines.{Line, told_by}
 

@@ -1,9 +1,9 @@
 -- What a script says, and that scripts that say the same tell the same.
 use Rattle.std.specs.Prelude.{◌≡◌, ℕ, nat_eq, ◌&&◌, if◌then◌else◌, List, [], ◌∷◌}
 use mathlib.Core.Path.{ap, sym, ◌∙◌}
-use Rattle.outcome_results.specs.Endings.{Ending}
-use Rattle.roll_logs.specs.Columns.{well_ended}
-use Rattle.roll_logs.specs.Told.{Work}
+use Rattle.host_track.specs.Endings.{Ending}
+use Rattle.event_log.specs.Columns.{well_ended}
+use Rattle.event_log.specs.Told.{Work}
 
 -- how the program of a host and step ends
 pub record Line : Type 0 where

@@ -1,8 +1,8 @@
 -- The rows of a script as lines.
 use Rattle.std.specs.Prelude.{◌≡◌, Bool, true, List, map}
 use Rattle.std.specs.List.{list_all}
-use Rattle.outcome_results.specs.Endings.{ending_of}
-use Rattle.roll_logs.specs.Rolls.{is_of_program}
+use Rattle.host_track.specs.Endings.{ending_of}
+use Rattle.event_log.specs.Rolls.{is_of_program}
 use Rattle.fork_pool.specs.declared.script.row.Row.{Row}
 use Rattle.fork_pool.specs.ScriptLines.{Line}
 

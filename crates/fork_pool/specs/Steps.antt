@@ -1,10 +1,10 @@
 -- What becomes of a board while workers are at work on its step.
 use Rattle.std.specs.Prelude.{◌≡◌, ℕ, ◌≤◌, true, List, ◌++◌, count_by, length, Result, Ok, Err}
 use Rattle.std.specs.List.{list_all}
-use Rattle.batch_work.specs.Works.{is_awaited_in}
-use Rattle.roll_logs.specs.Events.{Event, is_work}
-use Rattle.roll_logs.specs.Laws.{front}
-use Rattle.roll_kernel.specs.Views.{roll_of, state_of}
+use Rattle.event_log.specs.Works.{is_awaited_in}
+use Rattle.event_log.specs.Events.{Event, is_work}
+use Rattle.event_log.specs.Laws.{front}
+use Rattle.roll_core.specs.Views.{roll_of, state_of}
 use Rattle.roll_core.specs.Boards.{BoardView, reports_in}
 
 -- how many claims are out

@@ -1,7 +1,7 @@
 //! What holds of each board.
 ghost use Rattle.std.specs.Prelude.{◌≡◌, true};
 ghost use Rattle.fleet_states.specs.Statuses.{are_distinct};
-ghost use Rattle.roll_kernel.specs.Views.{state_of};
+ghost use Rattle.roll_core.specs.Views.{state_of};
 ghost use Rattle.fork_pool.specs.Steps.{FrontsHaveFewOut};
 
 use roll_core::{Board, Runner, Watch};

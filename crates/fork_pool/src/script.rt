@@ -1,7 +1,7 @@
 //! What a script says of the programs of a roll.
 ghost use Rattle.std.specs.Prelude.{◌≡◌, ◌++◌, ◌∷◌, [], true, Decides, OnErr, OnOk};
-ghost use Rattle.outcome_results.specs.Endings.{ending_of};
-ghost use Rattle.roll_logs.specs.Rolls.{is_of_program};
+ghost use Rattle.host_track.specs.Endings.{ending_of};
+ghost use Rattle.event_log.specs.Rolls.{is_of_program};
 ghost use Rattle.fork_pool.specs.ScriptRows.{lines_of};
 
 mod laws;
@@ -10,8 +10,8 @@ mod running;
 
 use crate::script::row::Row;
 use group_tree::HostId;
+use host_track::Outcome;
 pub use laws::batches_end_by_their_script;
-use outcome_results::Outcome;
 use std::alloc::{AllocError, Global};
 use std::marker::Model;
 

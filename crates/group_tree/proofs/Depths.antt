@@ -5,10 +5,10 @@ use Rattle.std.proofs.Math.Dec.{leb-suc-suc}
 use Rattle.std.proofs.lemmas.Bool.{le-leb}
 use Rattle.std.proofs.lemmas.List.{take_all}
 use Rattle.std.proofs.lemmas.List.Folds.{list_all-append, list_all-map, list_all_at}
-use Rattle.inventory_model.specs.Names.{Name}
-use Rattle.inventory_model.specs.Places.{Place, Inventory, depth_of}
-use Rattle.inventory_model.specs.Subtrees.{Subtree, place_under, places_of, side_by_side}
-use Rattle.inventory_model.specs.Bounds.{are_within_depth}
+use Rattle.group_tree.specs.Names.{Name}
+use Rattle.group_tree.specs.Places.{Place, Inventory, depth_of}
+use Rattle.group_tree.specs.Subtrees.{Subtree, place_under, places_of, side_by_side}
+use Rattle.group_tree.specs.Bounds.{are_within_depth}
 
 pub list_all-same : {X : Type 0} (test other : X → Bool) → ((x : X) → test x ≡ other x) → (xs : List X) → list_all test xs ≡ list_all other xs
 list_all-same test other e [] = refl

@@ -2,8 +2,8 @@
 use Rattle.std.proofs.Common.{◌≡◌, ℕ, ◌+◌, ◌<◌, Bool, true, false, cond, Option, Some, None, List, length, get_or, drop, sym, refl}
 use Rattle.std.specs.Option.{option_or}
 use Rattle.std.proofs.lemmas.List.{drop_more}
-use Rattle.inventory_model.specs.Names.{Name, same_name}
-use Rattle.inventory_model.specs.Variables.{Scalar, Variable, value_of}
+use Rattle.group_tree.specs.Names.{Name, same_name}
+use Rattle.group_tree.specs.Variables.{Scalar, Variable, value_of}
 
 option_or-choice : (later found : Option Scalar) (test : Bool) (value : Scalar)
     → option_or (option_or later (cond test (Some value) None)) found ≡ option_or later (cond test (Some value) found)

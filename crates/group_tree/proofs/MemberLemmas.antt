@@ -5,10 +5,10 @@ use Rattle.std.proofs.lemmas.List.Folds.{list_any-append, list_any_at}
 use Rattle.std.proofs.lemmas.List.{take_all}
 use Rattle.std.proofs.lemmas.Bool.{or_left, or_right, or_from}
 use Rattle.std.proofs.Math.Bool.{and-true, and-false}
-use Rattle.inventory_model.specs.Names.{Name, same_name}
-use Rattle.inventory_model.specs.Places.{Row, Inventory}
-use Rattle.inventory_model.specs.Subtrees.{Host, Subtree, own_row, row_under, rows_of, inventory_of, side_by_side}
-use Rattle.inventory_model.specs.Members.{is_of, is_row_of, holds}
+use Rattle.group_tree.specs.Names.{Name, same_name}
+use Rattle.group_tree.specs.Places.{Row, Inventory}
+use Rattle.group_tree.specs.Subtrees.{Host, Subtree, own_row, row_under, rows_of, inventory_of, side_by_side}
+use Rattle.group_tree.specs.Members.{is_of, is_row_of, holds}
 
 pub list_any-map : {X Y : Type 0} (test : Y → Bool) (f : X → Y) (xs : List X) → list_any test (map f xs) ≡ list_any (λ x. test (f x)) xs
 list_any-map test f [] = refl

@@ -3,10 +3,10 @@ use Rattle.std.proofs.Common.{◌≡◌, ℕ, zero, suc, ◌+◌, ◌-◌, ◌<�
 use Rattle.std.proofs.lemmas.Bool.{or_left}
 use Rattle.std.proofs.lemmas.List.{drop_more, drop_all, map-append, length-map}
 use Rattle.std.proofs.lemmas.List.Folds.{list_any-append}
-use Rattle.inventory_model.specs.Names.{Name, same_name, is_among}
-use Rattle.inventory_model.specs.Places.{Place, Inventory}
-use Rattle.inventory_model.specs.Subtrees.{Subtree, place_under, places_of, side_by_side}
-use Rattle.inventory_model.specs.Bounds.{group_names}
+use Rattle.group_tree.specs.Names.{Name, same_name, is_among}
+use Rattle.group_tree.specs.Places.{Place, Inventory}
+use Rattle.group_tree.specs.Subtrees.{Subtree, place_under, places_of, side_by_side}
+use Rattle.group_tree.specs.Bounds.{group_names}
 
 -- the names of several groups, each with all below it
 abbrev names_of : List Subtree → List Name

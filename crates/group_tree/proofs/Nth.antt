@@ -2,8 +2,8 @@
 use Rattle.std.proofs.Common.{◌≡◌, ℕ, zero, suc, ◌+◌, ◌-◌, ◌<◌, ◌≤◌, Some, List, [], ◌∷◌, ◌++◌, length, get_or, drop, sym, ap, ◌∙◌, refl, arith, slice_get, length-append}
 use Rattle.std.specs.Option.{option_map}
 use Rattle.std.proofs.lemmas.Option.{slice_get-map}
-use Rattle.inventory_model.specs.Places.{Place, Inventory}
-use Rattle.inventory_model.specs.Subtrees.{Subtree, own_place, place_under, places_of, inventory_of, side_by_side}
+use Rattle.group_tree.specs.Places.{Place, Inventory}
+use Rattle.group_tree.specs.Subtrees.{Subtree, own_place, place_under, places_of, inventory_of, side_by_side}
 use Rattle.group_tree.specs.Trees.{IsGroupAt, under_path}
 use Rattle.group_tree.proofs.NamesWithin.{places-split}
 use Rattle.group_tree.proofs.Stands.{stands-itself, stands-child}

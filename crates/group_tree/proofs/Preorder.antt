@@ -2,9 +2,9 @@
 use Rattle.std.proofs.Common.{◌≡◌, true, List, [], ◌∷◌, ◌++◌, map, refl}
 use Rattle.std.proofs.lemmas.Bool.{and_parts, and_from}
 use lib.Pointwise.{bytes_decides}
-use Rattle.inventory_model.specs.Names.{Name, same_name, begins}
-use Rattle.inventory_model.specs.Places.{Place, path_of, goes_on, is_preorder}
-use Rattle.inventory_model.specs.Subtrees.{Subtree, own_place, place_under, places_of}
+use Rattle.group_tree.specs.Names.{Name, same_name, begins}
+use Rattle.group_tree.specs.Places.{Place, path_of, goes_on, is_preorder}
+use Rattle.group_tree.specs.Subtrees.{Subtree, own_place, place_under, places_of}
 
 pub same_name-self : (name : Name) → same_name name name ≡ true
 same_name-self name = (bytes_decides name name).1 refl

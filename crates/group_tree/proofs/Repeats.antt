@@ -6,10 +6,10 @@ use Rattle.std.proofs.lemmas.List.Folds.{list_any-append}
 use Rattle.std.proofs.lemmas.Option.{slice_get-map, get_or_from_slice_get}
 use Rattle.std.specs.Option.{option_map}
 use lib.Pointwise.{bytes_decides}
-use Rattle.inventory_model.specs.Names.{Name, same_name, is_among, are_distinct}
-use Rattle.inventory_model.specs.Places.{Place, Inventory}
-use Rattle.inventory_model.specs.Subtrees.{Subtree}
-use Rattle.inventory_model.specs.Bounds.{group_names}
+use Rattle.group_tree.specs.Names.{Name, same_name, is_among, are_distinct}
+use Rattle.group_tree.specs.Places.{Place, Inventory}
+use Rattle.group_tree.specs.Subtrees.{Subtree}
+use Rattle.group_tree.specs.Bounds.{group_names}
 use Rattle.group_tree.specs.Trees.{IsGroupAt}
 use Rattle.group_tree.proofs.Preorder.{same_name-self}
 

@@ -1,8 +1,8 @@
 -- What stands in a child stands in its parent.
 use Rattle.std.proofs.Common.{◌≡◌, ℕ, zero, suc, ◌<◌, List, [], ◌∷◌, ◌++◌, length, map, get_or, refl, sym, ap, subst, ◌∙◌, arith}
 use Rattle.std.proofs.lemmas.List.{append-nil, append_assoc, map-append}
-use Rattle.inventory_model.specs.Places.{Inventory}
-use Rattle.inventory_model.specs.Subtrees.{Subtree, own_place, own_row, place_under, row_under, places_of, rows_of, inventory_of, side_by_side, beside}
+use Rattle.group_tree.specs.Places.{Inventory}
+use Rattle.group_tree.specs.Subtrees.{Subtree, own_place, own_row, place_under, row_under, places_of, rows_of, inventory_of, side_by_side, beside}
 use Rattle.group_tree.specs.Trees.{StandsIn, under_group}
 
 nothing : Inventory

@@ -1,8 +1,8 @@
 -- A walk over a group goes on to its children.
 use Rattle.std.proofs.Common.{◌≡◌, ℕ, zero, suc, ◌<◌, List, [], ◌∷◌, length, get_or, sym, ap, subst, arith, length-append}
 use Rattle.std.proofs.lemmas.List.{length-map}
-use Rattle.inventory_model.specs.Places.{Inventory}
-use Rattle.inventory_model.specs.Subtrees.{Subtree, side_by_side}
+use Rattle.group_tree.specs.Places.{Inventory}
+use Rattle.group_tree.specs.Subtrees.{Subtree, side_by_side}
 use Rattle.group_tree.specs.Parts.{groups_below}
 
 smaller_at : (children : List Subtree) (i : ℕ) (d : Subtree) → i < length children → groups_below (get_or children i d) < length (side_by_side children).places

@@ -3,7 +3,7 @@ use Rattle.std.proofs.Common.{◌≡◌, ℕ, ◌+◌, List, [], ◌∷◌, ◌+
 use Rattle.std.specs.List.{flat_map}
 use Rattle.std.proofs.lemmas.List.{append-nil, length-map}
 use Rattle.std.proofs.lemmas.Grind.{flat_map-append}
-use Rattle.inventory_model.specs.Subtrees.{Host, Subtree, places_of, rows_of, side_by_side}
+use Rattle.group_tree.specs.Subtrees.{Host, Subtree, places_of, rows_of, side_by_side}
 use Rattle.group_tree.specs.Parts.{IsWellFormed}
 use Rattle.group_tree.proofs.Preorder.{is_preorder-with_child}
 

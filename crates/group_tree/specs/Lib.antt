@@ -1,3 +1,11 @@
+pub mod Names
+pub mod Variables
+pub mod DownLimits
+pub mod Places
+pub mod Members
+pub mod Subtrees
+pub mod Bounds
+pub mod Worked
 pub mod Limits
 pub mod Scalars
 pub mod Parts

@@ -1,5 +1,5 @@
 -- What a limit says.
-use Rattle.inventory_model.specs.Limits as model
+use Rattle.group_tree.specs.DownLimits as model
 use Rattle.group_tree.specs.declared.limit.Limit.{Limit}
 use Rattle.group_tree.specs.declared.limit.Limit.TheVariants as limit
 

@@ -2,8 +2,8 @@
 use Rattle.std.specs.Prelude.{◌≡◌, ℕ, ◌+◌, ◌≤◌, IsTrue, List, [], ◌∷◌, length}
 use Rattle.std.proofs.Common.{arith, length-append}
 use Rattle.std.proofs.lemmas.List.{length-map}
-use Rattle.inventory_model.specs.Subtrees as subtrees
-use Rattle.inventory_model.specs.Places.{Inventory, is_preorder}
+use Rattle.group_tree.specs.Subtrees as subtrees
+use Rattle.group_tree.specs.Places.{Inventory, is_preorder}
 use denote.Param.Weighed.{most}
 
 -- the groups below a group, which a child has fewer of

@@ -2,7 +2,7 @@
 use Rattle.std.specs.Prelude.{ℕ, List}
 use Rattle.std.specs.Borrow.{Bor}
 use Rattle.std.specs.String.{string_bytes}
-use Rattle.inventory_model.specs.Variables as model
+use Rattle.group_tree.specs.Variables as model
 use Rattle.group_tree.specs.declared.scalar.Scalar.{Scalar}
 use Rattle.group_tree.specs.declared.scalar.Scalar.TheVariants as lent
 use Rattle.group_tree.specs.declared.variable.Kept.{Kept}

@@ -1,9 +1,9 @@
 -- What a tree refuses, and what it says of a group.
 use Rattle.std.specs.Prelude.{◌≡◌, ℕ, ◌+◌, ◌<◌, ◌⊎◌, IsTrue, IsFalse, Some, List, [], ◌∷◌, ◌++◌, map, length, slice_get}
-use Rattle.inventory_model.specs.Names.{Name, are_distinct}
-use Rattle.inventory_model.specs.Places.{Inventory}
-use Rattle.inventory_model.specs.Subtrees.{Subtree, own_place, place_under, row_under, inventory_of}
-use Rattle.inventory_model.specs.Bounds.{depth_bound, groups_bound, rows_bound, group_names, are_within_depth, IsFirstRepeat}
+use Rattle.group_tree.specs.Names.{Name, are_distinct}
+use Rattle.group_tree.specs.Places.{Inventory}
+use Rattle.group_tree.specs.Subtrees.{Subtree, own_place, place_under, row_under, inventory_of}
+use Rattle.group_tree.specs.Bounds.{depth_bound, groups_bound, rows_bound, group_names, are_within_depth, IsFirstRepeat}
 use Rattle.group_tree.specs.declared.fault.TreeFault.{TreeFault}
 use Rattle.group_tree.specs.declared.fault.TreeFault.TheVariants.{TwicePlaced, TooDeep, TooMany}
 

@@ -1,7 +1,7 @@
 //! The alphabet of the names of groups and hosts.
 ghost use Rattle.std.specs.Prelude.{◌≡◌};
 ghost use Rattle.std.specs.List.{list_all};
-ghost use Rattle.inventory_model.specs.Names as names;
+ghost use Rattle.group_tree.specs.Names as names;
 
 /// The longest name, in bytes.
 pub const NAME_BOUND: usize = 255;

@@ -2,10 +2,10 @@
 ghost use Rattle.std.specs.Prelude.{◌≡◌, ◌↔◌, IfOk, map, [], ◌∷◌, ◌++◌, OnOk, OnErr, IfErr, IsTrue, IsFalse, length};
 ghost use Rattle.std.specs.Result.{IsErrOf};
 ghost use Rattle.std.specs.Option.{option_map};
-ghost use Rattle.inventory_model.specs.Names as names;
-ghost use Rattle.inventory_model.specs.Places.{is_preorder};
-ghost use Rattle.inventory_model.specs.Variables as model;
-ghost use Rattle.inventory_model.specs.Subtrees as subtrees;
+ghost use Rattle.group_tree.specs.Names as names;
+ghost use Rattle.group_tree.specs.Places.{is_preorder};
+ghost use Rattle.group_tree.specs.Variables as model;
+ghost use Rattle.group_tree.specs.Subtrees as subtrees;
 ghost use Rattle.group_tree.specs.Limits.{limit_of};
 ghost use Rattle.group_tree.specs.Scalars.{lent_scalar, lent_variable};
 
@@ -36,7 +36,7 @@ impl<A: Allocator> Model for Group<A> {
     ghost use Rattle.std.specs.Prelude.{◌≡◌, length};
     ghost use Rattle.std.specs.String.{string_bytes};
     ghost use Rattle.std.proofs.Common.{arith};
-    ghost use Rattle.inventory_model.specs.Subtrees as subtrees;
+    ghost use Rattle.group_tree.specs.Subtrees as subtrees;
     ghost use Rattle.std.specs.Option.{option_map};
     ghost use Rattle.group_tree.specs.Limits.{limit_of};
     ghost use Rattle.group_tree.specs.Parts.{groups_below, most_le-groups_below, IsWellFormed};

@@ -1,7 +1,7 @@
 //! A host as a group lists it.
 ghost use Rattle.std.specs.Prelude.{◌≡◌, IfOk, map};
 ghost use Rattle.std.specs.Option.{option_map};
-ghost use Rattle.inventory_model.specs.Variables as model;
+ghost use Rattle.group_tree.specs.Variables as model;
 ghost use Rattle.group_tree.specs.Scalars.{lent_scalar};
 
 use crate::scalar::Scalar;
@@ -18,7 +18,7 @@ pub struct Host<A: Allocator> {
 
 impl<A: Allocator> Model for Host<A> {
     ghost use Rattle.std.specs.String.{string_bytes};
-    ghost use Rattle.inventory_model.specs.Subtrees as subtrees;
+    ghost use Rattle.group_tree.specs.Subtrees as subtrees;
 
     ghost Value = { subtrees.Host };
 

@@ -1,4 +1,4 @@
-//! Groups of hosts as a tree, under any allocator.
+//! What an inventory is, and its groups as a tree that keeps its bounds.
 #![tactic(auto)]
 
 mod alphabet;
@@ -13,6 +13,7 @@ mod scalar;
 mod tree;
 mod variable;
 mod walk;
+mod worked;
 
 pub use alphabet::{NAME_BOUND, is_name};
 pub use fault::{GroupFault, TreeFault};

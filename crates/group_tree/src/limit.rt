@@ -1,6 +1,6 @@
 //! How many hosts of a group may be down at once.
 ghost use Rattle.std.specs.Prelude.{◌≡◌, ℕ, ◌<◌, ◌≤◌, ◌*◌, ◌/◌, MatchOption};
-ghost use Rattle.inventory_model.specs.Limits as model;
+ghost use Rattle.group_tree.specs.DownLimits as model;
 ghost use Rattle.group_tree.specs.Limits.{limit_of};
 
 use std::marker::Model;

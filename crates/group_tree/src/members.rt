@@ -1,9 +1,9 @@
 //! Which hosts a group holds.
 ghost use Rattle.std.specs.Prelude.{◌≡◌};
 ghost use Rattle.std.specs.List.{list_any};
-ghost use Rattle.inventory_model.specs.Names.{same_name};
-ghost use Rattle.inventory_model.specs.Members as members;
-ghost use Rattle.inventory_model.specs.Subtrees as subtrees;
+ghost use Rattle.group_tree.specs.Names.{same_name};
+ghost use Rattle.group_tree.specs.Members as members;
+ghost use Rattle.group_tree.specs.Subtrees as subtrees;
 
 use crate::group::Group;
 use crate::host::Host;

@@ -1,9 +1,9 @@
 //! A tree of groups within the bounds of an inventory.
 ghost use Rattle.std.specs.Prelude.{◌≡◌, ◌≤◌, ◌+◌, IfOk, IfErr, Some, IsTrue, MatchOption, length, slice_get};
-ghost use Rattle.inventory_model.specs.Names.{Name, are_distinct};
-ghost use Rattle.inventory_model.specs.Members as members;
-ghost use Rattle.inventory_model.specs.Subtrees.{inventory_of, places_of, rows_of};
-ghost use Rattle.inventory_model.specs.Bounds.{IsWithinBounds, group_names, are_within_depth, depth_bound, groups_bound, rows_bound};
+ghost use Rattle.group_tree.specs.Names.{Name, are_distinct};
+ghost use Rattle.group_tree.specs.Members as members;
+ghost use Rattle.group_tree.specs.Subtrees.{inventory_of, places_of, rows_of};
+ghost use Rattle.group_tree.specs.Bounds.{IsWithinBounds, group_names, are_within_depth, depth_bound, groups_bound, rows_bound};
 ghost use Rattle.group_tree.specs.Trees.{IsRefusal, IsGroupAt};
 
 use crate::fault::TreeFault;
@@ -25,9 +25,9 @@ pub struct Tree<A: Allocator> {
 }
 
 impl<A: Allocator> Model for Tree<A> {
-    ghost use Rattle.inventory_model.specs.Places.{Inventory};
-    ghost use Rattle.inventory_model.specs.Subtrees.{inventory_of};
-    ghost use Rattle.inventory_model.specs.Bounds.{IsWithinBounds};
+    ghost use Rattle.group_tree.specs.Places.{Inventory};
+    ghost use Rattle.group_tree.specs.Subtrees.{inventory_of};
+    ghost use Rattle.group_tree.specs.Bounds.{IsWithinBounds};
 
     ghost Value = { Inventory };
 

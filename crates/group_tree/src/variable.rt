@@ -2,7 +2,7 @@
 ghost use Rattle.std.specs.Prelude.{◌≡◌, IfOk, map};
 ghost use Rattle.group_tree.specs.Scalars.{lent_scalar, kept_scalar, lent_variable};
 ghost use Rattle.std.specs.Option.{option_map};
-ghost use Rattle.inventory_model.specs.Variables as model;
+ghost use Rattle.group_tree.specs.Variables as model;
 
 use crate::scalar::Scalar;
 use std::alloc::{AllocError, Allocator};
@@ -24,7 +24,7 @@ pub struct Variable<A: Allocator> {
 
 impl<A: Allocator> Model for Variable<A> {
     ghost use Rattle.std.specs.String.{string_bytes};
-    ghost use Rattle.inventory_model.specs.Variables as model;
+    ghost use Rattle.group_tree.specs.Variables as model;
 
     ghost Value = { model.Variable };
 

@@ -1,8 +1,8 @@
 //! Walks over a group and all below it, in preorder.
 ghost use Rattle.std.specs.Prelude.{◌≡◌, ◌≤◌, ◌+◌, ◌<◌, [], IsTrue, IfSome, MatchOption, length, take, get_or};
-ghost use Rattle.inventory_model.specs.Names.{is_among, are_distinct};
-ghost use Rattle.inventory_model.specs.Subtrees.{places_of, inventory_of};
-ghost use Rattle.inventory_model.specs.Bounds.{group_names, are_within_depth, IsFirstRepeat};
+ghost use Rattle.group_tree.specs.Names.{is_among, are_distinct};
+ghost use Rattle.group_tree.specs.Subtrees.{places_of, inventory_of};
+ghost use Rattle.group_tree.specs.Bounds.{group_names, are_within_depth, IsFirstRepeat};
 ghost use Rattle.group_tree.specs.Trees.{IsGroupAt};
 
 use crate::group::Group;

@@ -1,2 +1,4 @@
+pub mod CountLemmas
+pub mod JudgingLemmas
 pub mod TrackLaws
 pub mod SummaryLemmas

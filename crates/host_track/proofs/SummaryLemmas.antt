@@ -5,22 +5,22 @@ use Rattle.std.proofs.Math.Path.{fun_ext}
 use Rattle.std.proofs.lemmas.Bool.{cases_lt}
 use Rattle.std.proofs.lemmas.List.Folds.{list_any-append}
 use Rattle.std.specs.List.{list_any}
-use Rattle.inventory_model.specs.Names.{Name, same_name}
-use Rattle.registered_results.specs.Results.{Row, row_of}
-use Rattle.registered_results.specs.declared.registered.Registered.{Registered}
-use Rattle.variable_layers.specs.Layers.{HostView}
+use Rattle.group_tree.specs.Names.{Name, same_name}
+use Rattle.play_model.specs.Results.{Row, row_of}
+use Rattle.play_model.specs.declared.registered.Registered.{Registered}
+use Rattle.host_vars.specs.Layers.{HostView}
 use Rattle.host_vars.specs.HostVars.{variables_of, result_in}
 use Rattle.host_vars.specs.declared.vars.Vars.{Vars}
 use Rattle.fleet_numbers.specs.NumberLists.{has_number}
 use Rattle.play_model.specs.declared.play.Play.{Play}
 use Rattle.play_model.specs.declared.step.Step.{Step}
-use Rattle.outcome_results.specs.Hosts.{Known, known_of, with_result, is_called}
-use Rattle.outcome_results.specs.Endings.{Ending, table_row}
-use Rattle.outcome_results.specs.Judging.{register_of, registered_row, finding_of}
-use Rattle.outcome_results.specs.Counting.{is_failed, does_notify, counts_of}
-use Rattle.outcome_results.specs.declared.judged.Judged.{Judged}
-use Rattle.outcome_results.specs.declared.counts.Counts.{Counts}
-use Rattle.outcome_results.specs.declared.finding.Finding.{Finding}
+use Rattle.host_track.specs.Hosts.{Known, known_of, with_result, is_called}
+use Rattle.host_track.specs.Endings.{Ending, table_row}
+use Rattle.host_track.specs.Judging.{register_of, registered_row, finding_of}
+use Rattle.host_track.specs.Counting.{is_failed, does_notify, counts_of}
+use Rattle.host_track.specs.declared.judged.Judged.{Judged}
+use Rattle.host_track.specs.declared.counts.Counts.{Counts}
+use Rattle.host_track.specs.declared.finding.Finding.{Finding}
 use Rattle.host_track.specs.Tracks.{Entry, is_due, has_failed, is_notified, notifies, known_after, known_with, step_at, entry_of, judgements, counts_in, handlers_of}
 use Rattle.host_track.specs.Summaries.{Shows, IsCopyFor, mark_at}
 use Rattle.host_track.specs.declared.summary.Summary.{Summary}

@@ -9,9 +9,9 @@ use Rattle.std.proofs.lemmas.List.Quantifiers.{all_pairs_push}
 use Rattle.std.proofs.lemmas.List.Folds.{list_any-append}
 use Rattle.play_model.specs.declared.play.Play.{Play}
 use Rattle.play_model.specs.declared.step.Step.{Step}
-use Rattle.outcome_results.specs.Hosts.{Known}
-use Rattle.outcome_results.specs.Endings.{Ending}
-use Rattle.outcome_results.specs.Counting.{is_failed}
+use Rattle.host_track.specs.Hosts.{Known}
+use Rattle.host_track.specs.Endings.{Ending}
+use Rattle.host_track.specs.Counting.{is_failed}
 use Rattle.host_track.specs.Tracks.{Entry, Column, track, is_due, is_notified, has_failed, row_if_due, row_at, entry_of, known_after, step_at}
 use Rattle.host_track.specs.Laws.{DueStepAddsItsRow, OtherStepAddsNone, GrowsByAppending, AgreeWhereDue, AgreeingColumnsGiveOneTrack, StepsRise}
 use Rattle.host_track.specs.Laws.{EachRowIsDue, FailedRowIsTheLast, HandlersRunWhereNotified}

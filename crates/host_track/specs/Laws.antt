@@ -1,10 +1,10 @@
 -- Laws of tracks.
 use Rattle.std.specs.Prelude.{◌≡◌, ℕ, suc, ◌+◌, ◌-◌, ◌<◌, ◌≤◌, IsTrue, IsFalse, Some, List, [], ◌∷◌, ◌++◌, All, AllPairs}
 use Rattle.play_model.specs.declared.play.Play.{Play}
-use Rattle.outcome_results.specs.Hosts.{Known}
-use Rattle.outcome_results.specs.Counting.{is_failed}
+use Rattle.host_track.specs.Hosts.{Known}
+use Rattle.host_track.specs.Counting.{is_failed}
 use Rattle.play_model.specs.declared.step.Step.{Step}
-use Rattle.host_jobs.specs.Asking.{asks, end_of}
+use Rattle.host_track.specs.Asking.{asks, end_of}
 use Rattle.host_track.specs.Tracks.{Entry, Column, track, is_due, is_notified, known_after, step_at, entry_of}
 
 -- what is known of the host before a step

@@ -1,3 +1,11 @@
+pub mod Hosts
+pub mod Endings
+pub mod Judging
+pub mod Trials
+pub mod Counting
+pub mod Undefined
+pub mod Asking
+pub mod Inside
 pub mod Tracks
 pub mod Laws
 pub mod Summaries

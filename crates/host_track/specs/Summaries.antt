@@ -1,16 +1,16 @@
 -- What a summary of a host's rows says of them.
 use Rattle.std.specs.Prelude.{◌≡◌, ℕ, ◌-◌, ◌<◌, nat_lt, not, ◌&&◌, ◌||◌, Bool, false, IsTrue, Option, Some, None, List, length, slice_index_or}
 use Rattle.std.specs.List.{list_any}
-use Rattle.registered_results.specs.Results.{row_of}
-use Rattle.registered_results.specs.declared.registered.Registered.{Registered}
+use Rattle.play_model.specs.Results.{row_of}
+use Rattle.play_model.specs.declared.registered.Registered.{Registered}
 use Rattle.host_vars.specs.HostVars.{has_place_in}
 use Rattle.host_vars.specs.declared.vars.Vars.{Vars}
-use Rattle.inventory_model.specs.Names.{Name}
+use Rattle.group_tree.specs.Names.{Name}
 use Rattle.play_model.specs.declared.step.Step.{Step}
 use Rattle.play_model.specs.declared.play.Play.{Play}
-use Rattle.outcome_results.specs.Hosts.{Known, known_of, is_called}
-use Rattle.outcome_results.specs.Endings.{Ending, table_row}
-use Rattle.outcome_results.specs.Judging.{register_of}
+use Rattle.host_track.specs.Hosts.{Known, known_of, is_called}
+use Rattle.host_track.specs.Endings.{Ending, table_row}
+use Rattle.host_track.specs.Judging.{register_of}
 use Rattle.host_track.specs.Tracks.{Entry, step_at, known_after, has_failed, is_notified, counts_in}
 use Rattle.host_track.specs.declared.summary.Summary.{Summary}
 

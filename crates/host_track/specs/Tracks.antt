@@ -4,14 +4,14 @@ use Rattle.std.specs.List.{list_any}
 use Rattle.fleet_numbers.specs.NumberLists.{has_number}
 use Rattle.play_model.specs.declared.step.Step.{Step}
 use Rattle.play_model.specs.declared.play.Play.{Play}
-use Rattle.outcome_results.specs.Hosts.{Known, with_result}
-use Rattle.outcome_results.specs.Endings.{Ending}
-use Rattle.outcome_results.specs.Judging.{register_of, finding_of, registered_row}
-use Rattle.outcome_results.specs.Counting.{is_failed, does_notify, counts_of}
-use Rattle.outcome_results.specs.declared.finding.Finding.{Finding}
-use Rattle.outcome_results.specs.declared.judged.Judged.{Judged}
-use Rattle.outcome_results.specs.declared.counts.Counts.{Counts}
-use Rattle.host_jobs.specs.Asking.{asks, end_of}
+use Rattle.host_track.specs.Hosts.{Known, with_result}
+use Rattle.host_track.specs.Endings.{Ending}
+use Rattle.host_track.specs.Judging.{register_of, finding_of, registered_row}
+use Rattle.host_track.specs.Counting.{is_failed, does_notify, counts_of}
+use Rattle.host_track.specs.declared.finding.Finding.{Finding}
+use Rattle.host_track.specs.declared.judged.Judged.{Judged}
+use Rattle.host_track.specs.declared.counts.Counts.{Counts}
+use Rattle.host_track.specs.Asking.{asks, end_of}
 
 -- a row of a track: the step, how it ended, and what was found of that
 pub record Entry : Type 0 where

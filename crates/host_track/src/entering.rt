@@ -1,16 +1,16 @@
 //! What a row changes on its host.
 ghost use Rattle.std.specs.Prelude.{◌≡◌, ℕ, ◌<◌, ◌&&◌, ◌||◌, IfOk, OnOk, length};
 ghost use Rattle.fleet_numbers.specs.NumberLists.{has_number};
-ghost use Rattle.registered_results.specs.Results.{row_of};
-ghost use Rattle.outcome_results.specs.Hosts.{known_of, with_result};
-ghost use Rattle.outcome_results.specs.Endings.{Ending, ending_of};
-ghost use Rattle.outcome_results.specs.Judging.{register_of, registered_row};
+ghost use Rattle.play_model.specs.Results.{row_of};
+ghost use Rattle.host_track.specs.Hosts.{known_of, with_result};
+ghost use Rattle.host_track.specs.Endings.{Ending, ending_of};
+ghost use Rattle.host_track.specs.Judging.{register_of, registered_row};
 ghost use Rattle.host_track.specs.Summaries.{HasPlaceFor, IsCopyFor, mark_at};
 
+use crate::finding::Finding;
+use crate::outcome::Outcome;
 use host_vars::Vars;
-use outcome_results::{Finding, Outcome};
-use play_model::Step;
-use registered_results::Registered;
+use play_model::{Registered, Step};
 use std::alloc::{AllocError, Global};
 
 /// Makes a place for the step's result, where it has a name. No result is changed, also where memory is refused.

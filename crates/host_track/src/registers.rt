@@ -1,12 +1,11 @@
 //! The names under which the steps of a play register results.
 ghost use Rattle.std.specs.Prelude.{◌≡◌, ◌||◌, IfOk, OnOk};
 ghost use Rattle.std.specs.Arc.{arc_value};
-ghost use Rattle.inventory_model.specs.Names.{Name};
-ghost use Rattle.registered_results.specs.Registers.{is_register};
+ghost use Rattle.group_tree.specs.Names.{Name};
+ghost use Rattle.play_model.specs.Registers.{is_register};
 ghost use Rattle.host_track.specs.Summaries.{does_register, does_play_register};
 
-use play_model::{Play, Step};
-use registered_results::Registers;
+use play_model::{Play, Registers, Step};
 use std::alloc::{AllocError, Global};
 use std::sync::Arc;
 

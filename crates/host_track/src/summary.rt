@@ -2,20 +2,23 @@
 ghost use Rattle.std.specs.Prelude.{◌≡◌, ℕ, ◌-◌, ◌<◌, nat_lt, not, ◌&&◌, ◌||◌, ◌∷◌, [], ◌++◌, List, Some, IfOk, OnOk, length};
 ghost use Rattle.play_model.specs.Plays.{HasPlainWords};
 ghost use Rattle.play_model.specs.declared.play.Play as plays;
-ghost use Rattle.outcome_results.specs.Hosts.{Known, known_of};
-ghost use Rattle.outcome_results.specs.Endings.{ending_of};
-ghost use Rattle.outcome_results.specs.Judging.{register_of, finding_of};
-ghost use Rattle.host_jobs.specs.Asking.{asks, asked_as};
+ghost use Rattle.host_track.specs.Hosts.{Known, known_of};
+ghost use Rattle.host_track.specs.Endings.{ending_of};
+ghost use Rattle.host_track.specs.Judging.{register_of, finding_of};
+ghost use Rattle.host_track.specs.Asking.{asks, asked_as};
 ghost use Rattle.host_track.specs.Tracks as spec;
 ghost use Rattle.host_track.specs.Tracks.{Entry, known_after, step_at, entry_of};
 ghost use Rattle.host_track.specs.Summaries.{Shows, HasPlaceFor, IsCopyFor, mark_at, shows_due};
 
+use crate::asked::Asked;
+use crate::asking::ask;
+use crate::counts::Counts;
 use crate::entering::{either, notify, register, reserve};
-use host_jobs::{Asked, ask};
+use crate::finding::Finding;
+use crate::judging::judge;
+use crate::outcome::Outcome;
 use host_vars::Vars;
-use outcome_results::{Counts, Finding, Outcome, judge};
-use play_model::{Play, Step};
-use registered_results::Registered;
+use play_model::{Play, Registered, Step};
 use std::alloc::{AllocError, Global};
 
 /// The host's variables and results, which handlers it was notified of, whether it failed, and how its rows were judged.

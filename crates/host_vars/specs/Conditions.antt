@@ -1,10 +1,10 @@
 -- A host as conditions and words see it.
 use Rattle.std.specs.Prelude.{Option, Some, None, option_map, option_and_then}
-use Rattle.inventory_model.specs.Names.{is_among}
-use Rattle.inventory_model.specs.Variables.{Scalar}
-use Rattle.registered_results.specs.Results.{Row}
+use Rattle.group_tree.specs.Names.{is_among}
+use Rattle.group_tree.specs.Variables.{Scalar}
+use Rattle.play_model.specs.Results.{Row}
 use Rattle.cond.specs.Meaning.{Environment, Value, Registered, Plain, value_at}
-use Rattle.word_render.specs.Renders.{Values}
+use Rattle.text_parts.specs.Renders.{Values}
 use Rattle.host_vars.specs.declared.vars.Vars.{Vars}
 use Rattle.host_vars.specs.HostVars.{Known, known_of, field_known}
 

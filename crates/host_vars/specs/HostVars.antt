@@ -1,15 +1,15 @@
 -- What a host's variables and registered results say.
 use Rattle.std.specs.Prelude.{◌≡◌, ℤ, Bool, false, is_some, IsTrue, Option, Some, None, option_and_then}
 use Rattle.std.specs.Arc.{arc_value}
-use Rattle.inventory_model.specs.Names.{Name}
-use Rattle.inventory_model.specs.Variables.{Scalar, Text, Int, Truth}
-use Rattle.registered_results.specs.Registers.{is_register}
-use Rattle.registered_results.specs.declared.registers.Registers.{Registers}
-use Rattle.registered_results.specs.Results.{Row, has_place, result_of, shared_number}
-use Rattle.variable_layers.specs.Layers.{HostView}
-use Rattle.variable_layers.specs.Shown.{shown}
-use Rattle.word_parts.specs.declared.field.Field.{Field}
-use Rattle.word_parts.specs.declared.field.Field.TheVariants.{Rc, Stdout, Stderr, Changed, Failed, Skipped}
+use Rattle.group_tree.specs.Names.{Name}
+use Rattle.group_tree.specs.Variables.{Scalar, Text, Int, Truth}
+use Rattle.play_model.specs.Registers.{is_register}
+use Rattle.play_model.specs.declared.registers.Registers.{Registers}
+use Rattle.play_model.specs.Results.{Row, has_place, result_of, shared_number}
+use Rattle.host_vars.specs.Layers.{HostView}
+use Rattle.host_vars.specs.Shown.{shown}
+use Rattle.text_parts.specs.declared.field.Field.{Field}
+use Rattle.text_parts.specs.declared.field.Field.TheVariants.{Rc, Stdout, Stderr, Changed, Failed, Skipped}
 use Rattle.host_vars.specs.declared.vars.Vars.{Vars}
 
 -- the host's name, the groups that hold it, and its variables

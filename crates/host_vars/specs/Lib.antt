@@ -1,2 +1,9 @@
+pub mod Layers
+pub mod Entries
+pub mod Tables
+pub mod Walked
+pub mod Own
+pub mod Shown
+pub mod Shared
 pub mod HostVars
 pub mod Conditions

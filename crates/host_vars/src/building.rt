@@ -3,18 +3,20 @@ ghost use Rattle.std.specs.Prelude.{◌≡◌, ◌<◌, All, IfOk, length, map};
 ghost use Rattle.std.specs.Arc.{arc_value};
 ghost use Rattle.domains.specs.Fleets.{IsFleetOf};
 ghost use Rattle.domains.specs.Numbered.{host_at};
-ghost use Rattle.variable_layers.specs.Layers.{IsHostOf};
-ghost use Rattle.variable_layers.specs.Shared.{all_shown, AreHostsOf};
-ghost use Rattle.variable_layers.specs.Shown.{shown};
+ghost use Rattle.host_vars.specs.Layers.{IsHostOf};
+ghost use Rattle.host_vars.specs.Shared.{all_shown, AreHostsOf};
+ghost use Rattle.host_vars.specs.Shown.{shown};
 ghost use Rattle.host_vars.specs.HostVars.{variables_of, HasNoResult};
 
+use crate::all::all_layered_variables;
+use crate::host::HostVariables;
+use crate::layering::layered_variables;
 use crate::vars::Vars;
 use domains::Fleet;
 use group_tree::{HostId, Tree};
-use registered_results::Results;
+use play_model::Results;
 use std::alloc::{AllocError, Allocator, Global};
 use std::sync::Arc;
-use variable_layers::{HostVariables, all_layered_variables, layered_variables};
 
 /// The host with its groups and variables: its own win over those of the groups that hold it, and of these the
 /// deepest group's, among groups of one depth that of the last name. It fails for want of memory alone.

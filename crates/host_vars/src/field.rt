@@ -1,12 +1,12 @@
 //! The fields of a registered result.
 ghost use Rattle.std.specs.Prelude.{◌≡◌, option_map};
 ghost use Rattle.group_tree.specs.Scalars.{lent_scalar};
-ghost use Rattle.registered_results.specs.Results.{row_of};
+ghost use Rattle.play_model.specs.Results.{row_of};
 ghost use Rattle.host_vars.specs.HostVars.{field_in_row};
 
 use group_tree::Scalar;
-use registered_results::Registered;
-use word_parts::Field;
+use play_model::Registered;
+use text_parts::Field;
 
 pub(crate) fn field_value(registered: &Registered, field: Field) -> Option<Scalar<'_>>
     ensures { option_map lent_scalar result ≡ field_in_row (row_of registered.now) field }

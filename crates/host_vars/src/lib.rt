@@ -1,15 +1,25 @@
-//! A host's variables and registered results, and the words that are rendered from them.
+//! A host's variables and results as conditions and words see them.
 #![tactic(auto)]
 
+mod all;
 mod building;
+mod entry;
 mod environment;
 mod field;
+mod holders;
+mod host;
+mod layer;
+mod layering;
+mod order;
+mod own;
 mod results;
+mod rows;
+mod sharing;
+mod table;
 mod vars;
 mod words;
 
 pub use building::{layered, layered_all};
-pub use registered_results::{Registered, Registers};
+pub use play_model::{Registered, Registers};
+pub use text_parts::{BadBraces, MAX_RENDERED, RenderFault, check_word};
 pub use vars::Vars;
-pub use word_parts::{BadBraces, check_word};
-pub use word_render::{MAX_RENDERED, RenderFault};

@@ -1,12 +1,12 @@
 //! The registered results of a host.
 ghost use Rattle.std.specs.Prelude.{◌≡◌, Some, cond, ◌||◌, IfOk, IsTrue, OnErr, OnOk};
 ghost use Rattle.std.specs.Arc.{arc_value};
-ghost use Rattle.inventory_model.specs.Names.{Name, same_name};
-ghost use Rattle.registered_results.specs.Results.{row_of};
+ghost use Rattle.group_tree.specs.Names.{Name, same_name};
+ghost use Rattle.play_model.specs.Results.{row_of};
 ghost use Rattle.host_vars.specs.HostVars.{variables_of, has_place_in, result_in, BeginsPlay, IsSameHost};
 
 use crate::vars::Vars;
-use registered_results::{Registered, Registers};
+use play_model::{Registered, Registers};
 use std::alloc::{AllocError, Global};
 use std::sync::Arc;
 

@@ -1,7 +1,7 @@
 //! What conditions and words may ask of a host.
-use registered_results::Results;
+use crate::host::HostVariables;
+use play_model::Results;
 use std::sync::Arc;
-use variable_layers::HostVariables;
 
 /// A host's name, the groups that hold it, its variables, and its registered results. Who begins a play from it shares the variables.
 #[derive(Drop)]

@@ -4,10 +4,10 @@ use Rattle.std.specs.List.{flat_map}
 use Rattle.std.proofs.lemmas.List.{map-append, append-nil}
 use Rattle.std.proofs.lemmas.Grind.{flat_map-append}
 use Rattle.serde_json.specs.Data.{Data}
-use Rattle.inventory_model.specs.Names.{Name}
-use Rattle.inventory_model.specs.Places.{Place, Row, Inventory}
-use Rattle.inventory_model.specs.Subtrees.{Host, Subtree, place_under, row_under, own_place, own_row, places_of, inventory_of, side_by_side, beside, with_child}
-use Rattle.inventory_model.specs.Subtrees as subtrees
+use Rattle.group_tree.specs.Names.{Name}
+use Rattle.group_tree.specs.Places.{Place, Row, Inventory}
+use Rattle.group_tree.specs.Subtrees.{Host, Subtree, place_under, row_under, own_place, own_row, places_of, inventory_of, side_by_side, beside, with_child}
+use Rattle.group_tree.specs.Subtrees as subtrees
 use Rattle.inventory_read.specs.Documents.{Listed, standing, under, with_below}
 use Rattle.inventory_read.specs.Values.{place_of, row_of, rows_of, hosts_in, limit_in, variables_in, inventory_from}
 

@@ -5,7 +5,7 @@ use Rattle.std.specs.List.{flat_map, join_by}
 use Rattle.std.proofs.lemmas.Grind.{flat_map-append}
 use Rattle.std.proofs.lemmas.List.{map-append}
 use Rattle.serde_json.specs.Data.{Data}
-use Rattle.inventory_model.specs.Names.{Name}
+use Rattle.group_tree.specs.Names.{Name}
 use Rattle.inventory_read.specs.Documents.{Child, Listed, below_body, groups_from, standing, under, with_below}
 use Rattle.inventory_read.specs.Faults.{IsFirst}
 use Rattle.inventory_read.specs.Keys.{all_key}

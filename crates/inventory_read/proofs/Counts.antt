@@ -6,11 +6,11 @@ use Rattle.std.proofs.lemmas.List.{length-map}
 use Rattle.std.proofs.lemmas.Bool.Decides.{nat_tests}
 use Rattle.serde_json.specs.View.{members_view}
 use Rattle.serde_json.specs.declared.value.Value.{Value}
-use Rattle.inventory_model.specs.Names.{Name}
-use Rattle.inventory_model.specs.Bounds.{group_names, are_within_depth, depth_bound, groups_bound, rows_bound}
-use Rattle.json_shapes.specs.Breaches.{first_of, joined, unless}
-use Rattle.json_shapes.specs.Shapes.{entries}
-use Rattle.json_shapes.proofs.ListLaws.{entries_counted}
+use Rattle.group_tree.specs.Names.{Name}
+use Rattle.group_tree.specs.Bounds.{group_names, are_within_depth, depth_bound, groups_bound, rows_bound}
+use Rattle.text_parts.specs.Breaches.{first_of, joined, unless}
+use Rattle.text_parts.specs.Shapes.{entries}
+use Rattle.text_parts.proofs.ListLaws.{entries_counted}
 use Rattle.inventory_read.specs.Documents as documents
 use Rattle.inventory_read.specs.Listings.{Outline, outline_of, outline_at, listing_of, name_of, rows_at, most}
 use Rattle.inventory_read.specs.Rules.{Breach, TwicePlaced, TooDeep, TooMany}

@@ -8,8 +8,8 @@ use Rattle.std.proofs.lemmas.List.{map-append}
 use Rattle.serde_json.specs.Data.{Data, null, boolean, number, string, array, object, Members, no_members, member}
 use Rattle.serde_json.specs.Find.{get_member}
 use Rattle.serde_json.specs.View.{view}
-use Rattle.inventory_model.specs.Names.{Name}
-use Rattle.json_shapes.specs.Shapes.{members_in}
+use Rattle.group_tree.specs.Names.{Name}
+use Rattle.text_parts.specs.Shapes.{members_in}
 use Rattle.inventory_read.specs.Keys.{all_key, children_key}
 use Rattle.inventory_read.specs.Documents as documents
 use Rattle.inventory_read.specs.Documents.{part, standing, under, with_below, below_body, below_members, groups_in, groups_among, groups_from, merged, own_children, groups_beside_all, groups_of}

@@ -11,8 +11,8 @@ use Rattle.std.proofs.lemmas.List.Folds.{list_any-append}
 use lib.Pointwise.{bytes_decides}
 use Rattle.std.proofs.lemmas.Bool.{or_left, or_right}
 use Rattle.std.proofs.Math.Bool.{and-false, or_self_left}
-use Rattle.inventory_model.specs.Names.{Name, same_name, is_among, are_distinct}
-use Rattle.inventory_model.specs.Bounds.{IsFirstRepeat}
+use Rattle.group_tree.specs.Names.{Name, same_name, is_among, are_distinct}
+use Rattle.group_tree.specs.Bounds.{IsFirstRepeat}
 use Rattle.inventory_read.specs.Rules.{count_before_repeat, first_repeat}
 use Rattle.group_tree.proofs.Preorder.{same_name-self}
 

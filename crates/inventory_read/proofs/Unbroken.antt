@@ -2,10 +2,10 @@
 use Rattle.std.proofs.Common.{◌≡◌, ◌≤◌, true, ◌&&◌, [], length, nat_le}
 use Rattle.std.proofs.lemmas.Bool.{and_parts, leb-true}
 use Rattle.serde_json.specs.Data.{Data}
-use Rattle.inventory_model.specs.Names.{are_distinct}
-use Rattle.inventory_model.specs.Places.{Inventory}
-use Rattle.inventory_model.specs.Bounds.{depth_bound, groups_bound, rows_bound, group_names, are_within_depth}
-use Rattle.json_shapes.proofs.BreachLaws.{kept, no_first, no_second}
+use Rattle.group_tree.specs.Names.{are_distinct}
+use Rattle.group_tree.specs.Places.{Inventory}
+use Rattle.group_tree.specs.Bounds.{depth_bound, groups_bound, rows_bound, group_names, are_within_depth}
+use Rattle.text_parts.proofs.BreachLaws.{kept, no_first, no_second}
 use Rattle.inventory_read.specs.Rules.{TwicePlaced, TooDeep, TooMany, first_repeat, twice_placed, too_deep, too_many, broken_by_tree, broken}
 use Rattle.inventory_read.specs.Values.{inventory_of}
 

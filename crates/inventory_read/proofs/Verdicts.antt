@@ -3,8 +3,8 @@ use Rattle.std.proofs.Common.{◌≡◌, ℕ, Option, Some, None, Result, Ok, Er
 use Rattle.std.specs.Bool.{⊤}
 use Rattle.std.specs.List.{flat_map}
 use Rattle.serde_json.specs.Data.{Data}
-use Rattle.json_shapes.specs.Breaches.{first_of}
-use Rattle.json_shapes.proofs.BreachLaws.{first_here}
+use Rattle.text_parts.specs.Breaches.{first_of}
+use Rattle.text_parts.proofs.BreachLaws.{first_here}
 use Rattle.inventory_read.specs.Documents.{groups_of}
 use Rattle.inventory_read.specs.Faults.{IsFirst, IsRefusal, breach_of}
 use Rattle.inventory_read.specs.Rules.{Breach, placed, bad_top, broken_by_tree, broken_in, broken}

@@ -1,7 +1,7 @@
 -- Which rule a fault names.
 use Rattle.std.specs.Prelude.{◌≡◌, ℕ, Option, Some, None, Result, [], List, MatchResult, MatchOption, ⊤}
 use Rattle.std.specs.String.{string_bytes}
-use Rattle.json_shapes.specs.Breaches.{first_of}
+use Rattle.text_parts.specs.Breaches.{first_of}
 use Rattle.inventory_read.specs.Paths.{down_path, host_path, limit_path, part_path}
 use Rattle.inventory_read.specs.Rules as rules
 use Rattle.inventory_read.specs.Rules.{Breach}

@@ -3,8 +3,8 @@ use Rattle.std.specs.Prelude.{ℕ, ◌+◌, ◌-◌, ◌^◌, ◌++◌, min, if�
 use Rattle.std.specs.List.{flat_map}
 use Rattle.serde_json.specs.Data.{Data}
 use Rattle.serde_json.specs.View.{view}
-use Rattle.inventory_model.specs.Names.{Name}
-use Rattle.inventory_model.specs.Subtrees.{Host}
+use Rattle.group_tree.specs.Names.{Name}
+use Rattle.group_tree.specs.Subtrees.{Host}
 use Rattle.inventory_read.specs.Documents as documents
 use Rattle.inventory_read.specs.Keys.{all_key}
 use Rattle.inventory_read.specs.Paths.{text_path, names_to}

@@ -1,9 +1,9 @@
 -- Where in the text a value stands: the keys from the top value to it, joined by `/`. The top value's path is empty.
 use Rattle.std.specs.Prelude.{ℕ, ◌++◌, if◌then◌else◌, List, [], ◌∷◌, codes, drop}
 use Rattle.std.specs.List.{flat_map, join_by}
-use Rattle.inventory_model.specs.Names.{Name}
+use Rattle.group_tree.specs.Names.{Name}
 use Rattle.inventory_read.specs.Documents.{Listed}
-use Rattle.json_shapes.specs.Keys.{hosts_key}
+use Rattle.text_parts.specs.Keys.{hosts_key}
 use Rattle.inventory_read.specs.Keys.{down_key, max_down_key, vars_key}
 
 -- the path of a group's body, by the names from an entry of the top value down to the group: each next one is a key of `children`

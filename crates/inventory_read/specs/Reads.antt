@@ -2,9 +2,9 @@
 use Rattle.std.specs.Prelude.{◌≡◌, ℕ, Some, List, [], IsUtf8, ⊤, MatchOption}
 use Rattle.serde_json.specs.Data.{Data}
 use Rattle.serde_json.specs.Read.{read}
-use Rattle.inventory_model.specs.Places.{Inventory}
-use Rattle.json_shapes.specs.Breaches.{first_of}
-use Rattle.json_shapes.specs.Texts.{BreaksFirst}
+use Rattle.group_tree.specs.Places.{Inventory}
+use Rattle.text_parts.specs.Breaches.{first_of}
+use Rattle.text_parts.specs.Texts.{BreaksFirst}
 use Rattle.inventory_read.specs.Faults.{breach_of}
 use Rattle.inventory_read.specs.Rules.{Breach, NotJson, broken}
 use Rattle.inventory_read.specs.Values.{inventory_of}

@@ -3,12 +3,12 @@ use Rattle.std.specs.Prelude.{ℕ, ◌+◌, Bool, true, false, ◌&&◌, ◌||�
 use Rattle.std.specs.List.{flat_map}
 use Rattle.serde_json.specs.Data.{Data}
 use Rattle.serde_json.specs.Find.{get}
-use Rattle.inventory_model.specs.Names.{Name, is_name, is_among, are_distinct}
-use Rattle.inventory_model.specs.Places.{Inventory}
-use Rattle.inventory_model.specs.Bounds.{depth_bound, groups_bound, rows_bound, group_names, are_within_depth}
-use Rattle.json_shapes.specs.Breaches.{unless, joined}
-use Rattle.json_shapes.specs.Keys.{hosts_key}
-use Rattle.json_shapes.specs.Shapes.{Entry, entries_in, is_object, is_null, is_truth}
+use Rattle.group_tree.specs.Names.{Name, is_name, is_among, are_distinct}
+use Rattle.group_tree.specs.Places.{Inventory}
+use Rattle.group_tree.specs.Bounds.{depth_bound, groups_bound, rows_bound, group_names, are_within_depth}
+use Rattle.text_parts.specs.Breaches.{unless, joined}
+use Rattle.text_parts.specs.Keys.{hosts_key}
+use Rattle.text_parts.specs.Shapes.{Entry, entries_in, is_object, is_null, is_truth}
 use Rattle.inventory_read.specs.Keys.{children_key, vars_key, max_down_key, down_key, body_keys}
 use Rattle.inventory_read.specs.Documents.{Listed, part, groups_of}
 use Rattle.inventory_read.specs.Paths.{down_path, host_path, limit_path, part_path, text_path_of}

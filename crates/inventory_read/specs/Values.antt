@@ -3,13 +3,13 @@ use Rattle.std.specs.Prelude.{Option, Some, None, List, map, option_map, option_
 use Rattle.std.specs.List.{filter_map, flat_map}
 use Rattle.serde_json.specs.Data.{Data, null, boolean, number, string, array, object}
 use Rattle.serde_json.specs.Find.{get, as_i64}
-use Rattle.inventory_model.specs.Limits.{Limit, Count, Percent}
-use Rattle.inventory_model.specs.Variables.{Scalar, Text, Int, Truth, Variable}
-use Rattle.inventory_model.specs.Places.{Place, Row, Inventory}
-use Rattle.inventory_model.specs.Subtrees.{Host}
-use Rattle.json_shapes.specs.Keys.{hosts_key}
-use Rattle.json_shapes.specs.Numerals.{whole_number, percentage_in}
-use Rattle.json_shapes.specs.Shapes.{Entry, entries_in}
+use Rattle.group_tree.specs.DownLimits.{Limit, Count, Percent}
+use Rattle.group_tree.specs.Variables.{Scalar, Text, Int, Truth, Variable}
+use Rattle.group_tree.specs.Places.{Place, Row, Inventory}
+use Rattle.group_tree.specs.Subtrees.{Host}
+use Rattle.text_parts.specs.Keys.{hosts_key}
+use Rattle.text_parts.specs.Numerals.{whole_number, percentage_in}
+use Rattle.text_parts.specs.Shapes.{Entry, entries_in}
 use Rattle.inventory_read.specs.Keys.{vars_key, max_down_key}
 use Rattle.inventory_read.specs.Documents.{Listed, part, groups_of}
 

@@ -2,8 +2,8 @@
 ghost use Rattle.std.specs.Prelude.{◌≡◌, List, map, min, nat_le, ◌&&◌, length, IfOk, IsTrue, MatchOption};
 ghost use Rattle.std.specs.List.{list_all, flat_map};
 ghost use Rattle.serde_json.specs.View.{view};
-ghost use Rattle.inventory_model.specs.Names.{are_distinct};
-ghost use Rattle.inventory_model.specs.Bounds.{IsFirstRepeat, depth_bound, groups_bound, rows_bound};
+ghost use Rattle.group_tree.specs.Names.{are_distinct};
+ghost use Rattle.group_tree.specs.Bounds.{IsFirstRepeat, depth_bound, groups_bound, rows_bound};
 ghost use Rattle.inventory_read.specs.Documents as documents;
 ghost use Rattle.inventory_read.specs.Faults.{IsRefusal};
 ghost use Rattle.inventory_read.specs.Listings.{outline_of, listing_of, name_of, rows_at, most};

@@ -2,11 +2,11 @@
 ghost use Rattle.std.specs.Prelude.{◌≡◌, IfOk, IsTrue, map, [], option_map, option_and_then};
 ghost use Rattle.std.specs.List.{flat_map};
 ghost use Rattle.serde_json.specs.View.{view};
-ghost use Rattle.inventory_model.specs.Names.{is_name};
-ghost use Rattle.inventory_model.specs.Subtrees as subtrees;
+ghost use Rattle.group_tree.specs.Names.{is_name};
+ghost use Rattle.group_tree.specs.Subtrees as subtrees;
 ghost use Rattle.group_tree.specs.Limits as tree;
 ghost use Rattle.group_tree.specs.Scalars.{lent_variable};
-ghost use Rattle.json_shapes.specs.Shapes.{entries_in};
+ghost use Rattle.text_parts.specs.Shapes.{entries_in};
 ghost use Rattle.inventory_read.specs.Documents as documents;
 ghost use Rattle.inventory_read.specs.Keys.{all_key};
 ghost use Rattle.inventory_read.specs.Listings.{child_of};
@@ -19,9 +19,9 @@ use crate::limits::limit_of;
 use crate::listing::Child;
 use crate::variables::variables_of;
 use group_tree::{Group, Limit, Scalar};
-use json_shapes::entries_of;
 use serde_json::{Map, Value};
 use std::alloc::{AllocError, Allocator, Global};
+use text_parts::entries_of;
 
 fn limit_in(body: &Value) -> Option<Limit>
     ensures { option_map tree.limit_of result ≡ values.limit_in (view body.now) }

@@ -4,7 +4,7 @@ ghost use Rattle.std.specs.List.{flat_map};
 ghost use Rattle.serde_json.specs.Data.{null};
 ghost use Rattle.serde_json.specs.Read.{read};
 ghost use Rattle.serde_json.specs.View.{view};
-ghost use Rattle.json_shapes.specs.Texts.{IsNoJson};
+ghost use Rattle.text_parts.specs.Texts.{IsNoJson};
 ghost use Rattle.inventory_read.specs.Documents as documents;
 ghost use Rattle.inventory_read.specs.Faults.{IsRefusal, IsFirst, breach_of};
 ghost use Rattle.inventory_read.specs.Keys.{all_key};

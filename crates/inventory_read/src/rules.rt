@@ -3,9 +3,9 @@ ghost use Rattle.std.specs.Prelude.{◌≡◌, ◌∷◌, [], false, true, IsTru
 ghost use Rattle.serde_json.specs.Data.{null};
 ghost use Rattle.serde_json.specs.Find.{get};
 ghost use Rattle.serde_json.specs.View.{view, members_view};
-ghost use Rattle.inventory_model.specs.Names.{is_among};
-ghost use Rattle.json_shapes.specs.Keys.{hosts_key};
-ghost use Rattle.json_shapes.specs.Shapes.{entries_in};
+ghost use Rattle.group_tree.specs.Names.{is_among};
+ghost use Rattle.text_parts.specs.Keys.{hosts_key};
+ghost use Rattle.text_parts.specs.Shapes.{entries_in};
 ghost use Rattle.inventory_read.specs.Documents.{part};
 ghost use Rattle.inventory_read.specs.Faults.{IsVerdict};
 ghost use Rattle.inventory_read.specs.Keys.{body_keys, vars_key};
@@ -17,8 +17,8 @@ use crate::flaw::Flaw;
 use crate::keys::{CHILDREN, DOWN, HOSTS, MAX_DOWN, VARS};
 use crate::limits::limit_of;
 use group_tree::is_name;
-use json_shapes::entries_of;
 use serde_json::{Map, Value};
+use text_parts::entries_of;
 
 fn check_name<'a>(name: &'a str) -> Result<(), Flaw<'a>>
     ensures { IsVerdict result (rules.bad_name name.now) }

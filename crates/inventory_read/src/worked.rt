@@ -1,7 +1,7 @@
 //! The definitions, read against small documents: each clause computes.
 ghost use Rattle.std.specs.Prelude.{◌≡◌, Some, None, [], ◌∷◌, map, codes};
-ghost use Rattle.inventory_model.specs.Limits.{Count, Percent};
-ghost use Rattle.inventory_model.specs.Places.{Place, Row, row_path};
+ghost use Rattle.group_tree.specs.DownLimits.{Count, Percent};
+ghost use Rattle.group_tree.specs.Places.{Place, Row, row_path};
 ghost use Rattle.inventory_read.specs.Keys.{all_key};
 ghost use Rattle.inventory_read.specs.Rules.{broken, BadShape, UnknownKey, BadLimit, BadDown, TwicePlaced};
 ghost use Rattle.inventory_read.specs.Values.{inventory_of, limit_of};

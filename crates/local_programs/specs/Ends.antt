@@ -2,7 +2,7 @@
 use Rattle.std.specs.Prelude.{ℕ, List, ℤ, pos, negsuc, ◌≤ℤ◌, Option, Some, None, unwrap_or}
 use Rattle.std.specs.Process.{exit_code}
 use Rattle.std.specs.declared.process.ExitStatus.{ExitStatus}
-use Rattle.outcome_results.specs.Endings.{Ending, ran, not_started, lost, skipped, undefined}
+use Rattle.host_track.specs.Endings.{Ending, ran, not_started, lost, skipped, undefined}
 use Rattle.local_programs.specs.Keeping.{KeptView}
 use Rattle.local_programs.specs.Texts.{IsTextOfOutput, text_in}
 use Rattle.local_programs.specs.declared.remark.Remark.{Remark}

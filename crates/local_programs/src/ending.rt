@@ -1,6 +1,6 @@
 //! How a program ended.
 ghost use Rattle.std.specs.Prelude.{◌≡◌, Err, IfErr, IfOk, IsErr, IsOk};
-ghost use Rattle.outcome_results.specs.Endings.{ending_of, lost};
+ghost use Rattle.host_track.specs.Endings.{ending_of, lost};
 ghost use Rattle.local_programs.specs.Ends.{IsLocalEnd, code_of, ran_to};
 ghost use Rattle.local_programs.specs.declared.output.Unread.TheVariants.{Failed, Memory};
 

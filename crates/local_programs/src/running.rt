@@ -1,8 +1,8 @@
 //! Programs of this machine as a runner.
 ghost use Rattle.std.specs.Prelude.{◌≡◌, IfOk, true};
-ghost use Rattle.outcome_results.specs.Endings.{ending_of};
+ghost use Rattle.host_track.specs.Endings.{ending_of};
 ghost use Rattle.roll_core.specs.Leaves.{IsGoOf};
-ghost use Rattle.roll_logs.specs.Rolls.{is_of_program};
+ghost use Rattle.event_log.specs.Rolls.{is_of_program};
 ghost use Rattle.local_programs.specs.Ends.{IsLocalEnd};
 
 use crate::clock::{milliseconds, milliseconds_since};

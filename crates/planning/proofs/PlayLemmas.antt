@@ -7,7 +7,7 @@ use Rattle.std.specs.Prelude.{nat_lt}
 use Rattle.play_model.specs.declared.play.Play.{Play}
 use Rattle.play_rules.specs.Breaches.{Breach, BadShape, Broken, Check, unless}
 use Rattle.play_rules.specs.Plays.{play_of, plays_in, plays_of}
-use Rattle.play_faults.specs.Checks.{AllKept}
+use Rattle.play_rules.specs.Checks.{AllKept}
 use Rattle.play_read.specs.Reads.{IsPlay, IsReadAs}
 
 kept_first : (b : Bool) (breach : Breach) (more : List Breach) (rest : List Check) → AllKept (map Broken (unless b breach ++ more) ++ rest) → b ≡ true

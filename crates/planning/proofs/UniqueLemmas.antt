@@ -4,7 +4,7 @@ use Rattle.std.specs.List.{AllZip, slice_get}
 use Rattle.std.specs.Prelude.{IsSomeAnd}
 use Rattle.std.proofs.lemmas.Option.{same_Some}
 use Rattle.std.proofs.lemmas.Slice.Zip.{AllZip-right}
-use Rattle.inventory_model.specs.Places.{Inventory}
+use Rattle.group_tree.specs.Places.{Inventory}
 use Rattle.inventory_read.specs.Values.{inventory_of}
 use Rattle.group_tree.specs.declared.ids.GroupId.{GroupId}
 use Rattle.domains.specs.FleetViews.{FleetView}
@@ -16,7 +16,7 @@ use Rattle.play_read.specs.Reads as playbooks
 use Rattle.batch_plan.specs.declared.answers.Answer.{Answer}
 use Rattle.batch_plan.specs.declared.answers.Answer.TheVariants.{Planned, Blocked}
 use Rattle.batch_plan.specs.Answers.{IsSameAnswer}
-use Rattle.play_plan.proofs.AlikeLemmas.{AreAlike, one_plan}
+use Rattle.play_course.proofs.AlikeLemmas.{AreAlike, one_plan}
 use Rattle.recap.specs.PlanText.{answer_line, answer_lines, batch_lines, blocked_line, planned_line, plan_text}
 use Rattle.planning.specs.Ends.{end_of}
 use Rattle.planning.specs.PlanTexts.{IsFleetIn, IsPlaybookPlan}

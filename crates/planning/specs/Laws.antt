@@ -1,6 +1,6 @@
 -- What holds of the texts of inventories and playbooks.
 use Rattle.std.specs.Prelude.{◌≡◌, ℕ, List}
-use Rattle.inventory_model.specs.Places.{Inventory}
+use Rattle.group_tree.specs.Places.{Inventory}
 use Rattle.inventory_read.specs.Reads.{IsReadAs}
 use Rattle.planning.specs.PlanTexts.{IsPlanText}
 use Rattle.planning.specs.declared.end.End.{End}

@@ -3,7 +3,7 @@ use Rattle.std.specs.Prelude.{◌≡◌, ℕ, Option, None, List, ◌∷◌}
 use Rattle.std.specs.List.{find}
 use Rattle.std.specs.Io.KnownBytes.{Appends, Keeps}
 use Rattle.bounded_io.specs.Sending.{SendsFirst}
-use Rattle.inventory_model.specs.Places.{Inventory}
+use Rattle.group_tree.specs.Places.{Inventory}
 use Rattle.inventory_read.specs.Reads as inventories
 use Rattle.domains.specs.Faults.{IsFaultOf}
 use Rattle.domains.specs.FleetViews.{FleetView}
@@ -13,7 +13,7 @@ use Rattle.domains.specs.declared.fault.FleetFault.{FleetFault}
 use Rattle.domains.specs.declared.pattern_fault.PatternFault.{PatternFault}
 use Rattle.play_model.specs.declared.play.Play.{Play}
 use Rattle.play_read.specs.Reads as playbooks
-use Rattle.play_plan.specs.PlayPlans.{IsPlanOf, named_parts}
+use Rattle.play_course.specs.PlayPlans.{IsPlanOf, named_parts}
 use Rattle.batch_plan.specs.declared.answers.Answer.{Answer}
 use Rattle.recap.specs.PlanText.{plan_text}
 use Rattle.planning.specs.Ends.{end_of}

@@ -2,7 +2,7 @@
 use bounded_io::WriteFault;
 use domains::{FleetFault, PatternFault};
 use inventory_read::ReadFault;
-use play_faults::PlayFault;
+use play_rules::PlayFault;
 
 /// What is wrong with one of the two texts, or with the output; of several faults the first in this order.
 #[derive(Debug, Drop)]

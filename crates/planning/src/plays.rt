@@ -4,8 +4,8 @@ ghost use Rattle.planning.specs.PlanTexts.{ArePlaysIn, IsPlaybookFault};
 
 use crate::fault::PlanFault;
 use domains::Fleet;
+use play_course::look_up_all;
 use play_model::Play;
-use play_plan::look_up_all;
 use play_read::read_plays;
 use std::alloc::Global;
 

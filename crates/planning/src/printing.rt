@@ -3,7 +3,7 @@ ghost use Rattle.std.specs.Prelude.{◌≡◌, ◌<◌, IfOk, IfErr, None, lengt
 ghost use Rattle.std.specs.List.{find};
 ghost use Rattle.domains.specs.Ids.{host_numbers};
 ghost use Rattle.domains.specs.Patterns.{IsPatternFault, names_nothing};
-ghost use Rattle.play_plan.specs.PlayPlans.{named_parts};
+ghost use Rattle.play_course.specs.PlayPlans.{named_parts};
 ghost use Rattle.planning.specs.PlanTexts.{IsFirstPlan, IsPlaybookFault, IsPlaybookPlan, IsTrueFault, WritesPlan};
 
 use crate::end::{End, end_of};
@@ -11,8 +11,8 @@ use crate::fault::PlanFault;
 use crate::fleet::read_fleet;
 use crate::plays::read_known_plays;
 use domains::{Fleet, PatternFault};
+use play_course::{PlayPlan, plan_play};
 use play_model::Play;
-use play_plan::{PlayPlan, plan_play};
 use recap::write_plan;
 use std::alloc::Global;
 use std::io::Write;

@@ -3,9 +3,9 @@ use Rattle.std.proofs.Common.{◌≡◌, ℕ, ◌+◌, ◌==◌, Option, Some, N
 use Rattle.std.specs.Prelude.{if◌then◌else◌, is_some}
 use Rattle.fleet_states.specs.declared.status.Status.{Status}
 use Rattle.fleet_states.proofs.CountLemmas.{count_agree_in}
-use Rattle.batch_outcome.specs.Batches.{Fails, failed_count, failed_in, is_failed_by, statuses_after}
-use Rattle.batch_outcome.specs.Laws.{AgreeOn, SameEnd}
-use Rattle.batch_outcome.proofs.BatchLaws.{own_failures_decide}
+use Rattle.fleet_states.specs.Batches.{Fails, failed_count, failed_in, is_failed_by, statuses_after}
+use Rattle.fleet_states.specs.Laws.{AgreeOn, SameEnd}
+use Rattle.fleet_states.proofs.BatchLaws.{own_failures_decide}
 use Rattle.batch_plan.specs.Beginnings.{restart_statuses}
 use Rattle.play_course.specs.declared.boundary.Boundary.{Boundary}
 use Rattle.play_course.specs.declared.end.End.{End}

@@ -1,3 +1,5 @@
+pub mod PatternLemmas
+pub mod AlikeLemmas
 pub mod SameLemmas
 pub mod CourseLaws
 pub mod OpenedLemmas

@@ -8,9 +8,9 @@ use Rattle.fleet_states.specs.Groups.{groups_of}
 use Rattle.fleet_states.specs.Statuses.{is_waiting, status_at}
 use Rattle.fleet_states.proofs.ReadyLemmas.{ready_waits}
 use Rattle.fleet_states.proofs.StatusLemmas.{status_at-changed, status_at-changed_past}
-use Rattle.play_plan.specs.PlayPlans.{aside_by}
-use Rattle.batch_outcome.specs.Batches.{statuses_after}
-use Rattle.batch_outcome.proofs.BatchLaws.{none_waits_after, others_stay}
+use Rattle.play_course.specs.PlayPlans.{aside_by}
+use Rattle.fleet_states.specs.Batches.{statuses_after}
+use Rattle.fleet_states.proofs.BatchLaws.{none_waits_after, others_stay}
 use Rattle.batch_plan.specs.declared.answers.Answer.{Answer}
 use Rattle.batch_plan.specs.declared.answers.Answer.TheVariants.{Planned, Blocked}
 use Rattle.batch_plan.specs.Answers.{IsBest}

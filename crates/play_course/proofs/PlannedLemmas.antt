@@ -12,10 +12,10 @@ use Rattle.fleet_states.proofs.CountLemmas.{count_none_in}
 use Rattle.fleet_states.proofs.StatusLemmas.{changed_none}
 use Rattle.play_model.specs.declared.on_blocked.OnBlocked.{OnBlocked}
 use Rattle.play_model.specs.declared.on_blocked.OnBlocked.TheVariants.{Stop, Hold}
-use Rattle.play_plan.specs.PlayPlans.{aside_by}
-use Rattle.batch_outcome.specs.Batches.{failed_in, statuses_after}
-use Rattle.batch_outcome.specs.Laws.{IsUpdatedWhole}
-use Rattle.batch_outcome.proofs.BatchLaws.{updated_where_none_fails}
+use Rattle.play_course.specs.PlayPlans.{aside_by}
+use Rattle.fleet_states.specs.Batches.{failed_in, statuses_after}
+use Rattle.fleet_states.specs.Laws.{IsUpdatedWhole}
+use Rattle.fleet_states.proofs.BatchLaws.{updated_where_none_fails}
 use Rattle.batch_plan.specs.declared.answers.Answer.{Answer}
 use Rattle.batch_plan.specs.declared.answers.Answer.TheVariants.{Planned, Blocked}
 use Rattle.batch_plan.specs.declared.answers.Bound.{Bound}

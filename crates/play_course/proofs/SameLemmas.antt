@@ -9,7 +9,7 @@ use Rattle.batch_plan.specs.declared.answers.Answer.TheVariants.{Planned, Blocke
 use Rattle.batch_plan.specs.Answers.{IsBest, IsDealtAnswer, IsSameAnswer}
 use Rattle.batch_plan.specs.Holding.{set_aside}
 use Rattle.batch_plan.proofs.UniqueLemmas.{one_answer}
-use Rattle.batch_outcome.specs.Batches.{statuses_after}
+use Rattle.fleet_states.specs.Batches.{statuses_after}
 use Rattle.play_course.specs.declared.boundary.Boundary.{Boundary}
 use Rattle.play_course.specs.declared.end.End.{End}
 use Rattle.play_course.specs.declared.end.End.TheVariants as ending

@@ -8,8 +8,8 @@ use Rattle.domains.specs.Ids.{host_numbers}
 use Rattle.fleet_states.specs.declared.status.Status.{Status}
 use Rattle.fleet_states.specs.declared.status.Status.TheVariants.{Idle, Waiting, Running, Updated, Failed, Halted, Off, Held}
 use Rattle.play_model.specs.declared.on_blocked.OnBlocked.{OnBlocked}
-use Rattle.play_plan.specs.PlayPlans.{aside_by}
-use Rattle.batch_outcome.specs.Batches.{Fails, failed_in, halt, statuses_after}
+use Rattle.play_course.specs.PlayPlans.{aside_by}
+use Rattle.fleet_states.specs.Batches.{Fails, failed_in, halt, statuses_after}
 use Rattle.batch_plan.specs.declared.answers.Answer.{Answer}
 use Rattle.batch_plan.specs.declared.answers.Answer.TheVariants.{Planned, Blocked}
 use Rattle.batch_plan.specs.Answers.{IsBest, IsDealtAnswer}

@@ -3,8 +3,8 @@ use Rattle.std.specs.Prelude.{◌≡◌, ◌≤◌, ℕ, true, Option, None, Som
 use Rattle.fleet_numbers.specs.NumberLists.{has_number, list_at}
 use Rattle.domains.specs.Ids.{host_numbers}
 use Rattle.fleet_states.specs.declared.status.Status.{Status}
-use Rattle.batch_outcome.specs.Batches.{Fails}
-use Rattle.batch_outcome.specs.Laws.{AgreeOn}
+use Rattle.fleet_states.specs.Batches.{Fails}
+use Rattle.fleet_states.specs.Laws.{AgreeOn}
 use Rattle.batch_plan.specs.declared.answers.Answer.{Answer}
 use Rattle.batch_plan.specs.declared.answers.Answer.TheVariants.{Planned, Blocked}
 use Rattle.batch_plan.specs.Answers.{IsSameAnswer}

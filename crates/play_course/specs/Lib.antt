@@ -1,3 +1,4 @@
+pub mod PlayPlans
 pub mod Courses
 pub mod Files
 pub mod Laws

@@ -7,13 +7,12 @@ ghost use Rattle.batch_plan.specs.Places.{AreCountsOf};
 ghost use Rattle.play_course.specs.Courses as model;
 
 use crate::end::End;
-use batch_plan::{Answer, plan, plan_over, set_aside};
-use domain_counts::Domains;
+use crate::play_plan::list_aside;
+use batch_plan::{Answer, Domains, plan, plan_over, set_aside};
 use domains::Fleet;
 use fleet_states::Status;
 use group_tree::HostId;
 use play_model::OnBlocked;
-use play_plan::list_aside;
 use std::alloc::{AllocError, Allocator, Global};
 
 /// A moment at which no batch is open: the hosts that were set aside at it, by name, the status of each host then, and the planner's answer.

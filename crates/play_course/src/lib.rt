@@ -1,10 +1,14 @@
-//! What a play does to a fleet from boundary to boundary, by the step at which each host fails: no worker, event or log occurs in it.
+//! What a play does to a fleet from boundary to boundary.
 #![tactic(auto)]
 
+mod aside;
 mod boundary;
 mod end;
 mod laws;
+mod patterns;
+mod play_plan;
 
+pub use aside::list_aside_over;
 pub use boundary::Boundary;
 pub use end::{End, end_with};
 pub use laws::{
@@ -14,3 +18,5 @@ pub use laws::{
     failures_of_other_hosts_decide_nothing, no_host_is_opened_twice, nothing_follows_the_end,
     plays_have_one_course,
 };
+pub use patterns::look_up_all;
+pub use play_plan::{PlayPlan, plan_play};

@@ -1,3 +1,5 @@
+pub mod Registers
+pub mod Results
 pub mod Sizes
 pub mod Words
 pub mod Plays

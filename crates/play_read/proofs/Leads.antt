@@ -3,10 +3,10 @@ use Rattle.std.proofs.Common.{Some, None, Option, List, ◌++◌, sym, subst}
 use Rattle.std.specs.Prelude.{⊤, MatchOption}
 use Rattle.std.proofs.lemmas.List.{append_assoc}
 use Rattle.play_rules.specs.Breaches.{Check}
-use Rattle.play_faults.specs.Checks.{Named, AllKept, IsFirst}
-use Rattle.play_faults.specs.Faults.{named_of, IsRefusal}
-use Rattle.play_faults.specs.declared.fault.PlayFault.{PlayFault}
-use Rattle.play_faults.proofs.CheckLaws.{kept_together, first_later, refused_here}
+use Rattle.play_rules.specs.Checks.{Named, AllKept, IsFirst}
+use Rattle.play_rules.specs.Faults.{named_of, IsRefusal}
+use Rattle.play_rules.specs.declared.fault.PlayFault.{PlayFault}
+use Rattle.play_rules.proofs.CheckLaws.{kept_together, first_later, refused_here}
 
 pub record Leads (later whole : List Check) : Type 0 where
   pub kept : AllKept later → AllKept whole

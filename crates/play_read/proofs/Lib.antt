@@ -1,3 +1,8 @@
+pub mod FirstPieces
+pub mod Closings
+pub mod Readings
+pub mod Given
+pub mod Parts
 pub mod Told
 pub mod Leads
 pub mod Lists

@@ -3,9 +3,9 @@ use Rattle.std.proofs.Common.{◌≡◌, Bool, ℕ, ◌+◌, Some, None, List, [
 use Rattle.std.specs.Borrow.{Bor}
 use Rattle.std.specs.List.{position, position_or_len, list_any}
 use Rattle.std.proofs.lemmas.List.{length-map}
-use Rattle.inventory_model.specs.Names.{Name, same_name, is_among}
+use Rattle.group_tree.specs.Names.{Name, same_name, is_among}
 use Rattle.group_tree.proofs.MemberLemmas.{list_any-map}
-use Rattle.play_settings.specs.Verdicts.{lent_texts}
+use Rattle.play_rules.specs.Verdicts.{lent_texts}
 
 first_place : {X Y : Type 0} (test : Y → Bool) (f : X → Y) (xs : List X) → position_or_len test (map f xs) ≡ position_or_len (λ x. test (f x)) xs
 first_place test f [] = refl

@@ -3,8 +3,8 @@ use Rattle.std.proofs.Common.{◌≡◌, ◌+◌, ◌≤◌, true, nat_lt, nat_l
 use Rattle.std.proofs.lemmas.Bool.{and_parts, leb-true, ltb-true}
 use Rattle.serde_json.specs.Data.{Data}
 use Rattle.serde_json.specs.Find.{get}
-use Rattle.json_shapes.specs.Shapes.{listed, is_object}
-use Rattle.json_shapes.proofs.BreachLaws.{kept, no_first, no_second}
+use Rattle.text_parts.specs.Shapes.{listed, is_object}
+use Rattle.text_parts.proofs.BreachLaws.{kept, no_first, no_second}
 use Rattle.play_rules.specs.Breaches.{BadShape, BadSerial, TooManySteps, unless, joined}
 use Rattle.play_rules.specs.Keys.{hosts_key, serial_key, max_fail_key, on_blocked_key, play_keys}
 use Rattle.play_rules.specs.Plays.{tasks_in, handlers_in, bad_tasks, bad_handlers, too_many_steps, bad_settings}

@@ -7,18 +7,18 @@ use Rattle.std.proofs.lemmas.List.{length-map}
 use Rattle.std.proofs.lemmas.Slice.Zip.{AllZip-long}
 use Rattle.std.proofs.lemmas.List.Elements.{All-nil, All-cons, All-weaker}
 use Rattle.std.proofs.lemmas.List.Quantifiers.{position-Some}
-use Rattle.inventory_model.specs.Names.{Name, same_name}
+use Rattle.group_tree.specs.Names.{Name, same_name}
 use Rattle.serde_json.specs.Data.{Data}
 use Rattle.play_model.specs.Plays.{NotifiesNobody, AreNumbersBelow}
 use Rattle.play_model.specs.declared.step.Step.{Step}
 use Rattle.play_rules.specs.Breaches.{Check, Broken, Spot}
 use Rattle.play_rules.specs.Plays.{spot_at, told, checks_of_handlers, checks_of_tasks, checks_of_play, checks_of_plays}
 use Rattle.play_rules.specs.Steps.{WrittenStep, name_in, checks_of_handler, checks_of_task, twice_named, unknown_handlers, place_of, notified_in, step_of, handler_of}
-use Rattle.play_faults.specs.Checks.{AllKept}
-use Rattle.play_faults.specs.Faults.{IsRefusal}
-use Rattle.play_faults.specs.declared.fault.PlayFault.{PlayFault}
-use Rattle.play_faults.proofs.CheckLaws.{none_broken}
-use Rattle.play_steps.specs.Readings.{IsStep}
+use Rattle.play_rules.specs.Checks.{AllKept}
+use Rattle.play_rules.specs.Faults.{IsRefusal}
+use Rattle.play_rules.specs.declared.fault.PlayFault.{PlayFault}
+use Rattle.play_rules.proofs.CheckLaws.{none_broken}
+use Rattle.play_read.specs.Readings.{IsStep}
 use Rattle.play_read.specs.Reads.{AreSteps}
 use Rattle.play_read.proofs.Leads.{Leads, leads_behind, refused_next, leads_behind_both, refused_next_both}
 

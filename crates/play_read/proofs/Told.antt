@@ -2,10 +2,10 @@
 use Rattle.std.proofs.Common.{◌≡◌, Some, Option, Ok, Err, Result, List, ◌++◌, map, sym, subst, IfOk}
 use Rattle.std.specs.Prelude.{⊤, MatchOption}
 use Rattle.play_rules.specs.Breaches.{Breach, Check, Broken, first_of}
-use Rattle.play_faults.specs.Checks.{Named, rule, IsFirst}
-use Rattle.play_faults.specs.Faults.{named_of, IsRefusal}
-use Rattle.play_faults.specs.declared.fault.PlayFault.{PlayFault}
-use Rattle.play_faults.proofs.CheckLaws.{refused_here, first_broken}
+use Rattle.play_rules.specs.Checks.{Named, rule, IsFirst}
+use Rattle.play_rules.specs.Faults.{named_of, IsRefusal}
+use Rattle.play_rules.specs.declared.fault.PlayFault.{PlayFault}
+use Rattle.play_rules.proofs.CheckLaws.{refused_here, first_broken}
 
 module _ (fault : PlayFault) where
   -- what is told is the first that isn't kept, or want of memory

@@ -1,15 +1,15 @@
 -- A play, from its settings, its handlers and its tasks.
 use Rattle.std.proofs.Common.{◌≡◌, ℕ, ◌+◌, Option, List, [], ◌++◌, length, map, ap, ◌∙◌, subst}
 use Rattle.std.specs.List.{filter_map}
-use Rattle.inventory_model.specs.Names.{Name}
+use Rattle.group_tree.specs.Names.{Name}
 use Rattle.serde_json.specs.Data.{Data}
 use Rattle.play_rules.specs.Breaches.{Check, Broken}
 use Rattle.play_rules.specs.Plays.{tasks_in, handlers_in, handler_names, bad_settings, checks_of_handlers, checks_of_tasks, checks_of_play}
 use Rattle.play_rules.specs.Steps.{name_in}
-use Rattle.play_faults.specs.Checks.{AllKept}
-use Rattle.play_faults.specs.Faults.{IsRefusal}
-use Rattle.play_faults.specs.declared.fault.PlayFault.{PlayFault}
-use Rattle.play_faults.proofs.CheckLaws.{kept_together, none_broken, refused_here, refused_later}
+use Rattle.play_rules.specs.Checks.{AllKept}
+use Rattle.play_rules.specs.Faults.{IsRefusal}
+use Rattle.play_rules.specs.declared.fault.PlayFault.{PlayFault}
+use Rattle.play_rules.proofs.CheckLaws.{kept_together, none_broken, refused_here, refused_later}
 
 module _ (number : Option ℕ) (play : Data) where
   abbrev pub settings : List Check

@@ -1,2 +1,5 @@
+pub mod Pieces
+pub mod Says
+pub mod Readings
 pub mod Known
 pub mod Reads

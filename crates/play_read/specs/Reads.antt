@@ -3,16 +3,16 @@ use Rattle.std.specs.Prelude.{◌≡◌, ℕ, ◌++◌, Some, List, length, stri
 use Rattle.std.specs.List.{AllZip}
 use Rattle.serde_json.specs.Data.{Data}
 use Rattle.serde_json.specs.Read.{read}
-use Rattle.json_shapes.specs.Texts.{BreaksFirst}
+use Rattle.text_parts.specs.Texts.{BreaksFirst}
 use Rattle.play_model.specs.declared.play.Play.{Play}
 use Rattle.play_model.specs.declared.step.Step.{Step}
 use Rattle.play_rules.specs.Breaches.{NotJson}
 use Rattle.play_rules.specs.Plays.{WrittenPlay, checks, plays_of}
 use Rattle.play_rules.specs.Steps.{WrittenStep}
-use Rattle.play_faults.specs.Checks.{Named, rule, AllKept, IsFirst}
-use Rattle.play_faults.specs.Faults.{named_of}
-use Rattle.play_faults.specs.declared.fault.PlayFault.{PlayFault}
-use Rattle.play_steps.specs.Readings.{IsStep}
+use Rattle.play_rules.specs.Checks.{Named, rule, AllKept, IsFirst}
+use Rattle.play_rules.specs.Faults.{named_of}
+use Rattle.play_rules.specs.declared.fault.PlayFault.{PlayFault}
+use Rattle.play_read.specs.Readings.{IsStep}
 
 -- a step for each that is written, in the order in which they are written
 abbrev pub AreSteps : List WrittenStep → List Step → Type 0

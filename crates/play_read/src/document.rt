@@ -4,17 +4,17 @@ ghost use Rattle.std.specs.List.{AllZip};
 ghost use Rattle.serde_json.specs.View.{view};
 ghost use Rattle.play_rules.specs.Plays as spec;
 ghost use Rattle.play_rules.specs.Breaches.{BadShape};
-ghost use Rattle.play_faults.specs.Checks.{AllKept, rule};
-ghost use Rattle.play_faults.specs.Faults.{IsRefusal, named_of};
+ghost use Rattle.play_rules.specs.Checks.{AllKept, rule};
+ghost use Rattle.play_rules.specs.Faults.{IsRefusal, named_of};
 ghost use Rattle.play_read.specs.Reads.{IsPlay};
 
 use crate::place::PlayPlace;
 use crate::play::read_one;
-use json_shapes::elements_of;
-use play_faults::PlayFault;
 use play_model::Play;
+use play_rules::PlayFault;
 use serde_json::Value;
 use std::alloc::Global;
+use text_parts::elements_of;
 
 /// The most plays that a file has.
 pub const PLAYS_BOUND: usize = 16;

@@ -1,17 +1,16 @@
 //! From what is wrong with a play or a step to the fault that tells it.
 ghost use Rattle.std.specs.Prelude.{◌≡◌, Some, IfOk};
 ghost use Rattle.play_rules.specs.Plays.{spot_at};
-ghost use Rattle.play_faults.specs.Checks.{rule};
-ghost use Rattle.play_faults.specs.Faults.{key_name, named_by, named_of};
-ghost use Rattle.play_settings.specs.Verdicts.{breach_at};
-ghost use Rattle.play_steps.specs.Readings.{named_in};
+ghost use Rattle.play_rules.specs.Checks.{rule};
+ghost use Rattle.play_rules.specs.Faults.{key_name, named_by, named_of};
+ghost use Rattle.play_rules.specs.Verdicts.{breach_at};
+ghost use Rattle.play_read.specs.Readings.{named_in};
 
 use crate::path::{path_below, path_of_play, path_of_step};
 use crate::place::{PlayPlace, StepPlace};
+use crate::step_flaw::StepFlaw;
 use cond::CondFault;
-use play_faults::{ConditionKey, PlayFault};
-use play_settings::{Below, Flaw};
-use play_steps::StepFlaw;
+use play_rules::{Below, ConditionKey, Flaw, PlayFault};
 use std::alloc::{AllocError, Global};
 
 /// The flaw of the play or step of this path; `step` is the step's number.

@@ -6,21 +6,20 @@ ghost use Rattle.play_model.specs.Plays.{HasPlainWords, NotifiesNobody};
 ghost use Rattle.play_rules.specs.Breaches.{Broken};
 ghost use Rattle.play_rules.specs.Plays.{spot_at, checks_of_handlers};
 ghost use Rattle.play_rules.specs.Steps as spec;
-ghost use Rattle.play_faults.specs.Checks.{AllKept};
-ghost use Rattle.play_faults.specs.Faults.{IsRefusal};
-ghost use Rattle.play_steps.specs.Readings.{IsStep};
+ghost use Rattle.play_rules.specs.Checks.{AllKept};
+ghost use Rattle.play_rules.specs.Faults.{IsRefusal};
+ghost use Rattle.play_read.specs.Readings.{IsStep};
 ghost use Rattle.play_read.specs.Known.{known};
 ghost use Rattle.play_read.specs.Reads.{AreSteps};
 
 use crate::faults::fault_of_step;
 use crate::names::HandlerNames;
 use crate::place::{PlayPlace, StepList, StepPlace};
-use play_faults::PlayFault;
+use crate::step_reading::{blank_step, fill_handler};
 use play_model::Step;
-use play_steps::{blank_step, fill_handler};
+use play_rules::{PlayFault, name_in};
 use serde_json::Value;
 use std::alloc::Global;
-use step_settings::name_in;
 
 /// Whether no handler before this one has its name, which is known from then on.
 fn check_name<'a>(

@@ -1,6 +1,6 @@
 //! The names of a play's handlers.
 ghost use Rattle.std.specs.Prelude.{◌≡◌, ◌∷◌, ◌++◌, [], IfOk, OnErr, is_some, not, if◌then◌else◌};
-ghost use Rattle.inventory_model.specs.Names.{is_among};
+ghost use Rattle.group_tree.specs.Names.{is_among};
 ghost use Rattle.play_rules.specs.Steps as spec;
 ghost use Rattle.play_read.specs.Known.{known};
 

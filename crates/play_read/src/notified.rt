@@ -5,11 +5,11 @@ ghost use Rattle.serde_json.specs.Find.{as_str};
 ghost use Rattle.serde_json.specs.View.{view};
 ghost use Rattle.play_rules.specs.Breaches.{Broken, NoSuchHandler};
 ghost use Rattle.play_rules.specs.Steps as spec;
-ghost use Rattle.play_faults.specs.Faults.{IsRefusal};
+ghost use Rattle.play_rules.specs.Faults.{IsRefusal};
 ghost use Rattle.play_read.specs.Known.{known, texts};
 
 use crate::names::HandlerNames;
-use play_faults::PlayFault;
+use play_rules::PlayFault;
 use serde_json::Value;
 use std::alloc::Global;
 

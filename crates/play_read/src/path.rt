@@ -1,6 +1,6 @@
 //! Paths in the text: keys and places in lists, from 0, joined by `/`.
 use crate::place::{PlayPlace, StepPlace};
-use play_settings::Below;
+use play_rules::Below;
 use std::alloc::{AllocError, Global};
 
 pub(crate) fn path_of_play(alloc: Global, place: PlayPlace) -> Result<String, AllocError> {

@@ -5,20 +5,20 @@ ghost use Rattle.play_rules.specs.Breaches.{Broken};
 ghost use Rattle.play_rules.specs.Plays as spec;
 ghost use Rattle.play_rules.specs.Steps.{handler_of, step_of};
 ghost use Rattle.play_model.specs.Plays.{HasPlainWords};
-ghost use Rattle.play_faults.specs.Checks.{AllKept};
-ghost use Rattle.play_faults.specs.Faults.{IsRefusal};
-ghost use Rattle.play_faults.specs.declared.fault.PlayFault.TheVariants.{Memory};
+ghost use Rattle.play_rules.specs.Checks.{AllKept};
+ghost use Rattle.play_rules.specs.Faults.{IsRefusal};
+ghost use Rattle.play_rules.specs.declared.fault.PlayFault.TheVariants.{Memory};
 ghost use Rattle.play_read.specs.Reads.{AreSteps, IsPlay};
 
 use crate::faults::fault_of_play;
 use crate::handlers::read_handlers;
 use crate::names::HandlerNames;
 use crate::place::PlayPlace;
+use crate::play_shape::check_play;
+use crate::steps::{handlers_of, tasks_of};
 use crate::tasks::read_tasks;
-use play_faults::PlayFault;
 use play_model::{Play, Step};
-use play_settings::{mode_in, pattern_in, percent_in, sizes_in};
-use play_shape::{check_play, handlers_of, tasks_of};
+use play_rules::{PlayFault, mode_in, pattern_in, percent_in, sizes_in};
 use serde_json::Value;
 use std::alloc::Global;
 

@@ -2,15 +2,15 @@
 ghost use Rattle.std.specs.Prelude.{◌≡◌, ◌⊎◌, ◌∷◌, [], Some, None, IfOk, IfErr, IsUtf8};
 ghost use Rattle.serde_json.specs.Read.{read};
 ghost use Rattle.serde_json.specs.View.{view};
-ghost use Rattle.json_shapes.specs.Texts.{IsNoJson};
+ghost use Rattle.text_parts.specs.Texts.{IsNoJson};
 ghost use Rattle.play_rules.specs.Breaches.{NotJson};
-ghost use Rattle.play_faults.specs.Checks.{rule};
-ghost use Rattle.play_faults.specs.Faults.{named_of};
+ghost use Rattle.play_rules.specs.Checks.{rule};
+ghost use Rattle.play_rules.specs.Faults.{named_of};
 ghost use Rattle.play_read.specs.Reads.{IsReadAs, IsTrueOf};
 
 use crate::document::{all_plays, only_play};
-use play_faults::PlayFault;
 use play_model::Play;
+use play_rules::PlayFault;
 use serde_json::Value;
 use std::alloc::Global;
 

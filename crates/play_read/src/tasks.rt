@@ -5,9 +5,9 @@ ghost use Rattle.play_model.specs.Plays.{HasPlainWords, AreNumbersBelow};
 ghost use Rattle.play_rules.specs.Breaches.{Broken};
 ghost use Rattle.play_rules.specs.Plays.{spot_at, checks_of_tasks};
 ghost use Rattle.play_rules.specs.Steps as spec;
-ghost use Rattle.play_faults.specs.Checks.{AllKept};
-ghost use Rattle.play_faults.specs.Faults.{IsRefusal};
-ghost use Rattle.play_steps.specs.Readings.{IsStep};
+ghost use Rattle.play_rules.specs.Checks.{AllKept};
+ghost use Rattle.play_rules.specs.Faults.{IsRefusal};
+ghost use Rattle.play_read.specs.Readings.{IsStep};
 ghost use Rattle.play_read.specs.Known.{known};
 ghost use Rattle.play_read.specs.Reads.{AreSteps};
 
@@ -15,9 +15,9 @@ use crate::faults::fault_of_step;
 use crate::names::HandlerNames;
 use crate::notified::numbers_of;
 use crate::place::{PlayPlace, StepList, StepPlace};
-use play_faults::PlayFault;
+use crate::step_reading::{blank_step, fill_task};
 use play_model::Step;
-use play_steps::{blank_step, fill_task};
+use play_rules::PlayFault;
 use serde_json::Value;
 use std::alloc::Global;
 

@@ -1,8 +1,8 @@
 -- The rules of a playbook, broken or still to be asked.
 use Rattle.std.specs.Prelude.{ℕ, Bool, Option, Some, None, List, []}
-use Rattle.inventory_model.specs.Names.{Name, is_among}
-use Rattle.json_shapes.specs.Shapes.{Entry}
-pub use Rattle.json_shapes.specs.Breaches.{unless, joined, first_of}
+use Rattle.group_tree.specs.Names.{Name, is_among}
+use Rattle.text_parts.specs.Shapes.{Entry}
+pub use Rattle.text_parts.specs.Breaches.{unless, joined, first_of}
 
 -- a step's place: the number of its play, where the file has several, and its number in the play, each from 1
 pub record Spot : Type 0 where

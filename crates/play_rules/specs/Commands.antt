@@ -5,10 +5,10 @@ use Rattle.std.specs.Fmt.{signed_decimal}
 use Rattle.std.specs.Option.{option_or}
 use Rattle.serde_json.specs.Data.{Data, null, boolean, number, string, array, object}
 use Rattle.serde_json.specs.Find.{get, as_i64, as_str}
-use Rattle.inventory_model.specs.Names.{Name}
-use Rattle.host_patterns.specs.Patterns.{is_filled}
-use Rattle.word_parts.specs.Words.{is_blank, starts, has_braces}
-use Rattle.json_shapes.specs.Shapes.{elements_of, entries_in}
+use Rattle.group_tree.specs.Names.{Name}
+use Rattle.text_parts.specs.Patterns.{is_filled}
+use Rattle.text_parts.specs.Words.{is_blank, starts, has_braces}
+use Rattle.text_parts.specs.Shapes.{elements_of, entries_in}
 use Rattle.play_rules.specs.Keys.{command_key, long_command_key, argv_key, cmd_key}
 use Rattle.play_rules.specs.Breaches.{Breach, BadShape, BadBraces, Spot, unless}
 

@@ -3,8 +3,8 @@ use Rattle.std.specs.Prelude.{ℕ, Bool, Option, Some, None, is_some, List, [], 
 use Rattle.std.specs.List.{filter_map, flat_map, list_all}
 use Rattle.serde_json.specs.Data.{Data, null, boolean, number, string, array, object}
 use Rattle.serde_json.specs.Find.{get}
-use Rattle.inventory_model.specs.Names.{Name}
-use Rattle.json_shapes.specs.Shapes.{is_null, listed}
+use Rattle.group_tree.specs.Names.{Name}
+use Rattle.text_parts.specs.Shapes.{is_null, listed}
 use Rattle.play_rules.specs.Breaches.{Breach, BadShape, Check, Broken, Asked, Spot, unless, where_given}
 
 -- a part of a condition: a truth value, or a text that has to be a condition

@@ -1,7 +1,7 @@
 -- The keys that a playbook may have.
 use Rattle.std.specs.Prelude.{List, [], ◌∷◌, codes}
-use Rattle.inventory_model.specs.Names.{Name}
-pub use Rattle.json_shapes.specs.Keys.{hosts_key}
+use Rattle.group_tree.specs.Names.{Name}
+pub use Rattle.text_parts.specs.Keys.{hosts_key}
 
 abbrev pub serial_key : Name
 serial_key = codes "serial"

@@ -6,3 +6,8 @@ pub mod Conditions
 pub mod Steps
 pub mod Plays
 pub mod Worked
+pub mod Checks
+pub mod Faults
+pub mod Laws
+pub mod Verdicts
+pub mod KeyLists

@@ -3,8 +3,8 @@ use Rattle.std.specs.Prelude.{ℕ, suc, ◌+◌, ◌==◌, Bool, ◌&&◌, ◌||
 use Rattle.std.specs.List.{filter_map}
 use Rattle.serde_json.specs.Data.{Data}
 use Rattle.serde_json.specs.Find.{get}
-use Rattle.inventory_model.specs.Names.{Name}
-use Rattle.json_shapes.specs.Shapes.{elements_of, is_object, is_null, is_list}
+use Rattle.group_tree.specs.Names.{Name}
+use Rattle.text_parts.specs.Shapes.{elements_of, is_object, is_null, is_list}
 use Rattle.play_model.specs.declared.size.Size.{Size}
 use Rattle.play_model.specs.declared.on_blocked.OnBlocked.{OnBlocked}
 use Rattle.play_rules.specs.Keys.{hosts_key, serial_key, max_fail_key, on_blocked_key, tasks_key, handlers_key, play_keys}

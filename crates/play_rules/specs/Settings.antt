@@ -4,9 +4,9 @@ use Rattle.std.specs.List.{filter_map, flat_map, list_all, list_any}
 use Rattle.std.specs.Option.{option_or}
 use Rattle.serde_json.specs.Data.{Data, null, boolean, number, string, array, object}
 use Rattle.serde_json.specs.Find.{as_str}
-use Rattle.host_patterns.specs.Patterns.{parts_of}
-use Rattle.json_shapes.specs.Shapes.{listed, is_text}
-use Rattle.json_shapes.specs.Numerals.{whole_number, number_in_digits, percentage_in}
+use Rattle.text_parts.specs.Patterns.{parts_of}
+use Rattle.text_parts.specs.Shapes.{listed, is_text}
+use Rattle.text_parts.specs.Numerals.{whole_number, number_in_digits, percentage_in}
 use Rattle.play_model.specs.declared.size.Size.{Size}
 use Rattle.play_model.specs.declared.size.Size.TheVariants.{Count, Percent}
 use Rattle.play_model.specs.declared.on_blocked.OnBlocked.{OnBlocked}

@@ -3,9 +3,9 @@ use Rattle.std.specs.Prelude.{ℕ, suc, Bool, true, false, not, Option, Some, No
 use Rattle.std.specs.List.{list_all, filter_map}
 use Rattle.serde_json.specs.Data.{Data}
 use Rattle.serde_json.specs.Find.{get, as_str, as_bool}
-use Rattle.inventory_model.specs.Names.{Name, same_name, is_among}
-use Rattle.word_parts.specs.Words.{is_name}
-use Rattle.json_shapes.specs.Shapes.{entries_in, is_object, is_truth, is_text}
+use Rattle.group_tree.specs.Names.{Name, same_name, is_among}
+use Rattle.text_parts.specs.Words.{is_name}
+use Rattle.text_parts.specs.Shapes.{entries_in, is_object, is_truth, is_text}
 use Rattle.play_rules.specs.Keys.{name_key, register_key, when_key, changed_key, failed_key, ignore_key, notify_key, task_keys, handler_keys}
 use Rattle.play_rules.specs.Breaches.{Breach, BadShape, UnknownKey, NoSuchHandler, TwiceHandler, Check, Broken, Spot, unless, joined, where_given, is_known}
 use Rattle.play_rules.specs.Settings.{texts_in, bad_texts}

@@ -1,5 +1,5 @@
 //! The definitions, read against small playbooks: each clause computes.
-#![tactic(auto, unfolding(word_parts::specs::Words::parts_of, word_parts::specs::Words::first_parts, word_parts::specs::Words::part_in, word_parts::specs::Words::behind_part, word_parts::specs::Words::plain_length, word_parts::specs::Words::ref_in, word_parts::specs::Words::behind_ref, word_parts::specs::Words::behind_word, word_parts::specs::Words::is_name, word_parts::specs::Words::field_named))]
+#![tactic(auto, unfolding(text_parts::specs::Words::parts_of, text_parts::specs::Words::first_parts, text_parts::specs::Words::part_in, text_parts::specs::Words::behind_part, text_parts::specs::Words::plain_length, text_parts::specs::Words::ref_in, text_parts::specs::Words::behind_ref, text_parts::specs::Words::behind_word, text_parts::specs::Words::is_name, text_parts::specs::Words::field_named))]
 
 ghost use Rattle.std.specs.Prelude.{◌≡◌, ℕ, Some, None, List, [], ◌∷◌, true, false, codes, map};
 ghost use Rattle.serde_json.specs.Data.{string, null, array, no_items, number, unsigned};

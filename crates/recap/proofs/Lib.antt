@@ -1,3 +1,4 @@
 pub mod LimitsLemmas
 pub mod PlanLemmas
 pub mod Printing
+pub mod PlaceLemmas

@@ -8,9 +8,9 @@ use Rattle.std.proofs.lemmas.List.Elements.{filter_map-append}
 use Rattle.std.proofs.lemmas.Grind.{flat_map-append}
 use Rattle.std.proofs.lemmas.List.{get_or-map, length-map}
 use Rattle.std.proofs.lemmas.List.Sums.{length-filter}
-use Rattle.inventory_model.specs.Names.{Name}
-use Rattle.inventory_model.specs.Places.{Place, Inventory}
-use Rattle.inventory_model.specs.Members.{holds}
+use Rattle.group_tree.specs.Names.{Name}
+use Rattle.group_tree.specs.Places.{Place, Inventory}
+use Rattle.group_tree.specs.Members.{holds}
 use Rattle.fleet_numbers.specs.NumberLists.{list_at, numbers_where}
 use Rattle.domains.specs.FleetViews.{FleetView, down_at_start, off_count}
 use Rattle.domains.specs.Fleets.{IsFleetOf}

@@ -1,4 +1,6 @@
+pub mod Integers
 pub mod LimitsText
 pub mod LimitsTable
 pub mod PlanText
 pub mod Printable
+pub mod RecapText

@@ -1,8 +1,8 @@
 -- The table of limits of an inventory.
 use Rattle.std.specs.Prelude.{ℕ, ◌-◌, Option, Some, None, List, [], length, option_map, slice_index_or}
 use Rattle.std.specs.List.{filter_map, range_with_len}
-use Rattle.inventory_model.specs.Names.{Name}
-use Rattle.inventory_model.specs.Places.{Place, Inventory}
+use Rattle.group_tree.specs.Names.{Name}
+use Rattle.group_tree.specs.Places.{Place, Inventory}
 use Rattle.domains.specs.Hosts.{hosts_of}
 use Rattle.domains.specs.Starts.{allowed_of, hosts_off, member_count}
 use Rattle.domains.specs.FleetViews.{FleetView, down_at_start}

@@ -1,6 +1,6 @@
 -- The text of `rollout limits`.
 use Rattle.std.specs.Prelude.{ℕ, List, ◌++◌, length, codes, decimal, flat_map}
-use Rattle.inventory_model.specs.Names.{Name}
+use Rattle.group_tree.specs.Names.{Name}
 
 -- what is said of a group that limits how many of its hosts may be down
 pub record LimitLine : Type 0 where

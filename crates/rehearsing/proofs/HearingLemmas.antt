@@ -3,9 +3,9 @@ use Rattle.std.proofs.Common.{◌≡◌, ℕ, ◌+◌, ◌<◌, ◌≤◌, true,
 use Rattle.bounded_io.specs.Writing.{Writes}
 use Rattle.bounded_io.specs.declared.text_writer.TextWriter.{TextWriter}
 use Rattle.bounded_io.proofs.WritingLemmas.{writes_none, writes_two}
-use Rattle.rehearsal.specs.Stacks.{RehearsalView}
-use Rattle.rehearsal_text.specs.Answers.{Answers, LeadsTo, answer_to}
-use Rattle.rehearsal_text.specs.Commands.{Command, advance, command_in, ends_session, help, hosts, nothing, plan, quit, show, undo, unknown}
+use Rattle.rehearsing.specs.Stacks.{RehearsalView}
+use Rattle.rehearsing.specs.Answers.{Answers, LeadsTo, answer_to}
+use Rattle.rehearsing.specs.Commands.{Command, advance, command_in, ends_session, help, hosts, nothing, plan, quit, show, undo, unknown}
 use Rattle.rehearsing.specs.declared.fault.RehearseFault.{RehearseFault}
 use Rattle.rehearsing.specs.declared.fault.RehearseFault.TheVariants.{Refused, Memory, File, TooLarge, LongLine, Write}
 use Rattle.rehearsing.specs.Inside.{HasNoRoom, Hears, HearsEnd, HearsUntil, StopsAt}

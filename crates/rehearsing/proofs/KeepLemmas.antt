@@ -4,12 +4,12 @@ use Rattle.domains.specs.FleetViews.{FleetView}
 use Rattle.fleet_states.specs.declared.status.Status.{Status}
 use Rattle.play_model.specs.declared.play.Play.{Play}
 use Rattle.group_tree.specs.declared.ids.HostId.{HostId}
-use Rattle.rehearsal.specs.declared.stage.Stage.{Stage}
-use Rattle.rehearsal.specs.Plays.{IsRehearsalOf}
-use Rattle.rehearsal.specs.Stacks.{IsAdvanced, IsBehind, IsRehearsal, IsUndone, RehearsalView, pushed, top}
-use Rattle.rehearsal.proofs.StackLemmas.{above-pop, above-push}
-use Rattle.rehearsal_text.specs.Answers.{AdvancesTo, GoesBackTo, LeadsTo, refusal}
-use Rattle.rehearsal_text.specs.Commands.{Command, advance, command_in, help, hosts, nothing, plan, quit, show, undo, unknown}
+use Rattle.rehearsing.specs.declared.stage.Stage.{Stage}
+use Rattle.rehearsing.specs.Plays.{IsRehearsalOf}
+use Rattle.rehearsing.specs.Stacks.{IsAdvanced, IsBehind, IsRehearsal, IsUndone, RehearsalView, pushed, top}
+use Rattle.rehearsing.proofs.StackLemmas.{above-pop, above-push}
+use Rattle.rehearsing.specs.Answers.{AdvancesTo, GoesBackTo, LeadsTo, refusal}
+use Rattle.rehearsing.specs.Commands.{Command, advance, command_in, help, hosts, nothing, plan, quit, show, undo, unknown}
 use Rattle.rehearsing.specs.Laws.{SessionsRehearse}
 use Rattle.rehearsing.specs.Sessions.{Session}
 

@@ -1,3 +1,12 @@
+pub mod BatchLemmas
+pub mod StackLemmas
+pub mod ForecastLemmas
+pub mod PlayLemmas
+pub mod UndoLemmas
+pub mod WordLemmas
+pub mod StandingLemmas
+pub mod NameLemmas
+pub mod StageLemmas
 pub mod FlowLemmas
 pub mod FeedLemmas
 pub mod SessionLemmas

@@ -7,13 +7,13 @@ use Rattle.bounded_io.specs.Reading.{max_input}
 use Rattle.bounded_io.specs.Writing.{Writes}
 use Rattle.bounded_io.specs.declared.text_writer.TextWriter.{TextWriter}
 use Rattle.bounded_io.proofs.WritingLemmas.{writes_two}
-use Rattle.rehearsal.specs.Stacks.{RehearsalView}
+use Rattle.rehearsing.specs.Stacks.{RehearsalView}
 use Rattle.rehearsing.specs.declared.fault.RehearseFault.{RehearseFault}
 use Rattle.rehearsing.specs.declared.fault.RehearseFault.TheVariants.{Refused, Memory, File, TooLarge, LongLine, Write}
 use Rattle.rehearsing.specs.Inside.{Hears, HearsEnd, HearsUntil, LastAnswer, ListensInVain, ListensToEnd, ListensUntil, StopsAt, Unheard}
 use Rattle.rehearsing.specs.Lines.{HasNoFeed, IsLine, IsLong, joined, max_line, max_read}
 use Rattle.rehearsing.specs.Sessions.{Heard}
-use Rattle.rehearsal_text.specs.Answers.{Answers}
+use Rattle.rehearsing.specs.Answers.{Answers}
 use Rattle.rehearsing.proofs.SessionLemmas.{session_of}
 use Rattle.rehearsing.proofs.HearingLemmas.{hears_none, hears_on, hears_silence}
 

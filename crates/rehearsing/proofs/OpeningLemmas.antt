@@ -9,7 +9,7 @@ use Rattle.bounded_io.specs.declared.text_writer.TextWriter.{TextWriter}
 use Rattle.bounded_io.specs.declared.write_fault.WriteFault.{WriteFault}
 use Rattle.domains.specs.FleetViews.{FleetView}
 use Rattle.play_model.specs.declared.on_blocked.OnBlocked.{OnBlocked}
-use Rattle.rehearsal.specs.Stacks.{IsRehearsal, RehearsalView, Rules}
+use Rattle.rehearsing.specs.Stacks.{IsRehearsal, RehearsalView, Rules}
 use Rattle.rehearsing.specs.declared.fault.RehearseFault.{RehearseFault}
 use Rattle.rehearsing.specs.declared.fault.RehearseFault.TheVariants.{Refused, Memory, File, TooLarge, LongLine, Write}
 use Rattle.rehearsing.specs.declared.opening.Opening.{Opening}

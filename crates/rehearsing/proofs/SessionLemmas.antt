@@ -5,9 +5,9 @@ use Rattle.std.specs.List.{flat_map}
 use Rattle.std.proofs.lemmas.List.{map-append}
 use Rattle.std.proofs.lemmas.List.Elements.{All-append, All-cons, All-nil}
 use Rattle.std.proofs.lemmas.Grind.{flat_map-append}
-use Rattle.rehearsal.specs.Stacks.{RehearsalView}
-use Rattle.rehearsal_text.specs.Answers.{Answers, LeadsTo, answer_to}
-use Rattle.rehearsal_text.specs.Commands.{command_in}
+use Rattle.rehearsing.specs.Stacks.{RehearsalView}
+use Rattle.rehearsing.specs.Answers.{Answers, LeadsTo, answer_to}
+use Rattle.rehearsing.specs.Commands.{command_in}
 use Rattle.rehearsing.specs.Lines.{IsLine, joined, without_return}
 use Rattle.rehearsing.specs.Sessions.{Heard, Session, quits}
 

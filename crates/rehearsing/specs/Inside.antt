@@ -6,9 +6,9 @@ use Rattle.bounded_io.specs.declared.text_writer.TextWriter.{TextWriter}
 use Rattle.domains.specs.FleetViews.{FleetView}
 use Rattle.fleet_states.specs.Starts.{start_statuses}
 use Rattle.play_model.specs.declared.play.Play.{Play}
-use Rattle.play_plan.specs.PlayPlans.{targets}
-use Rattle.rehearsal.specs.Plays.{rules_of}
-use Rattle.rehearsal.specs.Stacks.{RehearsalView, Rules}
+use Rattle.play_course.specs.PlayPlans.{targets}
+use Rattle.rehearsing.specs.Plays.{rules_of}
+use Rattle.rehearsing.specs.Stacks.{RehearsalView, Rules}
 use Rattle.rehearsing.specs.declared.opening.Opening.{Opening}
 use Rattle.rehearsing.specs.declared.fault.RehearseFault.{RehearseFault}
 use Rattle.rehearsing.specs.declared.fault.RehearseFault.TheVariants.{Refused, Memory, File, TooLarge, LongLine, Write}

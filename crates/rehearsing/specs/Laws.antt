@@ -1,9 +1,9 @@
 -- What holds of every session.
 use Rattle.std.specs.Prelude.{ℕ, List}
 use Rattle.fleet_states.specs.Starts.{start_statuses}
-use Rattle.play_plan.specs.PlayPlans.{targets}
-use Rattle.rehearsal.specs.Plays.{IsRehearsalOf}
-use Rattle.rehearsal.specs.Stacks.{RehearsalView}
+use Rattle.play_course.specs.PlayPlans.{targets}
+use Rattle.rehearsing.specs.Plays.{IsRehearsalOf}
+use Rattle.rehearsing.specs.Stacks.{RehearsalView}
 use Rattle.rehearsing.specs.Openings.{IsOpeningIn}
 use Rattle.rehearsing.specs.Sessions.{Session}
 

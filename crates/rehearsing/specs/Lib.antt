@@ -1,3 +1,15 @@
+pub mod Stacks
+pub mod Kept
+pub mod Refusals
+pub mod Advances
+pub mod RehearsalLaws
+pub mod Plays
+pub mod Commands
+pub mod Names
+pub mod Hosts
+pub mod Help
+pub mod Answers
+pub mod AnswersInside
 pub mod Lines
 pub mod Sessions
 pub mod Openings

@@ -3,10 +3,10 @@ use Rattle.std.specs.Prelude.{◌≡◌, ℕ, List, [], ◌∷◌}
 use Rattle.domains.specs.FleetViews.{FleetView}
 use Rattle.fleet_states.specs.Starts.{start_statuses}
 use Rattle.play_model.specs.declared.play.Play.{Play}
-use Rattle.play_plan.specs.PlayPlans.{targets}
+use Rattle.play_course.specs.PlayPlans.{targets}
 use Rattle.planning.specs.PlanTexts.{ArePlaysIn, IsFleetIn}
-use Rattle.rehearsal.specs.Plays.{IsRehearsalOf}
-use Rattle.rehearsal.specs.Stacks.{RehearsalView}
+use Rattle.rehearsing.specs.Plays.{IsRehearsalOf}
+use Rattle.rehearsing.specs.Stacks.{RehearsalView}
 
 -- the fleet is that of the inventory's text, and the play is the first of the playbook's
 pub record IsFirstPlay (inventory playbook : List ℕ) (fleet : FleetView) (play : Play) : Type 0 where

@@ -4,7 +4,7 @@ use Rattle.std.specs.Io.KnownBytes.{Appends, Keeps}
 use Rattle.bounded_io.specs.Sending.{SendsFirst}
 use Rattle.planning.specs.PlanTexts.{IsRefusedAfter, IsUnread}
 use Rattle.planning.specs.declared.fault.PlanFault.{PlanFault}
-use Rattle.rehearsal.specs.Stacks.{RehearsalView}
+use Rattle.rehearsing.specs.Stacks.{RehearsalView}
 use Rattle.rehearsing.specs.Openings.{IsOpeningIn}
 use Rattle.rehearsing.specs.Sessions.{IsEndedBy, IsHeard, IsOver}
 use Rattle.rehearsing.specs.declared.fault.RehearseFault.{RehearseFault}

@@ -2,9 +2,9 @@
 use Rattle.std.specs.Prelude.{◌≡◌, ◌⊎◌, ℕ, ◌+◌, ◌<◌, ◌≤◌, All, Bool, true, false, Option, List, [], ◌∷◌, ◌++◌, length, map}
 use Rattle.std.specs.Io.KnownBytes.{Consumes, IsAtEnd}
 use Rattle.bounded_io.specs.Reading.{max_input}
-use Rattle.rehearsal.specs.Stacks.{RehearsalView}
-use Rattle.rehearsal_text.specs.Answers.{LeadsTo, answer_to}
-use Rattle.rehearsal_text.specs.Commands.{command_in, ends_session}
+use Rattle.rehearsing.specs.Stacks.{RehearsalView}
+use Rattle.rehearsing.specs.Answers.{LeadsTo, answer_to}
+use Rattle.rehearsing.specs.Commands.{command_in, ends_session}
 use Rattle.rehearsing.specs.declared.fault.RehearseFault.{RehearseFault}
 use Rattle.rehearsing.specs.declared.fault.RehearseFault.TheVariants.{Refused, Memory, File, TooLarge, LongLine, Write}
 use Rattle.rehearsing.specs.Lines.{IsLine, IsLong, joined, last_line, max_line, max_read, without_return}

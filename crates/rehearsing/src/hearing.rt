@@ -2,18 +2,18 @@
 ghost use Rattle.std.specs.Prelude.{◌≡◌, ◌≤◌, ◌+◌, ◌++◌, [], IfErr, IfOk, OnErr, OnOk, is_some, length};
 ghost use Rattle.std.specs.ControlFlow.{MatchControlFlow, break_value};
 ghost use Rattle.bounded_io.specs.Writing.{Writes};
-ghost use Rattle.rehearsal_text.specs.Answers.{Answers, answer_to};
-ghost use Rattle.rehearsal_text.specs.Commands.{command_in};
+ghost use Rattle.rehearsing.specs.Answers.{Answers, answer_to};
+ghost use Rattle.rehearsing.specs.Commands.{command_in};
 ghost use Rattle.rehearsing.specs.Lines as spec;
 ghost use Rattle.rehearsing.specs.Lines.{IsLine};
 ghost use Rattle.rehearsing.specs.Inside.{HasNoRoom, Hears, HearsEnd, HearsUntil};
 ghost use Rattle.rehearsing.specs.Sessions.{quits};
 
 use crate::fault::RehearseFault;
+use crate::line::answer;
 use crate::lines::{cut_line, grow, without_return};
+use crate::rehearsal::Rehearsal;
 use bounded_io::TextWriter;
-use rehearsal::Rehearsal;
-use rehearsal_text::answer;
 use std::alloc::Global;
 use std::io::Write;
 use std::ops::ControlFlow;

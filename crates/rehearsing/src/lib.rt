@@ -1,17 +1,39 @@
-//! The command `rehearse`: from the bytes of an inventory and of a playbook, and from lines of commands as they come, to their answers.
+//! The command `rehearse`: boundaries on a stack, and from bytes and lines to answers.
 #![tactic(auto)]
 
+mod advance;
+mod advance_answer;
+mod advance_fault;
+mod batch;
+mod command;
 mod fault;
 mod hearing;
+mod help;
+mod hosts;
 mod laws;
+mod line;
 mod lines;
 mod listening;
+mod names;
 mod opening;
 mod prompt;
+mod rehearsal;
+mod rehearsal_laws;
 mod rehearse;
+mod show;
+mod stage;
+mod words;
 
+pub use advance_fault::AdvanceFault;
 pub use fault::RehearseFault;
 pub use laws::sessions_rehearse;
+pub use line::answer;
 pub use lines::MAX_LINE;
 pub use prompt::Prompt;
+pub use rehearsal::Rehearsal;
+pub use rehearsal_laws::{
+    a_rehearsal_forecasts_the_play, an_undone_advance_leaves_nothing,
+    undoing_all_leads_to_the_opening,
+};
 pub use rehearse::rehearse_text;
+pub use stage::Stage;

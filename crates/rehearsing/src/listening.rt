@@ -6,10 +6,10 @@ ghost use Rattle.rehearsing.specs.RehearseTexts.{HoldsSession, IsTrueOfSession};
 
 use crate::fault::RehearseFault;
 use crate::hearing::hear;
+use crate::line::answer;
 use crate::prompt::Prompt;
+use crate::rehearsal::Rehearsal;
 use bounded_io::{Input, MAX_INPUT, TextWriter, WriteFault};
-use rehearsal::Rehearsal;
-use rehearsal_text::answer;
 use std::alloc::{AllocError, Global};
 use std::io::Write;
 use std::ops::ControlFlow;

@@ -1,8 +1,8 @@
 //! What the texts of an inventory and a playbook say to a rehearsal.
 ghost use Rattle.std.specs.Prelude.{◌≡◌, ◌<◌, ◌≤◌, All, IfErr, IfOk, IfSome, length};
 ghost use Rattle.fleet_states.specs.Starts.{start_statuses};
-ghost use Rattle.play_plan.specs.PlayPlans.{targets};
-ghost use Rattle.rehearsal.specs.Plays.{caps_of, rules_of};
+ghost use Rattle.play_course.specs.PlayPlans.{targets};
+ghost use Rattle.rehearsing.specs.Plays.{caps_of, rules_of};
 ghost use Rattle.rehearsing.specs.Inside.{IsOpening, IsOpeningOfTexts, RefusesOpening};
 
 use crate::fault::RehearseFault;

@@ -6,8 +6,8 @@ use crate::fault::RehearseFault;
 use crate::listening::hold_session;
 use crate::opening::read_opening;
 use crate::prompt::Prompt;
+use crate::rehearsal::Rehearsal;
 use bounded_io::Input;
-use rehearsal::Rehearsal;
 use std::alloc::Global;
 use std::io::Write;
 

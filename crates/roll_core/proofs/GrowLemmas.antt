@@ -3,17 +3,17 @@ use Rattle.std.proofs.Common.{◌≡◌, ℕ, suc, ◌+◌, ◌<◌, true, false
 use Rattle.std.specs.Prelude.{Result, Ok, Err, OnErr, OnOk}
 use Rattle.std.proofs.lemmas.List.Sums.{count_by-le-length, sum_by_push}
 use Rattle.play_model.specs.declared.step.Step.{Step}
-use Rattle.outcome_results.specs.Endings.{Ending}
-use Rattle.host_jobs.specs.Asking.{Request, job, settled}
-use Rattle.roll_logs.specs.Rolls.{Roll}
-use Rattle.roll_logs.specs.Events.{Event}
-use Rattle.roll_logs.specs.States.{State, start_state}
-use Rattle.roll_logs.specs.Logs.{next, state_after}
-use Rattle.roll_logs.specs.Told.{AreTold, MayEnd, MayTell, Work, asked_of}
-use Rattle.roll_kernel.specs.Claims.{IsOut, event_in}
-use Rattle.roll_kernel.specs.Views.{KernelView, roll_of, state_of}
-use Rattle.roll_kernel.specs.Views as kernels
-use Rattle.roll_kernel.specs.Ways.{Completed}
+use Rattle.host_track.specs.Endings.{Ending}
+use Rattle.host_track.specs.Asking.{Request, job, settled}
+use Rattle.event_log.specs.Rolls.{Roll}
+use Rattle.event_log.specs.Events.{Event}
+use Rattle.event_log.specs.States.{State, start_state}
+use Rattle.event_log.specs.Logs.{next, state_after}
+use Rattle.event_log.specs.Told.{AreTold, MayEnd, MayTell, Work, asked_of}
+use Rattle.roll_core.specs.Claims.{IsOut, event_in}
+use Rattle.roll_core.specs.Views.{KernelView, roll_of, state_of}
+use Rattle.roll_core.specs.Views as kernels
+use Rattle.roll_core.specs.Ways.{Completed}
 use Rattle.roll_core.specs.Boards.{is_report, reports_in}
 use Rattle.roll_core.specs.Dones.{MayComplete}
 use Rattle.roll_core.specs.Inside.{IsKept}

@@ -6,24 +6,24 @@ use Rattle.domains.specs.FleetViews.{FleetView}
 use Rattle.fleet_states.specs.declared.status.Status.{Status}
 use Rattle.play_model.specs.declared.play.Play.{Play}
 use Rattle.play_model.specs.declared.step.Step.{Step}
-use Rattle.outcome_results.specs.Endings.{Ending}
-use Rattle.outcome_results.specs.Undefined.{undefined_in}
-use Rattle.host_jobs.specs.Asking.{Request}
+use Rattle.host_track.specs.Endings.{Ending}
+use Rattle.host_track.specs.Undefined.{undefined_in}
+use Rattle.host_track.specs.Asking.{Request}
 use Rattle.host_track.specs.Tracks.{known_after, step_at}
-use Rattle.roll_logs.specs.Rolls.{Roll}
-use Rattle.roll_logs.specs.Events.{Event, claimed, opened, reported}
-use Rattle.roll_logs.specs.States.{State, start_state}
-use Rattle.roll_logs.specs.Logs.{next, state_after}
-use Rattle.roll_logs.specs.Told.{Work, asked_of}
-use Rattle.roll_logs.proofs.GrowthLaws.{after_more}
-use Rattle.batch_work.specs.Rows.{IsFoundAt, undefined_name}
-use Rattle.batch_work.specs.declared.entered.Entered.{Entered}
-use Rattle.roll_kernel.specs.declared.event.Event.{Event as Entry}
-use Rattle.roll_kernel.specs.declared.claim.Handed.{Handed}
-use Rattle.roll_kernel.specs.declared.claim.Handed.TheVariants.{Run, Settled}
-use Rattle.roll_kernel.specs.Claims.{IsClaimedAs, IsHandedOut, IsOut, event_in}
-use Rattle.roll_kernel.specs.Views.{KernelView, event_of, events_of, roll_of, state_of, with_event}
-use Rattle.roll_kernel.specs.Ways.{Completed}
+use Rattle.event_log.specs.Rolls.{Roll}
+use Rattle.event_log.specs.Events.{Event, claimed, opened, reported}
+use Rattle.event_log.specs.States.{State, start_state}
+use Rattle.event_log.specs.Logs.{next, state_after}
+use Rattle.event_log.specs.Told.{Work, asked_of}
+use Rattle.event_log.proofs.GrowthLaws.{after_more}
+use Rattle.event_log.specs.Rows.{IsFoundAt, undefined_name}
+use Rattle.event_log.specs.declared.entered.Entered.{Entered}
+use Rattle.roll_core.specs.declared.event.Event.{Event as Entry}
+use Rattle.roll_core.specs.declared.claim.Handed.{Handed}
+use Rattle.roll_core.specs.declared.claim.Handed.TheVariants.{Run, Settled}
+use Rattle.roll_core.specs.Claims.{IsClaimedAs, IsHandedOut, IsOut, event_in}
+use Rattle.roll_core.specs.Views.{KernelView, event_of, events_of, roll_of, state_of, with_event}
+use Rattle.roll_core.specs.Ways.{Completed}
 use Rattle.roll_core.specs.Tellings.{HasHeard, Hears, IsTold, Telling, begin, begun, begun_at, begun_by, closing, opening, row, told_at, told_row, tellings, wanted}
 
 module _ {W : Type 0} (hears : W → W → Telling → Type 0) where

@@ -1,8 +1,8 @@
 -- What clauses see of a board: its kernel, its runner, and how its reports are counted.
 use Rattle.std.specs.Prelude.{ℕ, Bool, true, false, List, count_by}
-use Rattle.roll_logs.specs.Events.{Event, set_aside, opened, claimed, reported, passed, closed}
-use Rattle.roll_kernel.specs.Views.{KernelView}
-use Rattle.roll_kernel.specs.Views as kernels
+use Rattle.event_log.specs.Events.{Event, set_aside, opened, claimed, reported, passed, closed}
+use Rattle.roll_core.specs.Views.{KernelView}
+use Rattle.roll_core.specs.Views as kernels
 
 -- how many tallies are out, and what those that came back had counted
 pub record BoardView (R : Type 0) : Type 0 where

@@ -1,8 +1,8 @@
 -- What a board hands out, and what comes back to it.
-use Rattle.outcome_results.specs.Endings.{Ending}
-use Rattle.roll_kernel.specs.Claims.{completion_of}
-use Rattle.roll_kernel.specs.Ways.{Completed}
-use Rattle.roll_logs.specs.Told.{MayEnd, Work}
+use Rattle.host_track.specs.Endings.{Ending}
+use Rattle.roll_core.specs.Claims.{completion_of}
+use Rattle.roll_core.specs.Ways.{Completed}
+use Rattle.event_log.specs.Told.{MayEnd, Work}
 
 -- how a step ended on a host, and the runner that it was told by
 pub record DoneView (R : Type 0) : Type 0 where

@@ -1,9 +1,9 @@
 -- What a board gives a worker.
 use Rattle.std.specs.Prelude.{◌≡◌, Option, Some, None}
-use Rattle.host_jobs.specs.Asking.{settled}
-use Rattle.roll_kernel.specs.declared.claim.Handed.{Handed}
-use Rattle.roll_kernel.specs.declared.claim.Handed.TheVariants as handed
-use Rattle.roll_kernel.specs.Claims.{IsClaim}
+use Rattle.host_track.specs.Asking.{settled}
+use Rattle.roll_core.specs.declared.claim.Handed.{Handed}
+use Rattle.roll_core.specs.declared.claim.Handed.TheVariants as handed
+use Rattle.roll_core.specs.Claims.{IsClaim}
 use Rattle.roll_core.specs.declared.claimed.Claimed.{Claimed}
 use Rattle.roll_core.specs.declared.claimed.Claimed.TheVariants.{Run, Settled}
 use Rattle.roll_core.specs.Boards.{BoardView}

@@ -1,10 +1,10 @@
 -- What only the proofs need: what a board keeps between its calls.
 use Rattle.std.specs.Prelude.{◌≡◌, ℕ, ◌+◌, ◌<◌}
-use Rattle.outcome_results.specs.Endings.{Ending}
-use Rattle.roll_logs.specs.States.{start_state}
-use Rattle.roll_kernel.specs.Views.{KernelView, roll_of}
+use Rattle.host_track.specs.Endings.{Ending}
+use Rattle.event_log.specs.States.{start_state}
+use Rattle.roll_core.specs.Views.{KernelView, roll_of}
 use Rattle.roll_core.specs.Boards.{reports_in}
-use Rattle.roll_logs.specs.Told.{AreTold, Work}
+use Rattle.event_log.specs.Told.{AreTold, Work}
 
 -- the log tells what the runner may tell; the ledger has counted its reports, and is cut into 129 parts: one a tally that is out, the others
 -- here, with what the tallies that came back had counted; a log has fewer than 2^63 events

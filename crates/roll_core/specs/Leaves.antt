@@ -1,6 +1,6 @@
 -- The leave to run a program.
 use Rattle.std.specs.Prelude.{◌≡◌, ℕ}
-use Rattle.roll_logs.specs.Told.{Work}
+use Rattle.event_log.specs.Told.{Work}
 
 -- to run the program of this host and step, once
 pub record Leave : Type 0 where

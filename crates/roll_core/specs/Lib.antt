@@ -1,3 +1,12 @@
+pub mod Ways
+pub mod Views
+pub mod Claims
+pub mod Barriers
+pub mod Refusals
+pub mod HoldRefusals
+pub mod Leavings
+pub mod Laws
+pub mod KernelInside
 pub mod Boards
 pub mod Dones
 pub mod Leaves

@@ -1,7 +1,7 @@
 -- What a board says of what is reported to it.
 use Rattle.std.specs.Prelude.{◌≡◌, ◌⊎◌}
-use Rattle.roll_kernel.specs.Claims.{IsOut}
-use Rattle.roll_kernel.specs.Views.{roll_of, state_of}
+use Rattle.roll_core.specs.Claims.{IsOut}
+use Rattle.roll_core.specs.Views.{roll_of, state_of}
 use Rattle.roll_core.specs.declared.fault.Stranger.{Stranger}
 use Rattle.roll_core.specs.Boards.{BoardView}
 use Rattle.roll_core.specs.Dones.{DoneView}

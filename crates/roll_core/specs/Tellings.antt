@@ -6,21 +6,21 @@ use Rattle.domains.specs.Ids.{host_numbers}
 use Rattle.fleet_states.specs.declared.status.Status.{Status}
 use Rattle.play_model.specs.declared.step.Step.{Step}
 use Rattle.play_model.specs.declared.play.Play.{Play}
-use Rattle.outcome_results.specs.Endings.{Ending, ending_of, ran, not_started, lost, skipped, undefined}
-use Rattle.outcome_results.specs.Hosts.{Known}
-use Rattle.outcome_results.specs.Judging.{finding_of}
-use Rattle.outcome_results.specs.Undefined.{undefined_in}
-use Rattle.outcome_results.specs.declared.judged.Judged.{Judged}
-use Rattle.host_jobs.specs.Asking.{Request, job, settled}
+use Rattle.host_track.specs.Endings.{Ending, ending_of, ran, not_started, lost, skipped, undefined}
+use Rattle.host_track.specs.Hosts.{Known}
+use Rattle.host_track.specs.Judging.{finding_of}
+use Rattle.host_track.specs.Undefined.{undefined_in}
+use Rattle.host_track.specs.declared.judged.Judged.{Judged}
+use Rattle.host_track.specs.Asking.{Request, job, settled}
 use Rattle.host_track.specs.Tracks.{known_after, step_at}
-use Rattle.roll_logs.specs.Rolls.{Roll}
-use Rattle.roll_logs.specs.Events.{Event, set_aside, opened, claimed, reported, passed, closed}
-use Rattle.roll_logs.specs.States.{Phase, State, between, working, ended, start_state}
-use Rattle.roll_logs.specs.Logs.{next}
-use Rattle.roll_logs.specs.Told.{Work, asked_of}
-use Rattle.roll_kernel.specs.Views.{KernelView, roll_of}
-use Rattle.roll_kernel.specs.declared.claim.Handed.{Handed}
-use Rattle.roll_kernel.specs.declared.claim.Handed.TheVariants as handed
+use Rattle.event_log.specs.Rolls.{Roll}
+use Rattle.event_log.specs.Events.{Event, set_aside, opened, claimed, reported, passed, closed}
+use Rattle.event_log.specs.States.{Phase, State, between, working, ended, start_state}
+use Rattle.event_log.specs.Logs.{next}
+use Rattle.event_log.specs.Told.{Work, asked_of}
+use Rattle.roll_core.specs.Views.{KernelView, roll_of}
+use Rattle.roll_core.specs.declared.claim.Handed.{Handed}
+use Rattle.roll_core.specs.declared.claim.Handed.TheVariants as handed
 use Rattle.roll_core.specs.declared.news.News.{News}
 use Rattle.roll_core.specs.declared.news.News.TheVariants.{Aside, Opening, Begin, Row, Closing}
 

@@ -11,13 +11,13 @@ mod reading;
 mod reporting;
 mod tallying;
 
+use crate::kernel::Kernel;
 use crate::runner::Runner;
 use crate::watch::Watch;
 use domains::Fleet;
 use fleet_states::Status;
 use host_vars::Vars;
 use play_model::Play;
-use roll_kernel::Kernel;
 use std::alloc::{AllocError, Global};
 use std::marker::Model;
 use std::sync::ledger::{Blank, Book, Ledger, Share};

@@ -1,10 +1,10 @@
 //! What a worker is given.
 ghost use Rattle.roll_core.specs.Givings.{HasItsGo, IsGivenAs, IsOfNoProgram};
 
+use crate::claim::{Claim, Handed};
 use crate::done::Done;
 use crate::go::Go;
 use crate::runner::Runner;
-use roll_kernel::{Claim, Handed};
 
 /// What a board hands out.
 #[derive(Drop)]

@@ -1,13 +1,14 @@
 //! A step that is over on a host.
 ghost use Rattle.std.specs.Prelude.{◌≡◌, IfErr, IfOk, true};
-ghost use Rattle.outcome_results.specs.Endings.{ending_of};
-ghost use Rattle.roll_logs.specs.Rolls.{is_of_program};
+ghost use Rattle.host_track.specs.Endings.{ending_of};
+ghost use Rattle.event_log.specs.Rolls.{is_of_program};
 ghost use Rattle.roll_core.specs.Dones.{MayComplete, done_of};
 
+use crate::claim::Claim;
+use crate::completion::Completion;
 use crate::runner::Runner;
 use group_tree::HostId;
-use outcome_results::Outcome;
-use roll_kernel::{Claim, Completion};
+use host_track::Outcome;
 use std::alloc::{AllocError, Global};
 use std::marker::Model;
 
@@ -21,7 +22,7 @@ pub struct Done<'r, R: Runner> {
 
 impl<'r, R: Runner> Model for Done<'r, R> {
     ghost use Rattle.std.specs.Coded.{codes};
-    ghost use Rattle.roll_kernel.specs.contracts.completion.Completion as completions;
+    ghost use Rattle.roll_core.specs.contracts.completion.Completion as completions;
     ghost use Rattle.roll_core.specs.Dones.{DoneView, MayComplete};
 
     ghost Value = { DoneView R };

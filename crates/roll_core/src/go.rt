@@ -1,8 +1,8 @@
 //! The leave to run a program.
 ghost use Rattle.roll_core.specs.Leaves.{IsGoOf};
 
+use crate::job::Job;
 use group_tree::HostId;
-use roll_kernel::Job;
 use std::marker::Model;
 
 /// The leave to run the program of one host and step, once: a board makes it beside the claim, `run` takes it, and it can't be copied. A

@@ -1,13 +1,14 @@
 //! What happens in a roll.
 ghost use Rattle.std.specs.Prelude.{◌≡◌};
-ghost use Rattle.roll_logs.specs.States.{State};
-ghost use Rattle.batch_work.specs.Works.{phase_of};
+ghost use Rattle.event_log.specs.States.{State};
+ghost use Rattle.event_log.specs.Works.{phase_of};
 ghost use Rattle.roll_core.specs.Tellings as spec;
 
+use crate::job::Job;
+use event_log::Stage;
 use fleet_states::Status;
 use group_tree::HostId;
-use outcome_results::{Judged, Outcome};
-use roll_kernel::{Job, Stage};
+use host_track::{Judged, Outcome};
 
 /// What has happened, as whoever watches a roll is told of it. Steps are counted from 0.
 #[derive(Clone, Copy)]

@@ -1,13 +1,13 @@
 //! Whoever runs programs.
 ghost use Rattle.std.specs.Prelude.{◌≡◌, Decides, true, IfOk};
-ghost use Rattle.outcome_results.specs.Endings.{Ending, ending_of};
-ghost use Rattle.roll_logs.specs.Rolls.{is_of_program};
-ghost use Rattle.roll_logs.specs.Told.{Work};
+ghost use Rattle.host_track.specs.Endings.{Ending, ending_of};
+ghost use Rattle.event_log.specs.Rolls.{is_of_program};
+ghost use Rattle.event_log.specs.Told.{Work};
 ghost use Rattle.roll_core.specs.Leaves.{IsGoOf};
 
 use crate::go::Go;
-use outcome_results::Outcome;
-use roll_kernel::Job;
+use crate::job::Job;
+use host_track::Outcome;
 use std::alloc::{AllocError, Global};
 use std::process::{Processes, SystemProcess};
 use std::sync::Wait;

@@ -1,15 +1,18 @@
 //! A watcher is told of what was entered.
 ghost use Rattle.std.specs.Prelude.{◌≡◌, ℕ, List, [], ◌∷◌, ◌++◌, option_map};
-ghost use Rattle.outcome_results.specs.Endings.{Ending, ending_of};
-ghost use Rattle.roll_logs.specs.Events as events;
-ghost use Rattle.batch_work.specs.Rows.{undefined_name};
+ghost use Rattle.host_track.specs.Endings.{Ending, ending_of};
+ghost use Rattle.event_log.specs.Events as events;
+ghost use Rattle.event_log.specs.Rows.{undefined_name};
 ghost use Rattle.roll_core.specs.Tellings as spec;
 ghost use Rattle.roll_core.specs.Tellings.{HasHeard, Hears, begun_by, row, telling_of};
 
+use crate::claim::Handed;
+use crate::event::Event;
+use crate::kernel::Kernel;
 use crate::news::News;
 use crate::watch::Watch;
-use outcome_results::Outcome;
-use roll_kernel::{Entered, Event, Handed, Kernel};
+use event_log::Entered;
+use host_track::Outcome;
 
 pub(crate) fn tell<W: Watch>(watch: &mut W, kernel: &Kernel<'_>, news: &News<'_>)
     ensures { W.hears watch.old watch.new kernel.now.fleet kernel.now.play (telling_of news.now) }

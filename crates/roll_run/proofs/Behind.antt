@@ -13,12 +13,12 @@ use Rattle.host_track.specs.Tracks.{Entry}
 use Rattle.play_course.specs.declared.boundary.Boundary.{Boundary}
 use Rattle.play_course.specs.Courses.{next_batch}
 use Rattle.play_course.specs.Laws.{opened_batches}
-use Rattle.roll_logs.specs.Rolls.{Roll}
-use Rattle.roll_logs.specs.Events.{Event, set_aside, opened, claimed, reported, passed, closed, is_inside}
-use Rattle.roll_logs.specs.Columns.{Columns}
-use Rattle.roll_kernel.specs.declared.event.Event.{Event as Written}
-use Rattle.roll_kernel.specs.declared.event.Event.TheVariants.{Hold, Open, Claim, Report, Barrier, Close}
-use Rattle.roll_kernel.specs.Views.{event_of, events_of}
+use Rattle.event_log.specs.Rolls.{Roll}
+use Rattle.event_log.specs.Events.{Event, set_aside, opened, claimed, reported, passed, closed, is_inside}
+use Rattle.event_log.specs.Columns.{Columns}
+use Rattle.roll_core.specs.declared.event.Event.{Event as Written}
+use Rattle.roll_core.specs.declared.event.Event.TheVariants.{Hold, Open, Claim, Report, Barrier, Close}
+use Rattle.roll_core.specs.Views.{event_of, events_of}
 use Rattle.roll_run.specs.Runs.{aside_at, batch_in, batches_in, boundary_events, events_at, events_at_each, is_at_boundary, rows_behind, rows_of, setting_aside}
 use Rattle.roll_run.specs.Inside.{opens}
 

@@ -6,22 +6,22 @@ use Rattle.fleet_numbers.specs.NumberLists.{has_number}
 use Rattle.fleet_states.specs.declared.status.Status.{Status}
 use Rattle.fleet_states.specs.Statuses.{status_at}
 use Rattle.host_track.specs.Tracks.{Entry, track}
-use Rattle.batch_outcome.specs.Batches.{failed_in, halt, statuses_after}
+use Rattle.fleet_states.specs.Batches.{failed_in, halt, statuses_after}
 use Rattle.batch_plan.specs.Places.{AreSameBut}
 use Rattle.play_course.specs.declared.boundary.Boundary.{Boundary}
 use Rattle.play_course.specs.declared.end.End.{End}
 use Rattle.play_course.specs.Courses.{IsCourse, Setting, end_behind, end_here, end_with, ended_by, halt_of, led_to, next_batch}
 use Rattle.play_course.proofs.SameLemmas.{ended_by-push, led_to-push, one_boundary_more}
-use Rattle.roll_logs.specs.Events.{Event, opened, closed, is_inside}
-use Rattle.roll_logs.specs.States.{Phase, State, between, ended, failures, start_state}
-use Rattle.roll_logs.specs.Logs.{IsLegal, closed_state, next}
-use Rattle.roll_logs.specs.Columns.{Columns, EndsByColumns, Tells, fails_by, halt_by, steps_until}
-use Rattle.roll_logs.specs.Growth.{IsWithinBatch}
-use Rattle.roll_logs.proofs.ChangeLaws.{events_leave}
-use Rattle.roll_logs.proofs.ColumnFronts.{ends_by_columns}
-use Rattle.roll_logs.proofs.GrowthLaws.{batches_stay, beginnings_tell, one_event_more}
-use Rattle.roll_logs.proofs.WorkLemmas.{closed_rows}
-use Rattle.roll_kernel.specs.Views.{KernelView, roll_of, state_of, with_event}
+use Rattle.event_log.specs.Events.{Event, opened, closed, is_inside}
+use Rattle.event_log.specs.States.{Phase, State, between, ended, failures, start_state}
+use Rattle.event_log.specs.Logs.{IsLegal, closed_state, next}
+use Rattle.event_log.specs.Columns.{Columns, EndsByColumns, Tells, fails_by, halt_by, steps_until}
+use Rattle.event_log.specs.Growth.{IsWithinBatch}
+use Rattle.event_log.proofs.ChangeLaws.{events_leave}
+use Rattle.event_log.proofs.ColumnFronts.{ends_by_columns}
+use Rattle.event_log.proofs.GrowthLaws.{batches_stay, beginnings_tell, one_event_more}
+use Rattle.event_log.proofs.WorkLemmas.{closed_rows}
+use Rattle.roll_core.specs.Views.{KernelView, roll_of, state_of, with_event}
 use Rattle.roll_run.specs.Runs.{aside_at, boundary_events, events_at_each, rows_behind, rows_of}
 use Rattle.roll_run.specs.Inside.{HasCome, HasComeTo, IsAt, IsBetween, grown, setting_by}
 use Rattle.roll_run.proofs.Behind.{events-append, events_at_each-push, inside_is_at_none, rows_behind-push}

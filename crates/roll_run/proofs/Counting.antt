@@ -4,8 +4,8 @@ use Rattle.std.proofs.lemmas.List.{length-set, set_past, take_more}
 use Rattle.fleet_numbers.specs.NumberLists.{has_number}
 use Rattle.group_tree.specs.declared.ids.HostId.{HostId}
 use Rattle.domains.specs.Ids.{host_numbers}
-use Rattle.domain_counts.specs.declared.place.Place.{Place}
-use Rattle.domain_counts.specs.Counts.{Counted, moved}
+use Rattle.batch_plan.specs.declared.place.Place.{Place}
+use Rattle.batch_plan.specs.Counts.{Counted, moved}
 use Rattle.fleet_states.specs.declared.status.Status.{Status}
 use Rattle.fleet_states.specs.declared.status.Status.TheVariants.{Held}
 use Rattle.fleet_states.specs.Statuses.{status_at}
@@ -13,9 +13,9 @@ use Rattle.fleet_states.proofs.HostLemmas.{length-host_numbers, number_of_host}
 use Rattle.fleet_states.proofs.StatusLemmas.{length-changed}
 use Rattle.batch_plan.specs.Places.{AreCountsOf, AreSameBut, place_of, told_places}
 use Rattle.batch_plan.proofs.FollowLemmas.{counts_follow}
-use Rattle.roll_logs.specs.Events.{set_aside}
-use Rattle.roll_logs.proofs.ChangeLaws.{events_leave}
-use Rattle.roll_kernel.specs.Views.{roll_of, state_of}
+use Rattle.event_log.specs.Events.{set_aside}
+use Rattle.event_log.proofs.ChangeLaws.{events_leave}
+use Rattle.roll_core.specs.Views.{roll_of, state_of}
 use Rattle.roll_core.specs.Boards.{BoardView}
 use Rattle.roll_run.specs.Inside.{HasSetAside}
 

@@ -10,24 +10,24 @@ use Rattle.fleet_states.specs.declared.status.Status.{Status}
 use Rattle.fleet_states.specs.Groups.{IsSafe, groups_of}
 use Rattle.fleet_states.specs.Statuses.{NobodyRuns}
 use Rattle.host_track.specs.Tracks.{counts_in}
-use Rattle.outcome_results.specs.Endings.{Ending}
-use Rattle.outcome_results.specs.declared.counts.Counts.{Counts}
+use Rattle.host_track.specs.Endings.{Ending}
+use Rattle.host_track.specs.declared.counts.Counts.{Counts}
 use Rattle.play_course.specs.declared.boundary.Boundary.{Boundary}
 use Rattle.play_course.specs.declared.end.End.{End}
 use Rattle.domains.specs.Ids.{host_numbers}
-use Rattle.play_plan.specs.PlayPlans.{aside_by}
+use Rattle.play_course.specs.PlayPlans.{aside_by}
 use Rattle.play_course.specs.Courses.{IsCourse, end_here, led_to, next_batch}
 use Rattle.play_course.proofs.SameLemmas.{one_boundary_more}
-use Rattle.roll_logs.specs.Rolls.{Roll}
-use Rattle.roll_logs.specs.Events.{Event, opened}
-use Rattle.roll_logs.specs.States.{start_state}
-use Rattle.roll_logs.specs.Logs.{IsLegal, end_state, state_after}
-use Rattle.roll_logs.specs.Columns.{Columns, Tells}
-use Rattle.roll_logs.specs.Told.{AreTold, Work}
-use Rattle.roll_logs.proofs.GrowthLaws.{beginnings_tell}
-use Rattle.roll_kernel.specs.Leavings.{AreKnown}
-use Rattle.roll_kernel.specs.Leavings as leavings
-use Rattle.roll_kernel.specs.Views.{FrontsAreSafe, KernelView, RestsAtBoundaries, event_of, events_of, roll_of, state_of}
+use Rattle.event_log.specs.Rolls.{Roll}
+use Rattle.event_log.specs.Events.{Event, opened}
+use Rattle.event_log.specs.States.{start_state}
+use Rattle.event_log.specs.Logs.{IsLegal, end_state, state_after}
+use Rattle.event_log.specs.Columns.{Columns, Tells}
+use Rattle.event_log.specs.Told.{AreTold, Work}
+use Rattle.event_log.proofs.GrowthLaws.{beginnings_tell}
+use Rattle.roll_core.specs.Leavings.{AreKnown}
+use Rattle.roll_core.specs.Leavings as leavings
+use Rattle.roll_core.specs.Views.{FrontsAreSafe, KernelView, RestsAtBoundaries, event_of, events_of, roll_of, state_of}
 use Rattle.roll_core.specs.Boards.{BoardView}
 use Rattle.fork_pool.specs.declared.fault.StepFault.{StepFault}
 use Rattle.roll_run.specs.Runs.{AreCounted, IsAskedAt, IsBreakIn, IsBrokenOff, IsRun, IsSafeLog, TookItsCourse, WasOnCourse, aside_at, batches_in, boundary_events, events_at_each, setting_aside}
@@ -179,6 +179,7 @@ module _ (may : Work → Ending → Type 0) (kernel : KernelView) where
     over = ap (λ l. (end_state (roll_of kernel) l).phase) is ∙ ended.phase;
     statuses = statuses ∙ ap (λ l. (end_state (roll_of kernel) l).statuses) (sym is);
     vars = subst (λ l. AreKnown (roll_of kernel) (end_state (roll_of kernel) l) run.vars.items) (sym is) vars;
+    all_counted = counts.all;
     counts = counted_by (events_of run.log.items) run.counts.items is counts;
     by = λ columns tells. subst (λ l. TookItsCourse kernel.fleet (roll_of kernel) columns run.boundaries.items l run.statuses.items run.end) (sym is)
         (subst (λ s. TookItsCourse kernel.fleet (roll_of kernel) columns run.boundaries.items kernel.log s run.end) (sym statuses) (ended.by columns (subst (Tells columns (roll_of kernel)) is tells)));

@@ -6,24 +6,24 @@ use Rattle.fleet_states.specs.declared.status.Status.{Status}
 use Rattle.fleet_states.specs.Groups.{groups_of}
 use Rattle.host_vars.specs.declared.vars.Vars.{Vars}
 use Rattle.host_vars.specs.HostVars.{IsSameHost}
-use Rattle.outcome_results.specs.Endings.{Ending}
-use Rattle.outcome_results.specs.Hosts.{Known, known_of}
+use Rattle.host_track.specs.Endings.{Ending}
+use Rattle.host_track.specs.Hosts.{Known, known_of}
 use Rattle.batch_plan.specs.Beginnings.{restart_statuses}
-use Rattle.batch_work.specs.Works.{known_at}
+use Rattle.event_log.specs.Works.{known_at}
 use Rattle.play_model.specs.declared.play.Play.{Play}
-use Rattle.play_plan.specs.PlayPlans.{targets}
+use Rattle.play_course.specs.PlayPlans.{targets}
 use Rattle.play_course.specs.declared.boundary.Boundary.{Boundary}
 use Rattle.play_course.specs.declared.end.End.{End}
 use Rattle.play_course.specs.declared.end.End.TheVariants.{Finished, Held, Blocked, TooManyFailed, AllFailed}
 use Rattle.play_course.specs.Courses.{IsCourse}
 use Rattle.play_course.specs.Files.{AreCourses, AreLaterCourses, Course, GoesOn, last_statuses}
-use Rattle.roll_logs.specs.Columns.{Columns, Tells}
-use Rattle.roll_logs.specs.Logs.{end_state}
-use Rattle.roll_logs.specs.Rolls.{Roll}
-use Rattle.roll_logs.specs.States.{between, working}
-use Rattle.roll_logs.specs.Told.{Work}
-use Rattle.roll_logs.proofs.GrowthLaws.{nobody_out}
-use Rattle.roll_kernel.specs.Views.{events_of}
+use Rattle.event_log.specs.Columns.{Columns, Tells}
+use Rattle.event_log.specs.Logs.{end_state}
+use Rattle.event_log.specs.Rolls.{Roll}
+use Rattle.event_log.specs.States.{between, working}
+use Rattle.event_log.specs.Told.{Work}
+use Rattle.event_log.proofs.GrowthLaws.{nobody_out}
+use Rattle.roll_core.specs.Views.{events_of}
 use Rattle.fork_pool.specs.declared.fault.StepFault.{StepFault}
 use Rattle.fork_pool.specs.declared.fault.StepFault.TheVariants.{Mem, WorkerMem, Mixed}
 use Rattle.roll_run.specs.declared.run.Run.{Run}

@@ -12,18 +12,18 @@ use Rattle.domains.specs.Patterns.{names_nothing}
 use Rattle.fleet_states.specs.Groups.{IsSafe, groups_of}
 use Rattle.fleet_states.specs.Statuses.{NobodyRuns}
 use Rattle.host_vars.specs.declared.vars.Vars.{Vars}
-use Rattle.outcome_results.specs.Endings.{Ending}
+use Rattle.host_track.specs.Endings.{Ending}
 use Rattle.play_model.specs.declared.play.Play.{Play}
-use Rattle.play_plan.specs.PlayPlans.{named_parts, parts_of_play}
+use Rattle.play_course.specs.PlayPlans.{named_parts, parts_of_play}
 use Rattle.play_course.specs.declared.end.End.{End}
 use Rattle.play_course.specs.declared.end.End.TheVariants.{Finished, Held, Blocked, TooManyFailed, AllFailed}
-use Rattle.roll_logs.specs.Rolls.{Roll}
-use Rattle.roll_logs.specs.Events.{Event}
-use Rattle.roll_logs.specs.States.{State, start_state}
-use Rattle.roll_logs.specs.Logs.{end_state, state_after}
-use Rattle.roll_logs.specs.Laws.{front}
-use Rattle.roll_logs.specs.Told.{Work}
-use Rattle.roll_kernel.specs.Views.{events_of}
+use Rattle.event_log.specs.Rolls.{Roll}
+use Rattle.event_log.specs.Events.{Event}
+use Rattle.event_log.specs.States.{State, start_state}
+use Rattle.event_log.specs.Logs.{end_state, state_after}
+use Rattle.event_log.specs.Laws.{front}
+use Rattle.event_log.specs.Told.{Work}
+use Rattle.roll_core.specs.Views.{events_of}
 use Rattle.fleet_states.specs.declared.status.Status.{Status}
 use Rattle.roll_run.specs.Runs.{IsBrokenOff, IsRun, roll_by}
 use Rattle.roll_run.specs.Plays.{AreBroken, AreBrokenAfter, AreBrokenOff, AreRuns, AreRunsAfter, AreSameHosts, IsBrokenAfter, IsNotBegun, IsRunAfter}

@@ -5,10 +5,10 @@ use Rattle.fleet_states.specs.declared.status.Status.{Status}
 use Rattle.fleet_states.specs.declared.status.Status.TheVariants.{Running, Failed, Held}
 use Rattle.fleet_states.proofs.StatusLemmas.{length-changed}
 use Rattle.host_track.specs.Tracks.{Entry, has_failed}
-use Rattle.roll_logs.specs.Rolls.{Roll}
-use Rattle.roll_logs.specs.Events.{Event, set_aside, opened, claimed, reported, passed, closed}
-use Rattle.roll_logs.specs.States.{Phase, State, at_rest, between, ended, rows_with, with_failure, working}
-use Rattle.roll_logs.specs.Logs.{closed_state, next, state_after}
+use Rattle.event_log.specs.Rolls.{Roll}
+use Rattle.event_log.specs.Events.{Event, set_aside, opened, claimed, reported, passed, closed}
+use Rattle.event_log.specs.States.{Phase, State, at_rest, between, ended, rows_with, with_failure, working}
+use Rattle.event_log.specs.Logs.{closed_state, next, state_after}
 
 with_failure_many : (failed : Bool) (host : ℕ) (statuses : List Status) → length (if failed then set statuses host Failed else statuses) ≡ length statuses
 with_failure_many true host statuses = length-set statuses host Failed

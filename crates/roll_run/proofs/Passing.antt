@@ -7,15 +7,15 @@ use Rattle.std.proofs.lemmas.List.Folds.{list_all-append}
 use Rattle.fleet_states.specs.declared.status.Status.{Status}
 use Rattle.fleet_states.proofs.StatusLemmas.{changed_none}
 use Rattle.fleet_states.specs.declared.status.Status.TheVariants.{Held}
-use Rattle.roll_logs.specs.Rolls.{Roll}
-use Rattle.roll_logs.specs.Events.{Event, set_aside, opened, claimed, reported, passed, closed, is_inside, is_work}
-use Rattle.roll_logs.specs.States.{Phase, State, between, working, ended, start_state}
-use Rattle.roll_logs.specs.Logs.{next, state_after}
-use Rattle.roll_logs.proofs.GrowthLaws.{after_all, one_event_more}
-use Rattle.roll_kernel.specs.declared.next.Next.{Next}
-use Rattle.roll_kernel.specs.declared.next.Next.TheVariants.{Step, BatchEnd, Halt}
-use Rattle.roll_kernel.specs.Barriers.{HasPassed, IsNext, is_over, is_working}
-use Rattle.roll_kernel.specs.Views.{KernelView, roll_of, state_of}
+use Rattle.event_log.specs.Rolls.{Roll}
+use Rattle.event_log.specs.Events.{Event, set_aside, opened, claimed, reported, passed, closed, is_inside, is_work}
+use Rattle.event_log.specs.States.{Phase, State, between, working, ended, start_state}
+use Rattle.event_log.specs.Logs.{next, state_after}
+use Rattle.event_log.proofs.GrowthLaws.{after_all, one_event_more}
+use Rattle.roll_core.specs.declared.next.Next.{Next}
+use Rattle.roll_core.specs.declared.next.Next.TheVariants.{Step, BatchEnd, Halt}
+use Rattle.roll_core.specs.Barriers.{HasPassed, IsNext, is_over, is_working}
+use Rattle.roll_core.specs.Views.{KernelView, roll_of, state_of}
 use Rattle.roll_core.specs.Boards.{BoardView, with_event}
 use Rattle.std.specs.Prelude.{Result, Ok, Err, IfErr, IfOk}
 use Rattle.fork_pool.specs.Steps.{Continues}

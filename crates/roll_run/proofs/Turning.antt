@@ -5,13 +5,13 @@ use Rattle.std.specs.Prelude.{IfSome, if◌then◌else◌}
 use Rattle.std.proofs.lemmas.List.{nil_from_length}
 use Rattle.std.proofs.lemmas.List.Sums.{length-filter}
 use Rattle.std.proofs.lemmas.Option.{none-some}
-use Rattle.batch_work.proofs.ListLemmas.{find_none}
+use Rattle.event_log.proofs.ListLemmas.{find_none}
 use Rattle.std.specs.Option.{option_or}
 use Rattle.domains.specs.FleetViews.{FleetView}
-use Rattle.domain_counts.specs.Counts.{Counted}
+use Rattle.batch_plan.specs.Counts.{Counted}
 use Rattle.fleet_states.specs.declared.status.Status.{Status}
-use Rattle.batch_outcome.specs.Laws.{IsLeastHalt}
-use Rattle.batch_outcome.proofs.BatchLaws.{least}
+use Rattle.fleet_states.specs.Laws.{IsLeastHalt}
+use Rattle.fleet_states.proofs.BatchLaws.{least}
 use Rattle.batch_plan.specs.declared.answers.Answer.{Answer}
 use Rattle.batch_plan.specs.declared.answers.Answer.TheVariants.{Planned, Blocked}
 use Rattle.batch_plan.specs.Answers.{IsBest}
@@ -23,16 +23,16 @@ use Rattle.fleet_numbers.specs.NumberLists.{list_at}
 use Rattle.play_course.specs.declared.boundary.Boundary.{Boundary}
 use Rattle.play_course.specs.declared.end.End.{End}
 use Rattle.play_course.specs.Courses.{end_at_rest, end_here, end_with, end_without_batch, next_batch}
-use Rattle.roll_logs.specs.Events.{opened, closed}
-use Rattle.roll_logs.specs.States.{Phase, State, between, working, ended, failures, start_state}
-use Rattle.roll_logs.specs.Logs.{IsLegal}
-use Rattle.roll_logs.specs.Columns.{columns_of, fails_by}
-use Rattle.roll_logs.proofs.ColumnFronts.{ends_by_columns}
-use Rattle.roll_logs.proofs.GrowthLaws.{beginnings_are_legal}
-use Rattle.roll_logs.proofs.ToldColumns.{logs_have_columns}
-use Rattle.roll_kernel.specs.Barriers.{is_over}
-use Rattle.roll_kernel.specs.Views.{KernelView, roll_of, state_of}
-use Rattle.roll_kernel.specs.Views as kernels
+use Rattle.event_log.specs.Events.{opened, closed}
+use Rattle.event_log.specs.States.{Phase, State, between, working, ended, failures, start_state}
+use Rattle.event_log.specs.Logs.{IsLegal}
+use Rattle.event_log.specs.Columns.{columns_of, fails_by}
+use Rattle.event_log.proofs.ColumnFronts.{ends_by_columns}
+use Rattle.event_log.proofs.GrowthLaws.{beginnings_are_legal}
+use Rattle.event_log.proofs.ToldColumns.{logs_have_columns}
+use Rattle.roll_core.specs.Barriers.{is_over}
+use Rattle.roll_core.specs.Views.{KernelView, roll_of, state_of}
+use Rattle.roll_core.specs.Views as kernels
 use Rattle.roll_core.specs.Boards.{BoardView, with_event}
 use Rattle.fork_pool.specs.declared.fault.StepFault.{StepFault}
 use Rattle.fork_pool.specs.declared.fault.StepFault.TheVariants.{Mem, WorkerMem, Mixed}

@@ -5,11 +5,11 @@ use Rattle.fleet_states.specs.declared.status.Status.{Status}
 use Rattle.host_vars.specs.declared.vars.Vars.{Vars}
 use Rattle.batch_plan.specs.Beginnings.{restart_statuses}
 use Rattle.play_model.specs.declared.play.Play.{Play}
-use Rattle.play_plan.specs.PlayPlans.{targets}
+use Rattle.play_course.specs.PlayPlans.{targets}
 use Rattle.play_course.specs.Files.{Course, PlaySetting}
-use Rattle.roll_logs.specs.Rolls.{Roll}
-use Rattle.roll_logs.specs.Columns.{Columns, Tells}
-use Rattle.roll_kernel.specs.Views.{events_of}
+use Rattle.event_log.specs.Rolls.{Roll}
+use Rattle.event_log.specs.Columns.{Columns, Tells}
+use Rattle.roll_core.specs.Views.{events_of}
 use Rattle.roll_run.specs.declared.run.Run.{Run}
 use Rattle.roll_run.specs.Runs.{roll_by, setting_of}
 

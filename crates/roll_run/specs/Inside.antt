@@ -3,26 +3,26 @@ use Rattle.std.specs.Prelude.{◌≡◌, ℕ, ◌<◌, ◌⊎◌, Bool, true, fa
 use Rattle.std.specs.List.{list_all}
 use Rattle.domains.specs.FleetViews.{FleetView}
 use Rattle.fleet_states.specs.declared.status.Status.{Status}
-use Rattle.domain_counts.specs.Counts.{Counted}
+use Rattle.batch_plan.specs.Counts.{Counted}
 use Rattle.batch_plan.specs.Answers.{IsBest}
 use Rattle.batch_plan.specs.Beginnings.{IsReady}
 use Rattle.batch_plan.specs.Holding as holding
 use Rattle.batch_plan.specs.Places.{AreCountsOf}
-use Rattle.outcome_results.specs.Endings.{Ending}
+use Rattle.host_track.specs.Endings.{Ending}
 use Rattle.play_model.specs.declared.play.Play.{Play}
-use Rattle.play_plan.specs.PlayPlans.{aside_by}
+use Rattle.play_course.specs.PlayPlans.{aside_by}
 use Rattle.play_course.specs.declared.boundary.Boundary.{Boundary}
 use Rattle.play_course.specs.declared.end.End.{End}
 use Rattle.play_course.specs.declared.end.End.TheVariants.{Finished, Held, Blocked, TooManyFailed, AllFailed}
 use Rattle.play_course.specs.Courses.{IsBoundary, IsCourse, Setting, ended_by, led_to}
-use Rattle.roll_logs.specs.Events.{Event, set_aside, opened, claimed, reported, passed, closed, is_inside}
-use Rattle.roll_logs.specs.States.{Phase, between, working, ended}
-use Rattle.roll_logs.specs.Columns.{Columns, Tells}
-use Rattle.roll_logs.specs.Told.{Work}
-use Rattle.roll_kernel.specs.declared.next.Next.{Next}
-use Rattle.roll_kernel.specs.declared.next.Next.TheVariants.{Step, BatchEnd, Halt}
-use Rattle.roll_kernel.specs.Barriers.{is_over, is_working}
-use Rattle.roll_kernel.specs.Views.{KernelView, roll_of, state_of}
+use Rattle.event_log.specs.Events.{Event, set_aside, opened, claimed, reported, passed, closed, is_inside}
+use Rattle.event_log.specs.States.{Phase, between, working, ended}
+use Rattle.event_log.specs.Columns.{Columns, Tells}
+use Rattle.event_log.specs.Told.{Work}
+use Rattle.roll_core.specs.declared.next.Next.{Next}
+use Rattle.roll_core.specs.declared.next.Next.TheVariants.{Step, BatchEnd, Halt}
+use Rattle.roll_core.specs.Barriers.{is_over, is_working}
+use Rattle.roll_core.specs.Views.{KernelView, roll_of, state_of}
 use Rattle.roll_core.specs.Boards.{BoardView}
 use Rattle.roll_run.specs.Runs.{IsAskedAt, IsBreakIn, MayBreak, TookItsCourse, WasOnCourse, aside_at, boundary_events, events_at_each, rows_behind, setting_aside, setting_of}
 use Rattle.roll_run.specs.Plays.{AreBrokenAfter, AreRunsAfter}

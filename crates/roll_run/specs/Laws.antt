@@ -3,15 +3,15 @@ use Rattle.std.specs.Prelude.{◌≡◌, ◌⊎◌, ℕ, List, ◌∷◌, map}
 use Rattle.domains.specs.FleetViews.{FleetView}
 use Rattle.fleet_states.specs.declared.status.Status.{Status}
 use Rattle.host_vars.specs.declared.vars.Vars.{Vars}
-use Rattle.outcome_results.specs.Endings.{Ending}
+use Rattle.host_track.specs.Endings.{Ending}
 use Rattle.play_model.specs.declared.play.Play.{Play}
 use Rattle.play_course.specs.Files.{AreCourses}
-use Rattle.roll_logs.specs.Columns.{Columns}
-use Rattle.roll_logs.specs.Logs.{end_state}
-use Rattle.roll_logs.specs.Rolls.{Roll}
-use Rattle.roll_logs.specs.States.{between}
-use Rattle.roll_logs.specs.Told.{Work}
-use Rattle.roll_kernel.specs.Views.{events_of}
+use Rattle.event_log.specs.Columns.{Columns}
+use Rattle.event_log.specs.Logs.{end_state}
+use Rattle.event_log.specs.Rolls.{Roll}
+use Rattle.event_log.specs.States.{between}
+use Rattle.event_log.specs.Told.{Work}
+use Rattle.roll_core.specs.Views.{events_of}
 use Rattle.fork_pool.specs.declared.fault.StepFault.TheVariants.{Mem}
 use Rattle.roll_run.specs.declared.fault.Break.TheVariants.{Asked, Fault}
 use Rattle.roll_run.specs.declared.fault.RunFault.{RunFault}

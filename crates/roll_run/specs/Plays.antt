@@ -4,14 +4,14 @@ use Rattle.domains.specs.FleetViews.{FleetView}
 use Rattle.fleet_states.specs.declared.status.Status.{Status}
 use Rattle.host_vars.specs.declared.vars.Vars.{Vars}
 use Rattle.host_vars.specs.HostVars.{IsSameHost}
-use Rattle.outcome_results.specs.Endings.{Ending}
+use Rattle.host_track.specs.Endings.{Ending}
 use Rattle.batch_plan.specs.Beginnings.{restart_statuses}
 use Rattle.play_model.specs.declared.play.Play.{Play}
-use Rattle.play_plan.specs.PlayPlans.{targets}
+use Rattle.play_course.specs.PlayPlans.{targets}
 use Rattle.play_course.specs.declared.end.End.{End}
 use Rattle.play_course.specs.declared.end.End.TheVariants.{Finished}
-use Rattle.roll_logs.specs.Rolls.{Roll}
-use Rattle.roll_logs.specs.Told.{Work}
+use Rattle.event_log.specs.Rolls.{Roll}
+use Rattle.event_log.specs.Told.{Work}
 use Rattle.fork_pool.specs.declared.fault.StepFault.TheVariants.{Mem}
 use Rattle.roll_run.specs.Runs.{IsBrokenOff, IsRun, roll_by}
 use Rattle.roll_run.specs.declared.run.Run.{Run}

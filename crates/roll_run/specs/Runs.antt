@@ -6,25 +6,25 @@ use Rattle.domains.specs.Ids.{host_numbers}
 use Rattle.fleet_states.specs.declared.status.Status.{Status}
 use Rattle.fleet_states.specs.Groups.{groups_of}
 use Rattle.host_vars.specs.declared.vars.Vars.{Vars}
-use Rattle.outcome_results.specs.Endings.{Ending}
-use Rattle.outcome_results.specs.declared.counts.Counts.{Counts}
+use Rattle.host_track.specs.Endings.{Ending}
+use Rattle.host_track.specs.declared.counts.Counts.{Counts}
 use Rattle.play_model.specs.declared.play.Play.{Play}
 use Rattle.play_model.specs.Sizes.{cap}
-use Rattle.play_plan.specs.PlayPlans.{aside_by, targets}
+use Rattle.play_course.specs.PlayPlans.{aside_by, targets}
 use Rattle.play_course.specs.declared.boundary.Boundary.{Boundary}
 use Rattle.play_course.specs.declared.end.End.{End}
 use Rattle.play_course.specs.Courses.{IsCourse, Setting, led_to, next_batch}
 use Rattle.play_course.specs.Laws.{opened_batches}
 use Rattle.host_track.specs.Tracks.{Entry, counts_in, track}
-use Rattle.batch_work.specs.Works.{known_at}
-use Rattle.roll_logs.specs.Rolls.{Roll}
-use Rattle.roll_logs.specs.Events.{Event, set_aside, opened, claimed, reported, passed, closed}
-use Rattle.roll_logs.specs.States.{State, between, start_state}
-use Rattle.roll_logs.specs.Logs.{IsLegal, end_state}
-use Rattle.roll_logs.specs.Columns.{Columns, Tells, fails_by, halt_by, steps_until}
-use Rattle.roll_logs.specs.Told.{AreTold, Work}
-use Rattle.roll_kernel.specs.Leavings.{AreKnown}
-use Rattle.roll_kernel.specs.Views.{FrontsAreSafe, RestsAtBoundaries, events_of}
+use Rattle.event_log.specs.Works.{known_at}
+use Rattle.event_log.specs.Rolls.{Roll}
+use Rattle.event_log.specs.Events.{Event, set_aside, opened, claimed, reported, passed, closed}
+use Rattle.event_log.specs.States.{State, between, start_state}
+use Rattle.event_log.specs.Logs.{IsLegal, end_state}
+use Rattle.event_log.specs.Columns.{Columns, Tells, fails_by, halt_by, steps_until}
+use Rattle.event_log.specs.Told.{AreTold, Work}
+use Rattle.roll_core.specs.Leavings.{AreKnown}
+use Rattle.roll_core.specs.Views.{FrontsAreSafe, RestsAtBoundaries, events_of}
 use Rattle.fork_pool.specs.declared.fault.StepFault.{StepFault}
 use Rattle.fork_pool.specs.declared.fault.StepFault.TheVariants.{Mem, WorkerMem, Mixed}
 use Rattle.roll_run.specs.declared.run.Run.{Run}
@@ -133,6 +133,7 @@ pub record IsRun (may : Work → Ending → Type 0) (fleet : FleetView) (roll : 
   pub over : (end_state roll (events_of run.log.items)).phase ≡ between
   pub statuses : run.statuses.items ≡ (end_state roll (events_of run.log.items)).statuses
   pub vars : AreKnown roll (end_state roll (events_of run.log.items)) run.vars.items
+  pub all_counted : length run.counts.items ≡ length roll.start
   pub counts : AreCounted roll (end_state roll (events_of run.log.items)) run.counts.items
   pub by : (columns : Columns) → Tells columns roll (events_of run.log.items)
       → TookItsCourse fleet roll columns run.boundaries.items (events_of run.log.items) run.statuses.items run.end

@@ -1,10 +1,10 @@
 //! A batch goes through the steps of the play.
 ghost use Rattle.std.specs.Prelude.{◌≡◌, ◌<◌, ◌∷◌, [], IfErr, IfOk, true, length};
 ghost use Rattle.domains.specs.Ids.{host_numbers};
-ghost use Rattle.roll_kernel.specs.Barriers.{is_working};
-ghost use Rattle.roll_kernel.specs.Views.{state_of};
+ghost use Rattle.roll_core.specs.Barriers.{is_working};
+ghost use Rattle.roll_core.specs.Views.{state_of};
 ghost use Rattle.roll_run.specs.Inside.{HasBroken, HasPassedStep, HasRun, HasWorked, IsWorkedOff};
-ghost use Rattle.roll_logs.specs.States.{between};
+ghost use Rattle.event_log.specs.States.{between};
 ghost use Rattle.roll_run.specs.Runs.{IsBreakIn, IsFaultIn, MayBreak};
 ghost use Rattle.roll_run.specs.declared.fault.Break.TheVariants.{Asked};
 

@@ -2,20 +2,18 @@
 ghost use Rattle.std.specs.Prelude.{◌≡◌, ◌<◌, ℕ, Option, List, [], IfErr, IfOk, OnErr, OnOk, length, min};
 ghost use Rattle.domains.specs.Ids.{host_numbers};
 ghost use Rattle.fleet_states.specs.Statuses.{status_at};
-ghost use Rattle.domain_counts.specs.Counts.{moved};
+ghost use Rattle.batch_plan.specs.Counts.{moved};
 ghost use Rattle.batch_plan.specs.Places.{AreCountsOf, told_places};
 ghost use Rattle.batch_plan.specs.Places as places;
 ghost use Rattle.play_course.specs.declared.end.End.{End};
-ghost use Rattle.play_plan.specs.PlayPlans.{aside_by, targets};
-ghost use Rattle.roll_kernel.specs.Views.{state_of};
+ghost use Rattle.play_course.specs.PlayPlans.{aside_by, targets};
+ghost use Rattle.roll_core.specs.Views.{state_of};
 ghost use Rattle.roll_run.specs.Inside.{HasSetAside, HasSetOut, IsBetween, IsNoted};
 
-use batch_plan::place_of;
-use domain_counts::Domains;
+use batch_plan::{Domains, place_of};
 use fleet_states::{Status, status_of};
 use group_tree::HostId;
-use play_course::Boundary;
-use play_plan::list_aside_over;
+use play_course::{Boundary, list_aside_over};
 use roll_core::{Board, Runner, Watch};
 use std::alloc::{AllocError, Allocator, Global};
 use std::sync::ledger::Ledger;

@@ -5,7 +5,7 @@ ghost use Rattle.roll_run.specs.Plays.{IsNotBegun};
 use crate::run::Run;
 use fleet_states::Status;
 use fork_pool::StepFault;
-use outcome_results::Counts;
+use host_track::Counts;
 use play_course::Boundary;
 use roll_core::Event;
 use std::alloc::Global;

@@ -3,8 +3,8 @@ ghost use Rattle.std.specs.Prelude.{◌≡◌, ◌<◌, ◌≤◌, [], Err, IfEr
 ghost use Rattle.fleet_states.specs.Groups.{IsSafe, groups_of};
 ghost use Rattle.fleet_states.specs.Statuses.{NobodyRuns};
 ghost use Rattle.domains.specs.Patterns.{names_nothing};
-ghost use Rattle.play_plan.specs.PlayPlans.{parts_of_play, targets};
-ghost use Rattle.roll_kernel.specs.Views.{event_of, roll_of};
+ghost use Rattle.play_course.specs.PlayPlans.{parts_of_play, targets};
+ghost use Rattle.roll_core.specs.Views.{event_of, roll_of};
 ghost use Rattle.roll_run.specs.Inside.{HasGone, opens};
 ghost use Rattle.roll_run.specs.Runs.{IsBrokenOff, IsRun, MayBreak, roll_by};
 

@@ -3,7 +3,7 @@ ghost use Rattle.std.specs.Prelude.{◌≡◌, ◌+◌, ◌<◌, ◌≤◌, ◌+
 ghost use Rattle.domains.specs.Patterns.{names_nothing};
 ghost use Rattle.fleet_states.specs.Groups.{IsSafe, groups_of};
 ghost use Rattle.fleet_states.specs.Statuses.{NobodyRuns};
-ghost use Rattle.play_plan.specs.PlayPlans.{named_parts, parts_of_play};
+ghost use Rattle.play_course.specs.PlayPlans.{named_parts, parts_of_play};
 ghost use Rattle.roll_run.specs.Inside.{HasBrokenAfter, HasRunAfter, IsReadyRun, is_finished};
 ghost use Rattle.roll_run.specs.Plays.{AreBroken, AreRuns};
 ghost use Rattle.roll_run.specs.Runs.{IsBrokenOff, IsRun, MayBreak, roll_by};

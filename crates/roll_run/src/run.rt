@@ -1,7 +1,7 @@
 //! What a run of a play leaves.
 use fleet_states::Status;
+use host_track::Counts;
 use host_vars::Vars;
-use outcome_results::Counts;
 use play_course::{Boundary, End};
 use roll_core::Event;
 

@@ -2,8 +2,8 @@
 ghost use Rattle.std.specs.Prelude.{◌≡◌, IfErr, None, length};
 ghost use Rattle.batch_plan.specs.Places.{AreCountsOf};
 ghost use Rattle.play_course.specs.Courses as courses;
-ghost use Rattle.play_plan.specs.PlayPlans.{targets};
-ghost use Rattle.roll_kernel.specs.Views.{state_of};
+ghost use Rattle.play_course.specs.PlayPlans.{targets};
+ghost use Rattle.roll_core.specs.Views.{state_of};
 ghost use Rattle.roll_run.specs.Inside.{HasGone, HasTurned, IsBetween, IsNoted, IsSameRoll, MayTurn};
 ghost use Rattle.roll_run.specs.Runs.{MayBreak};
 
@@ -12,8 +12,7 @@ use crate::batch::run_batch;
 use crate::boundary::come_to_boundary;
 use crate::close::close_batch;
 use crate::fault::Break;
-use batch_plan::Answer;
-use domain_counts::Domains;
+use batch_plan::{Answer, Domains};
 use fork_pool::{Front, StepFault};
 use play_course::{Boundary, End};
 use roll_core::{Board, Runner, Watch};

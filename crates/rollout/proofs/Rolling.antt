@@ -2,8 +2,8 @@
 use Rattle.std.proofs.Common.{◌≡◌, ℕ, Bool, true, List, Option, Result, Ok, Err, inl, inr, subst}
 use Rattle.std.specs.Prelude.{IfOk, IfErr}
 use Rattle.command_line.specs.declared.command.Source.{Source}
-use Rattle.outcome_results.specs.Endings.{Ending}
-use Rattle.roll_logs.specs.Told.{Work}
+use Rattle.host_track.specs.Endings.{Ending}
+use Rattle.event_log.specs.Told.{Work}
 use Rattle.fork_pool.specs.declared.fault.StepFault.{StepFault}
 use Rattle.fork_pool.specs.declared.fault.StepFault.TheVariants as step
 use Rattle.planning.specs.declared.fault.PlanFault.{PlanFault}

@@ -2,7 +2,7 @@
 use Rattle.std.proofs.Common.{ℕ, ◌≤◌, Option, List, length, subst}
 use Rattle.std.specs.Io.KnownBytes.{Appends}
 use Rattle.bounded_io.specs.Sending.{SendsFirst}
-use Rattle.inventory_model.specs.Names.{Name}
+use Rattle.group_tree.specs.Names.{Name}
 use Rattle.domains.specs.Faults.{hosts_bound}
 use Rattle.domains.specs.FleetViews.{FleetView}
 use Rattle.recap.specs.LimitsTable.{fleet_table}

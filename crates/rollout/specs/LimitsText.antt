@@ -2,7 +2,7 @@
 use Rattle.std.specs.Prelude.{ℕ, ◌≤◌, Option, List, length}
 use Rattle.std.specs.Io.KnownBytes.{Appends, Keeps}
 use Rattle.bounded_io.specs.Sending.{SendsFirst}
-use Rattle.inventory_model.specs.Places.{Inventory}
+use Rattle.group_tree.specs.Places.{Inventory}
 use Rattle.inventory_read.specs.Reads.{IsReadAs, IsTrueOf}
 use Rattle.domains.specs.Hosts.{hosts_of}
 use Rattle.domains.specs.Nested.{IsNested}

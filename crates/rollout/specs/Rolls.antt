@@ -2,8 +2,8 @@
 use Rattle.std.specs.Prelude.{◌≡◌, ◌⊎◌, ◌<◌, ◌≤◌, ℕ, Bool, true, false, List, Option, Result, Ok, Err}
 use Rattle.std.specs.Io.KnownBytes.{Keeps}
 use Rattle.command_line.specs.declared.command.Source.{Source}
-use Rattle.outcome_results.specs.Endings.{Ending}
-use Rattle.roll_logs.specs.Told.{Work}
+use Rattle.host_track.specs.Endings.{Ending}
+use Rattle.event_log.specs.Told.{Work}
 use Rattle.running.specs.RunTexts.{WritesRecap, IsTrueFault}
 use Rattle.running.specs.declared.end.RunEnd.{RunEnd}
 use Rattle.running.specs.declared.fault.RunTextFault.{RunTextFault}

@@ -12,8 +12,8 @@ use Rattle.command_line.specs.declared.command.Line as declared_line
 use Rattle.command_line.specs.declared.command.Line.TheVariants.{Limits, Plan, Run, Rehearse, Print}
 use Rattle.command_line.specs.declared.fault.LineFault.{LineFault}
 use Rattle.command_line.specs.declared.fault.LineFault.TheVariants as line_fault
-use Rattle.outcome_results.specs.Endings.{Ending}
-use Rattle.roll_logs.specs.Told.{Work}
+use Rattle.host_track.specs.Endings.{Ending}
+use Rattle.event_log.specs.Told.{Work}
 use Rattle.rollout.specs.Commands.{TabulatesLimits, Prints}
 use Rattle.rollout.specs.Endings.{Reports, status_of}
 use Rattle.rollout.specs.Plans.{Plans}

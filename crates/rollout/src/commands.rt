@@ -4,10 +4,10 @@ mod limits;
 mod plan;
 mod print;
 mod rehearse;
-mod roll;
+mod run;
 
 pub use limits::{limits, limits_text};
 pub use plan::plan;
 pub use print::print;
 pub use rehearse::rehearse;
-pub use roll::roll;
+pub use run::roll;

@@ -9,7 +9,7 @@ use domains::{FleetFault, PatternFault};
 use fork_pool::StepFault;
 use inventory_read::ReadFault;
 use planning::PlanFault;
-use play_faults::PlayFault;
+use play_rules::PlayFault;
 use rehearsing::RehearseFault;
 use roll_run::Break;
 use running::RunTextFault;

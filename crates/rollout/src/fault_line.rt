@@ -15,7 +15,7 @@ use command_line::{LineFault, Source};
 use cond::CondFault;
 use domains::{FleetFault, PatternFault};
 use inventory_read::ReadFault;
-use play_faults::{ConditionKey, PlayFault};
+use play_rules::{ConditionKey, PlayFault};
 use std::io::Write;
 
 /// Writes the fault's line; behind a bad line of words follows what is wrong with it, and behind ignored children what to do.

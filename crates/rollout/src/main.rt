@@ -11,14 +11,14 @@ mod explanation;
 mod fault;
 mod fault_line;
 mod inputs;
-mod run;
+mod program;
 mod source;
 mod status;
 mod system;
 mod words;
 
 use crate::awaited::tell_what_is_awaited;
-use crate::run::run;
+use crate::program::run;
 use crate::system::Host;
 use bounded_io::Fallible;
 use local_programs::{LocalPrograms, Notes, occupy_standard};

@@ -10,8 +10,8 @@ use Rattle.cond.specs.Tokens.{FallsInto, Front, Not, Token, next_token}
 use Rattle.cond.specs.Trees.{all_of}
 use Rattle.cond.specs.declared.condition.Cond.{Cond}
 use Rattle.cond.proofs.Unambiguous.{one_reading}
-use Rattle.outcome_results.specs.Judging.{decided, register_of}
-use Rattle.play_conditions.specs.Says.{MeanEach, Meaning, Means, Says, said_on}
+use Rattle.host_track.specs.Judging.{decided, register_of}
+use Rattle.play_read.specs.Says.{MeanEach, Meaning, Means, Says, said_on}
 use Rattle.play_model.specs.declared.play.Play.{Play}
 use Rattle.play_model.specs.declared.size.Size.{Size}
 use Rattle.play_model.specs.declared.on_blocked.OnBlocked.{OnBlocked}
@@ -20,7 +20,7 @@ use Rattle.play_read.specs.Reads.{IsPlay}
 use Rattle.play_rules.specs.Conditions as rules
 use Rattle.play_rules.specs.Plays.{WrittenPlay}
 use Rattle.play_rules.specs.Steps.{WrittenStep}
-use Rattle.play_steps.specs.Readings.{IsStep}
+use Rattle.play_read.specs.Readings.{IsStep}
 
 token_in : Front → Token
 token_in None = Not

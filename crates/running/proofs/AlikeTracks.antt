@@ -5,15 +5,15 @@ use Rattle.std.specs.Prelude.{slice_get, if◌then◌else◌}
 use Rattle.std.proofs.lemmas.Slice.Zip.{AllZip-long}
 use Rattle.fleet_numbers.specs.NumberLists.{has_number}
 use Rattle.cond.specs.Meaning.{Environment, Verdict}
-use Rattle.inventory_model.specs.Names.{Name}
-use Rattle.registered_results.specs.Results.{Row}
-use Rattle.outcome_results.specs.declared.finding.Finding.{Finding}
-use Rattle.outcome_results.specs.declared.flags.Flags.{Flags}
-use Rattle.outcome_results.specs.Counting.{does_notify}
-use Rattle.outcome_results.specs.Endings.{Ending, ran, not_started, lost, skipped, undefined, table_row}
-use Rattle.outcome_results.specs.Hosts.{Known, environment_in, values_in, with_result}
-use Rattle.outcome_results.specs.Judging.{changed_by, decided, failed_by, finding_of, flags_of, flags_of_run, judged_as, register_of, registered_row}
-use Rattle.host_jobs.specs.Asking.{Request, asked_if, asks, end_of, is_to_run, words_asked}
+use Rattle.group_tree.specs.Names.{Name}
+use Rattle.play_model.specs.Results.{Row}
+use Rattle.host_track.specs.declared.finding.Finding.{Finding}
+use Rattle.host_track.specs.declared.flags.Flags.{Flags}
+use Rattle.host_track.specs.Counting.{does_notify}
+use Rattle.host_track.specs.Endings.{Ending, ran, not_started, lost, skipped, undefined, table_row}
+use Rattle.host_track.specs.Hosts.{Known, environment_in, values_in, with_result}
+use Rattle.host_track.specs.Judging.{changed_by, decided, failed_by, finding_of, flags_of, flags_of_run, judged_as, register_of, registered_row}
+use Rattle.host_track.specs.Asking.{Request, asked_if, asks, end_of, is_to_run, words_asked}
 use Rattle.host_track.specs.Tracks.{Column, Entry, handlers_of, has_failed, is_due, is_notified, known_after, known_with, notifies, row_at, row_if_due, step_at, track, whole_track}
 use Rattle.play_model.specs.declared.play.Play.{Play}
 use Rattle.play_model.specs.declared.step.Step.{Step}

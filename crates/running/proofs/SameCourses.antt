@@ -3,7 +3,7 @@ use Rattle.std.proofs.Common.{◌≡◌, ℕ, zero, suc, ◌+◌, ◌-◌, ◌<�
 use Rattle.std.specs.List.{flat_map, range_with_len}
 use Rattle.std.specs.Prelude.{slice_index_or, string_bytes}
 use Rattle.std.proofs.Math.Path.{fun_ext}
-use Rattle.host_patterns.specs.Patterns.{parts_of}
+use Rattle.text_parts.specs.Patterns.{parts_of}
 use Rattle.fleet_numbers.specs.NumberLists.{has_number, list_at}
 use Rattle.group_tree.specs.declared.ids.GroupId.{GroupId}
 use Rattle.domains.specs.FleetViews.{FleetView}
@@ -11,17 +11,17 @@ use Rattle.domains.specs.Ids.{host_numbers}
 use Rattle.domains.specs.Patterns.{named_hosts}
 use Rattle.fleet_states.specs.declared.status.Status.{Status}
 use Rattle.fleet_states.specs.Statuses.{status_at}
-use Rattle.batch_outcome.specs.Batches.{Fails, halt}
+use Rattle.fleet_states.specs.Batches.{Fails, halt}
 use Rattle.batch_plan.specs.declared.answers.Answer.{Answer}
 use Rattle.batch_plan.specs.declared.answers.Answer.TheVariants.{Planned, Blocked}
 use Rattle.batch_plan.specs.Answers.{IsSameAnswer}
 use Rattle.play_model.specs.declared.on_blocked.OnBlocked.{OnBlocked}
 use Rattle.play_model.specs.declared.size.Size.{Size}
 use Rattle.play_model.specs.Sizes.{cap}
-use Rattle.play_plan.specs.PlayPlans.{targets}
-use Rattle.outcome_results.specs.declared.counts.Counts.{Counts}
-use Rattle.outcome_results.specs.Endings.{Ending}
-use Rattle.outcome_results.specs.Hosts.{Known}
+use Rattle.play_course.specs.PlayPlans.{targets}
+use Rattle.host_track.specs.declared.counts.Counts.{Counts}
+use Rattle.host_track.specs.Endings.{Ending}
+use Rattle.host_track.specs.Hosts.{Known}
 use Rattle.host_track.specs.Tracks.{Entry, counts_in, failing_step, track, whole_track}
 use Rattle.play_course.specs.declared.boundary.Boundary.{Boundary}
 use Rattle.play_course.specs.declared.end.End.{End}
@@ -31,14 +31,14 @@ use Rattle.play_course.proofs.SameLemmas.{one_course}
 use Rattle.recap.specs.PlanText.{answer_line, blocked_line, held_line, names_line, planned_line}
 use Rattle.recap.proofs.PlanLemmas.{lines_more}
 use Rattle.std.specs.Prelude.{codes}
-use Rattle.roll_logs.specs.Rolls.{Roll}
-use Rattle.roll_logs.specs.Columns.{Columns, Tells, fails_by, halt_by, steps_until}
-use Rattle.roll_logs.specs.Told.{Work}
-use Rattle.roll_logs.specs.Logs.{end_state}
-use Rattle.roll_kernel.specs.Views.{events_of}
+use Rattle.event_log.specs.Rolls.{Roll}
+use Rattle.event_log.specs.Columns.{Columns, Tells, fails_by, halt_by, steps_until}
+use Rattle.event_log.specs.Told.{Work}
+use Rattle.event_log.specs.Logs.{end_state}
+use Rattle.roll_core.specs.Views.{events_of}
 use Rattle.roll_run.specs.declared.run.Run.{Run}
 use Rattle.roll_run.specs.Runs.{AreCounted, IsRun, TookItsCourse, rows_behind, rows_of, setting_of}
-use Rattle.run_recap.specs.RecapText.{boundary_lines, boundary_text, counts_at, end_line, host_line_of, host_lines, open_line, text_by_place}
+use Rattle.recap.specs.RecapText.{boundary_lines, boundary_text, counts_at, end_line, host_line_of, host_lines, open_line, text_by_place}
 use Rattle.recap.specs.LimitsText.{field_text}
 use Rattle.running.specs.Recaps.{run_text}
 use Rattle.running.proofs.AlikePlays.{AreAlikePlays}

@@ -14,10 +14,10 @@ use Rattle.std.proofs.lemmas.List.Elements.{recursion_from_All}
 use Rattle.std.proofs.lemmas.List.Sums.{sum_by-cons}
 use Rattle.std.proofs.lemmas.List.Sorted.{All-permutation, sum_by-IsPermutation}
 use Rattle.std.proofs.lemmas.Option.{get_or_from_slice_get, none-some, slice_get-get_or, slice_get_within}
-use Rattle.registered_results.specs.Results.{Row}
-use Rattle.inventory_model.specs.Names.{Name, are_distinct, same_name}
-use Rattle.inventory_model.specs.Places.{Place, Inventory}
-use Rattle.inventory_model.specs.Bounds.{group_names}
+use Rattle.play_model.specs.Results.{Row}
+use Rattle.group_tree.specs.Names.{Name, are_distinct, same_name}
+use Rattle.group_tree.specs.Places.{Place, Inventory}
+use Rattle.group_tree.specs.Bounds.{group_names}
 use Rattle.group_tree.proofs.Preorder.{same_name-self}
 use Rattle.inventory_read.specs.Values.{inventory_of}
 use Rattle.inventory_read.proofs.Unbroken.{keeps-distinct, unbroken-tree}
@@ -25,13 +25,13 @@ use Rattle.domains.specs.FleetViews.{FleetView}
 use Rattle.domains.specs.Numbered.{host_at}
 use Rattle.domains.specs.Starts.{nowhere}
 use Rattle.domains.proofs.BeginLemmas.{distinct_at}
-use Rattle.variable_layers.specs.Layers.{HostView, IsHostOf, IsLayering, host_view, place_cmp}
-use Rattle.variable_layers.specs.Shared.{AreHostsOf}
+use Rattle.host_vars.specs.Layers.{HostView, IsHostOf, IsLayering, host_view, place_cmp}
+use Rattle.host_vars.specs.Shared.{AreHostsOf}
 use Rattle.host_vars.specs.declared.vars.Vars.{Vars}
 use Rattle.host_vars.specs.HostVars.{HasNoResult, result_in, variables_of}
 use Rattle.planning.proofs.UniqueLemmas.{one_inventory}
-use Rattle.outcome_results.specs.Hosts.{Known, known_of}
-use Rattle.batch_work.specs.Works.{known_at, known_with}
+use Rattle.host_track.specs.Hosts.{Known, known_of}
+use Rattle.event_log.specs.Works.{known_at, known_with}
 use Rattle.running.specs.Inputs.{AreHostsIn}
 
 -- a list that is sorted has one order, where what ties is the same

@@ -5,8 +5,8 @@ use Rattle.std.specs.Prelude.{slice_get, string_bytes}
 use Rattle.std.proofs.lemmas.List.FromFn.{length-map-range_with_len}
 use Rattle.std.proofs.lemmas.Option.{none-some, same_Some, slice_get-get_or, slice_get_within}
 use Rattle.std.proofs.lemmas.Slice.Zip.{AllZip-long}
-use Rattle.host_patterns.specs.Patterns.{parts_of}
-use Rattle.inventory_model.specs.Places.{Inventory}
+use Rattle.text_parts.specs.Patterns.{parts_of}
+use Rattle.group_tree.specs.Places.{Inventory}
 use Rattle.domains.specs.FleetViews.{FleetView}
 use Rattle.domains.specs.Fleets.{IsFleetOf}
 use Rattle.domains.specs.Patterns.{named_hosts}
@@ -15,28 +15,28 @@ use Rattle.fleet_states.specs.declared.status.Status.{Status}
 use Rattle.fleet_states.specs.Starts.{start_statuses}
 use Rattle.batch_plan.specs.Beginnings.{restart_statuses}
 use Rattle.host_vars.specs.declared.vars.Vars.{Vars}
-use Rattle.outcome_results.specs.Endings.{Ending}
-use Rattle.outcome_results.specs.Hosts.{Known, known_of}
+use Rattle.host_track.specs.Endings.{Ending}
+use Rattle.host_track.specs.Hosts.{Known, known_of}
 use Rattle.host_track.specs.Tracks.{Entry, known_after}
 use Rattle.play_model.specs.declared.play.Play.{Play}
-use Rattle.play_plan.specs.PlayPlans.{targets}
+use Rattle.play_course.specs.PlayPlans.{targets}
 use Rattle.play_read.specs.Reads as playbooks
 use Rattle.play_rules.specs.Plays.{plays_of}
 use Rattle.planning.proofs.UniqueLemmas.{one_inventory}
-use Rattle.batch_work.specs.Works.{known_at, known_with}
-use Rattle.roll_logs.specs.Rolls.{Roll}
-use Rattle.roll_logs.specs.Columns.{Columns, gives}
-use Rattle.roll_logs.specs.Logs.{end_state}
-use Rattle.roll_logs.specs.States.{start_state}
-use Rattle.roll_logs.specs.Told.{Work}
-use Rattle.roll_kernel.specs.Views.{events_of}
+use Rattle.event_log.specs.Works.{known_at, known_with}
+use Rattle.event_log.specs.Rolls.{Roll}
+use Rattle.event_log.specs.Columns.{Columns, gives}
+use Rattle.event_log.specs.Logs.{end_state}
+use Rattle.event_log.specs.States.{start_state}
+use Rattle.event_log.specs.Told.{Work}
+use Rattle.roll_core.specs.Views.{events_of}
 use Rattle.roll_run.specs.declared.run.Run.{Run}
 use Rattle.roll_run.specs.Runs.{IsRun, roll_by}
 use Rattle.roll_run.proofs.Lengths.{as_many}
 use Rattle.roll_run.specs.Plays.{AreRuns, AreRunsAfter}
 use Rattle.roll_run.specs.Files.{TellLater, TellTheirs, roll_after}
 use Rattle.roll_run.proofs.FileCourses.{begins_after}
-use Rattle.run_recap.specs.RecapText.{text_by_place}
+use Rattle.recap.specs.RecapText.{text_by_place}
 use Rattle.running.specs.Inputs.{AreInputs}
 use Rattle.running.specs.Laws.{OneRecap, OneRecapByPlays}
 use Rattle.running.specs.Recaps.{are_several, headed, run_text, runs_text}

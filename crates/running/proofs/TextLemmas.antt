@@ -7,11 +7,11 @@ use Rattle.std.specs.Io.KnownBytes.{Keeps}
 use Rattle.domains.specs.FleetViews.{FleetView}
 use Rattle.fleet_states.specs.declared.status.Status.{Status}
 use Rattle.host_vars.specs.declared.vars.Vars.{Vars}
-use Rattle.outcome_results.specs.Endings.{Ending}
+use Rattle.host_track.specs.Endings.{Ending}
 use Rattle.planning.specs.PlanTexts.{IsPlaybookFault}
 use Rattle.planning.specs.declared.fault.PlanFault.{PlanFault}
 use Rattle.play_model.specs.declared.play.Play.{Play}
-use Rattle.roll_logs.specs.Told.{Work}
+use Rattle.event_log.specs.Told.{Work}
 use Rattle.roll_run.specs.declared.run.Run.{Run}
 use Rattle.roll_run.specs.declared.fault.RunFault.{RunFault}
 use Rattle.roll_run.specs.Plays.{AreBroken, AreRuns}

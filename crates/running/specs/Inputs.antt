@@ -1,16 +1,16 @@
 -- What the texts of an inventory and a playbook say to a run, and what refuses them.
 use Rattle.std.specs.Prelude.{◌≡◌, ◌⊎◌, ℕ, List, ◌∷◌, All, map}
-use Rattle.inventory_model.specs.Places.{Inventory}
+use Rattle.group_tree.specs.Places.{Inventory}
 use Rattle.inventory_read.specs.Reads as inventories
 use Rattle.domains.specs.FleetViews.{FleetView}
 use Rattle.domains.specs.Fleets.{IsFleetOf}
 use Rattle.fleet_states.specs.declared.status.Status.{Status}
 use Rattle.fleet_states.specs.Starts.{start_statuses}
-use Rattle.variable_layers.specs.Shared.{AreHostsOf}
+use Rattle.host_vars.specs.Shared.{AreHostsOf}
 use Rattle.host_vars.specs.declared.vars.Vars.{Vars}
 use Rattle.host_vars.specs.HostVars.{HasNoResult, variables_of}
 use Rattle.play_model.specs.declared.play.Play.{Play}
-use Rattle.play_plan.specs.PlayPlans.{targets}
+use Rattle.play_course.specs.PlayPlans.{targets}
 use Rattle.planning.specs.PlanTexts.{ArePlaysIn, IsRefusedAfter, IsUnread}
 use Rattle.running.specs.declared.fault.RunTextFault.{RunTextFault}
 use Rattle.running.specs.declared.fault.RunTextFault.TheVariants.{Refused, Memory, Broken, Write}

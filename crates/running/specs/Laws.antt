@@ -1,8 +1,8 @@
 -- What holds of every recap.
 use Rattle.std.specs.Prelude.{◌≡◌, ℕ, List}
-use Rattle.roll_logs.specs.Columns.{Columns, gives}
-use Rattle.outcome_results.specs.Endings.{Ending}
-use Rattle.roll_logs.specs.Told.{Work}
+use Rattle.event_log.specs.Columns.{Columns, gives}
+use Rattle.host_track.specs.Endings.{Ending}
+use Rattle.event_log.specs.Told.{Work}
 use Rattle.roll_run.specs.declared.run.Run.{Run}
 use Rattle.roll_run.specs.Files.{TellTheirs}
 use Rattle.running.specs.RunTexts.{IsRecap}

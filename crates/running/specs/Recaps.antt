@@ -8,7 +8,7 @@ use Rattle.play_model.specs.declared.play.Play.{Play}
 use Rattle.recap.specs.LimitsText.{field_text}
 use Rattle.roll_run.specs.declared.run.Run.{Run}
 use Rattle.roll_run.specs.declared.fault.RunFault.{RunFault}
-use Rattle.run_recap.specs.RecapText.{boundary_lines, end_line, host_lines, text_by_place}
+use Rattle.recap.specs.RecapText.{boundary_lines, end_line, host_lines, text_by_place}
 
 -- the recap of a run that came to its end: each boundary but the last opened a batch
 abbrev pub run_text : FleetView → Run → List ℕ

@@ -1,13 +1,13 @@
 //! The lines of the hosts that are down.
 ghost use Rattle.std.specs.Prelude.{◌≡◌, IfOk, map};
-ghost use Rattle.run_recap.specs.RecapText.{host_lines};
+ghost use Rattle.recap.specs.RecapText.{host_lines};
 ghost use Rattle.running.specs.Recaps as model;
 
 use bounded_io::TextWriter;
 use domains::Fleet;
 use fleet_states::Status;
-use outcome_results::Counts;
-use run_recap::write_hosts;
+use host_track::Counts;
+use recap::write_hosts;
 use std::alloc::{AllocError, Global};
 
 /// The status of a host that is down; one that isn't counts as idle, which has no line.

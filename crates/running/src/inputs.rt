@@ -2,7 +2,7 @@
 ghost use Rattle.std.specs.Prelude.{◌≡◌, IfErr, IfOk};
 ghost use Rattle.fleet_states.specs.Starts.{start_statuses};
 ghost use Rattle.batch_plan.specs.Beginnings.{IsReady};
-ghost use Rattle.play_plan.specs.PlayPlans.{targets};
+ghost use Rattle.play_course.specs.PlayPlans.{targets};
 ghost use Rattle.running.specs.Inputs.{AreInputs, RefusesTexts};
 
 use crate::fault::RunTextFault;

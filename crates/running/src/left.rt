@@ -1,7 +1,7 @@
 //! What runs have left.
 use aftermath::Played;
 use fleet_states::Status;
-use outcome_results::Counts;
+use host_track::Counts;
 use play_course::End;
 use play_model::Play;
 use roll_core::Event;

@@ -2,13 +2,13 @@
 ghost use Rattle.std.specs.Prelude.{◌≡◌, ◌+◌};
 ghost use Rattle.bounded_io.specs.Sending.{SendsText};
 ghost use Rattle.bounded_io.specs.Writing.{Writes};
-ghost use Rattle.run_recap.specs.RecapText.{recap_text};
+ghost use Rattle.recap.specs.RecapText.{recap_text};
 ghost use Rattle.running.specs.Recaps.{broken_text, fault_text, headed, run_text, runs_text};
 
 use bounded_io::{TextWriter, WriteFault};
 use domains::Fleet;
+use recap::{Recap, write_numbered, write_play};
 use roll_run::{Run, RunFault, RunsFault};
-use run_recap::{Recap, write_numbered, write_play};
 use std::io::Write;
 
 /// Writes the recap of a play, under its number where the file has several.

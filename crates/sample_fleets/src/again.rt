@@ -5,9 +5,9 @@ ghost use Rattle.domains.specs.Fleets.{IsFleetOf};
 use domains::{Fleet, FleetFault};
 use group_tree::Tree;
 use host_vars::{Vars, layered_all};
-use play_faults::PlayFault;
 use play_model::Play;
 use play_read::read_play;
+use play_rules::PlayFault;
 use std::alloc::{AllocError, Global};
 
 /// The fleet of a tree.

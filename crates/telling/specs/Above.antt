@@ -3,7 +3,7 @@ use Rattle.std.specs.Prelude.{Bool, false, ◌||◌, is_some, if◌then◌else�
 use Rattle.domains.specs.FleetViews.{FleetView}
 use Rattle.domains.specs.Numbered.{host_at}
 use Rattle.play_model.specs.declared.play.Play.{Play}
-use Rattle.outcome_results.specs.Counting.{is_failed}
+use Rattle.host_track.specs.Counting.{is_failed}
 use Rattle.roll_core.specs.Tellings.{Telling, aside, opening, begin, row, closing}
 use Rattle.telling.specs.Options.{is_taken_for_an_option}
 use Rattle.telling.specs.Tellings.{gate_text, telling_text, warning_text}

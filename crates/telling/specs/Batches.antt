@@ -4,7 +4,7 @@ use Rattle.domains.specs.FleetViews.{FleetView}
 use Rattle.fleet_states.specs.declared.status.Status.{Status}
 use Rattle.fleet_states.specs.declared.status.Status.TheVariants.{Idle, Waiting, Running, Updated, Failed, Halted, Off, Held}
 use Rattle.fleet_states.specs.Statuses.{is_waiting, status_at}
-use Rattle.roll_logs.specs.States.{at_rest}
+use Rattle.event_log.specs.States.{at_rest}
 use Rattle.recap.specs.LimitsText.{field_text}
 use Rattle.recap.specs.PlanText.{names_line}
 use Rattle.telling.specs.declared.given.Given.{Given}

@@ -1,7 +1,7 @@
 -- What is counted of a play while it goes on.
 use Rattle.std.specs.Prelude.{ℕ, ◌+◌, ◌==◌, max, min, if◌then◌else◌}
-use Rattle.outcome_results.specs.Counting.{is_failed}
-use Rattle.outcome_results.specs.declared.judged.Judged.{Judged}
+use Rattle.host_track.specs.Counting.{is_failed}
+use Rattle.host_track.specs.declared.judged.Judged.{Judged}
 use Rattle.telling.specs.declared.counters.Counters.{Counters}
 
 -- so many more; a count stops at 2^64 - 1

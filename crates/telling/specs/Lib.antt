@@ -1,6 +1,5 @@
 pub mod Shown
 pub mod Options
-pub mod Integers
 pub mod Rows
 pub mod Batches
 pub mod Tellings

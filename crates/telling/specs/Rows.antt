@@ -1,14 +1,14 @@
 -- What is told of the row of a step on a host.
 use Rattle.std.specs.Prelude.{ℕ, ℤ, Bool, true, false, Option, Some, None, option_map, string_bytes, if◌then◌else◌, List, [], ◌++◌, codes}
 use Rattle.std.specs.Borrow.{Bor}
-use Rattle.inventory_model.specs.Names.{Name}
-use Rattle.outcome_results.specs.Endings.{Ending, ran, not_started, lost, skipped, undefined}
-use Rattle.outcome_results.specs.declared.judged.Judged.{Judged}
-use Rattle.outcome_results.specs.declared.judged.Judged.TheVariants as judged
+use Rattle.group_tree.specs.Names.{Name}
+use Rattle.host_track.specs.Endings.{Ending, ran, not_started, lost, skipped, undefined}
+use Rattle.host_track.specs.declared.judged.Judged.{Judged}
+use Rattle.host_track.specs.declared.judged.Judged.TheVariants as judged
 use Rattle.recap.specs.LimitsText.{field_text}
 use Rattle.local_programs.specs.declared.remark.Remark.{Remark}
 use Rattle.local_programs.specs.declared.remark.Remark.TheVariants.{Nothing, Signal, Refused}
-use Rattle.telling.specs.Integers.{integer_text}
+use Rattle.recap.specs.Integers.{integer_text}
 use Rattle.telling.specs.Shown.{output_text, shown_text}
 use Rattle.telling.specs.declared.given.Given.{Given}
 

@@ -1,12 +1,12 @@
 -- What is told of a run while it goes on: a text for each thing that happens.
 use Rattle.std.specs.Prelude.{ℕ, ◌+◌, min, nat_lt, Option, Some, None, if◌then◌else◌, option_map, string_bytes, unwrap_or, List, [], ◌++◌, codes}
-use Rattle.inventory_model.specs.Names.{Name}
+use Rattle.group_tree.specs.Names.{Name}
 use Rattle.domains.specs.FleetViews.{FleetView}
 use Rattle.domains.specs.Numbered.{host_at}
 use Rattle.play_model.specs.declared.step.Step.{Step}
 use Rattle.play_model.specs.declared.play.Play.{Play}
 use Rattle.host_track.specs.Tracks.{step_at}
-use Rattle.roll_logs.specs.Told.{Work}
+use Rattle.event_log.specs.Told.{Work}
 use Rattle.recap.specs.LimitsText.{field_text}
 use Rattle.recap.specs.PlanText.{held_line}
 use Rattle.roll_core.specs.Tellings.{Telling, aside, opening, begin, row, closing}

@@ -3,7 +3,7 @@ ghost use Rattle.std.specs.Prelude.{◌≡◌, count_by};
 ghost use Rattle.bounded_io.specs.Writing.{Writes};
 ghost use Rattle.domains.specs.Ids.{host_numbers};
 ghost use Rattle.fleet_states.specs.Statuses.{is_waiting, status_at};
-ghost use Rattle.roll_logs.specs.States as states;
+ghost use Rattle.event_log.specs.States as states;
 ghost use Rattle.telling.specs.Batches as spec;
 
 use crate::given::Given;

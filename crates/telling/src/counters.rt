@@ -2,7 +2,7 @@
 ghost use Rattle.std.specs.Prelude.{◌≡◌};
 ghost use Rattle.telling.specs.Counting as spec;
 
-use outcome_results::Judged;
+use host_track::Judged;
 
 /// The number of the play, of so many; the number of the batch that was opened last, of so many; how many of the play's hosts are updated, and how
 /// many have failed.

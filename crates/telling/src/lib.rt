@@ -7,7 +7,6 @@ mod begins;
 mod columns;
 mod counters;
 mod given;
-mod integers;
 mod marks;
 mod mode;
 mod names;

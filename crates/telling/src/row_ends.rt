@@ -1,15 +1,14 @@
 //! How a step ended on a host, in its line.
 ghost use Rattle.std.specs.Prelude.{◌≡◌, Some};
 ghost use Rattle.bounded_io.specs.Writing.{Writes};
-ghost use Rattle.outcome_results.specs.Endings.{ending_of};
+ghost use Rattle.host_track.specs.Endings.{ending_of};
 ghost use Rattle.telling.specs.Rows as spec;
 
 use crate::given::Given;
-use crate::integers::write_integer;
 use bounded_io::TextWriter;
+use host_track::{Judged, Outcome};
 use local_programs::Remark;
-use outcome_results::{Judged, Outcome};
-use recap::write_field;
+use recap::{write_field, write_integer};
 use std::io::Write;
 
 /// How a step ended, how that was judged, the name without a value for which it has failed, if it was for one, and what is told beside it.

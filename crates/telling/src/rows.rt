@@ -1,15 +1,15 @@
 //! What is told of the row of a step on a host.
 ghost use Rattle.std.specs.Prelude.{◌≡◌};
 ghost use Rattle.bounded_io.specs.Writing.{Writes};
-ghost use Rattle.outcome_results.specs.Endings.{ending_of};
+ghost use Rattle.host_track.specs.Endings.{ending_of};
 ghost use Rattle.telling.specs.Rows as spec;
 
 use crate::given::Given;
 use crate::row_ends::{End, verdict_word, write_how};
 use crate::shown::{write_output, write_shown};
 use bounded_io::TextWriter;
+use host_track::{Judged, Outcome};
 use local_programs::Remark;
-use outcome_results::{Judged, Outcome};
 use recap::write_field;
 use std::io::Write;
 

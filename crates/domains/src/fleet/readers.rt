@@ -1,6 +1,6 @@
 //! What a fleet answers. None of these calls takes memory.
 ghost use Rattle.std.specs.Prelude.{◌≡◌, ℕ, ◌<◌, ◌≤◌, ◌&&◌, All, IfSome, IsFalse, MatchOption, None, false, true, length, nat_eq, option_map, position, slice_index_or};
-ghost use Rattle.inventory_model.specs.Names.{is_among, same_name};
+ghost use Rattle.group_tree.specs.Names.{is_among, same_name};
 ghost use Rattle.fleet_numbers.specs.NumberLists.{list_at, has_number, IsRising};
 ghost use Rattle.fleet_numbers.specs.Chains.{is_limited};
 ghost use Rattle.domains.specs.Numbered.{host_at};

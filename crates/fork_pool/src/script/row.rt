@@ -3,7 +3,7 @@ ghost use Rattle.std.specs.Prelude.{◌≡◌, Decides};
 ghost use Rattle.fork_pool.specs.ScriptRows.{line_of};
 
 use group_tree::HostId;
-use outcome_results::Outcome;
+use host_track::Outcome;
 
 /// How the program of a host and step ends.
 #[derive(Debug, Drop)]

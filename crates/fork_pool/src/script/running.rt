@@ -1,13 +1,13 @@
 //! A script as a runner.
 ghost use Rattle.std.specs.Prelude.{◌≡◌, IfOk, None, Some, map};
-ghost use Rattle.outcome_results.specs.Endings.{ending_of};
+ghost use Rattle.host_track.specs.Endings.{ending_of};
 ghost use Rattle.fork_pool.specs.ScriptLines.{told_by};
 ghost use Rattle.fork_pool.specs.ScriptRows.{lines_of};
 
 use crate::script::row::Row;
 use crate::script::{Script, are_same};
 use group_tree::HostId;
-use outcome_results::Outcome;
+use host_track::Outcome;
 use roll_core::{Go, Job, Runner};
 use std::alloc::{AllocError, Global};
 use std::process::{Processes, SystemProcess};

@@ -1,20 +1,21 @@
 //! A batch passes a step, and is over.
 ghost use Rattle.std.specs.Prelude.{◌≡◌, ℕ, Option, IfErr, IfOk, OnErr, Some, true};
-ghost use Rattle.batch_outcome.specs.Batches.{statuses_after};
-ghost use Rattle.roll_logs.specs.Columns.{Columns, Tells, fails_by};
-ghost use Rattle.roll_logs.specs.Events.{closed};
-ghost use Rattle.roll_logs.specs.Logs.{IsLegal};
-ghost use Rattle.roll_logs.specs.States.{between, ended, start_state};
-ghost use Rattle.roll_kernel.specs.Barriers.{HasPassed, first_busy, is_over, is_working};
-ghost use Rattle.roll_kernel.specs.Views.{roll_of, state_of};
+ghost use Rattle.fleet_states.specs.Batches.{statuses_after};
+ghost use Rattle.event_log.specs.Columns.{Columns, Tells, fails_by};
+ghost use Rattle.event_log.specs.Events.{closed};
+ghost use Rattle.event_log.specs.Logs.{IsLegal};
+ghost use Rattle.event_log.specs.States.{between, ended, start_state};
+ghost use Rattle.roll_core.specs.Barriers.{HasPassed, first_busy, is_over, is_working};
+ghost use Rattle.roll_core.specs.Views.{roll_of, state_of};
 ghost use Rattle.roll_core.specs.Boards.{with_event};
 
 use crate::board::Board;
+use crate::kernel_fault::Busy;
 use crate::news::{News, halt_of};
+use crate::next::Next;
 use crate::runner::Runner;
 use crate::telling::tell;
 use crate::watch::Watch;
-use roll_kernel::{Busy, Next};
 use std::sync::ledger::Ledger;
 
 impl<'f, R: Runner, L: Ledger, W: Watch> Board<'f, R, L, W> {

@@ -1,16 +1,16 @@
 //! A roll is over.
 ghost use Rattle.std.specs.Prelude.{◌≡◌, length};
-ghost use Rattle.roll_logs.specs.Logs.{IsLegal};
-ghost use Rattle.roll_logs.specs.States.{start_state};
-ghost use Rattle.roll_kernel.specs.Leavings.{AreCounted, AreKnown};
-ghost use Rattle.roll_kernel.specs.Views.{FrontsAreSafe, RestsAtBoundaries, events_of, roll_of, state_of};
-ghost use Rattle.roll_logs.specs.Told.{AreTold};
+ghost use Rattle.event_log.specs.Logs.{IsLegal};
+ghost use Rattle.event_log.specs.States.{start_state};
+ghost use Rattle.roll_core.specs.Leavings.{AreCounted, AreKnown};
+ghost use Rattle.roll_core.specs.Views.{FrontsAreSafe, RestsAtBoundaries, events_of, roll_of, state_of};
+ghost use Rattle.event_log.specs.Told.{AreTold};
 ghost use Rattle.roll_core.specs.Tellings.{IsTold};
 
 use crate::board::Board;
+use crate::finished::Finished;
 use crate::runner::Runner;
 use crate::watch::Watch;
-use roll_kernel::Finished;
 use std::sync::ledger::Ledger;
 
 impl<'f, R: Runner, L: Ledger, W: Watch> Board<'f, R, L, W> {

@@ -3,11 +3,11 @@ ghost use Rattle.std.specs.Prelude.{◌≡◌, IfOk, IfSome, OnErr};
 ghost use Rattle.roll_core.specs.Givings.{HasItsGo, IsGiving};
 
 use crate::board::Board;
+use crate::claim::Claim;
 use crate::claimed::{Claimed, given_out};
 use crate::runner::Runner;
 use crate::telling::tell_begin;
 use crate::watch::Watch;
-use roll_kernel::Claim;
 use std::alloc::{AllocError, Global};
 use std::sync::ledger::Ledger;
 

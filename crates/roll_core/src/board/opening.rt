@@ -1,21 +1,21 @@
 //! A batch begins, and hosts are set aside.
 ghost use Rattle.std.specs.Prelude.{◌≡◌, ◌<◌, IfErr, OnErr, OnOk, length};
 ghost use Rattle.domains.specs.Ids.{host_numbers};
-ghost use Rattle.roll_logs.specs.Events.{opened, set_aside};
-ghost use Rattle.roll_logs.specs.States.{working};
-ghost use Rattle.roll_logs.specs.Logs.{MayOpen, MaySetAside};
-ghost use Rattle.roll_kernel.specs.HoldRefusals.{IsHoldRefusalOf};
-ghost use Rattle.roll_kernel.specs.Refusals.{IsRefusalOf};
-ghost use Rattle.roll_kernel.specs.Views.{roll_of, state_of};
+ghost use Rattle.event_log.specs.Events.{opened, set_aside};
+ghost use Rattle.event_log.specs.States.{working};
+ghost use Rattle.event_log.specs.Logs.{MayOpen, MaySetAside};
+ghost use Rattle.roll_core.specs.HoldRefusals.{IsHoldRefusalOf};
+ghost use Rattle.roll_core.specs.Refusals.{IsRefusalOf};
+ghost use Rattle.roll_core.specs.Views.{roll_of, state_of};
 ghost use Rattle.roll_core.specs.Boards.{with_event};
 
 use crate::board::Board;
+use crate::kernel_fault::{HoldFault, OpenFault};
 use crate::news::News;
 use crate::runner::Runner;
 use crate::telling::tell;
 use crate::watch::Watch;
 use group_tree::HostId;
-use roll_kernel::{HoldFault, OpenFault};
 use std::alloc::Global;
 use std::sync::ledger::Ledger;
 

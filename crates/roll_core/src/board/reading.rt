@@ -4,23 +4,24 @@ ghost use Rattle.fleet_states.specs.Statuses.{NobodyRuns, down_count, status_at}
 ghost use Rattle.fleet_states.specs.Groups.{IsSafe, group_at, groups_of};
 ghost use Rattle.domains.specs.Ids.{host_numbers};
 ghost use Rattle.host_track.specs.Tracks.{counts_in};
-ghost use Rattle.roll_logs.specs.States.{between, failures, start_state};
-ghost use Rattle.roll_logs.specs.Logs.{IsLegal};
-ghost use Rattle.batch_work.specs.Works.{is_awaited_in, phase_of};
-ghost use Rattle.roll_kernel.specs.Views.{FrontsAreSafe, RestsAtBoundaries, events_of, roll_of, state_of};
+ghost use Rattle.event_log.specs.States.{between, failures, start_state};
+ghost use Rattle.event_log.specs.Logs.{IsLegal};
+ghost use Rattle.event_log.specs.Works.{is_awaited_in, phase_of};
+ghost use Rattle.roll_core.specs.Views.{FrontsAreSafe, RestsAtBoundaries, events_of, roll_of, state_of};
 ghost use Rattle.roll_core.specs.Boards.{reports_in};
-ghost use Rattle.roll_logs.specs.Told.{AreTold};
+ghost use Rattle.event_log.specs.Told.{AreTold};
 
 use crate::board::Board;
+use crate::event::Event;
 use crate::runner::Runner;
 use crate::watch::Watch;
 use domains::Fleet;
+use event_log::Stage;
 use fleet_states::Status;
 use group_tree::{GroupId, HostId};
+use host_track::Counts;
 use host_vars::Vars;
-use outcome_results::Counts;
 use play_model::Play;
-use roll_kernel::{Event, Stage};
 use std::sync::ledger::Ledger;
 
 impl<'f, R: Runner, L: Ledger, W: Watch> Board<'f, R, L, W> {

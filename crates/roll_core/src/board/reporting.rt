@@ -1,7 +1,7 @@
 //! A worker gives a host back.
 ghost use Rattle.std.specs.Prelude.{◌≡◌, IfErr, OnErr, OnOk, suc};
-ghost use Rattle.roll_kernel.specs.Claims.{IsOut, event_in};
-ghost use Rattle.roll_kernel.specs.Views.{roll_of, state_of};
+ghost use Rattle.roll_core.specs.Claims.{IsOut, event_in};
+ghost use Rattle.roll_core.specs.Views.{roll_of, state_of};
 ghost use Rattle.roll_core.specs.Boards.{with_event};
 ghost use Rattle.roll_core.specs.Reports.{IsStranger};
 

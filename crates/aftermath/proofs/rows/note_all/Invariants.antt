@@ -1,6 +1,6 @@
 use Rattle.std.proofs.Common.{◌≡◌, ℕ, ◌<◌, length, take}
 use Rattle.std.specs.List.{last_or}
-use Rattle.roll_kernel.specs.Views.{events_of}
+use Rattle.roll_core.specs.Views.{events_of}
 use Rattle.aftermath.specs.Rows.{rows_told, seen_at}
 use Rattle.aftermath.proofs.rows.note_all.Given as goal
 

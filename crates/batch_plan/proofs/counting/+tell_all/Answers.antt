@@ -1,6 +1,6 @@
 use Rattle.std.proofs.Common.{◌≡◌, ◌<◌, None, List, length, get_or, sym, ap, ◌∙◌, arith, rules, subst}
-use Rattle.domain_counts.specs.Nodes.{Node, Subtree, nodes_below, side_by_side}
-use Rattle.domain_counts.proofs.TreeLemmas.{nodes_below_less}
+use Rattle.batch_plan.specs.Nodes.{Node, Subtree, nodes_below, side_by_side}
+use Rattle.batch_plan.proofs.TreeLemmas.{nodes_below_less}
 use Rattle.batch_plan.specs.Inside.{told_by}
 use Rattle.batch_plan.proofs.ToldLemmas.{told_more}
 use Rattle.batch_plan.proofs.counting.+tell_all.Goals as goal

@@ -1,5 +1,5 @@
 use Rattle.std.proofs.Common.{◌≡◌, ℕ, ◌<◌, None, length, get_or, take}
-use Rattle.domain_counts.specs.Nodes.{side_by_side}
+use Rattle.batch_plan.specs.Nodes.{side_by_side}
 use Rattle.batch_plan.specs.Inside.{told_by}
 use Rattle.batch_plan.proofs.counting.+tell_all.Given as goal
 

@@ -1,6 +1,6 @@
 use Rattle.std.proofs.Common.{length, ap, ◌∙◌, arith}
 use Rattle.std.proofs.lemmas.List.{length-set}
-use Rattle.domain_counts.specs.Counts.{Counted, place_at}
+use Rattle.batch_plan.specs.Counts.{Counted, place_at}
 use Rattle.batch_plan.proofs.CountedLemmas.{all_places, same_counted, set_more}
 use Rattle.batch_plan.proofs.counting.counted.Goals as goal
 

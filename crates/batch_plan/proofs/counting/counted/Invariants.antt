@@ -1,6 +1,6 @@
 use Rattle.std.proofs.Common.{◌≡◌, ℕ, ◌<◌, length}
 use Rattle.fleet_states.specs.Statuses.{status_at}
-use Rattle.domain_counts.specs.Counts.{place_at}
+use Rattle.batch_plan.specs.Counts.{place_at}
 use Rattle.batch_plan.specs.Places.{place_of}
 use Rattle.batch_plan.proofs.counting.counted.Given as goal
 

@@ -1,7 +1,7 @@
 use Rattle.std.proofs.Common.{◌≡◌, ℕ, ◌<◌, None, Option, List, length, get_or, replicate, ap, ◌∙◌, arith}
 use Rattle.std.proofs.lemmas.List.{get_or-replicate, length-replicate, with_items_is}
-use Rattle.domain_counts.specs.Nodes.{Node, side_by_side}
-use Rattle.domain_counts.specs.Counts.{nodes_at}
+use Rattle.batch_plan.specs.Nodes.{Node, side_by_side}
+use Rattle.batch_plan.specs.Counts.{nodes_at}
 use Rattle.domains.specs.FleetViews.{FleetView}
 use Rattle.batch_plan.specs.declared.needs.Need.{Need}
 use Rattle.batch_plan.specs.Inside.{told_by}

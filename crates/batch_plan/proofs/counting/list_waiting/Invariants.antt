@@ -1,7 +1,7 @@
 use Rattle.std.proofs.Common.{◌≡◌, filter, take}
 use Rattle.domains.specs.Ids.{host_numbers}
-use Rattle.domain_counts.specs.Counts.{place_at}
-use Rattle.domain_counts.specs.Places.{waits}
+use Rattle.batch_plan.specs.Counts.{place_at}
+use Rattle.batch_plan.specs.CountPlaces.{waits}
 use Rattle.batch_plan.proofs.counting.list_waiting.Given as goal
 
 abbrev pub invariant-loop-host : goal.invariant-loop-host

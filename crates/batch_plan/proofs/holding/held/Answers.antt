@@ -1,6 +1,6 @@
 use Rattle.std.proofs.Common.{◌≡◌, IfOk, refl, sym, subst}
 use Rattle.domains.specs.Ids.{host_numbers}
-use Rattle.domain_counts.specs.Counts.{Counted}
+use Rattle.batch_plan.specs.Counts.{Counted}
 use Rattle.batch_plan.specs.Holding.{held_hosts}
 use Rattle.batch_plan.specs.Places.{AreCountsOf}
 use Rattle.batch_plan.proofs.holding.held.Goals as goal

@@ -2,7 +2,7 @@ use Rattle.std.proofs.Common.{◌≡◌, ◌∙◌, ◌++◌, ◌∷◌, [], ℕ
 use Rattle.std.specs.List.{range_with_len}
 use Rattle.std.proofs.lemmas.List.{get_or-map, length-map}
 use Rattle.std.proofs.lemmas.List.FromFn.{map-range_with_len_more}
-use Rattle.inventory_model.specs.Limits.{Limit}
+use Rattle.group_tree.specs.DownLimits.{Limit}
 use Rattle.group_tree.specs.Limits.{limit_of}
 use Rattle.fleet_numbers.specs.NumberLists.{list_at}
 use Rattle.domains.proofs.ByNumber.{allowed_for, count_of}

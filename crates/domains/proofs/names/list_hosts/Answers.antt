@@ -1,6 +1,6 @@
 use Rattle.std.proofs.Common.{◌≡◌, ◌∙◌, IfOk, List, Global, map, ap, subst}
 use Rattle.std.specs.String.{string_bytes}
-use Rattle.inventory_model.specs.Names.{Name}
+use Rattle.group_tree.specs.Names.{Name}
 use Rattle.fleet_numbers.specs.SortedNames.{sorted_names}
 use Rattle.domains.specs.declared.rows.HostRow.{HostRow}
 use Rattle.domains.proofs.ListedLemmas.{sorted_alike, lent_names}

@@ -1,6 +1,6 @@
 use Rattle.std.proofs.Common.{◌≡◌, ◌∙◌, ◌||◌, ◌+◌, ◌<◌, ℕ, List, [], length, get_or, map, take, sym, ap}
 use Rattle.std.proofs.lemmas.List.{get_or-map, length-map, take-map, take_all}
-use Rattle.inventory_model.specs.Names.{Name, same_name, is_among}
+use Rattle.group_tree.specs.Names.{Name, same_name, is_among}
 use Rattle.domains.specs.declared.rows.HostRow.{HostRow}
 use Rattle.domains.proofs.ListedLemmas.{among_more}
 use Rattle.domains.proofs.names.names_of.Goals as goal

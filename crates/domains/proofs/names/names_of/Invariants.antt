@@ -1,5 +1,5 @@
 use Rattle.std.proofs.Common.{◌≡◌, map, take}
-use Rattle.inventory_model.specs.Names.{Name, is_among}
+use Rattle.group_tree.specs.Names.{Name, is_among}
 use Rattle.domains.proofs.ListedLemmas.{lent_names}
 use Rattle.domains.proofs.names.names_of.Given as goal
 

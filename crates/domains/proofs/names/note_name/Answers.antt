@@ -1,6 +1,6 @@
 use Rattle.std.proofs.Common.{◌≡◌, ◌∙◌, ◌<◌, [], Bor, List, length, get_or, sym, ap, arith}
 use Rattle.std.proofs.lemmas.List.{length-map}
-use Rattle.inventory_model.specs.Names.{Name}
+use Rattle.group_tree.specs.Names.{Name}
 use Rattle.domains.proofs.ListedLemmas.{listed_already, listed_more, lent_names}
 use Rattle.domains.proofs.names.note_name.Goals as goal
 

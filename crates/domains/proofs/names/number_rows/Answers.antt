@@ -5,7 +5,7 @@ use Rattle.std.proofs.Common.{Global}
 use Rattle.std.proofs.lemmas.Bool.{some_since, false≢true}
 use Rattle.std.proofs.lemmas.List.{get_or-map, length-map}
 use Rattle.std.proofs.lemmas.List.Folds.{list_any_at}
-use Rattle.inventory_model.specs.Names.{Name, same_name, is_among}
+use Rattle.group_tree.specs.Names.{Name, same_name, is_among}
 use Rattle.fleet_numbers.specs.SortedNames.{name_cmp}
 use Rattle.fleet_numbers.proofs.SortedNamesLemmas.{is_rising-sorted_names, is_among-sorted_names, same_name-itself}
 use Rattle.domains.proofs.names.number_rows.Goals as goal

@@ -1,9 +1,9 @@
 use Rattle.std.proofs.Common.{◌≡◌, ◌∙◌, Option, List, length, map, option_map, ap, subst, arith, Global}
 use Rattle.std.specs.String.{string_bytes}
 use Rattle.std.proofs.lemmas.List.{length-map}
-use Rattle.inventory_model.specs.Places.{Inventory}
-use Rattle.inventory_model.specs.Names.{Name, are_distinct}
-use Rattle.inventory_model.specs.Limits.{Limit}
+use Rattle.group_tree.specs.Places.{Inventory}
+use Rattle.group_tree.specs.Names.{Name, are_distinct}
+use Rattle.group_tree.specs.DownLimits.{Limit}
 use Rattle.group_tree.specs.Limits.{limit_of}
 use Rattle.domains.specs.Walks.{IsWalkOf}
 use Rattle.domains.proofs.NumberingLemmas.{numbered_tree, walk_names}

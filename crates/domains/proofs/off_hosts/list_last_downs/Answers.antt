@@ -1,8 +1,8 @@
 use Rattle.std.proofs.Common.{◌≡◌, ◌∙◌, ◌<◌, ◌+◌, List, None, map, take, length, get_or, sym, ap, arith}
 use Rattle.std.proofs.lemmas.List.{get_or-map, length-map, length-set, take-map}
-use Rattle.inventory_model.specs.Subtrees.{Host}
+use Rattle.group_tree.specs.Subtrees.{Host}
 use Rattle.domains.specs.Hosts.{last_down_of, truth_of, down}
-use Rattle.inventory_model.specs.Variables.{value_of}
+use Rattle.group_tree.specs.Variables.{value_of}
 use Rattle.domains.proofs.OffLemmas.{last_downs_more}
 use Rattle.domains.proofs.off_hosts.list_last_downs.Goals as goal
 

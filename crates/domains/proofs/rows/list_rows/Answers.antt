@@ -1,6 +1,6 @@
 use Rattle.std.proofs.Common.{◌∙◌, ℕ, map, sym, ap, arith}
 use Rattle.std.proofs.lemmas.Simd.{map-map}
-use Rattle.inventory_model.specs.Subtrees.{Host}
+use Rattle.group_tree.specs.Subtrees.{Host}
 use Rattle.domains.specs.Walked.{host_rows}
 use Rattle.domains.proofs.WalkLemmas.{all_rows, rows_hosts, rows_more}
 use Rattle.domains.proofs.rows.list_rows.Goals as goal

@@ -1,6 +1,6 @@
 use Rattle.std.proofs.Common.{ℕ, ◌+◌, ◌<◌, ◌^◌, List, [], ◌∷◌, ◌++◌, length, sym, ap, ◌∙◌, subst, arith, rules, append_assoc, append-nil}
 use Rattle.std.proofs.lemmas.List.{take_all}
-use Rattle.inventory_model.specs.Subtrees.{Subtree, side_by_side}
+use Rattle.group_tree.specs.Subtrees.{Subtree, side_by_side}
 use Rattle.domains.specs.Walks.{IsWalkOf}
 use Rattle.domains.proofs.WalkLemmas.{walk_none, walk_more, walk_group, smaller_child, after_push}
 use Rattle.domains.proofs.walk.+list_walk.Goals as goal

@@ -1,5 +1,5 @@
 use Rattle.std.proofs.Common.{◌≡◌, ℕ, ◌+◌, ◌++◌, List, take, length}
-use Rattle.inventory_model.specs.Subtrees.{Subtree, side_by_side}
+use Rattle.group_tree.specs.Subtrees.{Subtree, side_by_side}
 use Rattle.domains.specs.Walks.{IsWalkOf}
 use Rattle.domains.specs.Walked.{walked_groups}
 use Rattle.domains.proofs.walk.+list_walk.Given as goal

@@ -1,5 +1,5 @@
-use Rattle.roll_logs.proofs.ClaimFronts.{legal_bounded}
-use Rattle.roll_kernel.specs.Views.{roll_of}
+use Rattle.event_log.proofs.ClaimFronts.{legal_bounded}
+use Rattle.roll_core.specs.Views.{roll_of}
 use Rattle.fork_pool.proofs.boards.at_most_forks_are_out.Goals as goal
 
 pub returns : goal.returns

@@ -1,6 +1,6 @@
 use Rattle.std.proofs.Common.{refl}
-use Rattle.roll_logs.specs.States.{start_state}
-use Rattle.roll_kernel.specs.Views.{roll_of}
+use Rattle.event_log.specs.States.{start_state}
+use Rattle.roll_core.specs.Views.{roll_of}
 use Rattle.fork_pool.proofs.Outs.{out_distinct}
 use Rattle.fork_pool.proofs.boards.nobody_is_out_twice.Goals as goal
 

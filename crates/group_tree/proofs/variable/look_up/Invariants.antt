@@ -1,6 +1,6 @@
 use Rattle.std.proofs.Common.{◌≡◌, drop}
 use Rattle.std.specs.Option.{option_or, option_map}
-use Rattle.inventory_model.specs.Variables as model
+use Rattle.group_tree.specs.Variables as model
 use Rattle.group_tree.specs.Scalars.{lent_scalar}
 use Rattle.group_tree.proofs.variable.look_up.Given as goal
 

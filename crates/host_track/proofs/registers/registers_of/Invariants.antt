@@ -1,7 +1,7 @@
 use Rattle.std.proofs.Common.{◌≡◌, take}
 use Rattle.std.specs.List.{list_any}
-use Rattle.inventory_model.specs.Names.{Name}
-use Rattle.registered_results.specs.Registers.{is_register}
+use Rattle.group_tree.specs.Names.{Name}
+use Rattle.play_model.specs.Registers.{is_register}
 use Rattle.host_track.specs.Summaries.{does_register}
 use Rattle.host_track.proofs.registers.registers_of.Given as goal
 

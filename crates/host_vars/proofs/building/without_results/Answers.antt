@@ -3,10 +3,10 @@ use Rattle.std.specs.Arc.{arc_value}
 use Rattle.std.proofs.lemmas.List.{map-append, take_more}
 use Rattle.std.proofs.lemmas.List.Elements.{All-push}
 use Rattle.std.specs.declared.sync.Arc.{Arc}
-use Rattle.variable_layers.specs.declared.host.HostVariables.{HostVariables}
-use Rattle.variable_layers.specs.Layers.{HostView}
-use Rattle.variable_layers.specs.Shared.{all_shown}
-use Rattle.variable_layers.specs.Shown.{shown}
+use Rattle.host_vars.specs.declared.host.HostVariables.{HostVariables}
+use Rattle.host_vars.specs.Layers.{HostView}
+use Rattle.host_vars.specs.Shared.{all_shown}
+use Rattle.host_vars.specs.Shown.{shown}
 use Rattle.host_vars.specs.HostVars.{variables_of, HasNoResult}
 use Rattle.host_vars.specs.declared.vars.Vars.{Vars}
 use Rattle.host_vars.proofs.building.without_results.Goals as goal

@@ -1,5 +1,5 @@
 use Rattle.std.proofs.Common.{◌≡◌, All, map, take}
-use Rattle.variable_layers.specs.Shared.{all_shown}
+use Rattle.host_vars.specs.Shared.{all_shown}
 use Rattle.host_vars.specs.HostVars.{variables_of, HasNoResult}
 use Rattle.host_vars.proofs.building.without_results.Given as goal
 

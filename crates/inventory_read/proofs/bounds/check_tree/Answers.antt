@@ -1,6 +1,6 @@
 use Rattle.std.proofs.Common.{◌≡◌, true, map, sym, ap, ◌∙◌}
-use Rattle.inventory_model.specs.Names.{are_distinct}
-use Rattle.inventory_model.specs.Bounds.{IsFirstRepeat, group_names, are_within_depth, depth_bound}
+use Rattle.group_tree.specs.Names.{are_distinct}
+use Rattle.group_tree.specs.Bounds.{IsFirstRepeat, group_names, are_within_depth, depth_bound}
 use Rattle.inventory_read.specs.Listings.{name_of}
 use Rattle.inventory_read.specs.Rules.{first_repeat}
 use Rattle.inventory_read.specs.Values.{place_of}

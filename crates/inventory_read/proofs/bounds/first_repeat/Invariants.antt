@@ -1,6 +1,6 @@
 use Rattle.std.proofs.Common.{◌≡◌, ℕ, true, List, map, take}
 use Rattle.std.specs.List.{list_any}
-use Rattle.inventory_model.specs.Names.{same_name, is_among, are_distinct}
+use Rattle.group_tree.specs.Names.{same_name, is_among, are_distinct}
 use Rattle.inventory_read.specs.Listings.{name_of}
 use Rattle.inventory_read.proofs.bounds.first_repeat.Given as goal
 

@@ -1,7 +1,7 @@
 use Rattle.std.proofs.Common.{◌≡◌, true, [], refl, sym, ap, ◌∙◌, arith, rules}
 use Rattle.std.specs.String.{string_bytes}
 use Rattle.serde_json.specs.View.{view, members_view}
-use Rattle.inventory_model.specs.Subtrees.{Subtree}
+use Rattle.group_tree.specs.Subtrees.{Subtree}
 use Rattle.inventory_read.specs.Documents.{with_below, below_body, groups_among}
 use Rattle.inventory_read.specs.Named.{are_named}
 use Rattle.inventory_read.specs.Values.{inventory_from}

@@ -1,7 +1,7 @@
 use Rattle.std.proofs.Common.{◌≡◌, ◌≤◌, true, map}
 use Rattle.serde_json.specs.Data.{depth, members_depth}
 use Rattle.serde_json.specs.View.{view, members_view}
-use Rattle.inventory_model.specs.Subtrees.{inventory_of, beside}
+use Rattle.group_tree.specs.Subtrees.{inventory_of, beside}
 use Rattle.inventory_read.specs.Documents.{groups_among, under}
 use Rattle.inventory_read.specs.Named.{are_named}
 use Rattle.inventory_read.specs.Values.{inventory_from}

@@ -1,7 +1,7 @@
 use Rattle.std.proofs.Common.{◌≡◌, ◌+◌, ◌∷◌, map, drop, refl, sym, ap, ◌∙◌}
 use Rattle.std.specs.List.{flat_map}
 use Rattle.serde_json.specs.View.{view}
-use Rattle.inventory_model.specs.Subtrees.{Subtree}
+use Rattle.group_tree.specs.Subtrees.{Subtree}
 use Rattle.inventory_read.specs.Documents.{below_body, groups_from, with_below}
 use Rattle.inventory_read.specs.Keys.{all_key}
 use Rattle.inventory_read.specs.Listings.{child_of}

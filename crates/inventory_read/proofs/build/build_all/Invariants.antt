@@ -1,6 +1,6 @@
 use Rattle.std.proofs.Common.{◌≡◌, true, map, drop}
 use Rattle.std.specs.List.{flat_map}
-use Rattle.inventory_model.specs.Subtrees.{inventory_of, beside}
+use Rattle.group_tree.specs.Subtrees.{inventory_of, beside}
 use Rattle.inventory_read.specs.Documents.{groups_from, under}
 use Rattle.inventory_read.specs.Listings.{child_of}
 use Rattle.inventory_read.specs.Named.{are_named}

@@ -3,7 +3,7 @@ use Rattle.std.specs.List.{flat_map}
 use Rattle.std.specs.String.{string_bytes}
 use Rattle.std.proofs.lemmas.List.{map-append}
 use Rattle.serde_json.specs.View.{view, members_view}
-use Rattle.inventory_model.specs.Names.{Name}
+use Rattle.group_tree.specs.Names.{Name}
 use Rattle.inventory_read.specs.Documents.{below_body, groups_among, with_below}
 use Rattle.inventory_read.specs.Faults.{IsFirst}
 use Rattle.inventory_read.specs.Listings.{broken_from, broken_under}

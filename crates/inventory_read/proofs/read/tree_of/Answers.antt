@@ -1,7 +1,7 @@
 use Rattle.std.proofs.Common.{◌≡◌, [], map, sym, ap, ◌∙◌, subst}
 use Rattle.serde_json.specs.View.{view}
-use Rattle.inventory_model.specs.Places.{Inventory}
-use Rattle.inventory_model.specs.Subtrees as subtrees
+use Rattle.group_tree.specs.Places.{Inventory}
+use Rattle.group_tree.specs.Subtrees as subtrees
 use Rattle.inventory_read.specs.Listings.{child_of}
 use Rattle.inventory_read.specs.Named.{are_named}
 use Rattle.inventory_read.specs.Rules.{broken_by_tree}

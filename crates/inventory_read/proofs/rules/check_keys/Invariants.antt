@@ -1,6 +1,6 @@
 use Rattle.std.proofs.Common.{◌≡◌}
 use Rattle.serde_json.specs.View.{members_view}
-use Rattle.json_shapes.specs.Shapes.{entries}
+use Rattle.text_parts.specs.Shapes.{entries}
 use Rattle.inventory_read.specs.Rules.{broken_by_keys}
 use Rattle.inventory_read.proofs.rules.check_keys.Given as goal
 

@@ -1,7 +1,7 @@
 use Rattle.std.proofs.Common.{◌≡◌, ◌∷◌, List, drop, drop-cons, refl, sym, ap, ◌∙◌}
 use Rattle.play_model.specs.declared.play.Play.{Play}
-use Rattle.play_plan.specs.PlayPlans.{parts_of_play}
-use Rattle.play_plan.proofs.PatternLemmas.{fault_here}
+use Rattle.play_course.specs.PlayPlans.{parts_of_play}
+use Rattle.play_course.proofs.PatternLemmas.{fault_here}
 use Rattle.planning.proofs.printing.plan_first.Goals as goal
 
 pub returns-in-Ok-clause-ok : goal.returns-in-Ok-clause-ok

@@ -2,7 +2,7 @@ use Rattle.std.proofs.Common.{◌≡◌, ◌<◌, None, List, length, sym, subst
 use Rattle.std.specs.List.{find}
 use Rattle.domains.specs.Patterns.{names_nothing}
 use Rattle.play_model.specs.declared.play.Play.{Play}
-use Rattle.play_plan.specs.PlayPlans.{named_parts}
+use Rattle.play_course.specs.PlayPlans.{named_parts}
 use Rattle.planning.proofs.PlayLemmas.{has_play}
 use Rattle.planning.proofs.printing.plan_playbook.Goals as goal
 

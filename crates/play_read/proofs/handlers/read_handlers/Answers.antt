@@ -2,12 +2,12 @@ use Rattle.std.proofs.Common.{◌+◌, ◌++◌, ◌∷◌, [], ℕ, List, map, 
 use Rattle.std.specs.List.{filter_map}
 use Rattle.std.proofs.lemmas.List.Elements.{All-push, filter_map-append}
 use Rattle.serde_json.specs.View.{view}
-use Rattle.inventory_model.specs.Names.{Name}
+use Rattle.group_tree.specs.Names.{Name}
 use Rattle.play_model.specs.Plays.{HasPlainWords}
 use Rattle.play_model.specs.declared.step.Step.{Step}
 use Rattle.play_rules.specs.Plays.{checks_of_handlers}
 use Rattle.play_rules.specs.Steps.{name_in, handler_of}
-use Rattle.play_steps.specs.Readings.{IsStep}
+use Rattle.play_read.specs.Readings.{IsStep}
 use Rattle.play_read.specs.Known.{known}
 use Rattle.play_read.proofs.Leads.{Leads}
 use Rattle.play_read.proofs.Lists.{left_at, taken_at, all_zip_more}

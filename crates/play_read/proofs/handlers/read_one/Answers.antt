@@ -3,9 +3,9 @@ use Rattle.serde_json.specs.View.{view}
 use Rattle.play_rules.specs.Breaches.{Broken}
 use Rattle.play_rules.specs.Plays.{spot_at}
 use Rattle.play_rules.specs.Steps.{checks_of_handler, twice_named}
-use Rattle.play_faults.proofs.CheckLaws.{refused_later}
-use Rattle.play_steps.specs.Readings.{named_in}
-use Rattle.play_steps.proofs.Parts.{if_err_more}
+use Rattle.play_rules.proofs.CheckLaws.{refused_later}
+use Rattle.play_read.specs.Readings.{named_in}
+use Rattle.play_read.proofs.Parts.{if_err_more}
 use Rattle.play_read.specs.Known.{known}
 use Rattle.play_read.proofs.Told.{told_here}
 use Rattle.play_read.proofs.handlers.read_one.Goals as goal

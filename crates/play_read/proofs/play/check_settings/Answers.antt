@@ -1,6 +1,6 @@
 use Rattle.serde_json.specs.View.{view}
 use Rattle.play_rules.specs.Plays.{spot_at, bad_settings}
-use Rattle.play_settings.specs.Verdicts.{breach_at}
+use Rattle.play_rules.specs.Verdicts.{breach_at}
 use Rattle.play_read.proofs.Told.{told_rule}
 use Rattle.play_read.proofs.play.check_settings.Goals as goal
 

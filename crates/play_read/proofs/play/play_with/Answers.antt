@@ -5,7 +5,7 @@ use Rattle.serde_json.specs.View.{view}
 use Rattle.play_model.specs.declared.step.Step.{Step}
 use Rattle.play_rules.specs.Plays.{handler_names, tasks_in, handlers_in}
 use Rattle.play_rules.specs.Steps.{name_in, step_of, handler_of}
-use Rattle.play_steps.specs.Readings.{IsStep}
+use Rattle.play_read.specs.Readings.{IsStep}
 use Rattle.play_read.specs.Reads.{AreSteps}
 use Rattle.play_read.proofs.Lists.{all_zip_append, filter_map_short}
 use Rattle.play_read.proofs.PlayLaws.{few_sizes, some_task, few_steps}

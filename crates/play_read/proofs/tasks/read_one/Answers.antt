@@ -1,13 +1,13 @@
 use Rattle.std.proofs.Common.{List, map, subst}
 use Rattle.std.specs.Prelude.{filter}
 use Rattle.serde_json.specs.View.{view}
-use Rattle.inventory_model.specs.Names.{Name}
+use Rattle.group_tree.specs.Names.{Name}
 use Rattle.play_rules.specs.Breaches.{Broken, NoSuchHandler}
 use Rattle.play_rules.specs.Plays.{spot_at}
 use Rattle.play_rules.specs.Steps.{checks_of_task, unknown_handlers, is_missing}
-use Rattle.play_faults.specs.Faults.{IsRefusal}
-use Rattle.play_faults.proofs.CheckLaws.{refused_later}
-use Rattle.play_steps.specs.Readings.{named_in}
+use Rattle.play_rules.specs.Faults.{IsRefusal}
+use Rattle.play_rules.proofs.CheckLaws.{refused_later}
+use Rattle.play_read.specs.Readings.{named_in}
 use Rattle.play_read.specs.Known.{known}
 use Rattle.play_read.proofs.Told.{told_here}
 use Rattle.play_read.proofs.tasks.read_one.Goals as goal

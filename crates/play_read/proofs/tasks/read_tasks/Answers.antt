@@ -6,7 +6,7 @@ use Rattle.play_model.specs.Plays.{HasPlainWords}
 use Rattle.play_model.specs.declared.step.Step.{Step}
 use Rattle.play_rules.specs.Plays.{checks_of_tasks}
 use Rattle.play_rules.specs.Steps.{step_of}
-use Rattle.play_steps.specs.Readings.{IsStep}
+use Rattle.play_read.specs.Readings.{IsStep}
 use Rattle.play_read.specs.Known.{known}
 use Rattle.play_read.proofs.Lists.{left_at, taken_at, all_zip_more}
 use Rattle.play_read.proofs.StepLaws.{tasks_on, tasks_refused}

@@ -1,7 +1,7 @@
 use Rattle.std.proofs.Common.{◌<◌, length, arith}
 use Rattle.std.proofs.lemmas.Bool.Decides.{nat_tests}
-use Rattle.rehearsal_text.specs.Answers.{answer_to}
-use Rattle.rehearsal_text.specs.Commands.{command_in}
+use Rattle.rehearsing.specs.Answers.{answer_to}
+use Rattle.rehearsing.specs.Commands.{command_in}
 use Rattle.rehearsing.proofs.ListeningLemmas.{last_told}
 use Rattle.rehearsing.proofs.listening.answer_last.Goals as goal
 

@@ -1,14 +1,14 @@
 use Rattle.std.proofs.Common.{◌≡◌, ◌≤◌, ℕ, Option, List, length, refl, sym, ap, ◌∙◌, arith}
 use Rattle.std.specs.List.{list_any}
-use Rattle.host_patterns.specs.Patterns.{parts_of}
+use Rattle.text_parts.specs.Patterns.{parts_of}
 use Rattle.group_tree.specs.declared.ids.HostId.{HostId}
 use Rattle.domains.specs.Ids.{host_numbers}
 use Rattle.domains.specs.Patterns.{is_named_by, named_hosts}
-use Rattle.domain_counts.proofs.WhereLemmas.{length-where}
+use Rattle.batch_plan.proofs.WhereLemmas.{length-where}
 use Rattle.fleet_states.specs.Starts.{start_statuses}
 use Rattle.fleet_states.proofs.HostLemmas.{length-host_numbers}
-use Rattle.play_plan.specs.PlayPlans.{targets}
-use Rattle.rehearsal.specs.Plays.{caps_of}
+use Rattle.play_course.specs.PlayPlans.{targets}
+use Rattle.rehearsing.specs.Plays.{caps_of}
 use Rattle.rehearsing.proofs.OpeningLemmas.{same_rules}
 use Rattle.rehearsing.proofs.opening.open_play.Goals as goal
 

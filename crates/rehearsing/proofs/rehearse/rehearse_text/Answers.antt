@@ -1,9 +1,9 @@
 use Rattle.std.proofs.Common.{◌≡◌, ℕ, Option, List, length, sym, ap, ◌∙◌, subst, inl}
 use Rattle.std.specs.Prelude.{All}
 use Rattle.std.proofs.KnownBytes.{Keeps-refl}
-use Rattle.play_plan.specs.PlayPlans.{targets}
-use Rattle.rehearsal.specs.Stacks.{Rules}
-use Rattle.rehearsal.proofs.PlayLemmas.{HasHosts, some_caps}
+use Rattle.play_course.specs.PlayPlans.{targets}
+use Rattle.rehearsing.specs.Stacks.{Rules}
+use Rattle.rehearsing.proofs.PlayLemmas.{HasHosts, some_caps}
 use Rattle.rehearsing.specs.Inside.{IsOpeningOfTexts, rules_in}
 use Rattle.rehearsing.specs.Openings.{IsOpeningIn}
 use Rattle.rehearsing.proofs.OpeningLemmas.{opens, session_told}

@@ -1,5 +1,5 @@
-use Rattle.batch_work.specs.Works.{is_awaited_in}
-use Rattle.roll_kernel.specs.Views.{roll_of, state_of}
+use Rattle.event_log.specs.Works.{is_awaited_in}
+use Rattle.roll_core.specs.Views.{roll_of, state_of}
 use Rattle.roll_run.proofs.Passing.{none_yet, passes_step, still_working, works_on}
 use Rattle.roll_run.proofs.Turning.{nobody_busy, step_says}
 use Rattle.roll_run.proofs.batch.pass_step.Goals as goal

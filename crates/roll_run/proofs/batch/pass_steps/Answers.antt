@@ -1,5 +1,5 @@
 use Rattle.std.proofs.Common.{ap, ◌∙◌}
-use Rattle.roll_kernel.specs.Views.{KernelView, state_of}
+use Rattle.roll_core.specs.Views.{KernelView, state_of}
 use Rattle.roll_run.proofs.Passing.{at_its_end, at_its_halt, at_work, works_further}
 use Rattle.roll_run.proofs.batch.pass_steps.Goals as goal
 

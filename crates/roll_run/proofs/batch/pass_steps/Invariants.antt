@@ -1,6 +1,6 @@
 use Rattle.std.proofs.Common.{◌≡◌, true}
-use Rattle.roll_kernel.specs.Barriers.{is_working}
-use Rattle.roll_kernel.specs.Views.{state_of}
+use Rattle.roll_core.specs.Barriers.{is_working}
+use Rattle.roll_core.specs.Views.{state_of}
 use Rattle.roll_run.specs.Inside.{HasWorked}
 use Rattle.roll_run.proofs.batch.pass_steps.Given as goal
 

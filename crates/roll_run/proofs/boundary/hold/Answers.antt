@@ -1,9 +1,9 @@
 use Rattle.std.proofs.Common.{◌<◌, sym, ap, ◌∙◌, subst}
 use Rattle.domains.specs.Ids.{host_numbers}
-use Rattle.domain_counts.specs.Counts.{Counted}
+use Rattle.batch_plan.specs.Counts.{Counted}
 use Rattle.fleet_states.proofs.HostLemmas.{length-host_numbers}
 use Rattle.batch_plan.specs.Places.{told_places}
-use Rattle.roll_kernel.specs.Views.{state_of}
+use Rattle.roll_core.specs.Views.{state_of}
 use Rattle.roll_run.proofs.Counting.{follows, told_fleet}
 use Rattle.roll_run.proofs.Passing.{sets_aside}
 use Rattle.roll_run.proofs.boundary.hold.Goals as goal

@@ -1,8 +1,8 @@
 use Rattle.std.proofs.Common.{◌<◌, ◌+◌, ◌^◌, sym, ap, ◌∙◌, subst}
 use Rattle.std.specs.Prelude.{IfSome}
-use Rattle.roll_logs.specs.Logs.{IsLegal}
-use Rattle.roll_logs.specs.States.{start_state}
-use Rattle.roll_kernel.specs.Views.{roll_of}
+use Rattle.event_log.specs.Logs.{IsLegal}
+use Rattle.event_log.specs.States.{start_state}
+use Rattle.roll_core.specs.Views.{roll_of}
 use Rattle.roll_core.specs.Boards.{BoardView}
 use Rattle.roll_core.specs.Tellings.{halt_in}
 use Rattle.roll_run.proofs.Turning.{halts_early}

@@ -1,6 +1,6 @@
 use Rattle.std.proofs.Common.{ap, ◌∙◌, subst}
 use Rattle.std.specs.List.{count_by}
-use Rattle.roll_kernel.specs.Views.{event_of}
+use Rattle.roll_core.specs.Views.{event_of}
 use Rattle.roll_run.specs.Inside.{HasGone, opens}
 use Rattle.roll_run.proofs.Ending.{is_broken, is_run}
 use Rattle.roll_run.proofs.opening.leave.Goals as goal

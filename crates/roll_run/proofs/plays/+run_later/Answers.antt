@@ -3,7 +3,7 @@ use Rattle.std.specs.List.{find}
 use Rattle.domains.specs.Patterns.{names_nothing}
 use Rattle.fleet_states.specs.declared.status.Status.{Status}
 use Rattle.play_model.specs.declared.play.Play.{Play}
-use Rattle.play_plan.specs.PlayPlans.{named_parts}
+use Rattle.play_course.specs.PlayPlans.{named_parts}
 use Rattle.roll_run.specs.declared.fault.RunFault.{RunFault}
 use Rattle.roll_run.specs.Runs.{roll_by}
 use Rattle.roll_run.specs.Plays.{IsNotBegun, IsRollAfter, IsRunAfter}

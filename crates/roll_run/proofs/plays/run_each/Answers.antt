@@ -2,7 +2,7 @@ use Rattle.std.proofs.Common.{◌≡◌, ◌-◌, None, Option, List, [], ◌∷
 use Rattle.std.specs.List.{find}
 use Rattle.domains.specs.Patterns.{names_nothing}
 use Rattle.play_model.specs.declared.play.Play.{Play}
-use Rattle.play_plan.specs.PlayPlans.{named_parts}
+use Rattle.play_course.specs.PlayPlans.{named_parts}
 use Rattle.roll_run.specs.declared.run.Run.{Run}
 use Rattle.roll_run.specs.Runs.{roll_by}
 use Rattle.roll_run.specs.Plays.{AreBrokenOff}

@@ -1,6 +1,6 @@
 use Rattle.std.proofs.Common.{◌≡◌}
 use Rattle.batch_plan.specs.Places.{AreCountsOf}
-use Rattle.roll_kernel.specs.Views.{state_of}
+use Rattle.roll_core.specs.Views.{state_of}
 use Rattle.roll_run.specs.Inside.{IsBetween, IsSameRoll}
 use Rattle.roll_run.proofs.turns.go_on.Given as goal
 

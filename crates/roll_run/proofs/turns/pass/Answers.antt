@@ -1,12 +1,12 @@
 use Rattle.std.proofs.Common.{◌≡◌, ◌<◌, List, length, sym, ap, ◌∙◌, subst, None, refl}
 use Rattle.domains.specs.Ids.{host_numbers}
-use Rattle.domain_counts.specs.Counts.{Counted}
+use Rattle.batch_plan.specs.Counts.{Counted}
 use Rattle.fleet_states.proofs.HostLemmas.{length-host_numbers}
 use Rattle.batch_plan.specs.Places.{told_places}
 use Rattle.play_course.specs.declared.boundary.Boundary.{Boundary}
 use Rattle.play_course.specs.Courses.{end_here, end_with, next_batch}
-use Rattle.roll_logs.specs.States.{failures}
-use Rattle.roll_kernel.specs.Views.{KernelView, state_of}
+use Rattle.event_log.specs.States.{failures}
+use Rattle.roll_core.specs.Views.{KernelView, state_of}
 use Rattle.roll_run.specs.Inside.{HasBroken, HasRun, grown}
 use Rattle.roll_core.specs.Tellings.{halt_in}
 use Rattle.roll_run.proofs.Counting.{told_fleet}

@@ -3,7 +3,7 @@ use Rattle.std.proofs.lemmas.List.{take_all}
 use Rattle.bounded_io.specs.Writing.{Writes}
 use Rattle.bounded_io.proofs.WritingLemmas.{writes_two}
 use Rattle.roll_run.specs.declared.run.Run.{Run}
-use Rattle.run_recap.proofs.PlaceLemmas.{text_more}
+use Rattle.recap.proofs.PlaceLemmas.{text_more}
 use Rattle.running.specs.Recaps.{headed, run_text, runs_text}
 use Rattle.running.proofs.recaps.write_runs.Goals as goal
 

@@ -1,7 +1,7 @@
 use Rattle.std.proofs.Common.{codes, refl}
 use Rattle.std.proofs.Math.Facts.{to_z-of_z}
 use Rattle.bounded_io.proofs.WritingLemmas.{writes_two}
-use Rattle.telling.specs.Integers.{integer_text}
+use Rattle.recap.specs.Integers.{integer_text}
 use Rattle.telling.specs.Rows.{number_text}
 use Rattle.telling.proofs.row_ends.write_signal_number.Goals as goal
 

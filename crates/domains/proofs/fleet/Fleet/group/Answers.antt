@@ -1,6 +1,6 @@
 use Rattle.std.proofs.Common.{◌∙◌, position, Global, sym, ap}
 use Rattle.std.specs.String.{string_bytes}
-use Rattle.inventory_model.specs.Names.{same_name}
+use Rattle.group_tree.specs.Names.{same_name}
 use Rattle.domains.specs.FleetViews.{FleetView}
 use Rattle.domains.proofs.NameLemmas.{position_of_map, position_found}
 use Rattle.domains.proofs.fleet.Fleet.group.Goals as goal

@@ -1,5 +1,5 @@
-use Rattle.roll_logs.proofs.ColumnFronts.{ends_by_columns}
-use Rattle.roll_kernel.specs.Views.{roll_of}
+use Rattle.event_log.proofs.ColumnFronts.{ends_by_columns}
+use Rattle.roll_core.specs.Views.{roll_of}
 use Rattle.fork_pool.specs.ScriptLines.{told_by}
 use Rattle.fork_pool.proofs.script.laws.batches_end_by_their_script.Goals as goal
 

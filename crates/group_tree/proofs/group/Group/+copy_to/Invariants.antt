@@ -1,5 +1,5 @@
 use Rattle.std.proofs.Common.{◌≡◌, take}
-use Rattle.inventory_model.specs.Subtrees as subtrees
+use Rattle.group_tree.specs.Subtrees as subtrees
 use Rattle.group_tree.specs.Parts.{groups_below}
 use Rattle.group_tree.proofs.group.Group.+copy_to.Given as goal
 

@@ -1,5 +1,5 @@
 use Rattle.std.proofs.Common.{◌<◌, ◌≡◌, false, rules, sym, ◌∙◌}
-use Rattle.inventory_model.specs.Names.{same_name}
+use Rattle.group_tree.specs.Names.{same_name}
 use Rattle.group_tree.specs.Parts.{groups_below}
 use Rattle.group_tree.proofs.Walks.{groups_below-child}
 use Rattle.group_tree.proofs.MemberLemmas.{holds-here, holds-child, holds-none}

@@ -1,7 +1,7 @@
 use Rattle.std.proofs.Common.{◌≡◌, false, take}
 use Rattle.std.specs.List.{list_any}
-use Rattle.inventory_model.specs.Members as members
-use Rattle.inventory_model.specs.Subtrees as subtrees
+use Rattle.group_tree.specs.Members as members
+use Rattle.group_tree.specs.Subtrees as subtrees
 use Rattle.group_tree.specs.Parts.{groups_below}
 use Rattle.group_tree.proofs.group.Group.+holds.Given as goal
 

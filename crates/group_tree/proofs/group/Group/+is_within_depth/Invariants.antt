@@ -1,7 +1,7 @@
 use Rattle.std.proofs.Common.{◌≡◌, ◌-◌, true, take}
 use Rattle.std.specs.List.{list_all}
-use Rattle.inventory_model.specs.Subtrees.{places_of}
-use Rattle.inventory_model.specs.Bounds.{are_within_depth}
+use Rattle.group_tree.specs.Subtrees.{places_of}
+use Rattle.group_tree.specs.Bounds.{are_within_depth}
 use Rattle.group_tree.specs.Parts.{groups_below}
 use Rattle.group_tree.proofs.group.Group.+is_within_depth.Given as goal
 

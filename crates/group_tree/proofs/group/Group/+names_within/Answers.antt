@@ -1,5 +1,5 @@
 use Rattle.std.proofs.Common.{◌<◌, ◌≡◌, ◌-◌, false, true, sym, ◌∙◌, arith, rules}
-use Rattle.inventory_model.specs.Names.{same_name}
+use Rattle.group_tree.specs.Names.{same_name}
 use Rattle.group_tree.specs.Parts.{groups_below}
 use Rattle.group_tree.proofs.Walks.{groups_below-child}
 use Rattle.group_tree.proofs.NamesWithin.{names_within-below, names_within-child, names_within-after, names_within-end}

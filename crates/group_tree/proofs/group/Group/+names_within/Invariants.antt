@@ -1,7 +1,7 @@
 use Rattle.std.proofs.Common.{◌≡◌, ◌-◌, take, drop}
-use Rattle.inventory_model.specs.Names.{is_among}
-use Rattle.inventory_model.specs.Subtrees.{side_by_side}
-use Rattle.inventory_model.specs.Bounds.{group_names}
+use Rattle.group_tree.specs.Names.{is_among}
+use Rattle.group_tree.specs.Subtrees.{side_by_side}
+use Rattle.group_tree.specs.Bounds.{group_names}
 use Rattle.group_tree.specs.Parts.{groups_below}
 use Rattle.group_tree.proofs.group.Group.+names_within.Given as goal
 

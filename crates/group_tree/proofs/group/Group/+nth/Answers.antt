@@ -1,5 +1,5 @@
 use Rattle.std.proofs.Common.{◌<◌, ◌-◌, length, arith, rules}
-use Rattle.inventory_model.specs.Subtrees.{places_of}
+use Rattle.group_tree.specs.Subtrees.{places_of}
 use Rattle.group_tree.specs.Parts.{groups_below}
 use Rattle.group_tree.proofs.Walks.{groups_below-child}
 use Rattle.group_tree.proofs.Nth.{IsGroupAt-itself, IsGroupAt-child, nth-after, places-after}

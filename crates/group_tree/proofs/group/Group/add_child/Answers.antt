@@ -1,5 +1,5 @@
 use Rattle.std.proofs.Common.{subst}
-use Rattle.inventory_model.specs.Subtrees.{Subtree}
+use Rattle.group_tree.specs.Subtrees.{Subtree}
 use Rattle.group_tree.specs.Parts.{IsWellFormed}
 use Rattle.group_tree.proofs.WellFormed.{IsWellFormed-with_child}
 use Rattle.group_tree.proofs.group.Group.add_child.Goals as goal

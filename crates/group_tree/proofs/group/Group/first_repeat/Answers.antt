@@ -1,8 +1,8 @@
 use Rattle.std.proofs.Common.{◌<◌, length, sym, ◌∙◌, arith}
 use Rattle.std.proofs.lemmas.List.{length-map}
-use Rattle.inventory_model.specs.Places.{Place}
-use Rattle.inventory_model.specs.Subtrees.{places_of}
-use Rattle.inventory_model.specs.Bounds.{group_names}
+use Rattle.group_tree.specs.Places.{Place}
+use Rattle.group_tree.specs.Subtrees.{places_of}
+use Rattle.group_tree.specs.Bounds.{group_names}
 use Rattle.group_tree.proofs.Repeats.{are_distinct-more}
 use Rattle.group_tree.proofs.group.Group.first_repeat.Goals as goal
 

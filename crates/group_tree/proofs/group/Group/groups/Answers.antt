@@ -1,6 +1,6 @@
 use Rattle.std.proofs.Common.{◌≡◌, true, subst}
-use Rattle.inventory_model.specs.Places.{is_preorder}
-use Rattle.inventory_model.specs.Subtrees.{Subtree}
+use Rattle.group_tree.specs.Places.{is_preorder}
+use Rattle.group_tree.specs.Subtrees.{Subtree}
 use Rattle.group_tree.proofs.Preorder.{is_preorder-places_of}
 use Rattle.group_tree.proofs.group.Group.groups.Goals as goal
 

@@ -1,7 +1,7 @@
 use Rattle.std.proofs.Common.{take, ap, ◌∙◌}
-use Rattle.inventory_model.specs.Names.{is_among}
-use Rattle.inventory_model.specs.Subtrees.{places_of, inventory_of}
-use Rattle.inventory_model.specs.Bounds.{group_names}
+use Rattle.group_tree.specs.Names.{is_among}
+use Rattle.group_tree.specs.Subtrees.{places_of, inventory_of}
+use Rattle.group_tree.specs.Bounds.{group_names}
 use Rattle.group_tree.proofs.Repeats.{IsGroupAt-name}
 use Rattle.group_tree.proofs.group.Group.is_repeat.Goals as goal
 

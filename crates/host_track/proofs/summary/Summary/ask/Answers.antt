@@ -1,8 +1,8 @@
 use Rattle.std.proofs.Common.{◌≡◌, ◌∙◌, subst}
 use Rattle.std.specs.Prelude.{IfOk}
-use Rattle.outcome_results.specs.Hosts.{Known}
-use Rattle.host_jobs.specs.Asking.{asks, asked_as}
-use Rattle.host_jobs.specs.declared.asked.Asked.{Asked}
+use Rattle.host_track.specs.Hosts.{Known}
+use Rattle.host_track.specs.Asking.{asks, asked_as}
+use Rattle.host_track.specs.declared.asked.Asked.{Asked}
 use Rattle.host_track.proofs.summary.Summary.ask.Goals as goal
 
 pub returns-clause-asked : goal.returns-clause-asked

@@ -2,8 +2,8 @@
 use Rattle.std.proofs.Common.{◌≡◌, ℕ, ◌||◌, ◌∙◌, Bool, List, ap, arith, length}
 use Rattle.std.proofs.lemmas.List.{with_items_is}
 use Rattle.std.specs.Vec.{with_items}
-use Rattle.outcome_results.specs.Endings.{ending_of}
-use Rattle.outcome_results.specs.Hosts.{known_of}
+use Rattle.host_track.specs.Endings.{ending_of}
+use Rattle.host_track.specs.Hosts.{known_of}
 use Rattle.host_track.specs.Summaries.{mark_at}
 use Rattle.host_track.specs.declared.summary.Summary.{Summary}
 use Rattle.host_track.proofs.SummaryLemmas.{Follows, shows_row, marks_follow}

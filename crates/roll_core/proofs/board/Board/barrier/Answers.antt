@@ -1,6 +1,6 @@
 use Rattle.std.proofs.Common.{sym, subst, refl}
-use Rattle.roll_logs.specs.Events.{passed}
-use Rattle.roll_kernel.specs.Views.{KernelView}
+use Rattle.event_log.specs.Events.{passed}
+use Rattle.roll_core.specs.Views.{KernelView}
 use Rattle.roll_core.specs.Inside.{IsKept}
 use Rattle.roll_core.specs.Tellings.{IsTold}
 use Rattle.roll_core.proofs.GrowLemmas.{kept_quiet}

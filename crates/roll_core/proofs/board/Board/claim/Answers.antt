@@ -1,8 +1,8 @@
 use Rattle.std.proofs.Common.{Option, rules, sym, subst, refl}
-use Rattle.roll_logs.specs.Events.{claimed}
-use Rattle.roll_kernel.specs.declared.claim.Handed.{Handed}
-use Rattle.roll_kernel.specs.Claims.{IsClaim, IsHandedOut}
-use Rattle.roll_kernel.specs.Views.{KernelView}
+use Rattle.event_log.specs.Events.{claimed}
+use Rattle.roll_core.specs.declared.claim.Handed.{Handed}
+use Rattle.roll_core.specs.Claims.{IsClaim, IsHandedOut}
+use Rattle.roll_core.specs.Views.{KernelView}
 use Rattle.roll_core.specs.Boards.{BoardView}
 use Rattle.roll_core.specs.Givings.{IsGiven}
 use Rattle.roll_core.specs.Inside.{IsKept}

@@ -1,10 +1,10 @@
 use Rattle.std.proofs.Common.{◌≡◌, ℕ, Option, List, [], ◌∷◌, ◌∙◌, ap, sym, subst, refl}
 use Rattle.fleet_states.specs.declared.status.Status.{Status}
-use Rattle.batch_outcome.specs.Batches.{statuses_after}
-use Rattle.roll_logs.specs.Columns.{Columns, Tells, fails_by}
-use Rattle.roll_logs.specs.Events.{closed}
-use Rattle.roll_logs.specs.States.{ended}
-use Rattle.roll_kernel.specs.Views.{KernelView, roll_of, state_of}
+use Rattle.fleet_states.specs.Batches.{statuses_after}
+use Rattle.event_log.specs.Columns.{Columns, Tells, fails_by}
+use Rattle.event_log.specs.Events.{closed}
+use Rattle.event_log.specs.States.{ended}
+use Rattle.roll_core.specs.Views.{KernelView, roll_of, state_of}
 use Rattle.roll_core.specs.Boards.{BoardView}
 use Rattle.roll_core.specs.Inside.{IsKept}
 use Rattle.domains.specs.Ids.{host_numbers}

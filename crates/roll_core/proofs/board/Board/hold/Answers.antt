@@ -1,7 +1,7 @@
 use Rattle.std.proofs.Common.{[], ◌∷◌, sym, subst, refl}
 use Rattle.domains.specs.Ids.{host_numbers}
-use Rattle.roll_logs.specs.Events.{set_aside}
-use Rattle.roll_kernel.specs.Views.{KernelView}
+use Rattle.event_log.specs.Events.{set_aside}
+use Rattle.roll_core.specs.Views.{KernelView}
 use Rattle.roll_core.specs.Inside.{IsKept}
 use Rattle.roll_core.specs.Tellings.{HasHeard, Hears, IsTold, aside}
 use Rattle.roll_core.proofs.GrowLemmas.{kept_quiet}

@@ -1,5 +1,5 @@
 use Rattle.std.proofs.Common.{subst}
-use Rattle.roll_kernel.specs.Views.{FrontsAreSafe, roll_of}
+use Rattle.roll_core.specs.Views.{FrontsAreSafe, roll_of}
 use Rattle.roll_core.specs.Boards.{BoardView}
 use Rattle.roll_core.proofs.board.Board.log.Goals as goal
 

@@ -1,5 +1,5 @@
 use Rattle.std.proofs.Common.{rules, ap}
-use Rattle.roll_kernel.specs.Views.{KernelView}
+use Rattle.roll_core.specs.Views.{KernelView}
 use Rattle.roll_core.proofs.HearLemmas.{untold}
 use Rattle.roll_core.proofs.board.Board.new.Goals as goal
 

@@ -1,7 +1,7 @@
 use Rattle.std.proofs.Common.{[], ◌∷◌, ◌∙◌, ap, sym, subst, refl}
 use Rattle.domains.specs.Ids.{host_numbers}
-use Rattle.roll_logs.specs.Events.{opened}
-use Rattle.roll_kernel.specs.Views.{KernelView, state_of}
+use Rattle.event_log.specs.Events.{opened}
+use Rattle.roll_core.specs.Views.{KernelView, state_of}
 use Rattle.roll_core.specs.Inside.{IsKept}
 use Rattle.roll_core.specs.Tellings.{HasHeard, Hears, IsTold, opening}
 use Rattle.roll_core.proofs.GrowLemmas.{kept_quiet}

@@ -1,12 +1,12 @@
 use Rattle.std.proofs.Common.{◌≡◌, ◌<◌, ◌∙◌, [], ◌∷◌, length, sym, ap, subst, refl, inr, ◌⊎◌}
-use Rattle.roll_kernel.specs.Claims.{event_in}
-use Rattle.roll_kernel.specs.Views.{KernelView, roll_of, state_of}
-use Rattle.roll_kernel.specs.Ways.{Completed}
+use Rattle.roll_core.specs.Claims.{event_in}
+use Rattle.roll_core.specs.Views.{KernelView, roll_of, state_of}
+use Rattle.roll_core.specs.Ways.{Completed}
 use Rattle.roll_core.specs.Boards.{BoardView}
 use Rattle.roll_core.specs.Dones.{DoneView}
 use Rattle.roll_core.specs.Reports.{IsStranger}
 use Rattle.roll_core.specs.Inside.{IsKept}
-use Rattle.batch_work.specs.Rows.{undefined_name}
+use Rattle.event_log.specs.Rows.{undefined_name}
 use Rattle.roll_core.specs.Tellings.{HasHeard, Hears, IsTold, row, wanted}
 use Rattle.roll_core.proofs.GrowLemmas.{end_by, kept_report, tells}
 use Rattle.roll_core.proofs.HearLemmas.{report_told, told_more}

@@ -1,5 +1,5 @@
 use Rattle.std.proofs.Common.{List, sym, ap, ◌∙◌, subst}
-use Rattle.roll_logs.specs.Rolls.{is_of_program}
+use Rattle.event_log.specs.Rolls.{is_of_program}
 use Rattle.fork_pool.specs.declared.script.row.Row.{Row}
 use Rattle.fork_pool.specs.ScriptRows.{AreRun, lines_of}
 use Rattle.fork_pool.proofs.RowLemmas.{if_ok, told_run}

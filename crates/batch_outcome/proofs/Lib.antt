@@ -1,2 +1,0 @@
-pub mod LeastLemmas
-pub mod BatchLaws

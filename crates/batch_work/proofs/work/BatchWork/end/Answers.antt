@@ -1,8 +1,0 @@
-use Rattle.std.proofs.Common.{refl}
-use Rattle.batch_work.proofs.BatchLemmas.{work_left}
-use Rattle.batch_work.proofs.work.BatchWork.end.Goals as goal
-
-pub returns : goal.returns
-returns c =
-    λ roll state halt work at nobody.
-    work_left roll state c.args.self.now _ halt work (record { play = refl; summaries = refl; out = refl }) at refl refl c.clear.ensures.items c.clear-2.ensures.items

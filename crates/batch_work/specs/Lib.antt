@@ -1,4 +1,0 @@
-pub mod Requests
-pub mod Turns
-pub mod Works
-pub mod Rows

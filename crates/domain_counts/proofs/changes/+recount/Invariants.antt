@@ -1,5 +1,0 @@
-use Rattle.std.proofs.Common.{length}
-use Rattle.domain_counts.proofs.changes.+recount.Given as goal
-
-abbrev pub decreases-recount : goal.decreases-recount
-decreases-recount g l = length l.chain.now

@@ -1,4 +1,0 @@
-use Rattle.domain_counts.proofs.shape.+depth_of.Given as goal
-
-abbrev pub decreases-depth_of : goal.decreases-depth_of
-decreases-depth_of l = l.group.index

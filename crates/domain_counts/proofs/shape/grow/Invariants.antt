@@ -1,7 +1,0 @@
-use Rattle.std.proofs.Common.{◌≡◌}
-use Rattle.domain_counts.specs.Nodes.{side_by_side}
-use Rattle.domain_counts.specs.Counts.{bare_before}
-use Rattle.domain_counts.proofs.shape.grow.Given as goal
-
-abbrev pub invariant-loop-index : goal.invariant-loop-index
-invariant-loop-index g l = side_by_side l.tops.items ≡ bare_before l.fleet l.index

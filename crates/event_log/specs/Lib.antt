@@ -1,0 +1,15 @@
+pub mod Rolls
+pub mod Events
+pub mod States
+pub mod Logs
+pub mod Laws
+pub mod Told
+pub mod Once
+pub mod Columns
+pub mod Changes
+pub mod Growth
+pub mod Progress
+pub mod Requests
+pub mod Turns
+pub mod Works
+pub mod Rows

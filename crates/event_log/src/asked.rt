@@ -1,0 +1,28 @@
+//! What a step asks of a host, twice.
+ghost use Rattle.std.specs.Prelude.{◌≡◌, IfOk, map, string_bytes};
+ghost use Rattle.host_track.specs.Asking.{asked_as};
+
+use host_track::Asked;
+use std::alloc::{AllocError, Global};
+
+/// An equal one. It fails for want of memory alone.
+pub(crate) fn copy_of(alloc: Global, asked: &Asked) -> Result<Asked, AllocError>
+    ensures { IfOk result (λ copy. asked_as copy ≡ asked_as asked.now) }
+{
+    match asked {
+        Asked::Job { words } => Ok(Asked::Job {
+            words: words_again(alloc, words.as_slice())?,
+        }),
+        Asked::Settled(outcome) => Ok(Asked::Settled(outcome.copy(alloc)?)),
+    }
+}
+
+fn words_again(alloc: Global, words: &[String]) -> Result<Vec<String>, AllocError>
+    ensures { IfOk result (λ copy. map string_bytes copy.items ≡ map string_bytes words.now) }
+{
+    let mut copy = Vec::with_capacity(alloc, words.len())?;
+    for word in words {
+        copy.push(String::from_str(alloc, word.as_str())?)?;
+    }
+    Ok(copy)
+}

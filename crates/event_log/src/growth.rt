@@ -1,0 +1,67 @@
+//! What holds of a legal log that goes on, whoever makes it.
+ghost use Rattle.event_log.specs.Growth.{BatchesStayTheirs, BeginningsAreLegal, BeginningsTell, BoundariesAreBare, HostsBehindTheirBatchStay};
+ghost use Rattle.event_log.specs.Growth.{HostsOfNoBatchHaveNoRows, NobodyIsOutOffAStep};
+ghost use Rattle.event_log.specs.Growth.{LegalLogsGrow, NoHostIsOpenedTwice, OneEventMore, WorkStaysWithinStep};
+
+/// The state after one event more is that after the event.
+#[tactic(auto, using(crate::proofs::GrowthLaws::one_event_more))]
+pub fn one_event_more()
+    ensures { OneEventMore }
+{}
+
+/// A legal log may go on with each event that is allowed at its end.
+#[tactic(auto, using(crate::proofs::GrowthLaws::legal_logs_grow))]
+pub fn legal_logs_grow()
+    ensures { LegalLogsGrow }
+{}
+
+/// A beginning of a legal log is legal.
+#[tactic(auto, using(crate::proofs::GrowthLaws::beginnings_are_legal))]
+pub fn beginnings_are_legal()
+    ensures { BeginningsAreLegal }
+{}
+
+/// Columns that a log tells its beginning tells too.
+#[tactic(auto, using(crate::proofs::GrowthLaws::beginnings_tell))]
+pub fn beginnings_tell()
+    ensures { BeginningsTell }
+{}
+
+/// Claims and reports alone leave the batch at its step, and all hosts outside it as they are.
+#[tactic(auto, using(crate::proofs::GrowthLaws::work_stays))]
+pub fn work_stays_within_its_step()
+    ensures { WorkStaysWithinStep }
+{}
+
+/// Claims, reports and barriers alone leave the open batch the one that was opened, and all hosts outside it as they were then.
+#[tactic(auto, using(crate::proofs::GrowthLaws::batches_stay))]
+pub fn batches_stay_theirs()
+    ensures { BatchesStayTheirs }
+{}
+
+/// Where no batch is open, nobody is in one.
+#[tactic(auto, using(crate::proofs::GrowthLaws::bare_at_boundaries))]
+pub fn boundaries_are_bare()
+    ensures { BoundariesAreBare }
+{}
+
+/// Where no batch is at a step, no claim is out.
+#[tactic(auto, using(crate::proofs::GrowthLaws::nobody_out))]
+pub fn nobody_is_out_off_a_step()
+    ensures { NobodyIsOutOffAStep }
+{}
+
+/// Each host stands in at most one batch of a play.
+pub fn no_host_is_opened_twice()
+    ensures { NoHostIsOpenedTwice }
+{}
+
+/// A host that stood in no batch has no rows.
+pub fn hosts_of_no_batch_have_no_rows()
+    ensures { HostsOfNoBatchHaveNoRows }
+{}
+
+/// A host that no longer waits, and is in no open batch, keeps its status and its rows to the end of the log.
+pub fn hosts_behind_their_batch_stay()
+    ensures { HostsBehindTheirBatchStay }
+{}

@@ -1,0 +1,17 @@
+//! After the last batch.
+ghost use Rattle.std.specs.Prelude.{◌≡◌, map};
+
+use crate::work::BatchWork;
+use host_track::Counts;
+use host_vars::Vars;
+
+impl<'p> BatchWork<'p> {
+    /// What is left of each host, in the order of the hosts: its variables with its results, and how its rows were judged. It takes
+    /// no memory.
+    pub fn finish(self) -> (Vec<Vars>, Vec<Counts>)
+        ensures vars { result.0.items ≡ map (λ summary. summary.vars) self.entry.summaries.items }
+        ensures counts { result.1.items ≡ map (λ summary. summary.counts) self.entry.summaries.items }
+    {
+        self.room.filled(self.summaries)
+    }
+}

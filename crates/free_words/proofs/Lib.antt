@@ -1,2 +1,0 @@
-pub mod FirstPieces
-pub mod Closings

@@ -1,0 +1,45 @@
+-- What an inventory is: its places in preorder, and its rows.
+use Rattle.std.specs.Prelude.{ℕ, ◌+◌, Bool, true, ◌&&◌, Option, List, [], ◌∷◌, ◌++◌, length}
+use Rattle.group_tree.specs.Names.{Name, begins}
+use Rattle.group_tree.specs.DownLimits.{Limit}
+use Rattle.group_tree.specs.Variables.{Variable}
+
+-- a group: the names above it from the outermost in, its own name, how many of its hosts may be down at once, if it
+-- says so, and its variables
+pub record Place : Type 0 where
+  pub above : List Name
+  pub name : Name
+  pub limit : Option Limit
+  pub variables : List Variable
+
+-- a host where it stands: the names above its group, the group, the host, and the host's variables there
+pub record Row : Type 0 where
+  pub above : List Name
+  pub group : Name
+  pub host : Name
+  pub variables : List Variable
+
+-- a group without hosts is a place and has no row
+pub record Inventory : Type 0 where
+  pub places : List Place
+  pub rows : List Row
+
+-- the names from the outermost group to this one
+abbrev pub path_of : Place → List Name
+path_of place = place.above ++ place.name ∷ []
+
+abbrev pub row_path : Row → List Name
+row_path row = row.above ++ row.group ∷ []
+
+-- the outermost group has depth 1
+abbrev pub depth_of : Place → ℕ
+depth_of place = length place.above + 1
+
+-- after a place with this path, each place stands below a group on the path of the one before it
+abbrev pub goes_on : List Name → List Place → Bool
+goes_on path [] = true
+goes_on path (place ∷ places) = begins place.above path && goes_on (path_of place) places
+
+-- the places are a preorder walk
+abbrev pub is_preorder : List Place → Bool
+is_preorder places = goes_on [] places

@@ -1,8 +1,0 @@
--- What only the proofs need.
-use Rattle.std.specs.Prelude.{ℕ, List, ◌++◌}
-use Rattle.host_jobs.specs.Asking.{Request, job, settled}
-
--- with these words in front
-abbrev pub onto : List (List ℕ) → Request → Request
-onto front (job words) = job (front ++ words)
-onto front (settled end) = settled end

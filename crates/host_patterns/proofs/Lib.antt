@@ -1,4 +1,0 @@
-pub mod EndLemmas
-pub mod TrimLemmas
-pub mod CutLemmas
-pub mod PartLemmas

@@ -1,0 +1,16 @@
+-- What is known of a host while the steps of a play go by.
+use Rattle.std.specs.Prelude.{Bool, false, cond, Option, Some, None}
+use Rattle.group_tree.specs.Names.{Name, same_name}
+use Rattle.play_model.specs.Results.{Row}
+pub use Rattle.host_vars.specs.HostVars.{Known, known_of}
+pub use Rattle.host_vars.specs.Conditions.{environment_in, values_in}
+
+-- whether it is this name, where there is one
+abbrev pub is_called : Option Name → Name → Bool
+is_called None other = false
+is_called (Some name) other = same_name name other
+
+-- with a result under the name, if there is one, over what stood there
+abbrev pub with_result : Option Name → Row → Known → Known
+with_result name row known =
+    record { variables = known.variables; results = λ other. cond (is_called name other) (Some row) (known.results other) }

@@ -1,0 +1,84 @@
+//! Lists of groups that hosts share.
+ghost use Rattle.std.specs.Prelude.{◌≡◌, ℕ, ◌<◌, ◌≤◌, All, IfOk, IfSome, length, map, slice_index_or};
+ghost use Rattle.std.specs.Arc.{arc_value};
+ghost use Rattle.fleet_numbers.specs.NumberLists.{list_at};
+ghost use Rattle.host_vars.specs.Tables.{layer_at, layer_views};
+ghost use Rattle.host_vars.specs.Shared.{HaveLayers};
+
+use crate::host::HostVariables;
+use crate::layer::{Layer, share_layers};
+use fleet_numbers::NumberLists;
+use std::alloc::{AllocError, Global};
+use std::sync::Arc;
+
+/// For each group the last host yet that it is the last to hold. Where the next such host stands in one place, as most do, the same groups
+/// hold both.
+#[derive(Drop)]
+pub(crate) struct LastHosts {
+    hosts: Vec<Option<usize>>,
+}
+
+impl LastHosts {
+    pub(crate) fn new(alloc: Global, groups: usize) -> Result<LastHosts, AllocError> {
+        let mut hosts = Vec::with_capacity(alloc, groups)?;
+        for _group in 0..groups {
+            hosts.push(None)?;
+        }
+        Ok(LastHosts { hosts })
+    }
+
+    /// The last host yet whose last group is that of this list.
+    pub(crate) fn like(&self, groups: &[usize]) -> Option<usize> {
+        let last = groups.last()?;
+        let host = self.hosts.get(*last)?;
+        *host
+    }
+
+    /// Notes that these groups hold the host.
+    pub(crate) fn note(&mut self, groups: &[usize], host: usize) {
+        if let Some(last) = groups.last() {
+            if let Some(place) = self.hosts.get_mut(*last) {
+                *place = Some(host);
+            }
+        }
+    }
+}
+
+/// The earlier host, where its list is this one.
+fn with_same_list<'h>(
+    hosts: &'h [Arc<HostVariables>],
+    lists: &NumberLists,
+    earlier: Option<usize>,
+    list: &[usize],
+) -> Option<&'h Arc<HostVariables>>
+    requires { length hosts.now ≤ length lists.now }
+    ensures { IfSome result (λ host. (number : ℕ) × (number < length hosts.now) × (host.now ≡ slice_index_or hosts.now number host.now)
+        × (list_at lists.now number ≡ list.now)) }
+{
+    let number = earlier?;
+    let host = hosts.get(number)?;
+    if lists.at(number) == list {
+        Some(host)
+    } else {
+        None
+    }
+}
+
+/// The layers at these places: those of the earlier host where the same groups hold it, and a new list otherwise.
+pub(crate) fn layers_at(
+    alloc: Global,
+    layers: &[Arc<Layer>],
+    holders: &NumberLists,
+    before: (&[Arc<HostVariables>], Option<usize>),
+    places: &[usize],
+) -> Result<Arc<Vec<Arc<Layer>>>, AllocError>
+    requires within { All (λ place. place < length layers.now) places.now }
+    requires few { length before.0.now ≤ length holders.now }
+    requires have { HaveLayers layers.now holders.now before.0.now }
+    ensures { IfOk result (λ list. layer_views (arc_value list).items ≡ map (layer_at (layer_views layers.now)) places.now) }
+{
+    match with_same_list(before.0, holders, before.1, places) {
+        Some(host) => Arc::try_clone(&host.layers),
+        None => share_layers(alloc, layers, places),
+    }
+}

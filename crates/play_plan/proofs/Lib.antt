@@ -1,2 +1,0 @@
-pub mod PatternLemmas
-pub mod AlikeLemmas

@@ -1,0 +1,21 @@
+-- Texts that are written entry by entry.
+use Rattle.std.proofs.Common.{◌≡◌, ℕ, ◌+◌, ◌<◌, ◌≤◌, ◌++◌, List, [], ◌∷◌, length, take, get_or, sym, ap, ◌∙◌, refl, arith}
+use Rattle.std.proofs.lemmas.List.{append_assoc, append-nil, length-take-le, take_more}
+use Rattle.recap.specs.RecapText.{text_by_place}
+
+module _ {X : Type 0} (piece : ℕ → X → List ℕ) where
+  text_push : (place : ℕ) (entries : List X) (entry : X) → text_by_place piece place (entries ++ entry ∷ []) ≡ text_by_place piece place entries ++ piece (place + length entries) entry
+  text_push place [] entry = append-nil (piece place entry) ∙ ap (λ n. piece n entry) (omega arith)
+  text_push place (x ∷ xs) entry =
+      ap (λ text. piece place x ++ text) (text_push (place + 1) xs entry)
+      ∙ ap (λ n. piece place x ++ (text_by_place piece (place + 1) xs ++ piece n entry)) (omega arith)
+      ∙ sym (append_assoc (piece place x) (text_by_place piece (place + 1) xs) (piece (place + length (x ∷ xs)) entry))
+
+  -- one entry more of a list
+  pub text_more : (entries : List X) (i : ℕ) (entry : X) → i < length entries → entry ≡ get_or entries i entry
+      → text_by_place piece 0 (take i entries) ++ piece i entry ≡ text_by_place piece 0 (take (i + 1) entries)
+  text_more entries i entry within is =
+      let long : length (take i entries) ≡ i = length-take-le i entries (omega (arith, within)) in
+      sym
+      (ap (text_by_place piece 0) (take_more entries i entry within) ∙ ap (λ e. text_by_place piece 0 (take i entries ++ e ∷ [])) (sym is)
+      ∙ text_push 0 (take i entries) entry ∙ ap (λ n. text_by_place piece 0 (take i entries) ++ piece n entry) (omega (arith, long)))

@@ -1,4 +1,0 @@
-pub mod ListLemmas
-pub mod NumberLemmas
-pub mod PlaceLemmas
-pub mod BeginLemmas

@@ -1,5 +1,0 @@
-pub mod BatchLemmas
-pub mod StackLemmas
-pub mod ForecastLemmas
-pub mod PlayLemmas
-pub mod UndoLemmas

@@ -1,5 +1,0 @@
-use Rattle.rehearsal.proofs.UndoLemmas.{undone_all_is_opening}
-use Rattle.rehearsal.proofs.laws.undoing_all_leads_to_the_opening.Goals as goal
-
-pub returns : goal.returns
-returns c = undone_all_is_opening

@@ -1,4 +1,0 @@
-pub mod WordLemmas
-pub mod BatchLemmas
-pub mod NameLemmas
-pub mod StageLemmas

@@ -1,5 +1,0 @@
-use Rattle.rehearsal_text.proofs.BatchLemmas.{IsInNoneBefore}
-use Rattle.rehearsal_text.proofs.batch.first_with.Given as goal
-
-abbrev pub invariant-loop-place : goal.invariant-loop-place
-invariant-loop-place l = IsInNoneBefore l.host.index l.batches l.place

@@ -1,6 +1,0 @@
-//! That runs go as they were rehearsed.
-#![tactic(auto)]
-
-mod laws;
-
-pub use laws::runs_go_as_rehearsed;

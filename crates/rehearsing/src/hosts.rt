@@ -1,0 +1,77 @@
+//! The hosts of a group, with their states and their batches.
+ghost use Rattle.std.specs.Prelude.{flat_map};
+ghost use Rattle.bounded_io.specs.Writing.{Writes};
+ghost use Rattle.domains.specs.Ids.{host_numbers};
+ghost use Rattle.rehearsing.specs.Stacks.{top};
+ghost use Rattle.rehearsing.specs.Answers.{hosts_text};
+ghost use Rattle.rehearsing.specs.Hosts.{batch_text, member_line, member_lines};
+ghost use Rattle.rehearsing.specs.Names.{group_named};
+
+use crate::batch::batch_number;
+use crate::names::{find_group, write_nobody};
+use crate::rehearsal::Rehearsal;
+use bounded_io::TextWriter;
+use fleet_states::status_of;
+use group_tree::HostId;
+use recap::{host_name, word_of, write_field};
+use std::io::Write;
+
+/// Writes the number of a host's batch.
+fn write_batch<W: Write>(text: &mut TextWriter<'_, W>, number: Option<usize>)
+    ensures { Writes W.contents text.old text.new (batch_text number) }
+{
+    match number {
+        Some(number) => write_field(text, " batch=", number as u64),
+        None => text.write_str(" batch=-"),
+    }
+}
+
+/// Writes the line of a host.
+#[tactic(auto, using(bounded_io::proofs::Pieces::pieces_of_text))]
+fn write_member<W: Write>(text: &mut TextWriter<'_, W>, rehearsal: &Rehearsal<'_>, host: HostId)
+    ensures { Writes W.contents text.old text.new (member_line rehearsal.now.rules.fleet (top rehearsal.now) host.index) }
+{
+    text.write_str(host_name(rehearsal.fleet(), host));
+    text.write_str(" state=");
+    text.write_str(word_of(status_of(rehearsal.statuses(), host)));
+    write_batch(text, batch_number(rehearsal.plan(), host));
+    text.write_str("\n");
+}
+
+fn write_each_member<W: Write>(
+    text: &mut TextWriter<'_, W>,
+    rehearsal: &Rehearsal<'_>,
+    hosts: &[HostId],
+)
+    ensures { Writes W.contents text.old text.new (flat_map (λ host. member_line rehearsal.now.rules.fleet (top rehearsal.now) host.index) hosts.now) }
+{
+    for host in hosts {
+        write_member(text, rehearsal, *host);
+    }
+}
+
+/// Writes the lines of these hosts.
+fn write_members<W: Write>(
+    text: &mut TextWriter<'_, W>,
+    rehearsal: &Rehearsal<'_>,
+    hosts: &[HostId],
+)
+    ensures { Writes W.contents text.old text.new (member_lines rehearsal.now.rules.fleet (top rehearsal.now) (host_numbers hosts.now)) }
+{
+    write_each_member(text, rehearsal, hosts);
+}
+
+/// Writes the lines of the hosts of the group of this name, or that no group has it.
+pub(crate) fn write_hosts<W: Write>(
+    text: &mut TextWriter<'_, W>,
+    rehearsal: &Rehearsal<'_>,
+    name: &[u8],
+)
+    ensures { Writes W.contents text.old text.new
+        (hosts_text rehearsal.now.rules.fleet (top rehearsal.now) name.now (group_named rehearsal.now.rules.fleet name.now)) }
+{
+    match find_group(rehearsal.fleet(), name) {
+        Some(group) => write_members(text, rehearsal, rehearsal.fleet().members(group)),
+        None => write_nobody(text, name),
+    }
+}

@@ -1,0 +1,41 @@
+-- What is left of each host, by the summaries of its rows.
+use Rattle.std.proofs.Common.{◌≡◌, ℕ, zero, suc, ◌<◌, Some, List, [], ◌∷◌, length, map, sym, ap, ◌∙◌, refl}
+use Rattle.std.specs.List.{slice_get}
+use Rattle.std.proofs.lemmas.List.{length-map}
+use Rattle.host_vars.specs.declared.vars.Vars.{Vars}
+use Rattle.host_track.specs.Hosts.{known_of}
+use Rattle.host_track.specs.declared.counts.Counts.{Counts}
+use Rattle.host_track.specs.declared.summary.Summary.{Summary}
+use Rattle.event_log.specs.Rolls.{Roll}
+use Rattle.event_log.specs.States.{State}
+use Rattle.event_log.specs.declared.work.BatchWork.{BatchWork}
+use Rattle.event_log.specs.Works.{IsWorkOf}
+use Rattle.roll_core.specs.Leavings.{AreCounted, AreKnown}
+
+-- what stands at a place of a list that was read off another
+read_off : {X Y : Type 0} (f : X → Y) (xs : List X) (place : ℕ) (y : Y) → slice_get (map f xs) place ≡ Some y → (x : X) × (slice_get xs place ≡ Some x) × (f x ≡ y)
+read_off f [] place y e = absurd (cc)
+read_off f (x ∷ xs) zero y e = (x, refl, some_same (f x) y e)
+  where
+    some_same : {Z : Type 0} (a b : Z) → Some a ≡ Some b → a ≡ b
+    some_same a b e = cc
+read_off f (x ∷ xs) (suc place) y e = read_off f xs place y e
+
+module _ (roll : Roll) (state : State) (work : BatchWork) (is : IsWorkOf roll state work) where
+  pub vars_left : (left : List Vars) → left ≡ map (λ (summary : Summary). summary.vars) work.summaries.items → AreKnown roll state left
+  vars_left left reads =
+      record {
+        all = ap length reads ∙ length-map work.summaries.items (λ (summary : Summary). summary.vars) ∙ is.hosts;
+        each = λ host vars here.
+            let read = read_off (λ (summary : Summary). summary.vars) work.summaries.items host vars (sym (ap (λ l. slice_get l host) reads) ∙ here) in
+            sym (ap known_of read.2) ∙ (is.summaries host read.0 read.1).known;
+      }
+
+  pub counts_left : ((host : ℕ) → length (state.rows host) < 4294967296) → (left : List Counts) → left ≡ map (λ (summary : Summary). summary.counts) work.summaries.items → AreCounted roll state left
+  counts_left few left reads =
+      record {
+        all = ap length reads ∙ length-map work.summaries.items (λ (summary : Summary). summary.counts) ∙ is.hosts;
+        each = λ host counts here.
+            let read = read_off (λ (summary : Summary). summary.counts) work.summaries.items host counts (sym (ap (λ l. slice_get l host) reads) ∙ here) in
+            sym read.2 ∙ (is.summaries host read.0 read.1).counts (few host);
+      }

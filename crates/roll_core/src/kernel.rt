@@ -1,0 +1,102 @@
+//! The log of a roll, and the state after it.
+ghost use Rattle.std.specs.Prelude.{◌≡◌, ◌<◌, ◌≤◌, ◌++◌, ◌∷◌, [], IfOk, length, vec_capacity, vec_len};
+ghost use Rattle.fleet_states.specs.Statuses.{NobodyRuns};
+ghost use Rattle.fleet_states.specs.Groups.{IsSafe, groups_of};
+
+mod barrier;
+mod claiming;
+mod closing;
+mod finishing;
+mod holding;
+mod opening;
+mod reading;
+mod reporting;
+
+use crate::event::Event;
+use domains::Fleet;
+use down_ledger::Roster;
+use event_log::BatchWork;
+use fleet_states::Status;
+use host_vars::Vars;
+use play_model::Play;
+use std::alloc::{AllocError, Global};
+use std::marker::Model;
+
+/// A roll of one play over a fleet, from its start on. Its log is legal, and no group is over its limit at any moment of it. The hosts
+/// that are down are those of the state after the log; the share of each host of the open batch rests here, or is in its `Claim` or
+/// `Completion`; whoever drops one of these loses the share.
+#[derive(Drop)]
+pub struct Kernel<'f> {
+    roster: Roster<'f>,
+    work: BatchWork<'f>,
+    play: &'f Play,
+    forks: usize,
+    start: &'f [Status],
+    vars: &'f [Vars],
+    /// There is room for a report of each claim that is out, and for the barriers and the closing of an open batch.
+    log: Vec<Event>,
+}
+
+impl<'f> Model for Kernel<'f> {
+    ghost use Rattle.std.specs.Prelude.{vec_capacity};
+    ghost use Rattle.std.specs.Coded.{codes};
+    ghost use Rattle.host_vars.specs.contracts.vars.Vars as variables;
+    ghost use Rattle.play_model.specs.contracts.play.Play as plays;
+    ghost use Rattle.roll_core.specs.Views.{KernelView, view_of};
+    ghost use Rattle.roll_core.specs.KernelInside.{IsKept};
+
+    ghost Value = { KernelView };
+
+    ghost coded = { Prim.hlevel (codes, plays.the_row.coded, variables.the_row.coded) };
+
+    ghost view = { λ b. view_of b.roster b.play.now b.forks b.start.now b.vars.now b.log.items };
+
+    ghost invariant = { λ b. IsKept (view_of b.roster b.play.now b.forks b.start.now b.vars.now b.log.items) b.roster b.work (vec_capacity b.log) };
+}
+
+impl<'f> Kernel<'f> {
+    /// A roll at its first boundary: each host begins with its status and its variables. At most `forks` claims are out at once, 1 to 64.
+    pub fn new(
+        alloc: Global,
+        fleet: &'f Fleet,
+        play: &'f Play,
+        forks: usize,
+        start: &'f [Status],
+        vars: &'f [Vars],
+    ) -> Result<Kernel<'f>, AllocError>
+        requires all { length start.now ≡ length fleet.now.hosts }
+        requires each { length vars.now ≡ length fleet.now.hosts }
+        requires at_rest { NobodyRuns start.now }
+        requires safe { IsSafe (groups_of fleet.now) start.now }
+        requires some { 0 < forks }
+        requires few { forks ≤ 64 }
+        ensures { IfOk result (λ kernel. kernel
+            ≡ record { fleet = fleet.now; play = play.now; forks = forks; start = start.now; vars = vars.now; log = [] }) }
+    {
+        let statuses = Vec::from_slice(alloc, start)?;
+        let roster = Roster::new(alloc, fleet, statuses)?;
+        let work = BatchWork::new(alloc, play, vars)?;
+        let log = Vec::new(alloc);
+        Ok(Kernel {
+            roster,
+            work,
+            play,
+            forks,
+            start,
+            vars,
+            log,
+        })
+    }
+}
+
+/// Puts an event at the end, where there is room.
+fn keep(log: &mut Vec<Event>, event: Event)
+    requires { vec_len log.old < vec_capacity log.old }
+    ensures items { log.new.items ≡ log.old.items ++ event ∷ [] }
+    ensures capacity { vec_capacity log.old ≤ vec_capacity log.new }
+{
+    match log.push(event) {
+        Ok(()) => {}
+        Err(_refused) => {}
+    }
+}

@@ -1,0 +1,60 @@
+//! A worker takes a host.
+ghost use Rattle.std.specs.Prelude.{◌≡◌, IfOk, OnErr};
+ghost use Rattle.event_log.specs.Requests.{HasRow, request_of};
+ghost use Rattle.roll_core.specs.Claims.{IsClaim, IsClaimedAs};
+
+use crate::claim::{Claim, Handed};
+use crate::completion::Completion;
+use crate::event::Event;
+use crate::job::Job;
+use crate::kernel::{Kernel, keep};
+use crate::way::Way;
+use down_ledger::Share;
+use event_log::{Given, Taken};
+use std::alloc::{AllocError, Global};
+
+impl<'f> Kernel<'f> {
+    /// Hands out the next host of the batch on which the present step is due and that nobody has taken, with its share and its job,
+    /// or with the outcome where no program is to run; none where there is no such host, or where as many claims are out as there are
+    /// forks. Want of memory leaves everything as it was.
+    pub fn claim(&mut self, alloc: Global) -> Result<Option<Handed>, AllocError>
+        ensures ok { IfOk result (IsClaim self.old self.new) }
+        ensures unchanged { OnErr result (self.new ≡ self.old) }
+    {
+        let owed = self.owed();
+        self.log.reserve(owed + 2)?;
+        let Some(taken) = self.work.claim(alloc, self.forks)? else {
+            return Ok(None);
+        };
+        let share = self.roster.lend(taken.host);
+        keep(&mut self.log, Event::Claim(taken.host, taken.step));
+        Ok(Some(claimed(share, taken)))
+    }
+
+    /// Gives a claim up whose worker found no memory. The claim stays out, its host stays down, and its batch doesn't pass the step
+    /// unless a `Completion` of an equal claim is reported for it.
+    pub fn strand(&mut self, _claim: Claim)
+        ensures { self.new ≡ self.old }
+    {}
+}
+
+/// What a worker is given, with the host's share.
+fn claimed(share: Share, taken: Taken) -> Handed
+    requires host { share.host ≡ taken.host }
+    requires row { HasRow taken.given }
+    ensures { IsClaimedAs taken.host.index taken.step (request_of taken.given) result }
+{
+    let Taken { host, step, given } = taken;
+    match given {
+        Given::Job { words } => Handed::Run(Claim {
+            share,
+            job: Job { host, step, words },
+        }),
+        Given::Settled { outcome, row } => Handed::Settled(Completion {
+            share,
+            step,
+            way: Way::Settled(outcome),
+            row,
+        }),
+    }
+}

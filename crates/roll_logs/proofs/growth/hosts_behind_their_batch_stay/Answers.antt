@@ -1,5 +1,0 @@
-use Rattle.roll_logs.proofs.GrowthLaws.{stay_behind}
-use Rattle.roll_logs.proofs.growth.hosts_behind_their_batch_stay.Goals as goal
-
-pub returns : goal.returns
-returns c = stay_behind

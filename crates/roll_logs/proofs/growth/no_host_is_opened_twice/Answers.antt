@@ -1,5 +1,0 @@
-use Rattle.roll_logs.proofs.GrowthLaws.{no_host_twice}
-use Rattle.roll_logs.proofs.growth.no_host_is_opened_twice.Goals as goal
-
-pub returns : goal.returns
-returns c = no_host_twice

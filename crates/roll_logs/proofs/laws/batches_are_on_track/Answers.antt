@@ -1,6 +1,0 @@
-use Rattle.roll_logs.proofs.ColumnFronts.{on_track}
-use Rattle.roll_logs.proofs.laws.batches_are_on_track.Goals as goal
-
--- src/laws.rt:63:1
-pub returns : goal.returns
-returns c = on_track

@@ -1,6 +1,0 @@
-use Rattle.roll_logs.proofs.ColumnFronts.{ends_by_columns}
-use Rattle.roll_logs.proofs.laws.batches_end_by_columns.Goals as goal
-
--- src/laws.rt:28:1
-pub returns : goal.returns
-returns c = ends_by_columns

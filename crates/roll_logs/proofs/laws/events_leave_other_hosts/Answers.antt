@@ -1,6 +1,0 @@
-use Rattle.roll_logs.proofs.ChangeLaws.{events_leave}
-use Rattle.roll_logs.proofs.laws.events_leave_other_hosts.Goals as goal
-
--- src/laws.rt:48:1
-pub returns : goal.returns
-returns c = events_leave

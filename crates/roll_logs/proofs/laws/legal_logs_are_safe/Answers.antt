@@ -1,6 +1,0 @@
-use Rattle.roll_logs.proofs.SafeFronts.{legal_fronts}
-use Rattle.roll_logs.proofs.laws.legal_logs_are_safe.Goals as goal
-
--- src/laws.rt:9:1
-pub returns : goal.returns
-returns c = legal_fronts

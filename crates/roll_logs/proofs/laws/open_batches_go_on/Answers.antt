@@ -1,6 +1,0 @@
-use Rattle.roll_logs.proofs.ProgressLaws.{go_on}
-use Rattle.roll_logs.proofs.laws.open_batches_go_on.Goals as goal
-
--- src/laws.rt:68:1
-pub returns : goal.returns
-returns c = go_on

@@ -1,6 +1,0 @@
-use Rattle.roll_logs.proofs.OnceFronts.{reports_follow}
-use Rattle.roll_logs.proofs.laws.reports_follow_claims.Goals as goal
-
--- src/laws.rt:43:1
-pub returns : goal.returns
-returns c = reports_follow

@@ -1,6 +1,0 @@
-use Rattle.roll_logs.proofs.ChangeLaws as law
-use Rattle.roll_logs.proofs.laws.rows_last.Goals as goal
-
--- src/laws.rt:53:1
-pub returns : goal.returns
-returns c = law.rows_last

@@ -1,0 +1,134 @@
+//! The command `run`: from the files of an inventory and a playbook to the recap of a run.
+ghost use Rattle.std.specs.Prelude.{◌≡◌, ◌<◌, ◌≤◌, Err, IfOk, IfErr, true};
+ghost use Rattle.rollout.specs.Rolls.{BreaksOff, PrintsRecap, Rolls, RollsInputs};
+ghost use Rattle.rollout.specs.Systems.{sources_of};
+ghost use Rattle.rollout.specs.declared.fault.Fault.TheVariants.{Stopped};
+
+use crate::children::refusal;
+use crate::fault::Fault;
+use crate::inputs::read_both;
+use crate::status::Status;
+use crate::system::System;
+use bounded_io::Input;
+use command_line::{Forks, Source};
+use local_programs::workers;
+use roll_core::{Runner, Watch};
+use roll_run::Attend;
+use running::run_text;
+use std::alloc::Global;
+use std::io::Write;
+use std::process::{Processes, SystemProcess};
+use std::sync::Wait;
+use std::thread::Threads;
+
+/// Runs the playbook's plays with so many workers, where the ends of programs can be had, and writes the recap of the run. `watch` is told of
+/// it while it goes on, and `attend` may have it end before a batch.
+#[allow(clippy::too_many_arguments)]
+pub fn roll<
+    S: System,
+    H: Threads + Wait + Processes<Started = SystemProcess> + Sync,
+    R: Runner,
+    A: Attend,
+    T: Watch,
+    I: Input,
+    W: Write,
+>(
+    system: &S,
+    rt: &H,
+    alloc: Global,
+    runner: &R,
+    attend: &A,
+    watch: &mut T,
+    inventory: Source,
+    playbook: Source,
+    forks: Forks,
+    input: &mut I,
+    out: &mut W,
+) -> Result<Status, Fault>
+    ensures { Rolls (R.may runner.now) (A.asks attend.now) (sources_of (S.files system.now) (I.is_reliable input.old)) inventory playbook forks
+        (I.remaining input.old) (I.remaining input.new) (W.contents out.old) (W.contents out.new) result }
+{
+    match refusal(system, alloc) {
+        Some(fault) => Err(fault),
+        None => {
+            let forks = workers(rt, forks.number());
+            roll_inputs(
+                system, rt, alloc, runner, attend, watch, inventory, playbook, forks, input, out,
+            )
+        }
+    }
+}
+
+/// Reads the inventory and the playbook, and runs their plays.
+#[allow(clippy::too_many_arguments)]
+fn roll_inputs<
+    S: System,
+    H: Threads + Wait + Processes<Started = SystemProcess> + Sync,
+    R: Runner,
+    A: Attend,
+    T: Watch,
+    I: Input,
+    W: Write,
+>(
+    system: &S,
+    rt: &H,
+    alloc: Global,
+    runner: &R,
+    attend: &A,
+    watch: &mut T,
+    inventory: Source,
+    playbook: Source,
+    forks: usize,
+    input: &mut I,
+    out: &mut W,
+) -> Result<Status, Fault>
+    requires some { 0 < forks }
+    requires few { forks ≤ 64 }
+    ensures rolls { RollsInputs (R.may runner.now) (sources_of (S.files system.now) (I.is_reliable input.old)) inventory playbook forks
+        (I.remaining input.old) (I.remaining input.new) (W.contents out.old) (W.contents out.new) result }
+    ensures stops { result ≡ Err Stopped → A.asks attend.now ≡ true }
+{
+    match read_both(system, alloc, inventory, playbook, input) {
+        Ok((inventory, playbook)) => {
+            let inventory = inventory.as_slice();
+            let playbook = playbook.as_slice();
+            roll_texts(
+                rt, alloc, runner, attend, watch, inventory, playbook, forks, out,
+            )
+        }
+        Err(fault) => Err(fault),
+    }
+}
+
+/// Runs the plays of the two texts, and writes their recap. The status tells how they ended.
+#[allow(clippy::too_many_arguments)]
+fn roll_texts<
+    H: Threads + Wait + Processes<Started = SystemProcess> + Sync,
+    R: Runner,
+    A: Attend,
+    T: Watch,
+    W: Write,
+>(
+    rt: &H,
+    alloc: Global,
+    runner: &R,
+    attend: &A,
+    watch: &mut T,
+    inventory: &[u8],
+    playbook: &[u8],
+    forks: usize,
+    out: &mut W,
+) -> Result<Status, Fault>
+    requires some { 0 < forks }
+    requires few { forks ≤ 64 }
+    ensures ok { IfOk result (PrintsRecap (R.may runner.now) inventory.now playbook.now forks (W.contents out.old) (W.contents out.new)) }
+    ensures err { IfErr result (BreaksOff (R.may runner.now) inventory.now playbook.now forks (W.contents out.old) (W.contents out.new)) }
+    ensures stops { result ≡ Err Stopped → A.asks attend.now ≡ true }
+{
+    match run_text(
+        rt, alloc, attend, watch, inventory, playbook, forks, runner, out,
+    ) {
+        Ok(end) => Ok(Status::from(end)),
+        Err(fault) => Err(Fault::from(fault)),
+    }
+}

@@ -1,4 +1,0 @@
-pub mod RosterLemmas
-pub mod MarkLemmas
-pub mod OpeningLemmas
-pub mod HoldingLemmas

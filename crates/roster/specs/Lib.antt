@@ -1,3 +1,0 @@
-pub mod Unfit
-pub mod Rosters
-pub mod Inside

@@ -1,0 +1,10 @@
+pub mod Boundaries
+pub mod PlainLemmas
+pub mod PartLemmas
+pub mod EndLemmas
+pub mod TrimLemmas
+pub mod CutLemmas
+pub mod PatternLemmas
+pub mod ListLaws
+pub mod Digits
+pub mod BreachLaws

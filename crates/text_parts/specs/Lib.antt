@@ -1,0 +1,11 @@
+pub mod Words
+pub mod Seen
+pub mod Renders
+pub mod Faults
+pub mod Worked
+pub mod Patterns
+pub mod Shapes
+pub mod Numerals
+pub mod Breaches
+pub mod Texts
+pub mod Keys

@@ -1,7 +1,0 @@
-use Rattle.std.proofs.Common.{◌≡◌, ◌++◌, take}
-use Rattle.variable_layers.specs.Entries.{entry_variables}
-use Rattle.variable_layers.proofs.entry.add_entries.Given as goal
-
-abbrev pub invariant-loop-variable : goal.invariant-loop-variable
-invariant-loop-variable g l =
-    entry_variables l.entries.items ≡ entry_variables l.initial.entries.items ++ take l.variable-index l.variables

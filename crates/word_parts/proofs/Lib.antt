@@ -1,3 +1,0 @@
-pub mod Boundaries
-pub mod PlainLemmas
-pub mod PartLemmas

@@ -1,3 +1,0 @@
-pub mod Renders
-pub mod Faults
-pub mod Worked
