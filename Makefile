@@ -1,5 +1,5 @@
 # `make` builds the program and runs it. The gate is `make check`: every proof, test and edit of must-fail/, then the scripts on the program that this built.
-.PHONY: build check drawn drifts edits look pages planted scripts test touched
+.PHONY: build check drawn drifts edits install look pages planted scripts test touched uninstall
 
 build:
 	@sh tests/build.sh
@@ -27,7 +27,7 @@ planted:
 drawn:
 	@SEED="$(SEED)" CASES="$(CASES)" sh tests/drawn.sh
 
-# The lists and counts of the pages that are made from the tree; tests/house.sh fails where this would change anything.
+# The lists and counts of the pages and of the man page that are made from the tree; tests/house.sh fails where this would change anything.
 pages:
 	@python3 tests/house/made.py
 
@@ -42,3 +42,14 @@ look:
 # The scripts that need the program alone, side by side, on the proved program or on that of `make look`.
 test:
 	@sh tests/test.sh
+
+# The program that `make` built, its manual page, completions, pages and examples. `make install`, `make install PREFIX=/opt/rollout DESTDIR=/tmp/stage`. What the
+# environment has of PREFIX and PROGRAM is another's.
+install uninstall: export PREFIX = /usr/local
+install: export PROGRAM = crates/rollout/out/rollout
+install:
+	@sh tests/install.sh install
+
+# What `make install` wrote, given the same PREFIX and DESTDIR.
+uninstall:
+	@sh tests/install.sh uninstall

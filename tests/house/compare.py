@@ -1,5 +1,5 @@
 #!/usr/bin/env python3
-"""Compares the pages with the tree: lists, counts, and the names of files, calls, scripts and targets. It proves nothing and runs nothing.
+"""Compares the pages with the tree: lists, counts, and the names of files, calls, scripts, targets and options. It proves nothing and runs nothing.
 
 tests/house.sh runs it. Each comparison is a row; the last line counts them.
 """
@@ -9,8 +9,10 @@ import os
 import re
 import sys
 
+import contracts
 import made
 import tree
+import usage
 from sources import items_of
 
 HANDLES = "Handles allowed: Threads, Wait, Processes.\n"
@@ -19,7 +21,7 @@ CITES = re.compile(r"(?<!\w)(?:R(?:1[0-6]|[1-9])|T[1-5]|D(?:1[0-9]|2[01]|[1-9])|
 # What ran at some time, under the names of that time.
 HISTORY = "docs/TRIED.md"
 # Scripts that others share, or that a target of the Makefile is for.
-NOT_IN_THE_GATE = {"all", "build", "common", "contracts", "crates", "edits", "gate", "test", "touched"}
+NOT_IN_THE_GATE = {"all", "build", "common", "contracts", "crates", "edits", "gate", "install", "test", "touched"}
 
 
 class Count:
@@ -75,8 +77,10 @@ def compare_edits(count):
         script, crate = re.match(r"tests/\w+\.sh\b", by), re.match(r"the tests of (\w+)", by)
         told = script and stands(script[0]) or crate and stands(f"crates/{crate[1]}/src")
         count.row(told, f"tests/planted/{name}.edit: shown by '{by}', which isn't there")
-    for cells in made.rows_of(tree.read("tests/planted/README.md")):
-        crate, test = re.match(r"the tests of `(\w+)`", cells[1]), re.match(r"\w+(?:::\w+)*::(\w+)$", cells[2])
+    for by, row in made.bugs_said(tree.read("tests/planted/README.md")).values():
+        crate, test = re.match(r"the tests of `(\w+)`", by), re.match(r"\w+(?:::\w+)*::(\w+)$", row)
+        if crate:
+            count.row(test, f"tests/planted/README.md: the tests of {crate[1]} have no row '{row}'")
         if crate and test:
             holds = any(f"fn {test[1]}(" in tree.read(path) for path in tree.found(f"crates/{crate[1]}/src/**/*.rt"))
             count.row(holds, f"tests/planted/README.md: {crate[1]} has no test {test[1]}")
@@ -152,53 +156,86 @@ def has_code(name):
     return any(item.kind == "fn" for path in sources for item in items_of(tree.read(path)))
 
 
+def contracts_in(text):
+    """The entries of PROVED: each crate that a heading names, and what stands before the colon of each item below it."""
+    crate, entries = "", []
+    for line in re.sub(r"\n  (?=\S)", " ", text).split("\n"):
+        if line.startswith("#"):
+            crate = (ticks(line) or [""])[0]
+            entries += [(crate, "")] if crate else []
+        elif line.startswith("- "):
+            entries.append((crate, re.split(r":\s", line[2:], maxsplit=1)[0]))
+    return entries
+
+
 def compare_crates_of_proved(count, crates):
     """PROVED has contracts of each crate that has code, or says in words that it has none."""
     said = section(tree.read("docs/PROVED.md"), "Contracts, crate by crate")
-    words = {cells[0].strip("`") for cells in made.rows_of(said)} | set(ticks(re.sub(r"^\|.*\n", "", said, flags=re.M)))
+    words = {crate for crate, head in contracts_in(said) if head} | set(ticks(re.sub(r"^(?:- |  |#).*\n", "", said, flags=re.M)))
     for name in crates:
         count.row(name in words or not has_code(name), f"docs/PROVED.md has no contracts of {name}")
 
 
+def is_handed_out(call, crate, texts):
+    """Whether a crate hands out the call: by its name or that of its type, or as a method of a type or trait that it hands out."""
+    handed = contracts.handed_out(texts, crate)
+    if handed is None or call.split("::")[0] in handed:
+        return True
+    items = [item for path in tree.found(f"crates/{crate}/src/**/*.rt") for item in items_of(tree.read(path))]
+    return any(item.name == call and item.is_public and set(re.findall(r"\w+", item.owner)) & handed for item in items if item.kind == "fn")
+
+
 def compare_table_of_contracts(count, named):
-    """Each call of a row of PROVED's tables of contracts stands in the crate of that row; each crate has a row there, or is said to have none."""
-    text = tree.read("docs/PROVED.md")
-    start = text.find("\n## Contracts, crate by crate")
-    text = text[start : text.find("\n## ", start + 1)] if start >= 0 else ""
+    """Each call of an entry of PROVED stands in the crate of its heading, and that hands it out, or a file in which it stands is named beside it; each crate has a
+    heading there, or is said to have none."""
+    said = section(tree.read("docs/PROVED.md"), "Contracts, crate by crate")
+    texts = {path: tree.read(path) for path in tree.found("crates/*/src/**/*.rt")}
     for name in named:
-        count.row(f"`{name}`" in text, f"docs/PROVED.md: no contracts of {name}")
-    crate = ""
-    for cells in made.rows_of(text):
-        crate = cells[0].strip("`") or crate
-        count.row(crate in named, f"docs/PROVED.md: contracts of {crate}, which is no crate")
-        for call in ticks(cells[1]):
+        count.row(f"`{name}`" in said, f"docs/PROVED.md: no contracts of {name}")
+    for crate, head in contracts_in(said):
+        count.row(crate in named, f"docs/PROVED.md: contracts of {crate or head}, which is no crate")
+        files = [f"crates/{crate}/{word}" for word in ticks(head) if word.startswith("src/")]
+        for call in ticks(head):
             if re.fullmatch(r"[\w:]+", call) and crate in named:
-                has = named[crate]
+                has, name = named[crate], call.split("::")[-1]
                 count.row(call in has.public | has.functions | has.types, f"docs/PROVED.md: {crate} has no {call}")
+                holds = any(f"fn {name}" in texts.get(path, "") for path in files) or is_handed_out(call, crate, texts)
+                count.row(holds, f"docs/PROVED.md: {crate} doesn't hand out {call}, and no file beside it has it")
+
+
+def definitions_in(text):
+    """The entries of DEFINITIONS: each with the crates of its heading and what it says of its files, the last cell of a row or what stands between the last
+    brackets of an item."""
+    crates, entries = [], []
+    for line in re.sub(r"\n  (?=\S)", " ", text).split("\n"):
+        if line.startswith("#"):
+            crates = re.findall(r"crates/(\w+)/specs", line)
+        cells = made.cells_of(line) if line.startswith("| ") else []
+        if len(cells) == 3 and cells[2] != "File":
+            entries.append((crates, cells[2]))
+        elif line.startswith("- "):
+            entries.append((crates, line.rpartition(" (")[2].removesuffix(")")))
+    return entries
 
 
 def compare_definitions(count, crates):
     """Each file and definition of DEFINITIONS stands where it says."""
-    crate = []
-    for line in tree.read("docs/DEFINITIONS.md").split("\n"):
-        if line.startswith("#"):
-            crate = re.findall(r"crates/(\w+)/specs", line)
-        cells = made.cells_of(line) if line.startswith("| ") else []
-        if len(cells) != 3 or cells[2] == "File":
-            continue
+    for crate, files_said in definitions_in(tree.read("docs/DEFINITIONS.md")):
         for name in crate:
             count.row(name in crates, f"docs/DEFINITIONS.md: {name} is no crate")
-        carried = crate
-        for part in cells[2].split(";"):
+        carried, named = crate, 0
+        for part in files_said.split(";"):
             carried = [name for name in ticks(part) if name in crates] or carried
             files = []
             for word in ticks(part):
                 if re.fullmatch(r"[\w/]+\.(antt|rt)", word):
                     files = [path for name in carried for path in tree.found(f"crates/{name}/specs/{word}", f"crates/{name}/{word}")]
+                    named += 1
                     count.row(files, f"docs/DEFINITIONS.md: no file {word} in {', '.join(carried)}")
                 elif re.fullmatch(r"\w+", word) and word not in crates and files:
                     holds = any(re.search(rf"(?<!\w){word}(?!\w)", tree.read(path)) for path in files)
                     count.row(holds, f"docs/DEFINITIONS.md: no {word} in {', '.join(files)}")
+        count.row(named, f"docs/DEFINITIONS.md: an entry of {', '.join(crate) or 'the glossary'} without a file: {files_said[:60]}")
 
 
 def compare_counts(count, crates):
@@ -221,7 +258,7 @@ def compare_paths(count):
         text = tree.read(path)
         if path == HISTORY:
             continue
-        for name in sorted(set(re.findall(r"(?<![\w/.-])((?:crates|tests|bench|docs|examples|\.ci)/[\w*./-]*[\w*/])", text))):
+        for name in sorted(set(re.findall(r"(?<![\w/.-])((?:crates|tests|bench|docs|examples|man|completions|\.ci)/[\w*./-]*[\w*/])", text))):
             if "/out" not in name:
                 count.row(stands(name), f"{path}: no file {name}")
         for target in sorted(set(re.findall(r"`make ([a-z_]+)", text) + re.findall(r"^(?:    |\$ )make ([a-z_]+)", text, re.M))):
@@ -342,7 +379,7 @@ def compare_trusted(count, crates):
 def compare_texts(count):
     """HANDLES is its line, and no text cites a paper or an issue by number."""
     count.row(tree.read("HANDLES") == HANDLES, "HANDLES is not its exact line")
-    for path in tree.found("**/*.rt", "**/*.antt", "**/*.md", "**/*.edit", "**/*.sh", "**/*.py"):
+    for path in tree.found("**/*.rt", "**/*.antt", "**/*.md", "**/*.edit", "**/*.sh", "**/*.py", "man/*", "completions/*"):
         if path.startswith("tests/house/"):
             continue
         cite = CITES.search(tree.read(path))
@@ -366,6 +403,7 @@ def main():
     compare_files_of_crates(count, crates)
     compare_names(count, crates, named)
     compare_scripts(count)
+    usage.compare_usage(count)
     compare_folders(count)
     compare_trusted(count, crates)
     compare_texts(count)

@@ -63,9 +63,13 @@ def a_crate_left_out_of_architecture(copy):
 def a_crate_left_out_of_proved(copy):
     text = copy.read("docs/PROVED.md")
     said = compare.section(text, "Contracts, crate by crate")
-    in_words = re.sub(r"^\|.*\n", "", said, flags=re.M)
-    rows = next(found for found in re.finditer(r"^\| `(\w+)` \|.*\n(?:\| \|.*\n)*", said, re.M) if f"`{found[1]}`" not in in_words and compare.has_code(found[1]))
-    copy.write("docs/PROVED.md", text.replace(rows[0], ""))
+    entries = next(found for found in re.finditer(r"^#### `(\w+)`\n\n(?:(?:- |  ).*\n)+", said, re.M) if said.count(f"`{found[1]}`") == 1 and compare.has_code(found[1]))
+    copy.write("docs/PROVED.md", text.replace(entries[0], ""))
+
+
+def a_call_that_its_crate_keeps(copy):
+    said = compare.section(copy.read("docs/PROVED.md"), "Contracts, crate by crate")
+    copy.change("docs/PROVED.md", re.search(r"^- `\w+`( \(`src/\w+\.rt`\)):", said.split("#### `play_read`")[1], re.M)[1], "")
 
 
 def a_command_without_a_promise(copy):
@@ -73,7 +77,7 @@ def a_command_without_a_promise(copy):
     copy.change("README.md", re.search(r"^\| `rehearse` \|.*\n", said, re.M)[0], "")
 
 
-def a_crate_left_out_of_proved(copy):
+def a_crate_that_proved_names_nowhere(copy):
     name = list(tree.crates())[0]
     copy.change("docs/PROVED.md", f"`{name}`", "", -1)
 
@@ -185,14 +189,28 @@ def a_heading_renamed(copy):
 
 
 def a_definition_renamed(copy):
-    crate, file, name = re.search(r"\(`crates/(\w+)/specs`\)\n\n\|[^\n]*\n\|[^\n]*\n\|[^\n]*\| `(\w+\.antt)`: `(\w+)`", tree.read("docs/DEFINITIONS.md")).groups()
+    crate, file, name = re.search(r"\(`crates/(\w+)/specs`\)\n\n- \*\*[^()]*\(`(\w+\.antt)`: `(\w+)`", tree.read("docs/DEFINITIONS.md")).groups()
     path = f"crates/{crate}/specs/{file}"
     copy.write(path, re.sub(rf"(?<!\w){name}(?!\w)", name + "Anew", copy.read(path)))
+
+
+def a_definition_without_a_file(copy):
+    copy.change("docs/DEFINITIONS.md", re.search(r"^- \*\*(?:.|\n  )*?( \(`\w+\.antt`[^()]*\))$", tree.read("docs/DEFINITIONS.md"), re.M)[1], "")
 
 
 def a_bug_without_a_row(copy):
     path = tree.found("tests/planted/*.edit")[0]
     copy.write("tests/planted/what_nobody_wrote_down.edit", copy.read(path))
+
+
+def a_bug_that_nobody_tried(copy):
+    path, body = page_of("bugs")
+    copy.change(path, re.search(r"(?<=`): [^`|;]+(?=; `)", body)[0], "")
+
+
+def a_bugs_test_that_is_gone(copy):
+    path, body = page_of("bugs")
+    copy.change(path, re.search(r"^\| the tests of `\w+` \| `\w+`: (?:\w+::)+(\w+)", body, re.M)[1], "anew")
 
 
 def a_rule_without_a_row(copy):
@@ -202,6 +220,27 @@ def a_rule_without_a_row(copy):
 
 def an_example_that_no_page_names(copy):
     copy.write("examples/anew.json", "{}\n")
+
+
+def an_option_left_out_of_the_man_page(copy):
+    copy.write("man/rollout.1", re.sub(r"^\.TP\n\.B \\-\\-quiet\n(?:[^.].*\n|\.B .*\n)*", "", copy.read("man/rollout.1"), flags=re.M))
+
+
+def an_option_too_many_in_fish(copy):
+    copy.change("completions/rollout.fish", "-l quiet -d", "-l silent -d")
+
+
+def a_fault_left_out_of_the_man_page(copy):
+    number = list(re.finditer(r"^\| \[(\d+)\]", tree.read("docs/FAULTS.md"), re.M))[3][1]
+    copy.write("man/rollout.1", re.sub(rf"^\.TP\n\.B {number} .*\n.*\n", "", copy.read("man/rollout.1"), flags=re.M))
+
+
+def a_fault_that_nothing_says(copy):
+    copy.change("crates/rollout/specs/FaultRows.antt", "number_of Mixed = Some 822", "number_of Mixed = Some 823")
+
+
+def a_status_told_otherwise_in_the_man_page(copy):
+    copy.change("man/rollout.1", "\n.B 4\n", "\n.B 6\n")
 
 
 def other_handles(copy):

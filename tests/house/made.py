@@ -4,7 +4,7 @@
     <!-- made by `make pages`: NAME -->
     <!-- end of NAME -->
 
-of a page. Words that only somebody who tried it can say (who refused an edit, which row told a bug) are taken over from the rows that stand there, wherever in
+of a page, and the exit statuses and faults of the man page, which are those of FAULTS. Words that only somebody who tried it can say (who refused an edit, which row told a bug) are taken over from the rows that stand there, wherever in
 the made parts of the pages a row of that name is, so that they follow an edit to another crate. What nobody said yet is left empty, and tests/house.sh asks for it.
 
     make pages
@@ -15,6 +15,7 @@ import sys
 
 import tree
 
+MAN, FAULTS = "man/rollout.1", "docs/FAULTS.md"
 PART = re.compile(r"(<!-- made by `make pages`: (\w+) -->\n)(.*?)(<!-- end of \2 -->\n)", re.S)
 MOST_EDITS, MOST_ROOMS = 80, 20
 
@@ -109,12 +110,19 @@ def made_edit_counts(_said):
     )
 
 
+def bugs_said(text):
+    """What is said of each planted bug in the rows of these tables: by its name, what tells it and the first row that does."""
+    return {name: (cells[0], row) for cells in rows_of(text) for name, row in re.findall(r"`(\w+)`: (.*?)(?=; `\w+`(?:: |; |$)|$)", cells[1])}
+
+
 def made_bugs(said):
-    """Each planted bug, with what tells it."""
-    bugs = tree.bugs()
-    first = {cells[0]: cells[2] for cells in rows_of(said) if len(cells) == 3}
-    rows = [(in_words(name), _telling(by), first.get(in_words(name), "")) for name, (_, by) in bugs.items()]
-    return f"{len(bugs)} bugs, and what tells each:\n\n" + table(("Bug", "Told by", "First row that tells it"), rows)
+    """The planted bugs by what tells each, each with the first row that does; a bug of which nobody said it stands in a row that names nothing that tells it."""
+    first, told = bugs_said(said), {}
+    for name, (_, by) in tree.bugs().items():
+        row = first.get(name, ("", ""))[1]
+        told.setdefault(_telling(by) if row else "", []).append(f"`{name}`: {row}" if row else f"`{name}`")
+    rows = [(by, "; ".join(told[by])) for by in sorted(told)]
+    return f"{len(tree.bugs())} bugs:\n\n" + table(("Told by", "Bugs, each with the first row that tells it"), rows)
 
 
 def _telling(by):
@@ -147,6 +155,33 @@ def made_chain(_said):
 MAKERS = {"families": made_families, "crates": made_crates, "chain": made_chain, "edits": made_edits, "edit_counts": made_edit_counts, "bugs": made_bugs, "rules": made_rules}
 
 
+def statuses_of_page():
+    """What FAULTS says of each exit status."""
+    text = tree.read(FAULTS)
+    return dict(rows_of(text[text.index("\n## Exit statuses") : text.index("\n## Answers of a rehearsal")]))
+
+
+def faults_of_page():
+    """What FAULTS says of each fault in short, with the number, the name and what else stands before it."""
+    rows = [cells_of(line) for line in tree.read(FAULTS).split("\n") if re.match(r"\| \[\w+\]\(", line)]
+    return {" ".join(filter(None, [re.match(r"\[(\w+)\]", cells[0])[1], *cells[1:-1]])): cells[-1] for cells in rows}
+
+
+def in_man(text):
+    """A text of a page as the man page has it."""
+    text = text.replace("\\|", "|").replace("\\", "\\e").replace("'", "\\(aq")
+    return re.sub(r"^\.", r"\\&.", re.sub(r"`([^`]*)`", lambda found: "\\fB" + found[1].replace("-", "\\-") + "\\fR", text))
+
+
+def made_man():
+    """The man page, with the exit statuses and the faults of FAULTS."""
+    text = tree.read(MAN)
+    for section, rows in (("EXIT STATUS", statuses_of_page()), ("FAULTS", faults_of_page())):
+        items = "".join(f".TP\n.B {in_man(front.replace('`', ''))}\n{in_man(said)}\n" for front, said in rows.items())
+        text = re.sub(rf"(^\.SH {section}\n(?:(?!\.TP|\.SH).*\n)*)(?:(?!\.SH).*\n)*", lambda found: found[1] + items, text, flags=re.M)
+    return text
+
+
 def made_pages():
     """The text of each page that has a made part, as it should be; and which parts stand on which page."""
     texts = {path: tree.read(path) for path in tree.pages()}
@@ -158,7 +193,7 @@ def made_pages():
     # A part is made once, from all that was said in parts of its name.
     bodies = {name: MAKERS[name](said[name]) for name in said if name in MAKERS}
     made = {path: PART.sub(lambda part: part[1] + "\n" + bodies.get(part[2], part[3]).strip("\n") + "\n\n" + part[4], text) for path, text in texts.items()}
-    return {path: text for path, text in made.items() if PART.search(text)}, parts
+    return {**{path: text for path, text in made.items() if PART.search(text)}, MAN: made_man()}, parts
 
 
 def main():

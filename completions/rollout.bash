@@ -1,0 +1,106 @@
+# Completes the words of rollout in bash: commands, options, the numbers of --forks, and files. It needs bash 4.4 or a later one, and nothing else.
+# `make install` puts it where bash-completion finds it; without that: source completions/rollout.bash
+
+# The words up to the cursor, as the program gets them: what bash parts at a mark, as `=` and `:`, is put together again. `kept` is what stands of the
+# last one before the part that a reply takes the place of.
+_rollout_words() {
+    local line=$COMP_LINE word='' rest i
+    words=()
+    for ((i = 0; i <= COMP_CWORD; i++)); do
+        word=${COMP_WORDS[i]}
+        rest=${line#"${line%%[![:blank:]]*}"}
+        if [[ $i -gt 0 && -n $line && $rest == "$line" && $rest == "$word"* ]]; then
+            words[${#words[@]} - 1]+=$word
+        else
+            words+=("$word")
+        fi
+        line=${rest#"$word"}
+    done
+    kept=${words[${#words[@]} - 1]}
+    [[ -n $word && $COMP_WORDBREAKS == *"$word"* ]] || kept=${kept%"$word"}
+}
+
+# Words that fit what stands at the cursor.
+_rollout_offer() {
+    local word
+    for word in "$@"; do
+        word=$option$word
+        [[ $word != "$option$current"* ]] || COMPREPLY+=("${word#"$kept"}")
+    done
+}
+
+# _rollout_files [PATTERN]: folders, and files that fit the pattern; where no file fits it, all files.
+_rollout_files() {
+    local found='' name
+    [[ $# -eq 0 ]] || found=$(compgen -f -X "!$1" -- "$current")
+    if [[ -n $found ]]; then
+        found+=$'\n'$(compgen -d -- "$current")
+    else
+        found=$(compgen -f -- "$current")
+    fi
+    compopt -o filenames 2>/dev/null
+    while IFS= read -r name; do
+        name=$option$name
+        [[ $name == "$option" ]] || COMPREPLY+=("${name#"$kept"}")
+    done <<<"$found"
+}
+
+_rollout() {
+    local words kept current command options most files=0 ends='' wants='' option='' i
+    COMPREPLY=()
+    _rollout_words
+    current=${words[${#words[@]} - 1]}
+    if [[ ${#words[@]} -le 2 ]]; then
+        case $current in
+        -*) _rollout_offer -h --help -V --version ;;
+        *) _rollout_offer limits plan run rehearse help ;;
+        esac
+        return
+    fi
+    command=${words[1]}
+    case $command in
+    limits) most=1 options=(-h --help) ;;
+    plan) most=2 options=(-v --verbose -h --help) ;;
+    run) most=2 options=(--forks -v --verbose --quiet --stop-file -h --help) ;;
+    rehearse) most=2 options=(-h --help) ;;
+    help)
+        [[ ${#words[@]} -gt 3 ]] || _rollout_offer limits plan run rehearse help
+        return
+        ;;
+    *) return ;;
+    esac
+    # What stands between the command and the cursor: files, options and their values, and the word behind which all are files.
+    for ((i = 2; i < ${#words[@]} - 1; i++)); do
+        if [[ -n $wants ]]; then
+            wants=''
+        elif [[ -n $ends || ${words[i]} != -?* ]]; then
+            files=$((files + 1))
+        elif [[ ${words[i]} == -- ]]; then
+            ends=yes
+        elif [[ $command == run && ${words[i]} == --@(forks|stop-file) ]]; then
+            wants=${words[i]}
+        fi
+    done
+    # The value may stand in the word of its option.
+    if [[ -z $ends$wants && $command == run && $current == --@(forks|stop-file)=* ]]; then
+        wants=${current%%=*}
+        option=$wants=
+        current=${current#*=}
+    fi
+    case $wants in
+    --forks)
+        compopt -o nosort 2>/dev/null
+        _rollout_offer {1..64}
+        ;;
+    --stop-file) _rollout_files ;;
+    *)
+        if [[ -z $ends && $current == -* ]]; then
+            _rollout_offer "${options[@]}"
+        elif [[ $files -lt $most ]]; then
+            _rollout_files '*.json'
+        fi
+        ;;
+    esac
+}
+
+complete -F _rollout rollout

@@ -1,0 +1,60 @@
+# Completes the words of rollout in fish: commands, options, the numbers of --forks, and files, those of JSON first.
+# `make install` puts it into share/fish/vendor_completions.d, where fish finds it if that share is its own or stands in XDG_DATA_DIRS; without that:
+# source completions/rollout.fish
+
+# __rollout_of COMMAND ..: whether the command is one of these; without words, whether there is none yet.
+function __rollout_of
+    set -l words (commandline -opc)
+    if test (count $argv) -eq 0
+        test (count $words) -eq 1
+    else
+        test (count $words) -gt 1; and contains -- $words[2] $argv
+    end
+end
+
+# __rollout_lacks MOST COMMAND ..: whether the command is one of these, and fewer than MOST files stand behind it.
+function __rollout_lacks
+    __rollout_of $argv[2..-1]; or return
+    set -l words (commandline -opc)
+    set -l files 0
+    set -l ends 0
+    set -l wants 0
+    for word in $words[3..-1]
+        if test $wants -eq 1
+            set wants 0
+        else if test $ends -eq 1; or not string match -q -- '-?*' $word
+            set files (math $files + 1)
+        else if test $word = --
+            set ends 1
+        else if test $words[2] = run; and contains -- $word --forks --stop-file
+            set wants 1
+        end
+    end
+    test $files -lt $argv[1]
+end
+
+complete -c rollout -f
+complete -c rollout -n __rollout_of -s h -l help -d 'Print help'
+complete -c rollout -n __rollout_of -s V -l version -d 'Print version'
+complete -c rollout -n __rollout_of -a limits -d 'Prints each limited group: its members, how many are down, its limit and its room'
+complete -c rollout -n __rollout_of -a plan -d 'Prints the fewest batches that update the hosts of a play, and what forces their number'
+complete -c rollout -n __rollout_of -a run -d 'Updates the hosts of each play batch by batch, and prints what came of them'
+complete -c rollout -n __rollout_of -a rehearse -d 'Answers what a run of a play would come to if these hosts failed, command by command'
+complete -c rollout -n __rollout_of -a help -d 'Prints the help of the program, or that of a command'
+
+complete -c rollout -n '__rollout_of limits' -s h -l help -d 'Print help'
+complete -c rollout -n '__rollout_lacks 1 limits' -k -a '(__fish_complete_suffix .json)'
+
+complete -c rollout -n '__rollout_of plan' -s v -l verbose -d 'Tells on standard error which hosts of the play are down already, and left out'
+complete -c rollout -n '__rollout_of plan' -s h -l help -d 'Print help'
+
+complete -c rollout -n '__rollout_of run' -l forks -x -k -a '1 2 3 4 5 6 7 8 9 10 11 12 13 14 15 16 17 18 19 20 21 22 23 24 25 26 27 28 29 30 31 32 33 34 35 36 37 38 39 40 41 42 43 44 45 46 47 48 49 50 51 52 53 54 55 56 57 58 59 60 61 62 63 64' -d 'How many hosts are worked on at once, 1 to 64'
+complete -c rollout -n '__rollout_of run' -s v -l verbose -d 'Tells on standard error of each batch, and of each step of each host'
+complete -c rollout -n '__rollout_of run' -l quiet -d 'Tells nothing unasked, also at a terminal; beside -v it changes nothing'
+complete -c rollout -n '__rollout_of run' -l stop-file -r -F -d 'Ends the run before the next batch once this file is there'
+complete -c rollout -n '__rollout_of run' -s h -l help -d 'Print help'
+
+complete -c rollout -n '__rollout_of rehearse' -s h -l help -d 'Print help'
+
+complete -c rollout -n '__rollout_lacks 2 plan run rehearse' -k -a '(__fish_complete_suffix .json)'
+complete -c rollout -n '__rollout_lacks 1 help' -a 'limits plan run rehearse help'
