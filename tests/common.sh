@@ -34,6 +34,20 @@ finish() {
     [ "$failed" -eq 0 ] && [ "$passed" -gt 0 ]
 }
 
+# counting WORD..: runs what counts for itself, and adds what it counted. Ending otherwise than by its count, or failing beside it, is a failure.
+counting() {
+    {
+        "$@"
+        echo $? >"$work/counting.status"
+    } >"$work/counting"
+    sed '$d' "$work/counting"
+    counts=$(tail -n 1 "$work/counting" | sed -n 's/^\([0-9]*\) passed, \([0-9]*\) failed$/\1 \2/p')
+    set -- ${counts:-0 1}
+    [ "$2" -gt 0 ] || [ "$(cat "$work/counting.status")" -eq 0 ] || set -- "$1" 1
+    passed=$((passed + $1))
+    failed=$((failed + $2))
+}
+
 # Runs the program; `input` is its standard input.
 input=/dev/null
 run() {

@@ -1,17 +1,17 @@
 #!/bin/sh
 # Refuses each allocation in turn, of the built program: what it answers is what it answers with all memory, or want of memory and nothing else; of a run
 # the recap of what it came to goes out beside that. The opening of a file is refused for want of memory too, as a system does that has none left, and the start of a
-# thread.
-# Those of the tests too that hold whatever one allocation is refused. It needs a C compiler, crates/rollout/out/rollout, and
+# thread. Each recap of a run that broke off is held against what the programs wrote down of their begins and ends (tests/programs/kept.py).
+# Those of the tests too that hold whatever one allocation is refused. It needs a C compiler, Python 3, crates/rollout/out/rollout, and
 # what rt ci (or rt test) leaves in the out/ of each crate named below. Those that left nothing are passed over, but where ALL_BUILT is set.
 . "$(dirname "$0")/common.sh"
+helpers=$top/tests/programs
 
 cat >"$work/refuse.c" <<'C'
 #define _GNU_SOURCE
 #include <dlfcn.h>
 #include <errno.h>
 #include <fcntl.h>
-#include <pthread.h>
 #include <stdarg.h>
 #include <stdatomic.h>
 #include <stdlib.h>
@@ -62,14 +62,6 @@ int posix_memalign(void **out, size_t alignment, size_t size) {
     return refused() ? ENOMEM : real(out, alignment, size);
 }
 
-/* The thread that REFUSE_THREAD numbers can't be started. */
-int pthread_create(pthread_t *thread, const pthread_attr_t *attributes, void *(*begin)(void *), void *argument) {
-    static int (*real)(pthread_t *, const pthread_attr_t *, void *(*)(void *), void *);
-    static atomic_long calls;
-    if (!real) real = (int (*)(pthread_t *, const pthread_attr_t *, void *(*)(void *), void *))dlsym(RTLD_NEXT, "pthread_create");
-    return is_chosen("REFUSE_THREAD", &calls) ? EAGAIN : real(thread, attributes, begin, argument);
-}
-
 /* The file that REFUSE_OPEN names can't be opened for want of memory. */
 int open(const char *path, int flags, ...) {
     static int (*real)(const char *, int, ...);
@@ -86,7 +78,7 @@ int open(const char *path, int flags, ...) {
     return real(path, flags, mode);
 }
 C
-${CC:-cc} -shared -fPIC -O1 -o "$work/refuse.so" "$work/refuse.c" -ldl || {
+{ ${CC:-cc} -shared -fPIC -O1 -o "$work/refuse.so" "$work/refuse.c" -ldl && ${CC:-cc} -O1 -o "$work/act" "$helpers/act.c" && ${CC:-cc} -shared -fPIC -O1 -o "$work/fail.so" "$helpers/fail.c" -ldl; } || {
     fail "no C compiler made refuse.so"
     finish
     exit 1
@@ -123,14 +115,20 @@ each_refused() {
     echo "$*: $((number - 1)) allocations refused in turn"
 }
 
-# run_refused WORDS: the same of a run, which want of memory may also break off. Then its recap goes out as far as the run came.
+# run_refused WORDS: the same of a run, which want of memory may also break off. Then its recap goes out as far as the run came, and has each host as its programs ended. These
+# write down that they begin, and how they end, in the file `notes` of this folder.
 run_refused() {
+    rm -rf "$work/compared"
+    mkdir "$work/compared"
+    cd "$work" || exit 1
     run run "$@"
     answered=$status
     mv "$work/out" "$work/out.answered"
     mv "$work/errors" "$work/errors.answered"
     number=1
-    while refusing "$number" "$rollout" run "$@"; do
+    while rm -f notes && refusing "$number" "$rollout" run "$@"; do
+        cp out "compared/$number.out"
+        [ ! -e notes ] || mv notes "compared/$number.notes"
         if [ "$status" -eq 5 ] && [ "$(cat "$work/errors")" = 'rollout: memory' ]; then
             [ ! -s "$work/out" ] || { begins_so && [ "$(tail -n 1 "$work/out")" = 'end fault' ]; }
         else
@@ -139,6 +137,8 @@ run_refused() {
         number=$((number + 1))
     done
     [ "$number" -gt 100 ] || fail "'run $*' asks for little memory"
+    counting python3 "$helpers/kept.py" "$1" "$2" "$work/compared"
+    cd "$top" || exit 1
     echo "run $*: $((number - 1)) allocations refused in turn"
 }
 
@@ -174,10 +174,20 @@ done <<'PLAYBOOKS'
 PLAYBOOKS
 # runs: words and conditions that name variables and results, a list of sizes, handlers, a failure that is ignored, a host that is down, two
 # plays; a play that sets hosts aside; a step that is not started
-printf '[{"hosts":"all","serial":[1,2],"tasks":[{"command":"echo {{ inventory_hostname }} {{ v }}","register":"r","notify":"h"},{"command":"false","register":"s","when":"r.rc == 0 and v is defined","ignore_errors":true},{"command":{"argv":["test","{{ r.stdout }}","!=","x"]},"changed_when":"s is failed","failed_when":["s is skipped",true]}],"handlers":[{"name":"h","command":"true"}]},{"hosts":"b:d","tasks":[{"command":"test {{ v }} = 1","when":"r is changed"}]}]' >"$work/twice.json"
+# noting PLAY STEP CODE WORD..: the words of a program that writes down its begin, does what these words say, and writes down its end with this code
+noting() {
+    at="{{ inventory_hostname }} $1 $2"
+    code=$3
+    shift 3
+    printf '{"argv":["%s","adds","notes","+ %s"' "$work/act" "$at"
+    [ $# -eq 0 ] || printf ',"%s"' "$@"
+    printf ',"adds","notes","- %s %s","exit","%s"]}' "$at" "$code" "$code"
+}
+printf '[{"hosts":"all","serial":[1,2],"tasks":[{"command":%s,"register":"r","notify":"h"},{"command":%s,"register":"s","when":"r.rc == 0 and v is defined","ignore_errors":true},{"command":%s,"changed_when":"s is failed","failed_when":["s is skipped",true]}],"handlers":[{"name":"h","command":%s}]},{"hosts":"b:d","tasks":[{"command":%s,"when":"r is changed"}]}]' \
+    "$(noting 0 1 0 text '{{ inventory_hostname }} {{ v }}')" "$(noting 0 2 1)" "$(noting 0 3 0 text '{{ r.stdout }}')" "$(noting 0 4 0)" "$(noting 1 1 0 text '{{ v }}')" >"$work/twice.json"
 printf '{"all":{"vars":{"v":1},"hosts":{"a":{"down":true},"b":null},"children":{"g":{"vars":{"max_down":1,"v":"two"},"hosts":{"c":null,"d":{"v":1}}}}}}' >"$work/few.json"
 run_refused "$work/few.json" "$work/twice.json" --forks 1
-printf '[{"hosts":"all","on_blocked":"hold","tasks":[{"command":{"argv":["test","{{ inventory_hostname }}","=","d"]}}]}]' >"$work/holding.json"
+printf '[{"hosts":"all","on_blocked":"hold","tasks":[{"command":{"argv":["sh","-c","echo + $0 0 1 >>notes; test $0 = d; code=$?; echo - $0 0 1 $code >>notes; exit $code","{{ inventory_hostname }}"]}}]}]' >"$work/holding.json"
 run_refused "$work/racks.json" "$work/holding.json" --forks 2
 printf '[{"hosts":"a","tasks":[{"command":"/no/such/program"}]}]' >"$work/absent.json"
 run_refused "$work/few.json" "$work/absent.json"
@@ -284,79 +294,8 @@ ${CC:-cc} -O1 -o "$work/under" "$work/under.c" || {
     exit 1
 }
 
-# Whether a recap that was broken off begins as the whole one of out.answered does: so do the lines of its boundaries, and all lines of the plays before its
-# last one. Then it has a line for each of six hosts, of which at most two are down, and its end.
-cat >"$work/begins.awk" <<'AWK'
-FNR == NR { whole[FNR] = $0; next }
-over { over = 2; exit }
-$0 == "end fault" { over = 1; next }
-$0 != whole[FNR] { other = 1 }
-/ state=/ { hosts++; down += / state=(running|failed|halted|off)$/; next }
-other { exit }
-{ hosts = down = 0 }
-END { exit !(over == 1 && hosts == 6 && down <= 2) }
-AWK
-
-# wants WHAT: the run is as with all memory, or memory was wanting: before anything ran, or with the recap of what it came to.
-wants() {
-    if [ "$status" -eq "$answered" ] && cmp -s "$work/out" "$work/out.answered" && cmp -s "$work/errors" "$work/errors.answered"; then
-        pass
-    elif [ "$status" -eq 5 ] && [ "$(cat "$work/errors")" = 'rollout: memory' ] && [ ! -s "$work/out" ]; then
-        pass
-    elif [ "$status" -eq 5 ] && [ "$(cat "$work/errors")" = 'rollout: memory' ] && awk -f "$work/begins.awk" "$work/out.answered" "$work/out"; then
-        broken=$((broken + 1))
-        pass
-    else
-        fail "$1: status $status, $(cat "$work/errors")"
-        cat "$work/out"
-    fi
-}
-
-# refusing_run VARIABLE NUMBER WORDS: runs the words with one call refused; false where there were fewer of its kind.
-refusing_run() {
-    rm -f "$work/refused"
-    variable=$1
-    number=$2
-    shift 2
-    env "$variable=$number" REFUSED="$work/refused" PRELOAD="$work/refuse.so" "$work/under" "$@" >"$work/out" 2>"$work/errors" <"$input"
-    status=$?
-    [ -e "$work/refused" ]
-}
-
-# six_refused FORKS STATUS: each allocation and each thread of a run of the six hosts refused in turn. With several workers the number of an
-# allocation isn't always the same one's.
-six_refused() {
-    run run "$work/six.json" "$work/play.json" --forks "$1"
-    answered=$status
-    [ "$status" -eq "$2" ] && [ "$(tail -n 1 "$work/out")" = 'end finished' ] && pass || fail "a run of six hosts: status $status"
-    mv "$work/out" "$work/out.answered"
-    mv "$work/errors" "$work/errors.answered"
-    broken=0
-    number=1
-    while refusing_run REFUSE "$number" "$rollout" run "$work/six.json" "$work/play.json" --forks "$1"; do
-        wants "allocation $number at $1 forks refused"
-        number=$((number + 1))
-    done
-    wants "no allocation at $1 forks refused"
-    [ "$broken" -gt 100 ] && pass || fail "at $1 forks $broken of $((number - 1)) refused allocations broke the run off"
-    echo "run of six hosts, $1 forks: $((number - 1)) allocations refused in turn, $broken broke it off"
-    number=1
-    while refusing_run REFUSE_THREAD "$number" "$rollout" run "$work/six.json" "$work/play.json" --forks "$1"; do
-        # nothing is opened
-        check "thread $number of $1 refused" 5 "$waiting" "rollout: memory$newline"
-        number=$((number + 1))
-    done
-    [ "$number" -gt "$1" ] && pass || fail "$((number - 1)) threads at $1 forks"
-}
-printf '{"all":{"children":{"g":{"vars":{"max_down":2},"hosts":{"a":null,"b":null,"c":null,"d":null,"e":null,"f":null}}}}}' >"$work/six.json"
-spares='{"command":{"argv":["test","{{ inventory_hostname }}","!=","c"]},"register":"r"}'
-waiting=$(for host in a b c d e f; do echo "$host ok=0 changed=0 failed=0 skipped=0 ignored=0 state=waiting"; done; echo 'end fault')$newline
-printf '[{"hosts":"all","tasks":[{"command":"true"},%s,{"command":"true"}]}]' "$spares" >"$work/play.json"
-six_refused 1 2
-six_refused 2 2
-printf '[{"hosts":"all","tasks":[%s]},{"hosts":"all","tasks":[{"command":"true","when":"r.rc == 0"}]}]' "$spares" >"$work/play.json"
-waiting="play 1$newline$waiting"
-six_refused 2 2
+# Of runs of eight hosts one allocation in six (STRIDE=1: each) and each thread is refused, and each recap held against what the programs wrote down.
+counting python3 "$helpers/refused.py" "$rollout" "$work" malloc pthread_create
 
 # ---- tests
 

@@ -1,6 +1,7 @@
 #!/bin/sh
 # Runs plays whose programs do what programs do: each kind of output, of end and of start that can't be had, with the texts that are kept of
-# it compared byte by byte; many programs at once; and each call by which a program is run failing in turn. It needs a C compiler and
+# it compared byte by byte; many programs at once; and each call by which a program is run failing in turn. Each recap of a run that broke off is held against
+# what the programs wrote down of their begins and ends (tests/programs/kept.py), which is shown to tell false ones. It needs a C compiler, Python 3 and
 # crates/rollout/out/rollout. While that has no command `run`, all is passed over.
 . "$(dirname "$0")/common.sh"
 . "$top/tests/programs/steps.sh"
@@ -425,21 +426,34 @@ nothing 'the null device can'"'"'t be opened at first' open 1 $errno_files
 nothing 'no process can be had at first' posix_spawn 1 $errno_again
 
 # Want of memory: the run of this play with all of it, or one that a fault broke off. A program that was started is waited for all the same.
-printf '[{"hosts":"all","tasks":[{"command":{"argv":["sh","-c","trap : PIPE; : >%s; head -c 70000 /dev/zero | tr %s x; echo some >&2; exec >&- 2>&-; sleep 0.1; : >%s"]},"register":"r"},{"command":"true","when":"r.rc == 0"}]}]' "$work/kept/begun" "'\\\\0'" "$work/kept/done" >"$work/play.json"
+# It writes down that it begins, and that it ends; so does the next one.
+notes=$work/kept/notes
+add() {
+    printf 'echo %s >>%s' "$1" "$notes"
+}
+printf '[{"hosts":"all","tasks":[{"command":{"argv":["sh","-c","trap : PIPE; %s; head -c 70000 /dev/zero | tr %s x; echo some >&2; exec >&- 2>&-; sleep 0.1; %s"]},"register":"r"},{"command":{"argv":["sh","-c","%s; %s"]},"when":"r.rc == 0"}]}]' \
+    "$(add '+ a 0 1')" "'\\\\0'" "$(add '- a 0 1 0')" "$(add '+ a 0 2')" "$(add '- a 0 2 0')" >"$work/play.json"
 whole='boundary 1: plan batches=1 bound=one-host
 open: a
 boundary 2: plan batches=0 bound=nothing
 a ok=2 changed=2 failed=0 skipped=0 ignored=0 state=updated
 end finished'
+# compared NUMBER: this run is one of those whose recaps are to be held against what programs wrote down
+compared() {
+    cp "$work/out" "$work/compared/$1.out"
+    [ ! -e "$notes" ] || mv "$notes" "$work/compared/$1.notes"
+}
+mkdir "$work/compared"
 if proved 'want of memory'; then
     wants=0
     number=0
     while [ "$number" -lt 5000 ]; do
         number=$((number + 1))
-        rm -f "$work/kept/begun" "$work/kept/done"
+        rm -f "$notes"
         failing malloc "$number" $errno_memory
         [ -e "$work/failed" ] || break
-        [ -e "$work/kept/done" ] || [ ! -e "$work/kept/begun" ] || fail "allocation $number refused: the program is not waited for"
+        grep -qs '^- a 0 1 0$' "$notes" || [ ! -e "$notes" ] || fail "allocation $number refused: the program is not waited for"
+        compared "$number"
         case $status in
             0) [ "$(cat "$work/out")" = "$whole" ] && [ ! -s "$work/errors" ] ;;
             5) [ "$(cat "$work/errors")" = 'rollout: memory' ] && { [ ! -s "$work/out" ] || [ "$(tail -n 1 "$work/out")" = 'end fault' ]; } ;;
@@ -450,8 +464,11 @@ if proved 'want of memory'; then
         }
     done
     [ "$wants" -eq 0 ] && [ "$number" -gt 100 ] && [ "$number" -lt 5000 ] && pass || fail "$number allocations refused in turn"
+    counting python3 "$helpers/kept.py" "$work/one.json" "$work/play.json" "$work/compared"
+    rm -f "$work/compared/"*
 fi
-printf '[{"hosts":"all","tasks":[{"name":"a step","command":"true"},{"command":"true"}]}]' >"$work/play.json"
+printf '[{"hosts":"all","tasks":[{"name":"a step","command":{"argv":["sh","-c","%s; %s"]}},{"command":{"argv":["sh","-c","%s; %s"]}}]}]' \
+    "$(add '+ a 0 1')" "$(add '- a 0 1 0')" "$(add '+ a 0 2')" "$(add '- a 0 2 0')" >"$work/play.json"
 if proved 'want of memory for what is told'; then
     # Where memory is wanting for what is told, the run is as it would be untold. Where it is for the run, what is told behind its fault says what became of the host.
     more=-v
@@ -459,8 +476,10 @@ if proved 'want of memory for what is told'; then
     number=0
     while [ "$number" -lt 5000 ]; do
         number=$((number + 1))
+        rm -f "$notes"
         failing malloc "$number" $errno_memory
         [ -e "$work/failed" ] || break
+        compared "$number"
         case $status in
             0) [ "$(cat "$work/out")" = "$whole" ] && { grep -q '^a step=1 changed rc=0 ms=[0-9]* name=a step$' "$work/errors" || untold=$((untold + 1)); } ;;
             5) grep -qx 'rollout: memory' "$work/errors" && ! sed '1,/^rollout: memory$/d' "$work/errors" | grep -qvx 'a was at work\|next: .*' && { [ ! -s "$work/out" ] || [ "$(tail -n 1 "$work/out")" = 'end fault' ]; } ;;
@@ -469,6 +488,7 @@ if proved 'want of memory for what is told'; then
     done
     [ "$untold" -gt 0 ] && pass || fail 'no allocation is one for what is told'
     more=
+    counting python3 "$helpers/kept.py" "$work/one.json" "$work/play.json" "$work/compared"
 fi
 failing posix_spawn 1 $errno_memory
 check 'no memory for a process' 5 'boundary 1: plan batches=1 bound=one-host
@@ -476,6 +496,12 @@ open: a
 a ok=0 changed=0 failed=0 skipped=0 ignored=0 state=running
 end fault
 ' "rollout: memory$newline"
+
+# ---- what a recap says of a run that broke off
+
+# Eight hosts in two racks, one play and two, at 1, 2 and 5 forks: each start, each read of an output and each write of the recap is refused, and a stop file made behind each batch.
+counting python3 "$helpers/kept.py" --selftest
+counting python3 "$helpers/refused.py" "$rollout" "$work" posix_spawn read write stop
 
 # ---- from outside
 

@@ -18,6 +18,7 @@
    flood FD           writes dots there without a rest, until nobody reads
    stopped            is stopped, and isn't made to go on
    continue           makes the program of which this is the child go on
+   adds FILE TEXT     adds the line TEXT to a file, in one piece
    exit N             ends with N
    is N TEXT          ends with 1 where TEXT isn't the first N bytes that `out` writes, of which 65,536 are kept
    among N TEXT       the same of TEXT without its dots
@@ -108,6 +109,14 @@ static void note(void) {
     alarm(120);
 }
 
+/* Adds a line to a file, which is made where it isn't there. The lines of several programs stand one behind the other, in the order of time. */
+static void add_line(const char *path, const char *text) {
+    char line[512];
+    int size = snprintf(line, sizeof line, "%s\n", text), file = open(path, O_WRONLY | O_CREAT | O_APPEND | O_CLOEXEC, 0666);
+    if (size < 0 || size >= (int)sizeof line || file < 0 || write(file, line, (size_t)size) != size) _exit(8);
+    close(file);
+}
+
 static pid_t maker;
 
 /* A child, which knows of which process it is one. */
@@ -173,6 +182,7 @@ int main(int count, char **words) {
         else if (strcmp(word, "raise") == 0) { raise((int)number); i++; }
         else if (strcmp(word, "ignore") == 0) { signal(SIGPIPE, SIG_IGN); deaf = 0; }
         else if (strcmp(word, "deaf") == 0) { signal(SIGPIPE, SIG_IGN); deaf = 1; }
+        else if (strcmp(word, "adds") == 0) { add_line(next, i + 2 < count ? words[i + 2] : ""); i += 2; }
         else if (strcmp(word, "exit") == 0) return (int)number;
         else if (strcmp(word, "opens") == 0) {
             while (number-- > 0) {

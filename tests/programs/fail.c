@@ -1,11 +1,13 @@
 /* Loaded before the program: one of its calls fails. FAIL names the call, FAIL_AT which one of them, from 1, and of those that follow all too where
-   FAIL_ON is set; FAIL_HOW is the error's number. Of reads those of pipes alone count, and of openings those of the null device. A call that was made
-   to fail makes the file FAILED. What is started has none of this. */
+   FAIL_ON is set; FAIL_HOW is the error's number. Of reads those of pipes alone count, of writes those to standard output, and of openings those of the null device; each
+   way to ask for memory is `malloc`. A call that was made to fail makes the file FAILED, and writes the words there of the program that its thread started last, or was about
+   to start, a line each. Where FAIL_ROOM is set, so many bytes of standard output pass before a write fails. What is started has none of this. */
 #define _GNU_SOURCE
 #include <dlfcn.h>
 #include <errno.h>
 #include <fcntl.h>
 #include <poll.h>
+#include <pthread.h>
 #include <spawn.h>
 #include <stdarg.h>
 #include <stdatomic.h>
@@ -20,6 +22,33 @@ static int number_in(const char *name) {
     return value ? atoi(value) : 0;
 }
 
+/* The words of the program that this thread started last: as many of their bytes as there is room for. */
+static __thread char started[1024];
+
+static void keep_words(char *const words[]) {
+    size_t kept = 0;
+    for (int i = 0; words[i]; i++) {
+        size_t size = strlen(words[i]);
+        if (kept + size + 1 > sizeof started) break;
+        memcpy(started + kept, words[i], size);
+        kept += size;
+        started[kept++] = '\n';
+    }
+    memset(started + kept, 0, sizeof started - kept);
+}
+
+#define REAL(name) __typeof__(&name) real = (__typeof__(&name))dlsym(RTLD_NEXT, #name)
+
+static void mark_failed(void) {
+    REAL(write);
+    const char *mark = getenv("FAILED");
+    int file = mark ? creat(mark, 0600) : -1;
+    if (file < 0) return;
+    size_t size = strnlen(started, sizeof started);
+    if (size > 0 && real(file, started, size) < 0) abort();
+    close(file);
+}
+
 /* Whether this call fails; it is then known why. */
 static int fails(const char *call) {
     static atomic_int calls;
@@ -28,12 +57,9 @@ static int fails(const char *call) {
     int number = atomic_fetch_add(&calls, 1) + 1;
     int at = number_in("FAIL_AT");
     if (number < at || (number > at && !getenv("FAIL_ON"))) return 0;
-    const char *mark = getenv("FAILED");
-    if (mark) close(creat(mark, 0600));
+    mark_failed();
     return 1;
 }
-
-#define REAL(name) __typeof__(&name) real = (__typeof__(&name))dlsym(RTLD_NEXT, #name)
 
 static int refuse(void) {
     errno = number_in("FAIL_HOW");
@@ -50,6 +76,17 @@ ssize_t read(int file, void *bytes, size_t count) {
     struct stat is;
     if (fstat(file, &is) == 0 && S_ISFIFO(is.st_mode) && fails("read")) return refuse();
     return real(file, bytes, count);
+}
+
+ssize_t write(int file, const void *bytes, size_t count) {
+    REAL(write);
+    static atomic_size_t passed;
+    if (file != 1 || count == 0) return real(file, bytes, count);
+    size_t room = getenv("FAIL_ROOM") ? (size_t)number_in("FAIL_ROOM") - atomic_load(&passed) : 0;
+    if (room == 0 && fails("write")) return refuse();
+    ssize_t wrote = real(file, bytes, room > 0 && room < count ? room : count);
+    if (wrote > 0) atomic_fetch_add(&passed, (size_t)wrote);
+    return wrote;
 }
 
 pid_t waitpid(pid_t child, int *status, int options) {
@@ -73,6 +110,7 @@ int open(const char *path, int flags, ...) {
 
 int posix_spawn(pid_t *child, const char *path, const posix_spawn_file_actions_t *actions, const posix_spawnattr_t *attributes, char *const words[], char *const environment[]) {
     REAL(posix_spawn);
+    keep_words(words);
     if (fails("posix_spawn")) return number_in("FAIL_HOW");
     char *kept[512];
     int count = 0;
@@ -91,4 +129,19 @@ void *malloc(size_t size) {
 void *realloc(void *old, size_t size) {
     REAL(realloc);
     return fails("malloc") ? NULL : real(old, size);
+}
+
+void *aligned_alloc(size_t alignment, size_t size) {
+    REAL(aligned_alloc);
+    return fails("malloc") ? NULL : real(alignment, size);
+}
+
+int posix_memalign(void **out, size_t alignment, size_t size) {
+    REAL(posix_memalign);
+    return fails("malloc") ? ENOMEM : real(out, alignment, size);
+}
+
+int pthread_create(pthread_t *thread, const pthread_attr_t *attributes, void *(*begin)(void *), void *argument) {
+    REAL(pthread_create);
+    return fails("pthread_create") ? number_in("FAIL_HOW") : real(thread, attributes, begin, argument);
 }

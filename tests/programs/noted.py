@@ -1,24 +1,29 @@
 """Drawn playbooks whose programs write down when they begin and end, run by the built program at several forks; and what these notes must not show.
 
-usage: python3 tests/programs/noted.py ROLLOUT [SEED [CASES]]
+usage: python3 tests/programs/noted.py ROLLOUT FAIL.SO [SEED [CASES]]
 
-Each program adds a line to one file as it begins, and another before it ends, so the lines of that file stand in the order of time. By them, and by the batches
+Each program adds a line to one file as it begins, and another before it ends, with what it gives back, so the lines of that file stand in the order of time. By them, and by the batches
 that the recap names:
 
 - no group has more hosts down than its `max_down`: the hosts of a batch are down from the first begin in it to the last end, and from then on those that failed or were halted;
 - never do more programs run at once than there are forks;
 - on each host the steps of a play come in their order, and none twice; none comes behind one that failed;
 - no program of a step begins before all of the batch's steps before it have ended, and none of a batch before all of the batch before it;
-- each number of forks prints the same bytes, with `--verbose` too, which tells of each batch and each program once.
+- each number of forks prints the same bytes, with `--verbose` too, which tells of each batch and each program once;
+- the recap has each host as its programs ended, and counts what these make (kept.py); so has that of a run that its stop file ended, which a program makes, and of one that found no
+  memory to start a program.
 """
 
 import json
+import os
 import random
 import re
 import subprocess
 import sys
 import tempfile
 from pathlib import Path
+
+import kept
 
 FORKS = (1, 2, 5, 64)
 ENDED = {"failed", "halted"}
@@ -64,24 +69,26 @@ def draw_inventory(draw):
     return {"all": {"children": top}}, members, limits
 
 
-def script(draw, play, step, hosts, notes):
-    """A shell's line that notes its begin, does a little, and notes its end."""
-    note = f'echo "%s $0 {play} {step}" >>{notes}'
-    parts = [note % "+"]
+def script(draw, play, step, hosts, notes, stop):
+    """A shell's line that notes its begin, does a little, and notes its end. One of a case makes the stop file, on one host."""
+    note = f'echo "%s $0 {play} {step}%s" >>{notes}'
+    parts = [note % ("+", "")]
+    if (play, step) == stop[:2]:
+        parts.append(f"test $0 != {stop[2]} || : >stop")
     if draw.random() < 0.25:
         parts.append(f"sleep 0.00{draw.choice([1, 2, 5])}")
     if draw.random() < 0.3:
         parts.append(draw.choice(["echo out", "echo bad >&2", "printf 'a\\nb\\n'", "echo $0"]))
     if draw.random() < 0.35:
         # On one host it fails, or is ended by a signal.
-        end = draw.choice(["exit 1", "exit 3", "kill -9 $$"])
-        parts.append(f'if test $0 = {draw.choice(hosts)}; then {note % "-"}; {end}; fi')
-    parts.append(note % "-")
+        end, code = draw.choice([("exit 1", " 1"), ("exit 3", " 3"), ("kill -9 $$", " -1")])
+        parts.append(f'if test $0 = {draw.choice(hosts)}; then {note % ("-", code)}; {end}; fi')
+    parts.append(note % ("-", " 0"))
     return "; ".join(parts)
 
 
-def draw_step(draw, play, number, hosts, notes, handlers):
-    step = {"command": {"argv": ["sh", "-c", script(draw, play, number, hosts, notes), "{{ inventory_hostname }}"]}}
+def draw_step(draw, play, number, hosts, notes, stop, handlers):
+    step = {"command": {"argv": ["sh", "-c", script(draw, play, number, hosts, notes, stop), "{{ inventory_hostname }}"]}}
     if draw.random() < 0.6:
         step["name"] = f"step {number}"
     if draw.random() < 0.3:
@@ -95,14 +102,14 @@ def draw_step(draw, play, number, hosts, notes, handlers):
     return step
 
 
-def draw_play(draw, play, hosts, groups, notes):
+def draw_play(draw, play, hosts, groups, notes, stop):
     tasks, count = [], draw.choice([1, 2, 3, 4])
     handlers = [f"handler {number}" for number in range(draw.choice([0, 0, 1, 2]))]
     for number in range(1, count + 1):
-        tasks.append(draw_step(draw, play, number, hosts, notes, handlers))
+        tasks.append(draw_step(draw, play, number, hosts, notes, stop, handlers))
     text = {"hosts": draw.choice(["all", "all", "all", *groups, draw.choice(hosts)]), "tasks": tasks}
     if handlers:
-        text["handlers"] = [{**draw_step(draw, play, count + 1 + place, hosts, notes, []), "name": name} for place, name in enumerate(handlers)]
+        text["handlers"] = [{**draw_step(draw, play, count + 1 + place, hosts, notes, stop, []), "name": name} for place, name in enumerate(handlers)]
     if draw.random() < 0.5:
         text["serial"] = draw.choice([1, 2, 3, 5, "50%", [1, 2, "100%"]])
     if draw.random() < 0.2:
@@ -134,7 +141,7 @@ def fault_of(notes, recap, members, limits, forks, off):
     running, begun, down, steps = {}, set(), set(off), {}
     place, batch, ended, highest = -1, (None, []), set(), 0
     for line in notes:
-        sign, host, play, step = line.split()
+        sign, host, play, step = line.split()[:4]
         play, step = int(play), int(step)
         if sign == "-":
             if running.pop(host, None) != (play, step):
@@ -185,7 +192,7 @@ def told_wrong(errors, notes, recap):
         return f"other batches are told of: {opened}"
     if len(opened) != sum(line.startswith("closed ") for line in errors):
         return "not each batch is closed once"
-    noted = sorted((host, f"step={step}") for sign, host, _, step in map(str.split, notes) if sign == "+")
+    noted = sorted((host, f"step={step}") for sign, host, _, step, *_ in map(str.split, notes) if sign == "+")
     for form in (r"begins at=[0-9]+ name=", r"(ok|changed|failed|ignored) (rc=-1 signal=[0-9]+|rc=[0-9]+|lost|not-started) ms=[0-9]+ name="):
         told = sorted(tuple(line.split()[:2]) for line in errors if re.match(rf"h[0-9]+ step=[0-9]+ {form}", line))
         if told != noted:
@@ -194,9 +201,9 @@ def told_wrong(errors, notes, recap):
 
 
 class Cases:
-    def __init__(self, rollout, seed, folder):
-        self.rollout, self.seed, self.folder = rollout, seed, Path(folder)
-        self.passed = self.failed = 0
+    def __init__(self, rollout, fail, seed, folder):
+        self.rollout, self.fail, self.seed, self.folder = rollout, fail, seed, Path(folder)
+        self.passed = self.failed = self.broken = 0
 
     def judge(self, number, what, fault):
         if fault is None:
@@ -205,12 +212,14 @@ class Cases:
             self.failed += 1
             print(f"FAILED: seed {self.seed}, case {number}, {what}: {fault}")
 
-    def run(self, forks, *words):
+    def run(self, forks, *words, **failing):
         """The notes of a run, what it printed, and what it told."""
         notes = self.folder / "notes"
         notes.write_text("")
+        (self.folder / "stop").unlink(missing_ok=True)
         done = subprocess.run(
-            [self.rollout, "run", "inventory", "playbook", "--forks", str(forks), *words], cwd=self.folder, stdin=subprocess.DEVNULL, capture_output=True, timeout=60, check=False
+            [self.rollout, "run", "inventory", "playbook", "--forks", str(forks), *words],
+            cwd=self.folder, env={**os.environ, **failing}, stdin=subprocess.DEVNULL, capture_output=True, timeout=60, check=False,
         )
         return notes.read_text().splitlines(), (done.stdout.decode(), done.returncode), done.stderr.decode().splitlines()
 
@@ -223,14 +232,19 @@ class Cases:
             return
         notes = self.folder / "notes"
         groups = [group for group, own in members.items() if own]
-        plays = [draw_play(draw, play, hosts, groups, notes) for play in range(draw.choice([1, 1, 1, 2, 3]))]
+        # Which program makes the stop file, and which start finds no memory, is drawn by itself: the other cases of a seed stay what they are.
+        own = random.Random(f"{self.seed} {number} broken off")
+        stop = (own.choice([0, 0, 1]), own.choice([1, 1, 2, 3]), own.choice(hosts))
+        plays = [draw_play(draw, play, hosts, groups, notes, stop) for play in range(draw.choice([1, 1, 1, 2, 3]))]
         (self.folder / "inventory").write_text(json.dumps(inventory))
         (self.folder / "playbook").write_text(json.dumps(plays))
+        known = kept.Plays(inventory, plays)
         first = None
         for forks in FORKS:
             noted, printed, told = self.run(forks)
             first = first or printed
             fault = fault_of(noted, printed[0], members, limits, forks, off)
+            fault = fault or kept.wrong_in(known, printed[0], noted)
             if told:
                 fault = f"it told {told[0]}"
             if printed != first or printed[1] not in (0, 2, 3, 4):
@@ -239,16 +253,35 @@ class Cases:
         noted, printed, told = self.run(draw.choice(FORKS), draw.choice(["-v", "--verbose"]))
         fault = told_wrong(told, noted, printed[0]) if printed == first else f"it printed {printed[0]!r}"
         self.judge(number, "told of", fault)
+        forks, start = own.choice(FORKS), own.randrange(1, 2 + sum(line.startswith("+") for line in noted))
+        self.judge(number, f"stopped, {forks} forks", self.wrong_in_broken(known, first, (1, "rollout: 917 Stopped"), self.run(forks, "--stop-file", "stop")))
+        memory = self.run(forks, LD_PRELOAD=self.fail, FAIL="posix_spawn", FAIL_AT=str(start), FAIL_HOW="12")
+        self.judge(number, f"no memory for start {start}, {forks} forks", self.wrong_in_broken(known, first, (5, "rollout: memory"), memory))
+
+    def wrong_in_broken(self, known, whole, broken, ran):
+        """What is wrong with a run that may have been broken off, if anything is. No program's end is missing in its recap."""
+        noted, (recap, status), told = ran
+        if (recap, status) != whole or told:
+            if status != broken[0] or told != [broken[1]] or not recap.endswith("end fault\n"):
+                return f"it printed {recap!r}, status {status}, and told {told}"
+            self.broken += 1
+            if status == 1 and " state=running\n" in recap:
+                return f"it was stopped, and a host is at work: {recap!r}"
+        return kept.wrong_in(known, recap, noted)
 
 
 def main():
     rollout = str(Path(sys.argv[1]).resolve())
-    seed = sys.argv[2] if len(sys.argv) > 2 and sys.argv[2] else "1"
-    count = int(sys.argv[3]) if len(sys.argv) > 3 and sys.argv[3] else 304
+    fail = str(Path(sys.argv[2]).resolve())
+    seed = sys.argv[3] if len(sys.argv) > 3 and sys.argv[3] else "1"
+    count = int(sys.argv[4]) if len(sys.argv) > 4 and sys.argv[4] else 304
     with tempfile.TemporaryDirectory(prefix="noted-") as folder:
-        cases = Cases(rollout, seed, folder)
+        cases = Cases(rollout, fail, seed, folder)
         for number in range(count):
             cases.case(number)
+    print(f"{cases.broken} runs were broken off")
+    if not cases.broken:
+        cases.judge("any", "none of its runs", "no run was broken off")
     print(f"{cases.passed} passed, {cases.failed} failed")
     sys.exit(1 if cases.failed or not cases.passed else 0)
 
