@@ -155,7 +155,7 @@ at_terminal() {
     what=$1
     seen=$2
     shift 2
-    TERM=xterm timeout -k 5 "$limit" python3 "$helpers/screen.py" 200 "${to:-$work/recap.seen}" "$work/raw" "$@" >"$work/out" 2>"$work/errors" </dev/null
+    TERM=xterm timeout -k 5 "$limit" python3 "$helpers/screen.py" 200 "$work/recap.seen" "$work/raw" "$@" >"$work/out" 2>"$work/errors" </dev/null
     status=$?
     check "$what" "${want:-0}" "$seen" ''
 }
