@@ -19,13 +19,13 @@ module _ (mode later : Mode) (fleet : FleetView) (play : Play) (telling : Tellin
   hears_in : (wanted : Mode) → mode ≡ wanted → later ≡ mode → In wanted → Heard
   hears_in wanted is stays tells = record { stays = stays; tells = subst In (sym is) tells }
 
-  pub hears_nothing : mode ≡ Nothing → later ≡ mode → new ≡ old → Heard
-  hears_nothing is stays kept = hears_in Nothing is stays kept
+  pub hears_nothing : mode ≡ Nothing → later ≡ mode → new ≡ old → after ≡ before → Heard
+  hears_nothing is stays kept same = hears_in Nothing is stays (kept, same)
 
   pub hears_one : mode ≡ OneLine → later ≡ mode → Draws fleet play telling before after old new sent → Heard
   hears_one is stays draws = hears_in OneLine is stays draws
 
-  pub hears_all : mode ≡ AllLines → later ≡ mode → Tells fleet play telling old new sent → Heard
-  hears_all is stays tells = hears_in AllLines is stays tells
+  pub hears_all : mode ≡ AllLines → later ≡ mode → Tells fleet play telling old new sent → after ≡ before → Heard
+  hears_all is stays tells same = hears_in AllLines is stays (tells, same)
 
 pub ruleset hearing = (hears_nothing, hears_one, hears_all)

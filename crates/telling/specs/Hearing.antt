@@ -18,8 +18,8 @@ pub record Tells (fleet : FleetView) (play : Play) (telling : Telling) (old new 
   pub given : Given
   pub text : SendsText old new (told_text fleet play telling given) sent
 
--- the one line was wiped away where something was told above it, that was told, and the line was drawn again: whichever, with some times and a remark, and
--- none where the terminal can't go back in it
+-- the one line was wiped away where something was told above it, that was told, and the line was drawn again, where there is one: whichever, with some times and a
+-- remark, and none where the terminal can't go back in it
 pub record Draws (fleet : FleetView) (play : Play) (telling : Telling) (before after : Screen) (old new : Option (List ℕ)) (sent : Result (Unit {0}) WriteFault) : Type 0 where
   pub given : Given
   pub line : Option (List ℕ)
@@ -27,11 +27,12 @@ pub record Draws (fleet : FleetView) (play : Play) (telling : Telling) (before a
   pub text : SendsText old new (over_text (wipes before (tells_above fleet telling given)) before.width line (told_above fleet play telling given)) sent
   pub drawn : after ≡ drawn_over (wipes before (tells_above fleet telling given)) line before
 
--- where nothing is wanted nothing goes out; at a terminal what is told above the one line, and that line; where all lines are wanted, those of what was heard
+-- where nothing is wanted nothing goes out; at a terminal what is told above the one line, and that line; where all lines are wanted, those of what was heard, and
+-- nothing is drawn
 abbrev pub TellsIn : Mode → FleetView → Play → Telling → Screen → Screen → Option (List ℕ) → Option (List ℕ) → Result (Unit {0}) WriteFault → Type 0
-TellsIn Nothing fleet play telling before after old new sent = new ≡ old
+TellsIn Nothing fleet play telling before after old new sent = (new ≡ old) × (after ≡ before)
 TellsIn OneLine fleet play telling before after old new sent = Draws fleet play telling before after old new sent
-TellsIn AllLines fleet play telling before after old new sent = Tells fleet play telling old new sent
+TellsIn AllLines fleet play telling before after old new sent = Tells fleet play telling old new sent × (after ≡ before)
 
 -- what is wanted stays
 pub record Hears (mode later : Mode) (fleet : FleetView) (play : Play) (telling : Telling) (before after : Screen) (old new : Option (List ℕ))

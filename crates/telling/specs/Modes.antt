@@ -16,3 +16,9 @@ abbrev pub tells : Mode → Bool
 tells Nothing = false
 tells OneLine = true
 tells AllLines = true
+
+-- a line for each thing that happens is
+abbrev pub tells_lines : Mode → Bool
+tells_lines Nothing = false
+tells_lines OneLine = false
+tells_lines AllLines = true

@@ -16,7 +16,7 @@ use roll_core::News;
 use std::io::Write;
 
 /// A writer, and how the text that was told last went out: whole, or its first bytes alone where a write failed. Only a text that is given out here
-/// changes that, so nobody can leave one out and have it that a write failed.
+/// changes that, so no caller leaves one out and has it that a write failed.
 #[derive(Drop)]
 pub(crate) struct Outlet<E> {
     out: E,

@@ -1,10 +1,12 @@
 //! Whoever tells of a run.
-ghost use Rattle.std.specs.Prelude.{◌≡◌, ◌++◌, None, false, not};
+ghost use Rattle.std.specs.Prelude.{◌≡◌, [], ◌++◌, IfSome, None, false, not, true};
 ghost use Rattle.bounded_io.specs.Sending.{SendsText};
 ghost use Rattle.roll_core.specs.Tellings.{telling_of};
 ghost use Rattle.telling.specs.Hearing.{Draws, Hears, Tells};
 ghost use Rattle.telling.specs.Modes as spec;
 ghost use Rattle.telling.specs.Screens as screens;
+ghost use Rattle.telling.specs.StatusLines.{status_text};
+ghost use Rattle.telling.specs.Tellings.{play_text};
 
 use crate::above::tells_above;
 use crate::mode::{Mode, Seen, mode_of};
@@ -45,7 +47,9 @@ pub struct Teller<'a, H, E> {
 impl<'a, H: Wait, E: Write> Teller<'a, H, E> {
     /// Nothing is told before a run begins.
     pub fn new(rt: &'a H, alloc: Global, notes: &'a Notes, errors: E) -> Teller<'a, H, E>
-        ensures { result.mode ≡ Mode.Nothing }
+        ensures mode { result.mode ≡ Mode.Nothing }
+        ensures out { result.outlet.out ≡ errors }
+        ensures screen { result.screen ≡ screens.blank 0 false }
     {
         Teller {
             rt,
@@ -61,15 +65,19 @@ impl<'a, H: Wait, E: Write> Teller<'a, H, E> {
     /// Gives out the lines of what happened.
     fn tell_all(&mut self, fleet: &Fleet, play: &Play, news: &News<'_>)
         ensures stays { self.new.mode ≡ self.old.mode }
+        ensures screen { self.new.screen ≡ self.old.screen }
         ensures tells { Tells fleet.now play.now (telling_of news.now) (E.contents self.old.outlet.out) (E.contents self.new.outlet.out) self.new.outlet.sent }
     {
         let given = self.progress.hear(self.rt, self.notes, news);
         self.outlet.tell(fleet, play, news, &given);
     }
 
-    /// The one line as it is now, where the terminal can go back in it, once a batch was opened, and where there is memory for it.
-    fn line(&self, fleet: &Fleet) -> Option<Vec<u8>>
-        ensures { self.now.screen.draws ≡ false → result ≡ None }
+    /// The one line of a run that has taken so many seconds, where the terminal can go back in it, once a batch was opened, and where there is memory
+    /// for it.
+    fn line(&self, fleet: &Fleet, seconds: u64) -> Option<Vec<u8>>
+        ensures none { self.now.screen.draws ≡ false → result ≡ None }
+        ensures opened { self.now.progress.counters.batch ≡ 0 → result ≡ None }
+        ensures says { IfSome result (λ line. line.items ≡ status_text fleet.now self.now.progress.counters self.now.progress.under_way.items seconds) }
     {
         let progress = &self.progress;
         if !self.screen.draws || progress.counters.batch == 0 {
@@ -80,7 +88,7 @@ impl<'a, H: Wait, E: Write> Teller<'a, H, E> {
             fleet,
             &progress.counters,
             progress.under_way.as_slice(),
-            progress.seconds(),
+            seconds,
         )
     }
 
@@ -91,11 +99,24 @@ impl<'a, H: Wait, E: Write> Teller<'a, H, E> {
             (E.contents self.old.outlet.out) (E.contents self.new.outlet.out) self.new.outlet.sent }
     {
         let given = self.progress.hear(self.rt, self.notes, news);
-        let over = self
-            .screen
-            .over(tells_above(fleet, news, &given), self.line(fleet));
+        let line = self.line(fleet, self.progress.seconds());
+        let over = self.screen.over(tells_above(fleet, news, &given), line);
         self.outlet.draw(&over, fleet, play, news, &given);
         self.screen.is_over(&over);
+    }
+
+    /// Whether anything is told.
+    fn tells(&self) -> bool
+        ensures { result ≡ spec.tells self.now.mode }
+    {
+        self.mode != Mode::Nothing
+    }
+
+    /// Whether a line is told for each thing that happens.
+    fn tells_lines(&self) -> bool
+        ensures { result ≡ spec.tells_lines self.now.mode }
+    {
+        self.mode == Mode::AllLines
     }
 
     /// Gives these lines out, without the one line, where that stands.
@@ -124,19 +145,35 @@ impl<H: Wait, E: Write + Drop> Watch for Teller<'_, H, E> {
         }
     }
 
-    fn plays_begin(&mut self, plays: usize) {
+    fn plays_begin(&mut self, plays: usize)
+        ensures stays { self.new.mode ≡ self.old.mode }
+        ensures screen { self.new.screen ≡ self.old.screen }
+        ensures outlet { self.new.outlet ≡ self.old.outlet }
+    {
         self.progress.begin_plays(plays);
     }
 
-    fn play_begins(&mut self) {
+    fn play_begins(&mut self)
+        ensures stays { self.new.mode ≡ self.old.mode }
+        ensures screen { self.new.screen ≡ self.old.screen }
+        ensures told { spec.tells_lines self.old.mode ≡ true → SendsText (E.contents self.old.outlet.out) (E.contents self.new.outlet.out)
+            (play_text self.new.progress.counters.play self.new.progress.counters.plays) self.new.outlet.sent }
+        ensures silent { spec.tells_lines self.old.mode ≡ false → self.new.outlet ≡ self.old.outlet }
+    {
         self.progress.begin_play();
-        if self.mode == Mode::AllLines {
+        if self.tells_lines() {
             let counters = &self.progress.counters;
             self.outlet.tell_play(counters.play, counters.plays);
         }
     }
 
-    fn plays_end(&mut self) {
+    fn plays_end(&mut self)
+        ensures stays { self.new.mode ≡ self.old.mode }
+        ensures gone { self.new.screen.is_drawn ≡ false }
+        ensures told { self.old.screen.is_drawn ≡ true → SendsText (E.contents self.old.outlet.out) (E.contents self.new.outlet.out)
+            (screens.wiped_text self.old.screen.is_drawn ++ []) self.new.outlet.sent }
+        ensures silent { self.old.screen.is_drawn ≡ false → self.new.outlet ≡ self.old.outlet }
+    {
         if self.screen.is_drawn {
             self.tell_lines(&[]);
         }
@@ -145,16 +182,25 @@ impl<H: Wait, E: Write + Drop> Watch for Teller<'_, H, E> {
     fn is_told(&self) -> bool
         ensures { result ≡ spec.tells self.now.mode }
     {
-        self.mode != Mode::Nothing
+        self.tells()
     }
 
-    fn note(&mut self, lines: &[u8]) {
-        if self.mode != Mode::Nothing {
+    fn note(&mut self, lines: &[u8])
+        ensures stays { self.new.mode ≡ self.old.mode }
+        ensures told { spec.tells self.old.mode ≡ true → SendsText (E.contents self.old.outlet.out) (E.contents self.new.outlet.out)
+            (screens.wiped_text self.old.screen.is_drawn ++ lines.now) self.new.outlet.sent }
+        ensures silent { spec.tells self.old.mode ≡ false → self.new.outlet ≡ self.old.outlet }
+    {
+        if self.tells() {
             self.tell_lines(lines);
         }
     }
 
-    fn keep(&mut self, lines: Vec<u8>) {
+    fn keep(&mut self, lines: Vec<u8>)
+        ensures stays { self.new.mode ≡ self.old.mode }
+        ensures screen { self.new.screen ≡ self.old.screen }
+        ensures outlet { self.new.outlet ≡ self.old.outlet }
+    {
         self.notes.keep(self.rt, lines);
     }
 }
@@ -163,6 +209,7 @@ impl<H: Wait, E: Write + Drop> Tell for Teller<'_, H, E> {
     fn run_begins(&mut self, seen: Seen)
         ensures mode { self.new.mode ≡ spec.mode_of seen }
         ensures screen { self.new.screen ≡ screens.blank seen.width (not seen.is_dumb) }
+        ensures outlet { self.new.outlet ≡ self.old.outlet }
     {
         self.mode = mode_of(&seen);
         self.screen = Screen::new(seen.width, !seen.is_dumb);
@@ -170,8 +217,13 @@ impl<H: Wait, E: Write + Drop> Tell for Teller<'_, H, E> {
         self.notes.begin(self.rt, self.mode != Mode::Nothing);
     }
 
-    fn run_ends(&mut self) {
+    fn run_ends(&mut self)
+        ensures stays { self.new.mode ≡ self.old.mode }
+        ensures silent { spec.tells self.old.mode ≡ false → self.new.outlet ≡ self.old.outlet }
+    {
         let rest = self.notes.rest(self.rt);
-        self.tell_lines(rest.as_slice());
+        if self.tells() {
+            self.tell_lines(rest.as_slice());
+        }
     }
 }
