@@ -4,7 +4,7 @@ ghost use Rattle.std.specs.Prelude.{◌≡◌};
 use crate::rolled::{one_fails, roll};
 use fork_pool::Script;
 use group_tree::{GroupId, HostId};
-use roll_core::{Board, HoldFault, OpenFault, Status, Unwatched};
+use roll_core::{Board, History, HoldFault, OpenFault, Status, Unwatched};
 use sample_fleets::{board_of, set_up, two_racks};
 use std::alloc::Global;
 use std::marker::Brand;
@@ -91,6 +91,7 @@ fn rolled<L: Ledger, H: Threads + Wait + Processes<Started = SystemProcess> + Ab
     rt: &H,
     alloc: Global,
     blank: Blank,
+    history: History,
 ) -> Result<(), Fail>
     requires name { blank.name ≡ L.name }
     requires parts { blank.parts ≡ L.parts }
@@ -98,7 +99,7 @@ fn rolled<L: Ledger, H: Threads + Wait + Processes<Started = SystemProcess> + Ab
 {
     let setting = set_up(alloc, two_racks(alloc)?, ONE_STEP)?;
     let script = one_fails(alloc, 0, 0)?;
-    let mut board = board_of::<Script, L>(alloc, &setting, &script, 5, blank)?;
+    let mut board = board_of::<Script, L>(alloc, &setting, &script, 5, blank, history)?;
     one_batch(rt, alloc, &mut board)?;
     are_left_so(rt, &board);
     behind_it(rt, alloc, &mut board)
@@ -106,5 +107,5 @@ fn rolled<L: Ledger, H: Threads + Wait + Processes<Started = SystemProcess> + Ab
 
 #[test]
 fn a_failed_host_blocks_its_rack(rt: HostRuntime) -> Result<(), Fail> {
-    rolled::<Brand, HostRuntime>(&rt, rt.alloc(), Blank::new(129))
+    rolled::<Brand, HostRuntime>(&rt, rt.alloc(), Blank::new(129), History::new(&rt))
 }

@@ -4,7 +4,7 @@ ghost use Rattle.std.specs.Prelude.{◌≡◌};
 use crate::rolled::{one_fails, roll};
 use fork_pool::{Script, batches_end_by_their_script};
 use group_tree::{GroupId, HostId};
-use roll_core::{Board, Status, Unwatched};
+use roll_core::{Board, History, Status, Unwatched};
 use sample_fleets::{board_of, limited_again, set_up};
 use std::alloc::Global;
 use std::marker::Brand;
@@ -44,6 +44,7 @@ fn rolled<L: Ledger, H: Threads + Wait + Processes<Started = SystemProcess> + Ab
     rt: &H,
     alloc: Global,
     blank: Blank,
+    history: History,
 ) -> Result<(), Fail>
     requires name { blank.name ≡ L.name }
     requires parts { blank.parts ≡ L.parts }
@@ -51,7 +52,7 @@ fn rolled<L: Ledger, H: Threads + Wait + Processes<Started = SystemProcess> + Ab
 {
     let setting = set_up(alloc, limited_again(alloc, 2, &SIX)?, THREE_STEPS)?;
     let script = one_fails(alloc, 2, 1)?;
-    let mut board = board_of::<Script, L>(alloc, &setting, &script, 64, blank)?;
+    let mut board = board_of::<Script, L>(alloc, &setting, &script, 64, blank, history)?;
     assert_eq!(rt; board.forks(), 64);
     is_told(rt, &board, &[], 0, 0);
     let batch = [HostId { index: 2 }, HostId { index: 5 }];
@@ -65,5 +66,5 @@ fn rolled<L: Ledger, H: Threads + Wait + Processes<Started = SystemProcess> + Ab
 
 #[test]
 fn a_board_tells_its_batch_and_who_is_down(rt: HostRuntime) -> Result<(), Fail> {
-    rolled::<Brand, HostRuntime>(&rt, rt.alloc(), Blank::new(129))
+    rolled::<Brand, HostRuntime>(&rt, rt.alloc(), Blank::new(129), History::new(&rt))
 }

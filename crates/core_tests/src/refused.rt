@@ -8,7 +8,7 @@ use crate::rolled::{move_on, report};
 use fork_pool::Script;
 use group_tree::{Group, GroupFault, HostId};
 use roll_core::{
-    Board, Claimed, Done, HoldFault, OpenFault, Outcome, Runner, Stage, Status, Unwatched,
+    Board, Claimed, Done, History, HoldFault, OpenFault, Outcome, Runner, Stage, Status, Unwatched,
 };
 use sample_fleets::{Setting, board_of, group, set_up, with};
 use std::alloc::{AllocError, Global};
@@ -212,18 +212,23 @@ fn rolled<L: Ledger, H: Threads + Wait + Processes<Started = SystemProcess> + Sy
     setting: &Setting,
     script: &Script,
     blank: Blank,
+    history: History,
 ) -> Result<bool, Fail>
     requires name { blank.name ≡ L.name }
     requires parts { blank.parts ≡ L.parts }
     requires many { blank.parts ≡ 129 }
 {
-    let Ok(mut board) = board_of::<Script, L>(alloc, setting, script, 2, blank) else {
+    let Ok(mut board) = board_of::<Script, L>(alloc, setting, script, 2, blank, history) else {
         return Ok(false);
     };
     run_batch(rt, alloc, &mut board)?;
-    let (left, _watch) = board.finish();
+    let log = board.log().len();
+    let (left, _watch, history) = board.finish();
     if left.statuses.len() != 3 || left.vars.len() != 3 || left.counts.len() != 3 {
         return Err(Fail::new("not one of each a host"));
+    }
+    if history.rolls() != 1 || history.log(0).len() != log || !history.log(1).is_empty() {
+        return Err(Fail::new("a history without this log"));
     }
     Ok(true)
 }
@@ -233,10 +238,19 @@ fn a_batch_comes_to_its_end_whatever_is_refused(rt: HostRuntime) -> Result<(), F
     let alloc = rt.alloc();
     let setting = set_up(alloc, region_again(alloc)?, PLAY)?;
     let script = script_again(alloc)?;
-    if rolled::<Brand, HostRuntime>(&rt, alloc, &setting, &script, Blank::new(129))? {
+    let history = History::new(&rt);
+    if rolled::<Brand, HostRuntime>(&rt, alloc, &setting, &script, Blank::new(129), history)? {
         return Ok(());
     }
-    let again = rolled::<Brand, HostRuntime>(&rt, alloc, &setting, &script, Blank::new(129))?;
+    let history = History::new(&rt);
+    let again = rolled::<Brand, HostRuntime>(
+        &rt,
+        alloc,
+        &setting,
+        &script,
+        Blank::new(129),
+        history,
+    )?;
     assert!(rt; again);
     Ok(())
 }

@@ -8,7 +8,7 @@ use Rattle.roll_core.specs.Laws.{IsOutAs}
 use Rattle.roll_core.specs.Views.{KernelView, roll_of, state_of}
 use Rattle.roll_core.specs.Ways.{Completed}
 use Rattle.roll_core.proofs.OutLaws.{handed_is_out}
-use Rattle.roll_core.specs.Boards.{BoardView, with_event}
+use Rattle.roll_core.specs.Boards.{BoardView, Context, with_event}
 use Rattle.roll_core.specs.Dones.{DoneView}
 use Rattle.roll_core.specs.Givings.{IsGiven, IsGivenAs}
 use Rattle.roll_core.specs.declared.claimed.Claimed.{Claimed}
@@ -21,23 +21,23 @@ module _ {R : Type 0} where
   by_claim before after given is =
       is.rest ∙ ap (λ (k : KernelView). record before { kernel = k }) is.claim.grown
 
-  its_own : (before after : BoardView R) (out : Handed) (given : Claimed R) → after.runner ≡ before.runner → IsGivenAs before.runner out given → IsOutAs after.kernel out → IsItsOwn after given
-  its_own before after (handed.Run claim) (Run mine go) runner same out = tt
-  its_own before after (handed.Run claim) (Settled done) runner same out = absurd same
-  its_own before after (handed.Settled completion) (Run mine go) runner same out = absurd same
-  its_own before after (handed.Settled completion) (Settled done) runner same out = (
-    ap (λ (d : DoneView R). d.runner) same ∙ sym runner,
+  its_own : (before after : BoardView R) (out : Handed) (given : Claimed R) → after.context ≡ before.context → IsGivenAs before.context.runner out given → IsOutAs after.kernel out → IsItsOwn after given
+  its_own before after (handed.Run claim) (Run mine go) kept same out = tt
+  its_own before after (handed.Run claim) (Settled done) kept same out = absurd same
+  its_own before after (handed.Settled completion) (Run mine go) kept same out = absurd same
+  its_own before after (handed.Settled completion) (Settled done) kept same out = (
+    ap (λ (d : DoneView R). d.runner) same ∙ sym (ap (λ (context : Context R). context.runner) kept),
     subst (λ (c : Completed). IsOut (roll_of after.kernel) (state_of after.kernel) c) (sym (ap (λ (d : DoneView R). d.completion) same)) out,
   )
 
   pub claimed_own : (before after : BoardView R) (given : Claimed R) → IsGiven before after given → IsItsOwn after given
   claimed_own before after given is =
-      its_own before after is.handed given (ap (λ (b : BoardView R). b.runner) is.rest) is.as_given (handed_is_out before.kernel after.kernel is.handed is.claim)
+      its_own before after is.handed given (ap (λ (b : BoardView R). b.context) is.rest) is.as_given (handed_is_out before.kernel after.kernel is.handed is.claim)
 
   -- the board's own report is no stranger
   pub own_entered : (alike : R → R → Type 0) → ((runner : R) → alike runner runner) → (before after : BoardView R) (done : DoneView R) → IsEntered alike before after done
-      → done.runner ≡ before.runner → IsOut (roll_of before.kernel) (state_of before.kernel) done.completion → suc (claims_out after) ≡ claims_out before
+      → done.runner ≡ before.context.runner → IsOut (roll_of before.kernel) (state_of before.kernel) done.completion → suc (claims_out after) ≡ claims_out before
   own_entered alike itself before after done (inl entered) runner out = entered.1
   own_entered alike itself before after done (inr (same, inl apart)) runner out =
-      absurd (apart (subst (λ (r : R). alike before.runner r) (sym runner) (itself before.runner)))
+      absurd (apart (subst (λ (r : R). alike before.context.runner r) (sym runner) (itself before.context.runner)))
   own_entered alike itself before after done (inr (same, inr none)) runner out = absurd (none out)

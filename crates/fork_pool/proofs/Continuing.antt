@@ -15,18 +15,18 @@ both_work some more first second =
 
 module _ {R : Type 0} where
   -- where nothing but the tallies changes
-  pub stays : (before after : BoardView R) → after.runner ≡ before.runner → after.kernel ≡ before.kernel → Continues before after
-  stays before after runner kernel =
-      record { runner = runner; more = []; work = refl; kernel = kernel ∙ ap (λ (log : List Event). record before.kernel { log = log }) (sym (append-nil before.kernel.log)) }
+  pub stays : (before after : BoardView R) → after.context ≡ before.context → after.kernel ≡ before.kernel → Continues before after
+  stays before after context kernel =
+      record { context = context; more = []; work = refl; kernel = kernel ∙ ap (λ (log : List Event). record before.kernel { log = log }) (sym (append-nil before.kernel.log)) }
 
   pub unchanged : (before after : BoardView R) → after ≡ before → Continues before after
   unchanged before after same =
-      stays before after (ap (λ (b : BoardView R). b.runner) same) (ap (λ (b : BoardView R). b.kernel) same)
+      stays before after (ap (λ (b : BoardView R). b.context) same) (ap (λ (b : BoardView R). b.kernel) same)
 
   pub by_event : (before after : BoardView R) (event : Event) → is_work event ≡ true → after ≡ with_event before event → Continues before after
   by_event before after event work grown =
       record {
-        runner = ap (λ (b : BoardView R). b.runner) grown;
+        context = ap (λ (b : BoardView R). b.context) grown;
         more = event ∷ [];
         work = ap (λ b. b && true) work;
         kernel = ap (λ (b : BoardView R). b.kernel) grown;
@@ -36,7 +36,7 @@ module _ {R : Type 0} where
   goes_further first second third one other =
       let grown : (KernelView → KernelView) = λ kernel. record kernel { log = kernel.log ++ other.more } in
       record {
-        runner = other.runner ∙ one.runner;
+        context = other.context ∙ one.context;
         more = one.more ++ other.more;
         work = both_work one.more other.more one.work other.work;
         kernel = other.kernel ∙ ap grown one.kernel ∙ ap (λ (log : List Event). record first.kernel { log = log }) (append_assoc first.kernel.log one.more other.more);
@@ -49,8 +49,8 @@ module _ {R : Type 0} where
 
   pub after_join : (before after : BoardView R) (tallies joined : ℕ) → after ≡ record before { tallies = tallies; joined = joined } → Continues before after
   after_join before after tallies joined back =
-      stays before after (ap (λ (b : BoardView R). b.runner) back) (ap (λ (b : BoardView R). b.kernel) back)
+      stays before after (ap (λ (b : BoardView R). b.context) back) (ap (λ (b : BoardView R). b.kernel) back)
 
   pub after_split : (before after : BoardView R) (tallies : ℕ) → after ≡ record before { tallies = tallies } → Continues before after
   after_split before after tallies split =
-      stays before after (ap (λ (b : BoardView R). b.runner) split) (ap (λ (b : BoardView R). b.kernel) split)
+      stays before after (ap (λ (b : BoardView R). b.context) split) (ap (λ (b : BoardView R). b.kernel) split)

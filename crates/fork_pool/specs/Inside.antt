@@ -84,12 +84,12 @@ IsAfterClaim before after old new (given.Ticket ticket) = (new ≡ with_ticket o
 abbrev pub IsItsOwn : {R : Type 0} → BoardView R → Claimed R → Type 0
 IsItsOwn board (Run claim go) = Unit {0}
 IsItsOwn board (claimed.Settled done) =
-    (done.runner ≡ board.runner) × IsOut (roll_of board.kernel) (state_of board.kernel) done.completion
+    (done.runner ≡ board.context.runner) × IsOut (roll_of board.kernel) (state_of board.kernel) done.completion
 
 -- its runner isn't alike the board's, or no such claim is out
 abbrev pub IsStrange : {R : Type 0} → (R → R → Type 0) → BoardView R → DoneView R → Type 0
 IsStrange alike board done =
-    (alike board.runner done.runner → ⊥) ⊎ (IsOut (roll_of board.kernel) (state_of board.kernel) done.completion → ⊥)
+    (alike board.context.runner done.runner → ⊥) ⊎ (IsOut (roll_of board.kernel) (state_of board.kernel) done.completion → ⊥)
 
 -- the ticket stands in the line, or has come back
 abbrev pub IsPut : List Ticket → List Ticket → Ticket → Notes → Notes → Type 0

@@ -9,5 +9,5 @@ use Rattle.fork_pool.specs.ScriptLines.{Line, told_by}
 -- the log of the board tells what the script says, and a batch of it ends as its hosts do by themselves on that, at any number of forks and
 -- in any order of reports; of steps that are settled without a program the script need not say anything
 pub record IsByItsScript (board : BoardView (List Line)) : Type 0 where
-  pub tells : Tells (told_by board.runner) (roll_of board.kernel) board.kernel.log
-  pub ends : (halt : Option ℕ) → (state_of board.kernel).phase ≡ ended halt → EndsByColumns (roll_of board.kernel) (told_by board.runner) (state_of board.kernel) halt
+  pub tells : Tells (told_by board.context.runner) (roll_of board.kernel) board.kernel.log
+  pub ends : (halt : Option ℕ) → (state_of board.kernel).phase ≡ ended halt → EndsByColumns (roll_of board.kernel) (told_by board.context.runner) (state_of board.kernel) halt

@@ -18,7 +18,7 @@ hosts_due board =
 
 -- the roll is the same, and its log goes on by claims and reports alone
 pub record Continues {R : Type 0} (before after : BoardView R) : Type 0 where
-  pub runner : after.runner ≡ before.runner
+  pub context : after.context ≡ before.context
   pub more : List Event
   pub work : list_all is_work more ≡ true
   pub kernel : after.kernel ≡ record before.kernel { log = before.kernel.log ++ more }

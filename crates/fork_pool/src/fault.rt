@@ -1,8 +1,6 @@
-//! Why a step did not come to its end, or a worker stopped.
+//! Why a step did not come to its end.
 ghost use Rattle.std.specs.Prelude.{◌≡◌};
 ghost use Rattle.fork_pool.specs.Faults.{number_of};
-
-use std::alloc::AllocError;
 
 /// Why a step did not come to its end. The board that comes back with it continues the one that went in.
 #[derive(Clone, Copy, Debug, PartialEq, Eq, Drop)]
@@ -25,25 +23,5 @@ impl StepFault {
             StepFault::WorkerMem { at: _ } => Some(821),
             StepFault::Mixed => Some(822),
         }
-    }
-}
-
-/// Why a worker over a locked board stopped before nothing was left to claim.
-#[derive(Clone, Copy, Debug, PartialEq, Eq, Drop)]
-pub enum WorkFault {
-    /// It found no memory, and stranded the claim that it had in hand.
-    Mem,
-    /// What it reported was handed back, and dropped.
-    Stranger,
-}
-
-impl From<AllocError> for WorkFault {
-    ghost use Rattle.std.specs.Prelude.{◌≡◌};
-    ghost use Rattle.fork_pool.specs.declared.fault.WorkFault.TheVariants.{Mem};
-
-    ghost from_gives = { λ _ fault. fault ≡ Mem };
-
-    fn from(_refused: AllocError) -> WorkFault {
-        WorkFault::Mem
     }
 }

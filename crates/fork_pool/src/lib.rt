@@ -15,10 +15,9 @@ mod script;
 mod step;
 mod ticket;
 mod worker_end;
-mod working;
 
 pub use boards::at_most_forks_are_out;
-pub use fault::{StepFault, WorkFault};
+pub use fault::StepFault;
 pub use front::Front;
 pub use making::pool;
 pub use running::run_step;
@@ -26,4 +25,3 @@ pub use script::{Script, batches_end_by_their_script};
 pub use ticket::Ticket;
 pub use ticket_line::{each_ticket_once, none_is_made_up, numbers_agree};
 pub use worker_end::{WorkerEnd, serve};
-pub use working::work;

@@ -4,7 +4,7 @@ ghost use Rattle.std.specs.Prelude.{◌≡◌, ◌<◌, ◌≤◌};
 use crate::faults::opened;
 use fork_pool::{Front, StepFault, WorkerEnd, pool};
 use group_tree::HostId;
-use roll_core::{Board, Go, Job, Outcome, Runner, Unwatched};
+use roll_core::{Board, Go, History, Job, Outcome, Runner, Unwatched};
 use sample_fleets::{limited_again, set_up};
 use std::alloc::{AllocError, Global};
 use std::marker::Brand;
@@ -231,6 +231,7 @@ fn stopped<L: Ledger, H: Threads + Wait + Processes<Started = SystemProcess> + S
     plan: Plan,
     told: (usize, usize, usize),
     blank: Blank,
+    history: History,
 ) -> Result<(), Fail>
     requires some { 0 < forks }
     requires few { forks ≤ 64 }
@@ -247,7 +248,7 @@ fn stopped<L: Ledger, H: Threads + Wait + Processes<Started = SystemProcess> + S
     let Some(batch) = FIVE.get(..hosts) else {
         return Err(Fail::new("too many hosts"));
     };
-    let board = opened::<Hands, L>(alloc, &setting, &hands, forks, batch, blank)?;
+    let board = opened::<Hands, L>(alloc, &setting, &hands, forks, batch, blank, history)?;
     let (front, mut ends) = pool(alloc, forks)?;
     let (Some(second), Some(first)) = (ends.pop(), ends.pop()) else {
         return Err(Fail::new("one worker"));
@@ -267,26 +268,71 @@ fn want_of_memory_stops_a_step(rt: HostRuntime) -> Result<(), Fail> {
         turned: false,
         alone: false,
     };
-    stopped::<Brand, HostRuntime>(&rt, rt.alloc(), 2, 2, plan, (1, 1, 1), Blank::new(129))?;
+    stopped::<Brand, HostRuntime>(
+        &rt,
+        rt.alloc(),
+        2,
+        2,
+        plan,
+        (1, 1, 1),
+        Blank::new(129),
+        History::new(&rt),
+    )?;
     // neither does, and the second one says so first
     let turned = Plan {
         first_wants: true,
         turned: true,
         ..plan
     };
-    stopped::<Brand, HostRuntime>(&rt, rt.alloc(), 2, 2, turned, (0, 2, 0), Blank::new(129))?;
+    stopped::<Brand, HostRuntime>(
+        &rt,
+        rt.alloc(),
+        2,
+        2,
+        turned,
+        (0, 2, 0),
+        Blank::new(129),
+        History::new(&rt),
+    )?;
     // the other reply is entered, and no third ticket is put
     let plan = Plan {
         first_wants: true,
         second_wants: false,
         ..plan
     };
-    stopped::<Brand, HostRuntime>(&rt, rt.alloc(), 5, 2, plan, (0, 1, 1), Blank::new(129))?;
+    stopped::<Brand, HostRuntime>(
+        &rt,
+        rt.alloc(),
+        5,
+        2,
+        plan,
+        (0, 1, 1),
+        Blank::new(129),
+        History::new(&rt),
+    )?;
     // the tickets that nobody has taken come back, all of them
     let alone = Plan {
         alone: true,
         ..plan
     };
-    stopped::<Brand, HostRuntime>(&rt, rt.alloc(), 5, 2, alone, (0, 2, 0), Blank::new(129))?;
-    stopped::<Brand, HostRuntime>(&rt, rt.alloc(), 5, 5, alone, (3, 5, 0), Blank::new(129))
+    stopped::<Brand, HostRuntime>(
+        &rt,
+        rt.alloc(),
+        5,
+        2,
+        alone,
+        (0, 2, 0),
+        Blank::new(129),
+        History::new(&rt),
+    )?;
+    stopped::<Brand, HostRuntime>(
+        &rt,
+        rt.alloc(),
+        5,
+        5,
+        alone,
+        (3, 5, 0),
+        Blank::new(129),
+        History::new(&rt),
+    )
 }

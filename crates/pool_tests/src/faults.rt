@@ -4,7 +4,7 @@ ghost use Rattle.std.specs.Prelude.{◌≡◌, ◌<◌, ◌≤◌, IfOk};
 use crate::rows::{BATCHES, SIX, one_more_row, script_again, six_hosts};
 use fork_pool::{Script, StepFault, pool, run_step};
 use group_tree::HostId;
-use roll_core::{Board, Go, Job, Outcome, Runner, Unwatched};
+use roll_core::{Board, Go, History, Job, Outcome, Runner, Unwatched};
 use sample_fleets::{Setting, board_of, limited_again, set_up};
 use std::alloc::{AllocError, Global};
 use std::marker::Brand;
@@ -72,6 +72,7 @@ pub fn opened<'s, R: Runner, L: Ledger>(
     forks: usize,
     batch: &[HostId],
     blank: Blank,
+    history: History,
 ) -> Result<Board<'s, R, L, Unwatched>, Fail>
     requires some { 0 < forks }
     requires few { forks ≤ 64 }
@@ -81,7 +82,7 @@ pub fn opened<'s, R: Runner, L: Ledger>(
     ensures forks { IfOk result (λ board. board.kernel.forks ≡ forks) }
     ensures tallies { IfOk result (λ board. board.tallies ≡ 0) }
 {
-    let mut board = board_of::<R, L>(alloc, setting, runner, forks, blank)?;
+    let mut board = board_of::<R, L>(alloc, setting, runner, forks, blank, history)?;
     if batch.is_empty() {
         return Err(Fail::new("an empty batch"));
     }
@@ -116,6 +117,7 @@ fn without_memory<L: Ledger, H: Threads + Wait + Processes<Started = SystemProce
     rt: &H,
     alloc: Global,
     blank: Blank,
+    history: History,
 ) -> Result<(), Fail>
     requires name { blank.name ≡ L.name }
     requires parts { blank.parts ≡ L.parts }
@@ -123,7 +125,7 @@ fn without_memory<L: Ledger, H: Threads + Wait + Processes<Started = SystemProce
 {
     let setting = six_hosts(alloc)?;
     let runner = Wanting::new(0);
-    let board = opened::<Wanting, L>(alloc, &setting, &runner, 2, BATCHES[0], blank)?;
+    let board = opened::<Wanting, L>(alloc, &setting, &runner, 2, BATCHES[0], blank, history)?;
     let answer = run_step(rt, alloc, board, &runner, 2);
     came_back(answer, StepFault::WorkerMem { at: 0 }, 2)
 }
@@ -133,6 +135,7 @@ fn of_another_script<L: Ledger, H: Threads + Wait + Processes<Started = SystemPr
     rt: &H,
     alloc: Global,
     blank: Blank,
+    history: History,
 ) -> Result<(), Fail>
     requires name { blank.name ≡ L.name }
     requires parts { blank.parts ≡ L.parts }
@@ -141,20 +144,25 @@ fn of_another_script<L: Ledger, H: Threads + Wait + Processes<Started = SystemPr
     let setting = six_hosts(alloc)?;
     let script = script_again(alloc)?;
     let other = one_more_row(alloc)?;
-    let board = opened::<Script, L>(alloc, &setting, &script, 2, BATCHES[0], blank)?;
+    let board = opened::<Script, L>(alloc, &setting, &script, 2, BATCHES[0], blank, history)?;
     let answer = run_step(rt, alloc, board, &other, 2);
     came_back(answer, StepFault::Mixed, 2)
 }
 
 /// No worker is left: what was put comes back.
-fn without_workers<L: Ledger, H: Wait>(rt: &H, alloc: Global, blank: Blank) -> Result<(), Fail>
+fn without_workers<L: Ledger, H: Wait>(
+    rt: &H,
+    alloc: Global,
+    blank: Blank,
+    history: History,
+) -> Result<(), Fail>
     requires name { blank.name ≡ L.name }
     requires parts { blank.parts ≡ L.parts }
     requires many { blank.parts ≡ 129 }
 {
     let setting = six_hosts(alloc)?;
     let script = script_again(alloc)?;
-    let board = opened::<Script, L>(alloc, &setting, &script, 2, BATCHES[0], blank)?;
+    let board = opened::<Script, L>(alloc, &setting, &script, 2, BATCHES[0], blank, history)?;
     let (mut front, ends) = pool(alloc, 2)?;
     drop(ends);
     let answer = front.step(rt, alloc, board);
@@ -162,14 +170,19 @@ fn without_workers<L: Ledger, H: Wait>(rt: &H, alloc: Global, blank: Blank) -> R
 }
 
 /// A step that is settled on every host needs no worker: the coordinator reports it by itself.
-fn settled<L: Ledger, H: Wait>(rt: &H, alloc: Global, blank: Blank) -> Result<(), Fail>
+fn settled<L: Ledger, H: Wait>(
+    rt: &H,
+    alloc: Global,
+    blank: Blank,
+    history: History,
+) -> Result<(), Fail>
     requires name { blank.name ≡ L.name }
     requires parts { blank.parts ≡ L.parts }
     requires many { blank.parts ≡ 129 }
 {
     let setting = set_up(alloc, limited_again(alloc, 2, &SIX)?, SKIPPED)?;
     let script = Script::new(alloc);
-    let board = opened::<Script, L>(alloc, &setting, &script, 2, BATCHES[0], blank)?;
+    let board = opened::<Script, L>(alloc, &setting, &script, 2, BATCHES[0], blank, history)?;
     let (mut front, ends) = pool(alloc, 2)?;
     drop(ends);
     match front.step(rt, alloc, board) {
@@ -181,8 +194,8 @@ fn settled<L: Ledger, H: Wait>(rt: &H, alloc: Global, blank: Blank) -> Result<()
 
 #[test]
 fn a_fault_hands_the_board_back(rt: HostRuntime) -> Result<(), Fail> {
-    without_memory::<Brand, HostRuntime>(&rt, rt.alloc(), Blank::new(129))?;
-    of_another_script::<Brand, HostRuntime>(&rt, rt.alloc(), Blank::new(129))?;
-    without_workers::<Brand, HostRuntime>(&rt, rt.alloc(), Blank::new(129))?;
-    settled::<Brand, HostRuntime>(&rt, rt.alloc(), Blank::new(129))
+    without_memory::<Brand, HostRuntime>(&rt, rt.alloc(), Blank::new(129), History::new(&rt))?;
+    of_another_script::<Brand, HostRuntime>(&rt, rt.alloc(), Blank::new(129), History::new(&rt))?;
+    without_workers::<Brand, HostRuntime>(&rt, rt.alloc(), Blank::new(129), History::new(&rt))?;
+    settled::<Brand, HostRuntime>(&rt, rt.alloc(), Blank::new(129), History::new(&rt))
 }

@@ -4,7 +4,7 @@ ghost use Rattle.std.specs.Prelude.{◌≡◌};
 use crate::rolling::{Rolled, roll_apart, roll_together};
 use fork_pool::StepFault;
 use group_tree::HostId;
-use roll_core::{Board, Go, Job, Outcome, Runner};
+use roll_core::{Board, Go, History, Job, Outcome, Runner};
 use sample_fleets::{board_of, limited_again, set_up};
 use std::alloc::{AllocError, Global};
 use std::marker::Brand;
@@ -165,6 +165,7 @@ fn gated<L: Ledger, H: Threads + Wait + Processes<Started = SystemProcess> + Syn
     apart: bool,
     may_want: bool,
     blank: Blank,
+    history: History,
 ) -> Result<(), Fail>
     requires name { blank.name ≡ L.name }
     requires parts { blank.parts ≡ L.parts }
@@ -177,7 +178,14 @@ fn gated<L: Ledger, H: Threads + Wait + Processes<Started = SystemProcess> + Syn
     let setting = set_up(alloc, limited_again(alloc, 5, names)?, PLAY)?;
     let gate = Gate::new(case.until);
     let batches = [batch];
-    let board = board_of::<Gate, L>(alloc, &setting, &gate, case.forks.clamp(1, 64), blank)?;
+    let board = board_of::<Gate, L>(
+        alloc,
+        &setting,
+        &gate,
+        case.forks.clamp(1, 64),
+        blank,
+        history,
+    )?;
     let rolled = if apart {
         roll_apart(rt, alloc, board, &batches)?
     } else {
@@ -193,7 +201,15 @@ fn gated<L: Ledger, H: Threads + Wait + Processes<Started = SystemProcess> + Syn
 fn gate_two_at_once(rt: HostRuntime) -> Result<(), Fail> {
     for apart in [true, false] {
         for case in [TWO_AT_ONCE, FIVE_AT_ONCE, ONE_GOES_ON] {
-            gated::<Brand, HostRuntime>(&rt, rt.alloc(), case, apart, false, Blank::new(129))?;
+            gated::<Brand, HostRuntime>(
+                &rt,
+                rt.alloc(),
+                case,
+                apart,
+                false,
+                Blank::new(129),
+                History::new(&rt),
+            )?;
         }
     }
     Ok(())
@@ -203,7 +219,15 @@ fn gate_two_at_once(rt: HostRuntime) -> Result<(), Fail> {
 #[test]
 fn a_step_ends_or_a_worker_is_wanting(rt: HostRuntime) -> Result<(), Fail> {
     for apart in [true, false] {
-        gated::<Brand, HostRuntime>(&rt, rt.alloc(), TWO_AT_ONCE, apart, true, Blank::new(129))?;
+        gated::<Brand, HostRuntime>(
+            &rt,
+            rt.alloc(),
+            TWO_AT_ONCE,
+            apart,
+            true,
+            Blank::new(129),
+            History::new(&rt),
+        )?;
     }
     Ok(())
 }

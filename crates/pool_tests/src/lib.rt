@@ -11,8 +11,6 @@ mod gate;
 #[cfg(test)]
 mod gathered;
 #[cfg(test)]
-mod locked;
-#[cfg(test)]
 mod memory;
 #[cfg(test)]
 mod paced;

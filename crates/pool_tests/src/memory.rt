@@ -3,6 +3,7 @@ ghost use Rattle.std.specs.Prelude.{◌≡◌};
 
 use crate::rows::{rolled, script_again, six_hosts};
 use fork_pool::Script;
+use roll_core::History;
 use std::marker::Brand;
 use std::sync::ledger::Blank;
 use std::test::Fail;
@@ -23,6 +24,7 @@ fn a_roll_ends_or_memory_is_wanting(rt: HostRuntime) -> Result<(), Fail> {
                 forks,
                 apart,
                 Blank::new(129),
+                History::new(&rt),
             )?;
             if !to_its_end {
                 wanting = wanting.saturating_add(1);

@@ -3,7 +3,7 @@ ghost use Rattle.std.specs.Prelude.{◌≡◌};
 
 use crate::rows::{rolled, script_again, six_hosts};
 use fork_pool::Script;
-use roll_core::{Go, Job, Outcome, Runner};
+use roll_core::{Go, History, Job, Outcome, Runner};
 use std::alloc::{AllocError, Global};
 use std::marker::Brand;
 use std::process::{Processes, SystemProcess};
@@ -106,6 +106,7 @@ fn the_pace_makes_no_difference(rt: HostRuntime) -> Result<(), Fail> {
                 forks,
                 forks == 5,
                 Blank::new(129),
+                History::new(&rt),
             )?;
             assert!(rt; to_its_end, "{forks} forks");
         }

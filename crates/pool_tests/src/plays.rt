@@ -4,7 +4,7 @@ ghost use Rattle.std.specs.Prelude.{◌≡◌};
 use crate::rolling::{Rolled, roll_on};
 use crate::rows::{BATCHES, is_as_worked, script_again, six_hosts};
 use fork_pool::{Front, WorkerEnd, pool, serve};
-use roll_core::Runner;
+use roll_core::{History, Runner};
 use sample_fleets::board_of;
 use std::alloc::Global;
 use std::marker::Brand;
@@ -22,15 +22,19 @@ fn play<'f, R: Runner, L: Ledger, H: Wait>(
     front: &mut Front<'f, R>,
     runner: &'f R,
     blank: Blank,
-) -> Result<(), Fail>
+    history: History,
+) -> Result<History, Fail>
     requires name { blank.name ≡ L.name }
     requires parts { blank.parts ≡ L.parts }
     requires many { blank.parts ≡ 129 }
 {
     let setting = six_hosts(alloc)?;
-    let board = board_of::<R, L>(alloc, &setting, runner, 2, blank)?;
+    let board = board_of::<R, L>(alloc, &setting, runner, 2, blank, history)?;
     match roll_on(rt, alloc, front, board, &BATCHES)? {
-        Rolled::ToItsEnd(board) if is_as_worked(&board) => Ok(()),
+        Rolled::ToItsEnd(board) if is_as_worked(&board) => {
+            let (_left, _watch, history) = board.finish();
+            Ok(history)
+        }
         Rolled::ToItsEnd(_board) => Err(Fail::new("other rows")),
         Rolled::Stopped(_fault, _board) => Err(Fail::new("a fault")),
         Rolled::NoMemory => Err(Fail::new("no memory")),
@@ -42,11 +46,15 @@ fn plays<'f, R: Runner, H: Wait>(
     alloc: Global,
     front: &mut Front<'f, R>,
     runner: &'f R,
+    mut history: History,
 ) -> Result<(), Fail> {
     for _play in 0..3u32 {
-        play::<R, Brand, H>(rt, alloc, front, runner, Blank::new(129))?;
+        history = play::<R, Brand, H>(rt, alloc, front, runner, Blank::new(129), history)?;
     }
-    Ok(())
+    match history.rolls() {
+        3 => Ok(()),
+        _ => Err(Fail::new("not three rolls")),
+    }
 }
 
 fn with_workers<'f, R: Runner, H: Threads + Wait + Processes<Started = SystemProcess> + Sync>(
@@ -55,6 +63,7 @@ fn with_workers<'f, R: Runner, H: Threads + Wait + Processes<Started = SystemPro
     front: Front<'f, R>,
     ends: Vec<WorkerEnd<'f, R>>,
     runner: &'f R,
+    history: History,
 ) -> Result<(), Fail> {
     thread::scope(thread::scope_env(), rt, move |scope| -> Result<(), Fail> {
         let mut front = front;
@@ -63,7 +72,7 @@ fn with_workers<'f, R: Runner, H: Threads + Wait + Processes<Started = SystemPro
                 return Err(Fail::new("no worker"));
             }
         }
-        plays(rt, alloc, &mut front, runner)
+        plays(rt, alloc, &mut front, runner, history)
     })
 }
 
@@ -71,5 +80,5 @@ fn with_workers<'f, R: Runner, H: Threads + Wait + Processes<Started = SystemPro
 fn plays_share_a_pool(rt: HostRuntime) -> Result<(), Fail> {
     let script = script_again(rt.alloc())?;
     let (front, ends) = pool(rt.alloc(), 2)?;
-    with_workers(&rt, rt.alloc(), front, ends, &script)
+    with_workers(&rt, rt.alloc(), front, ends, &script, History::new(&rt))
 }

@@ -4,7 +4,7 @@ ghost use Rattle.std.specs.Prelude.{◌≡◌, ◌<◌, ◌≤◌};
 use crate::rolling::{Rolled, roll_apart, roll_together};
 use fork_pool::{Script, StepFault};
 use group_tree::HostId;
-use roll_core::{Board, Counts, Outcome, Runner, Status, Unwatched};
+use roll_core::{Board, Counts, History, Outcome, Runner, Status, Unwatched};
 use sample_fleets::{Setting, board_of, limited_again, set_up};
 use std::alloc::{AllocError, Global};
 use std::marker::Brand;
@@ -91,6 +91,7 @@ pub fn rolled<R: Runner, L: Ledger, H: Threads + Wait + Processes<Started = Syst
     forks: usize,
     apart: bool,
     blank: Blank,
+    history: History,
 ) -> Result<bool, Fail>
     requires some { 0 < forks }
     requires few { forks ≤ 64 }
@@ -98,7 +99,7 @@ pub fn rolled<R: Runner, L: Ledger, H: Threads + Wait + Processes<Started = Syst
     requires parts { blank.parts ≡ L.parts }
     requires many { blank.parts ≡ 129 }
 {
-    let Ok(board) = board_of::<R, L>(alloc, setting, runner, forks, blank) else {
+    let Ok(board) = board_of::<R, L>(alloc, setting, runner, forks, blank, history) else {
         return Ok(false);
     };
     let rolled = if apart {
@@ -130,6 +131,7 @@ fn forks_make_no_difference(rt: HostRuntime) -> Result<(), Fail> {
                 forks,
                 apart,
                 Blank::new(129),
+                History::new(&rt),
             )?;
             assert!(rt; to_its_end, "{forks} forks, {apart}");
         }

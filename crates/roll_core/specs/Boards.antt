@@ -1,13 +1,18 @@
--- What clauses see of a board: its kernel, its runner, and how its reports are counted.
+-- What clauses see of a board: its kernel, its context, and how its reports are counted.
 use Rattle.std.specs.Prelude.{ℕ, Bool, true, false, List, count_by}
 use Rattle.event_log.specs.Events.{Event, set_aside, opened, claimed, reported, passed, closed}
 use Rattle.roll_core.specs.Views.{KernelView}
 use Rattle.roll_core.specs.Views as kernels
 
+-- the runner of its programs, and the logs of the rolls before it
+pub record Context (R : Type 0) : Type 0 where
+  pub runner : R
+  pub earlier : List (List Event)
+
 -- how many tallies are out, and what those that came back had counted
 pub record BoardView (R : Type 0) : Type 0 where
   pub kernel : KernelView
-  pub runner : R
+  pub context : Context R
   pub tallies : ℕ
   pub joined : ℕ
 

@@ -30,7 +30,7 @@ HasItsGo (Settled done) = Unit {0}
 pub record IsGiven {R : Type 0} (old new : BoardView R) (given : Claimed R) : Type 0 where
   pub handed : Handed
   pub claim : IsClaim old.kernel new.kernel (Some handed)
-  pub as_given : IsGivenAs old.runner handed given
+  pub as_given : IsGivenAs old.context.runner handed given
   pub rest : new ≡ record old { kernel = new.kernel }
 
 -- nothing was

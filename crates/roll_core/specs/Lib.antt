@@ -14,3 +14,4 @@ pub mod Givings
 pub mod Reports
 pub mod Tellings
 pub mod Inside
+pub mod Histories

@@ -9,4 +9,4 @@ use Rattle.roll_core.specs.Dones.{DoneView}
 -- it is handed back, since its runner isn't alike the board's, or no such claim is out
 pub record IsStranger {R : Type 0} (alike : R → R → Type 0) (board : BoardView R) (done : DoneView R) (stranger : Stranger R) : Type 0 where
   pub same : stranger.done ≡ done
-  pub why : (alike board.runner done.runner → ⊥) ⊎ (IsOut (roll_of board.kernel) (state_of board.kernel) done.completion → ⊥)
+  pub why : (alike board.context.runner done.runner → ⊥) ⊎ (IsOut (roll_of board.kernel) (state_of board.kernel) done.completion → ⊥)

@@ -1,5 +1,5 @@
 //! The board of a roll.
-ghost use Rattle.std.specs.Prelude.{◌≡◌, ◌<◌, ◌≤◌, [], IfOk, length};
+ghost use Rattle.std.specs.Prelude.{◌≡◌, ◌<◌, ◌≤◌, [], IfErr, IfOk, length};
 ghost use Rattle.fleet_states.specs.Groups.{IsSafe, groups_of};
 ghost use Rattle.fleet_states.specs.Statuses.{NobodyRuns};
 
@@ -11,6 +11,7 @@ mod reading;
 mod reporting;
 mod tallying;
 
+use crate::history::{History, Place};
 use crate::kernel::Kernel;
 use crate::runner::Runner;
 use crate::watch::Watch;
@@ -18,13 +19,14 @@ use domains::Fleet;
 use fleet_states::Status;
 use host_vars::Vars;
 use play_model::Play;
-use std::alloc::{AllocError, Global};
+use std::alloc::Global;
 use std::marker::Model;
 use std::sync::ledger::{Blank, Book, Ledger, Share};
 
 /// A roll of one play over a fleet, whose programs one runner runs. Its log is legal, at no moment of it is a group over its limit, and
 /// what it tells of a program is what the runner may tell of it. Up to 128 workers count the reports that they make, each in its tally;
-/// `L` names the ledger that ties these to the board. Its watcher has heard what is told of its log, and nothing else.
+/// `L` names the ledger that ties these to the board. Its watcher has heard what is told of its log, and nothing else. It holds the history until it is
+/// over: whoever drops it has no history any more.
 #[derive(Drop)]
 pub struct Board<'f, R: Runner, L: Ledger, W: Watch> {
     kernel: Kernel<'f>,
@@ -35,6 +37,7 @@ pub struct Board<'f, R: Runner, L: Ledger, W: Watch> {
     tallies: usize,
     joined: usize,
     watch: W,
+    place: Place,
 }
 
 impl<'f, R: Runner, L: Ledger, W: Watch> Model for Board<'f, R, L, W> {
@@ -42,6 +45,7 @@ impl<'f, R: Runner, L: Ledger, W: Watch> Model for Board<'f, R, L, W> {
     ghost use Rattle.host_vars.specs.contracts.vars.Vars as variables;
     ghost use Rattle.play_model.specs.contracts.play.Play as plays;
     ghost use Rattle.roll_core.specs.Boards.{BoardView};
+    ghost use Rattle.roll_core.specs.Histories.{logs_of};
     ghost use Rattle.roll_core.specs.Inside.{IsKept};
     ghost use Rattle.roll_core.specs.Tellings.{IsTold};
 
@@ -49,14 +53,14 @@ impl<'f, R: Runner, L: Ledger, W: Watch> Model for Board<'f, R, L, W> {
 
     ghost coded = { Prim.hlevel (codes, plays.the_row.coded, variables.the_row.coded, R.code) };
 
-    ghost view = { λ b. record { kernel = b.kernel; runner = b.runner.now; tallies = b.tallies; joined = b.joined } };
+    ghost view = { λ b. record { kernel = b.kernel; context = record { runner = b.runner.now; earlier = logs_of b.place.logs.items }; tallies = b.tallies; joined = b.joined } };
 
     ghost invariant = { λ b. IsKept (R.may b.runner.now) b.kernel b.tallies b.reports.total L.parts b.rest.parts b.rest.amount b.joined × IsTold W.hears b.kernel b.watch };
 }
 
 impl<'f, R: Runner, L: Ledger, W: Watch> Board<'f, R, L, W> {
     /// A roll at its first boundary: each host begins with its status and its variables. At most `forks` claims are out at once, 1 to 64. `blank`
-    /// is of 129 parts: one for each tally that may be out, and one for the board. Want of memory drops `watch`.
+    /// is of 129 parts: one for each tally that may be out, and one for the board. Want of memory drops `watch`, and gives the history back.
     #[allow(clippy::too_many_arguments)]
     pub fn new(
         alloc: Global,
@@ -68,7 +72,8 @@ impl<'f, R: Runner, L: Ledger, W: Watch> Board<'f, R, L, W> {
         vars: &'f [Vars],
         blank: Blank,
         watch: W,
-    ) -> Result<Board<'f, R, L, W>, AllocError>
+        history: History,
+    ) -> Result<Board<'f, R, L, W>, History>
         requires all { length start.now ≡ length fleet.now.hosts }
         requires each { length vars.now ≡ length fleet.now.hosts }
         requires at_rest { NobodyRuns start.now }
@@ -78,15 +83,22 @@ impl<'f, R: Runner, L: Ledger, W: Watch> Board<'f, R, L, W> {
         requires name { blank.name ≡ L.name }
         requires parts { blank.parts ≡ L.parts }
         requires many { blank.parts ≡ 129 }
-        ensures { IfOk result (λ board. board
+        ensures ok { IfOk result (λ board. board
             ≡ record {
               kernel = record { fleet = fleet.now; play = play.now; forks = forks; start = start.now; vars = vars.now; log = [] };
-              runner = runner.now;
+              context = record { runner = runner.now; earlier = history };
               tallies = 0;
               joined = 0;
             }) }
+        ensures err { IfErr result (λ back. back ≡ history) }
     {
-        let kernel = Kernel::new(alloc, fleet, play, forks, start, vars)?;
+        let place = match Place::new(history) {
+            Ok(place) => place,
+            Err(history) => return Err(history),
+        };
+        let Ok(kernel) = Kernel::new(alloc, fleet, play, forks, start, vars) else {
+            return Err(place.give_up());
+        };
         let (reports, rest) = blank.open::<L>();
         Ok(Board {
             kernel,
@@ -96,6 +108,7 @@ impl<'f, R: Runner, L: Ledger, W: Watch> Board<'f, R, L, W> {
             tallies: 0,
             joined: 0,
             watch,
+            place,
         })
     }
 }

@@ -89,13 +89,13 @@ impl<'f> Kernel<'f> {
     }
 }
 
-/// Puts an event at the end, where there is room.
-fn keep(log: &mut Vec<Event>, event: Event)
-    requires { vec_len log.old < vec_capacity log.old }
-    ensures items { log.new.items ≡ log.old.items ++ event ∷ [] }
-    ensures capacity { vec_capacity log.old ≤ vec_capacity log.new }
+/// Puts an item at the end, where there is room.
+pub(crate) fn keep<T: Drop>(items: &mut Vec<T>, item: T)
+    requires { vec_len items.old < vec_capacity items.old }
+    ensures items { items.new.items ≡ items.old.items ++ item ∷ [] }
+    ensures capacity { vec_capacity items.old ≤ vec_capacity items.new }
 {
-    match log.push(event) {
+    match items.push(item) {
         Ok(()) => {}
         Err(_refused) => {}
     }

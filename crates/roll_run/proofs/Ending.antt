@@ -1,14 +1,11 @@
 -- A run is over: it came to its end, or a fault broke it off.
 use Rattle.std.proofs.Common.{◌≡◌, ℕ, ◌+◌, ◌<◌, ◌⊎◌, inl, inr, Option, Some, None, List, [], ◌∷◌, ◌++◌, length, length-append, take, get_or, refl, sym, ap, ap₂, ◌∙◌, subst, arith, append_assoc}
 use Rattle.std.specs.List.{count_by}
-use Rattle.std.specs.Prelude.{slice_index_or}
-use Rattle.std.proofs.Math.Seq.{take-nil}
 use Rattle.std.proofs.lemmas.List.{append-nil, length-map}
 use Rattle.std.proofs.lemmas.Option.{slice_get-get_or}
 use Rattle.domains.specs.FleetViews.{FleetView}
 use Rattle.fleet_states.specs.declared.status.Status.{Status}
 use Rattle.fleet_states.specs.Groups.{IsSafe, groups_of}
-use Rattle.fleet_states.specs.Statuses.{NobodyRuns}
 use Rattle.host_track.specs.Tracks.{counts_in}
 use Rattle.host_track.specs.Endings.{Ending}
 use Rattle.host_track.specs.declared.counts.Counts.{Counts}
@@ -16,6 +13,7 @@ use Rattle.play_course.specs.declared.boundary.Boundary.{Boundary}
 use Rattle.play_course.specs.declared.end.End.{End}
 use Rattle.domains.specs.Ids.{host_numbers}
 use Rattle.play_course.specs.PlayPlans.{aside_by}
+use Rattle.play_course.specs.Laws.{opened_batches}
 use Rattle.play_course.specs.Courses.{IsCourse, end_here, led_to, next_batch}
 use Rattle.play_course.proofs.SameLemmas.{one_boundary_more}
 use Rattle.event_log.specs.Rolls.{Roll}
@@ -29,14 +27,14 @@ use Rattle.roll_core.specs.Leavings.{AreKnown}
 use Rattle.roll_core.specs.Leavings as leavings
 use Rattle.roll_core.specs.Views.{FrontsAreSafe, KernelView, RestsAtBoundaries, event_of, events_of, roll_of, state_of}
 use Rattle.roll_core.specs.Boards.{BoardView}
+use Rattle.roll_core.specs.declared.event.Event.{Event as Entry}
 use Rattle.fork_pool.specs.declared.fault.StepFault.{StepFault}
-use Rattle.roll_run.specs.Runs.{AreCounted, IsAskedAt, IsBreakIn, IsBrokenOff, IsRun, IsSafeLog, TookItsCourse, WasOnCourse, aside_at, batches_in, boundary_events, events_at_each, setting_aside}
-use Rattle.roll_run.specs.Plays.{IsNotBegun}
+use Rattle.roll_run.specs.Runs.{AreCounted, IsAskedAt, IsBrokenOff, IsLastOpened, IsRun, TookItsCourse, WasOnCourse, aside_at, batches_in, boundary_events, events_at_each, setting_aside}
 use Rattle.roll_run.specs.declared.run.Run.{Run}
 use Rattle.roll_run.specs.declared.fault.Break.{Break}
 use Rattle.roll_run.specs.declared.fault.Break.TheVariants.{Asked, Fault}
 use Rattle.roll_run.specs.declared.fault.RunFault.{RunFault}
-use Rattle.roll_run.specs.Inside.{HasBroken, HasComeTo, IsAt, IsBetween, IsEnded, IsOnCourse, aside_in, grown, opens, setting_by}
+use Rattle.roll_run.specs.Inside.{HasBroken, HasComeTo, IsBroken, IsAt, IsBetween, IsEnded, IsOnCourse, aside_in, grown, opens, setting_by}
 use Rattle.roll_run.proofs.Behind.{aside_is_at, aside_opens_none, batches_by_events, events-append, events_at_each-push, opened_are}
 
 -- the play ends at its last boundary
@@ -101,6 +99,22 @@ broken_between kernel new behind before more at begun is =
           is_begun = set_out_from kernel more (led_to (setting_by columns kernel) kernel.start behind) come.statuses begun;
         }
 
+-- each boundary has opened its batch
+pub last_between : (kernel new : KernelView) (behind : List Boundary) (before : Option End) (more : List Event) → IsBetween kernel behind before → ((more ≡ []) ⊎ (more ≡ setting_aside (aside_in kernel))) → new ≡ grown kernel more
+    → IsLastOpened (state_of new) behind new.log
+last_between kernel new behind before more at begun is =
+    inr (sym (ap (λ (k : KernelView). length (batches_in k.log)) is ∙ ap length batches ∙ length-map behind (λ (b : Boundary). next_batch b.answer)))
+  where
+    batches : batches_in (grown kernel more).log ≡ opened_batches behind
+    batches = batches_by_events (grown kernel more).log behind more (events-append kernel.log more ∙ ap₂ ◌++◌ at.events (set_out_at kernel more begun)) (set_out_opens_none kernel more begun)
+
+-- the batch of a boundary is opened, whatever is behind that in the batch
+opened_at : (kernel : KernelView) (behind : List Boundary) (boundary : Boundary) (before : Option End) (more : List Event) → IsAt kernel behind boundary before → boundary_events more ≡ opened (next_batch boundary.answer) ∷ []
+    → boundary_events (grown kernel more).log ≡ events_at_each (behind ++ boundary ∷ []) ++ []
+opened_at kernel behind boundary before more at one =
+    events-append kernel.log more ∙ ap₂ ◌++◌ at.events one ∙ append_assoc (events_at_each behind) (aside_at boundary) (opened (next_batch boundary.answer) ∷ [])
+    ∙ sym (append-nil (events_at_each (behind ++ boundary ∷ [])) ∙ events_at_each-push behind boundary)
+
 -- it is broken off as it opens the batch of a boundary, or within it
 pub broken_at : {R : Type 0} (old new : BoardView R) (behind boundaries : List Boundary) (boundary : Boundary) (before : Option End)
     → IsAt old.kernel behind boundary before → boundaries ≡ behind ++ boundary ∷ [] → end_here before boundary ≡ None
@@ -115,17 +129,15 @@ broken_at old new behind boundaries boundary before at are goes_on broken =
         subst (IsCourse setting old.kernel.start (behind ++ boundary ∷ [])) (ap (λ b. end_here b boundary) (sym come.before_is) ∙ goes_on) (one_boundary_more setting old.kernel.start behind boundary come.course come.here)
 
     -- its batch was not opened
-    unopened : boundary_events broken.more ≡ [] → boundary_events (grown old.kernel broken.more).log ≡ events_at_each behind ++ aside_at boundary
+    unopened : broken.more ≡ [] → boundary_events (grown old.kernel broken.more).log ≡ events_at_each behind ++ aside_at boundary
     unopened none =
-        events-append old.kernel.log broken.more ∙ ap (λ events. boundary_events old.kernel.log ++ events) none ∙ append-nil (boundary_events old.kernel.log) ∙ at.events
+        events-append old.kernel.log broken.more ∙ ap (λ events. boundary_events old.kernel.log ++ boundary_events events) none ∙ append-nil (boundary_events old.kernel.log) ∙ at.events
 
     -- it was
     all_opened : boundary_events broken.more ≡ opened (next_batch boundary.answer) ∷ [] → boundary_events (grown old.kernel broken.more).log ≡ events_at_each (behind ++ boundary ∷ []) ++ []
-    all_opened one =
-        events-append old.kernel.log broken.more ∙ ap₂ ◌++◌ at.events one ∙ append_assoc (events_at_each behind) (aside_at boundary) (opened (next_batch boundary.answer) ∷ [])
-        ∙ sym (append-nil (events_at_each (behind ++ boundary ∷ [])) ∙ events_at_each-push behind boundary)
+    all_opened one = opened_at old.kernel behind boundary before broken.more at one
 
-    on : (boundary_events broken.more ≡ []) ⊎ (boundary_events broken.more ≡ opened (next_batch boundary.answer) ∷ []) → IsOnCourse (grown old.kernel broken.more) (behind ++ boundary ∷ [])
+    on : (broken.more ≡ []) ⊎ (boundary_events broken.more ≡ opened (next_batch boundary.answer) ∷ []) → IsOnCourse (grown old.kernel broken.more) (behind ++ boundary ∷ [])
     on (inl none) columns tells = record {
       course = course columns tells;
       behind = behind;
@@ -149,6 +161,18 @@ broken_at old new behind boundaries boundary before at are goes_on broken =
       is_begun = inl refl;
     }
 
+pub last_opened : {R : Type 0} (old new : BoardView R) (behind boundaries : List Boundary) (boundary : Boundary) (before : Option End)
+    → IsAt old.kernel behind boundary before → boundaries ≡ behind ++ boundary ∷ [] → HasBroken (next_batch boundary.answer) old new → IsLastOpened (state_of new.kernel) boundaries new.kernel.log
+last_opened old new behind boundaries boundary before at are broken =
+    subst (λ (k : KernelView). IsLastOpened (state_of k) boundaries k.log) (sym broken.kernel) (by broken.opens_it)
+  where
+    by : (broken.more ≡ []) ⊎ (boundary_events broken.more ≡ opened (next_batch boundary.answer) ∷ []) → IsLastOpened (state_of (grown old.kernel broken.more)) boundaries (grown old.kernel broken.more).log
+    by (inl none) =
+        inl (ap (λ more. (state_of (grown old.kernel more)).phase) none ∙ ap (λ log. (state_of (record old.kernel { log = log })).phase) (append-nil old.kernel.log) ∙ at.phase)
+    by (inr one) =
+        let batches = batches_by_events (grown old.kernel broken.more).log (behind ++ boundary ∷ []) [] (opened_at old.kernel behind boundary before broken.more at one) refl in
+        inr (ap length are ∙ sym (ap length batches ∙ length-map (behind ++ boundary ∷ []) (λ (b : Boundary). next_batch b.answer)))
+
 -- it was asked to end at the boundary
 pub asked_at : {R : Type 0} (old new : BoardView R) (behind boundaries : List Boundary) (boundary : Boundary) (before : Option End) (why : Break)
     → IsAt old.kernel behind boundary before → boundaries ≡ behind ++ boundary ∷ [] → (why ≡ Asked → new ≡ old) → IsAskedAt boundaries new.kernel.log why
@@ -160,59 +184,35 @@ asked_at {R} old new behind boundaries boundary before Asked at are still =
     let all : length boundaries ≡ length behind + 1 = ap length are ∙ length-append behind (boundary ∷ []) in
     subst (λ log. length boundaries ≡ length (batches_in log) + 1) (sym same) (omega (arith, many, all))
 
--- what the board hands out, of which the log is written by these entries
+-- what the board hands out
 module _ (may : Work → Ending → Type 0) (kernel : KernelView) where
-  safe_log : (log : List Event) → log ≡ kernel.log → IsLegal (roll_of kernel) (start_state (roll_of kernel)) kernel.log → FrontsAreSafe (roll_of kernel) kernel.log → RestsAtBoundaries (roll_of kernel) kernel.log
-      → AreTold may (roll_of kernel) (start_state (roll_of kernel)) kernel.log → IsSafeLog may (roll_of kernel) log
-  safe_log log is legal safe rests told = subst (IsSafeLog may (roll_of kernel)) (sym is) (record { legal = legal; safe = safe; rests = rests; told = told })
-
-  counted_by : (log : List Event) (counts : List Counts) → log ≡ kernel.log → leavings.AreCounted (roll_of kernel) (state_of kernel) counts → AreCounted (roll_of kernel) (end_state (roll_of kernel) log) counts
-  counted_by log counts is are host within =
+  counted_by : (counts : List Counts) → leavings.AreCounted (roll_of kernel) (state_of kernel) counts → AreCounted (roll_of kernel) (state_of kernel) counts
+  counted_by counts are host within =
       are.each host (get_or counts host (counts_in [])) (slice_get-get_or counts host (counts_in []) (subst (λ n. host < n) (sym are.all) within))
-      ∙ ap (λ l. counts_in ((end_state (roll_of kernel) l).rows host)) (sym is)
 
-  pub is_run : (run : Run) → events_of run.log.items ≡ kernel.log → IsLegal (roll_of kernel) (start_state (roll_of kernel)) kernel.log → FrontsAreSafe (roll_of kernel) kernel.log → RestsAtBoundaries (roll_of kernel) kernel.log
+  pub is_run : (run : Run) → IsLegal (roll_of kernel) (start_state (roll_of kernel)) kernel.log → FrontsAreSafe (roll_of kernel) kernel.log → RestsAtBoundaries (roll_of kernel) kernel.log
       → AreTold may (roll_of kernel) (start_state (roll_of kernel)) kernel.log → run.statuses.items ≡ (state_of kernel).statuses → AreKnown (roll_of kernel) (state_of kernel) run.vars.items → leavings.AreCounted (roll_of kernel) (state_of kernel) run.counts.items
-      → IsEnded kernel run.boundaries.items run.end → IsRun may kernel.fleet (roll_of kernel) run
-  is_run run is legal safe rests told statuses vars counts ended = record {
-    log = safe_log (events_of run.log.items) is legal safe rests told;
-    over = ap (λ l. (end_state (roll_of kernel) l).phase) is ∙ ended.phase;
-    statuses = statuses ∙ ap (λ l. (end_state (roll_of kernel) l).statuses) (sym is);
-    vars = subst (λ l. AreKnown (roll_of kernel) (end_state (roll_of kernel) l) run.vars.items) (sym is) vars;
+      → IsEnded kernel run.boundaries.items run.end → IsRun may kernel.fleet (roll_of kernel) run kernel.log
+  is_run run legal safe rests told statuses vars counts ended = record {
+    is_safe = record { legal = legal; safe = safe; rests = rests; told = told };
+    over = ended.phase;
+    statuses = statuses;
+    vars = vars;
     all_counted = counts.all;
-    counts = counted_by (events_of run.log.items) run.counts.items is counts;
-    by = λ columns tells. subst (λ l. TookItsCourse kernel.fleet (roll_of kernel) columns run.boundaries.items l run.statuses.items run.end) (sym is)
-        (subst (λ s. TookItsCourse kernel.fleet (roll_of kernel) columns run.boundaries.items kernel.log s run.end) (sym statuses) (ended.by columns (subst (Tells columns (roll_of kernel)) is tells)));
+    counts = counted_by run.counts.items counts;
+    by = λ columns tells. subst (λ s. TookItsCourse kernel.fleet (roll_of kernel) columns run.boundaries.items kernel.log s run.end) (sym statuses) (ended.by columns tells);
   }
 
-  pub is_broken : (fault : RunFault) → events_of fault.log.items ≡ kernel.log → IsLegal (roll_of kernel) (start_state (roll_of kernel)) kernel.log → FrontsAreSafe (roll_of kernel) kernel.log → RestsAtBoundaries (roll_of kernel) kernel.log
+  pub is_broken : (fault : RunFault) (entries : List Entry) → events_of entries ≡ kernel.log → IsLegal (roll_of kernel) (start_state (roll_of kernel)) kernel.log → FrontsAreSafe (roll_of kernel) kernel.log → RestsAtBoundaries (roll_of kernel) kernel.log
       → AreTold may (roll_of kernel) (start_state (roll_of kernel)) kernel.log → fault.statuses.items ≡ (state_of kernel).statuses → leavings.AreCounted (roll_of kernel) (state_of kernel) fault.counts.items
-      → fault.opened ≡ count_by (λ event. opens (event_of event)) fault.log.items → IsOnCourse kernel fault.boundaries.items → IsBreakIn kernel.forks (state_of kernel) fault.why → IsAskedAt fault.boundaries.items kernel.log fault.why → IsBrokenOff may kernel.fleet (roll_of kernel) fault
-  is_broken fault is legal safe rests told statuses counts many on why asked = record {
-    log = safe_log (events_of fault.log.items) is legal safe rests told;
-    statuses = statuses ∙ ap (λ l. (end_state (roll_of kernel) l).statuses) (sym is);
-    counts = counted_by (events_of fault.log.items) fault.counts.items is counts;
-    why = subst (λ l. IsBreakIn kernel.forks (end_state (roll_of kernel) l) fault.why) (sym is) why;
-    asked = subst (λ l. IsAskedAt fault.boundaries.items l fault.why) (sym is) asked;
-    opened_are = many ∙ sym (opened_are fault.log.items);
-    by = λ columns tells. subst (WasOnCourse kernel.fleet (roll_of kernel) columns fault.boundaries.items) (sym is) (on columns (subst (Tells columns (roll_of kernel)) is tells));
+      → fault.opened ≡ count_by (λ event. opens (event_of event)) entries → IsOnCourse kernel fault.boundaries.items → IsBroken fault.boundaries.items kernel fault.why → IsBrokenOff may kernel.fleet (roll_of kernel) fault kernel.log
+  is_broken fault entries is legal safe rests told statuses counts many on broken = record {
+    is_safe = record { legal = legal; safe = safe; rests = rests; told = told };
+    statuses = statuses;
+    counts = counted_by fault.counts.items counts;
+    why = broken.why_is;
+    asked = broken.asked;
+    last = broken.last;
+    opened_are = many ∙ sym (opened_are entries) ∙ ap (λ l. length (batches_in l)) is;
+    by = on;
   }
-
--- memory was wanting before there was a board
-pub is_unbegun : (may : Work → Ending → Type 0) (fleet : FleetView) (roll : Roll) (fault : RunFault) → IsSafe roll.groups roll.start → NobodyRuns roll.start → IsNotBegun roll.start fault → IsBrokenOff may fleet roll fault
-is_unbegun may fleet roll fault safe rests not = record {
-  log = subst (IsSafeLog may roll) (sym empty) (record { legal = tt; safe = λ n. subst (IsSafe roll.groups) (sym (start_at n)) safe; rests = λ n _. subst NobodyRuns (sym (start_at n)) rests; told = tt });
-  statuses = not.statuses_are ∙ ap (λ l. (end_state roll l).statuses) (sym empty);
-  counts = λ host within. ap (λ l. slice_index_or l host (counts_in [])) not.counts ∙ ap (λ l. counts_in ((end_state roll l).rows host)) (sym empty);
-  why = subst (IsBreakIn roll.forks (end_state roll (events_of fault.log.items))) (sym not.why) tt;
-  asked = subst (IsAskedAt fault.boundaries.items (events_of fault.log.items)) (sym not.why) tt;
-  opened_are = not.opened ∙ ap (λ l. length (batches_in l)) (sym empty);
-  by = λ columns tells. subst (λ l. WasOnCourse fleet roll columns fault.boundaries.items l) (sym empty)
-      (subst (λ bs. WasOnCourse fleet roll columns bs []) (sym not.boundaries) (record { course = refl; behind = []; rest = []; boundaries_are = refl; few = omega arith; batches = refl; begun = []; events = refl; is_begun = inl refl }));
-}
-  where
-    empty : events_of fault.log.items ≡ []
-    empty = ap events_of not.log
-
-    start_at : (n : ℕ) → (state_after roll (start_state roll) (take n [])).statuses ≡ roll.start
-    start_at n = ap (λ l. (state_after roll (start_state roll) l).statuses) (take-nil n)

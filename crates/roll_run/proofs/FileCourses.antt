@@ -18,12 +18,12 @@ use Rattle.play_course.specs.declared.end.End.TheVariants.{Finished, Held, Block
 use Rattle.play_course.specs.Courses.{IsCourse}
 use Rattle.play_course.specs.Files.{AreCourses, AreLaterCourses, Course, GoesOn, last_statuses}
 use Rattle.event_log.specs.Columns.{Columns, Tells}
+use Rattle.event_log.specs.Events.{Event}
 use Rattle.event_log.specs.Logs.{end_state}
 use Rattle.event_log.specs.Rolls.{Roll}
 use Rattle.event_log.specs.States.{between, working}
 use Rattle.event_log.specs.Told.{Work}
 use Rattle.event_log.proofs.GrowthLaws.{nobody_out}
-use Rattle.roll_core.specs.Views.{events_of}
 use Rattle.fork_pool.specs.declared.fault.StepFault.{StepFault}
 use Rattle.fork_pool.specs.declared.fault.StepFault.TheVariants.{Mem, WorkerMem, Mixed}
 use Rattle.roll_run.specs.declared.run.Run.{Run}
@@ -31,7 +31,7 @@ use Rattle.roll_run.specs.declared.fault.Break.{Break}
 use Rattle.roll_run.specs.declared.fault.Break.TheVariants.{Asked, Fault}
 use Rattle.roll_run.specs.Runs.{IsBreakIn, IsFaultIn, IsRun, roll_by, setting_of}
 use Rattle.roll_run.specs.Plays.{AreRunsAfter, AreSameHosts, IsRollAfter}
-use Rattle.roll_run.specs.Files.{TellLater, course_of, roll_after, settings_after}
+use Rattle.roll_run.specs.Files.{TellLater, TellTheirs, course_of, roll_after, settings_after}
 use Rattle.roll_run.specs.Laws.{NoWorkerAtBoundaries, RunsAreCourses}
 
 same_host : (one other : Vars) → IsSameHost one other → known_of one ≡ known_of other
@@ -69,59 +69,64 @@ none_follow AllFailed courses none goes = none
 
 module _ (may : Work → Ending → Type 0) (columns : ℕ → Columns) (fleet : FleetView) (forks : ℕ) where
   -- a run leaves the statuses with which its course ends
-  left_by : (roll : Roll) (run : Run) (by : Columns) → IsRun may fleet roll run → Tells by roll (events_of run.log.items) → last_statuses [] run.boundaries.items ≡ run.statuses.items
-  left_by roll run by is tells =
+  left_by : (roll : Roll) (run : Run) (log : List Event) (by : Columns) → IsRun may fleet roll run log → Tells by roll log → last_statuses [] run.boundaries.items ≡ run.statuses.items
+  left_by roll run log by is tells =
       let took = is.by by tells in
       ap (last_statuses []) took.boundaries_are ∙ last_of [] took.behind took.last ∙ sym took.statuses_are
 
-  later_courses : (number : ℕ) (plays : List Play) (before : Run) (runs : List Run) (statuses : List Status) → statuses ≡ before.statuses.items → AreRunsAfter may fleet forks plays before runs
-      → TellLater columns fleet forks number plays before runs → GoesOn before.end (map course_of runs) (AreLaterCourses (settings_after columns fleet forks number plays before runs) statuses (map course_of runs))
-  later_courses number [] before runs statuses same none tell =
-      none_follow before.end (map course_of runs) (ap (map course_of) none) (λ _. ap (map course_of) none)
-  later_courses number (play ∷ plays) before [] statuses same stops tell = none_follow before.end [] refl stops
-  later_courses number (play ∷ plays) before (run ∷ rest) statuses same after tell =
+  later_courses : (number : ℕ) (plays : List Play) (before : Run) (runs : List Run) (logs : List (List Event)) (statuses : List Status) → statuses ≡ before.statuses.items → AreRunsAfter may fleet forks plays before runs logs
+      → TellLater columns fleet forks number plays before runs logs → GoesOn before.end (map course_of runs) (AreLaterCourses (settings_after columns fleet forks number plays before runs) statuses (map course_of runs))
+  later_courses number [] before runs logs statuses same none tell =
+      none_follow before.end (map course_of runs) (ap (map course_of) none.1) (λ _. ap (map course_of) none.1)
+  later_courses number (play ∷ plays) before [] logs statuses same stops tell = none_follow before.end [] refl stops.1
+  later_courses number (play ∷ plays) before (run ∷ rest) [] statuses same after tell = absurd after
+  later_courses number (play ∷ plays) before (run ∷ rest) (log ∷ logs) statuses same after tell =
       let roll : Roll = roll_after fleet forks play before in
-      let is : IsRun may fleet roll run = subst (λ (r : Roll). IsRun may fleet r run) (begins_after fleet play forks before after.1.roll after.1.begins) after.1.run_is in
+      let is : IsRun may fleet roll run log = subst (λ (r : Roll). IsRun may fleet r run log) (begins_after fleet play forks before after.1.roll after.1.begins) after.1.run_is in
       let course = subst (λ (l : List Status). IsCourse (setting_of fleet roll (columns number)) (restart_statuses l (targets fleet play)) run.boundaries.items (Some run.end)) (sym same) (is.by (columns number) tell.0).course in
-      let rest_are = later_courses (number + 1) plays run rest (last_statuses [] run.boundaries.items) (left_by roll run (columns number) is tell.0) after.2 tell.1 in
+      let rest_are = later_courses (number + 1) plays run rest logs (last_statuses [] run.boundaries.items) (left_by roll run log (columns number) is tell.0) after.2 tell.1 in
       subst (λ (end : End). GoesOn end (map course_of (run ∷ rest)) (AreLaterCourses (settings_after columns fleet forks number (play ∷ plays) before (run ∷ rest)) statuses (map course_of (run ∷ rest)))) (sym after.0) (course, rest_are)
 
 pub runs_are_courses : (may : Work → Ending → Type 0) → RunsAreCourses may
-runs_are_courses may columns fleet forks first later statuses vars run rest are tell =
-    by are.first are.later are.run are.rest are.plays_are are.runs_are are.is_first are.follow
+runs_are_courses may columns fleet forks first later statuses vars run rest logs are tell =
+    by are.first are.later are.run are.rest logs are.log are.others are.plays_are are.runs_are are.logs_are tell are.is_first are.follow
   where
-    by : (one : Play) (others : List Play) (its : Run) (more : List Run) → first ∷ later ≡ one ∷ others → run ∷ rest ≡ its ∷ more → IsRun may fleet (roll_by fleet one forks statuses vars) its
-        → AreRunsAfter may fleet forks others its more → AreCourses (setting_of fleet (roll_by fleet first forks statuses vars) (columns 0)) (settings_after columns fleet forks 1 later run rest) statuses (map course_of (run ∷ rest))
-    by one others its more plays runs is follow =
+    by : (one : Play) (others : List Play) (its : Run) (more : List Run) (all : List (List Event)) (log : List Event) (logs : List (List Event)) → first ∷ later ≡ one ∷ others → run ∷ rest ≡ its ∷ more → all ≡ log ∷ logs
+        → TellTheirs columns fleet forks (first ∷ later) statuses vars (run ∷ rest) all → IsRun may fleet (roll_by fleet one forks statuses vars) its log → AreRunsAfter may fleet forks others its more logs
+        → AreCourses (setting_of fleet (roll_by fleet first forks statuses vars) (columns 0)) (settings_after columns fleet forks 1 later run rest) statuses (map course_of (run ∷ rest))
+    by one others its more all log logs plays runs kept tells is follow =
         let play_is : one ≡ first = cc in
         let later_are : others ≡ later = cc in
         let run_is : its ≡ run = cc in
         let rest_is : more ≡ rest = cc in
-        let here : IsRun may fleet (roll_by fleet first forks statuses vars) run = subst (λ (p : Play). IsRun may fleet (roll_by fleet p forks statuses vars) run) play_is (subst (λ (r : Run). IsRun may fleet (roll_by fleet one forks statuses vars) r) run_is is) in
-        let after : AreRunsAfter may fleet forks later run rest =
-        subst (λ (ps : List Play). AreRunsAfter may fleet forks ps run rest) later_are (subst (λ (r : Run). AreRunsAfter may fleet forks others r rest) run_is (subst (AreRunsAfter may fleet forks others its) rest_is follow)) in
+        let tell : TellTheirs columns fleet forks (first ∷ later) statuses vars (run ∷ rest) (log ∷ logs) = subst (TellTheirs columns fleet forks (first ∷ later) statuses vars (run ∷ rest)) kept tells in
+        let here : IsRun may fleet (roll_by fleet first forks statuses vars) run log =
+        subst (λ (p : Play). IsRun may fleet (roll_by fleet p forks statuses vars) run log) play_is (subst (λ (r : Run). IsRun may fleet (roll_by fleet one forks statuses vars) r log) run_is is) in
+        let after : AreRunsAfter may fleet forks later run rest logs =
+        subst (λ (ps : List Play). AreRunsAfter may fleet forks ps run rest logs) later_are
+        (subst (λ (r : Run). AreRunsAfter may fleet forks others r rest logs) run_is (subst (λ (l : List Run). AreRunsAfter may fleet forks others its l logs) rest_is follow)) in
         record {
           course = course_of run;
           rest = map course_of rest;
           courses_are = refl;
           is_first = (here.by (columns 0) tell.0).course;
-          goes_on = later_courses may columns fleet forks 1 later run rest (last_statuses [] run.boundaries.items) (left_by may columns fleet forks (roll_by fleet first forks statuses vars) run (columns 0) here tell.0) after tell.1;
+          goes_on = later_courses may columns fleet forks 1 later run rest logs (last_statuses [] run.boundaries.items) (left_by may columns fleet forks (roll_by fleet first forks statuses vars) run log (columns 0) here tell.0) after tell.1;
         }
 
 pub no_worker : (may : Work → Ending → Type 0) → NoWorkerAtBoundaries may
-no_worker may fleet roll fault is at = either fault.why is.why
+no_worker may fleet roll fault log is at = either fault.why is.why
   where
-    none : (end_state roll (events_of fault.log.items)).out ≡ []
-    none = nobody_out roll (events_of fault.log.items) is.log.legal (λ step here. apart step (sym at ∙ here))
+    none : (end_state roll log).out ≡ []
+    none = nobody_out roll log is.is_safe.legal (λ step here. apart step (sym at ∙ here))
       where
         apart : (step : ℕ) → between ≡ working step → ⊥
         apart step same = absurd (cc)
 
-    by : (why : StepFault) → IsFaultIn roll.forks (end_state roll (events_of fault.log.items)) why → why ≡ Mem
+    by : (why : StepFault) → IsFaultIn roll.forks (end_state roll log) why → why ≡ Mem
     by Mem so = refl
     by (WorkerMem at) so = absurd (omega (arith, so.1, ap length none))
     by Mixed so = absurd (omega (arith, so, ap length none))
 
-    either : (why : Break) → IsBreakIn roll.forks (end_state roll (events_of fault.log.items)) why → (why ≡ Asked) ⊎ (why ≡ Fault Mem)
+    either : (why : Break) → IsBreakIn roll.forks (end_state roll log) why → (why ≡ Asked) ⊎ (why ≡ Fault Mem)
     either (Fault why) so = inr (ap (λ (w : StepFault). Fault w) (by why so))
     either Asked so = inl refl

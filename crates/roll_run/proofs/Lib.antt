@@ -7,4 +7,5 @@ pub mod FileCourses
 pub mod Following
 pub mod Lengths
 pub mod Passing
+pub mod SafeRolls
 pub mod Turning

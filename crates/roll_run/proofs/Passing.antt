@@ -75,24 +75,24 @@ module _ {R : Type 0} where
 
   pub none_yet : (board : BoardView R) → HasWorked board board
   none_yet board =
-      record { more = []; inside = refl; kernel = ap (λ (log : List Event). record board.kernel { log = log }) (sym (append-nil board.kernel.log)); runner = refl }
+      record { more = []; inside = refl; kernel = ap (λ (log : List Event). record board.kernel { log = log }) (sym (append-nil board.kernel.log)); context = refl }
 
-  works_more : (first old new : BoardView R) (more : List Event) → HasWorked first old → list_all is_inside more ≡ true → new.kernel ≡ grown old.kernel more → new.runner ≡ old.runner → HasWorked first new
-  works_more first old new more was inside kernel runner = record {
+  works_more : (first old new : BoardView R) (more : List Event) → HasWorked first old → list_all is_inside more ≡ true → new.kernel ≡ grown old.kernel more → new.context ≡ old.context → HasWorked first new
+  works_more first old new more was inside kernel context = record {
     more = was.more ++ more;
     inside = list_all-append is_inside was.more more ∙ ap (λ b. b && list_all is_inside more) was.inside ∙ inside;
     kernel = kernel ∙ ap (λ (k : KernelView). grown k more) was.kernel ∙ ap (λ (log : List Event). record first.kernel { log = log }) (append_assoc first.kernel.log was.more more);
-    runner = runner ∙ was.runner;
+    context = context ∙ was.context;
   }
 
   -- workers have been at the present step
   pub works_on : (first old new : BoardView R) → HasWorked first old → Continues old new → HasWorked first new
-  works_on first old new was is = works_more first old new is.more was (work_is_inside is.more is.work) is.kernel is.runner
+  works_on first old new was is = works_more first old new is.more was (work_is_inside is.more is.work) is.kernel is.context
 
   -- and the batch has passed it
   pub works_past : (first old new : BoardView R) (told : Next) → HasWorked first old → HasPassed old.kernel new.kernel told → new ≡ record old { kernel = new.kernel } → HasWorked first new
   works_past first old new told was past rest =
-      works_more first old new (passed past.step ∷ []) was refl past.grown (ap (λ (b : BoardView R). b.runner) rest)
+      works_more first old new (passed past.step ∷ []) was refl past.grown (ap (λ (b : BoardView R). b.context) rest)
 
   -- a step has been worked on, and is passed
   pub passes_step : (old stepped new : BoardView R) (told : Next) → Continues old stepped → stepped.tallies ≡ 0 → HasPassed stepped.kernel new.kernel told → new ≡ record stepped { kernel = new.kernel } → HasPassedStep old (told, new)
@@ -104,7 +104,7 @@ module _ {R : Type 0} where
 
   -- and another one before it
   pub works_further : (first old new : BoardView R) → HasWorked first old → HasWorked old new → HasWorked first new
-  works_further first old new was is = works_more first old new is.more was is.inside is.kernel is.runner
+  works_further first old new was is = works_more first old new is.more was is.inside is.kernel is.context
 
   -- a batch that was opened, and worked on until it was over
   pub runs : (old begun new : BoardView R) (batch : List ℕ) → begun ≡ with_event old (opened batch) → IsWorkedOff begun new → HasRun batch old new
@@ -112,7 +112,7 @@ module _ {R : Type 0} where
     more = done.worked.more;
     inside = done.worked.inside;
     kernel = done.worked.kernel ∙ ap (λ (b : BoardView R). grown b.kernel done.worked.more) opens ∙ ap (λ (log : List Event). record old.kernel { log = log }) (append_assoc old.kernel.log (opened batch ∷ []) done.worked.more);
-    runner = done.worked.runner ∙ ap (λ (b : BoardView R). b.runner) opens;
+    context = done.worked.context ∙ ap (λ (b : BoardView R). b.context) opens;
     over = done.over;
     tallies = done.tallies;
   }
@@ -122,7 +122,7 @@ module _ {R : Type 0} where
     more = opened batch ∷ is.more;
     opens_it = inr (ap (λ rest. opened batch ∷ rest) (inside_is_at_none is.more is.inside));
     kernel = is.kernel ∙ ap (λ (b : BoardView R). grown b.kernel is.more) opens ∙ ap (λ (log : List Event). record old.kernel { log = log }) (append_assoc old.kernel.log (opened batch ∷ []) is.more);
-    runner = is.runner ∙ ap (λ (b : BoardView R). b.runner) opens;
+    context = is.context ∙ ap (λ (b : BoardView R). b.context) opens;
   }
 
   -- a batch that was not
@@ -131,7 +131,7 @@ module _ {R : Type 0} where
     more = [];
     opens_it = inl refl;
     kernel = ap (λ (b : BoardView R). b.kernel) same ∙ ap (λ (log : List Event). record old.kernel { log = log }) (sym (append-nil old.kernel.log));
-    runner = ap (λ (b : BoardView R). b.runner) same;
+    context = ap (λ (b : BoardView R). b.context) same;
   }
 
   -- nothing was done
@@ -144,18 +144,18 @@ module _ {R : Type 0} where
     more = [];
     begun = inl refl;
     kernel = same_kernel old new same;
-    runner = ap (λ (b : BoardView R). b.runner) same;
+    context = ap (λ (b : BoardView R). b.context) same;
     tallies = ap (λ (b : BoardView R). b.tallies) same;
   }
 
   -- the hosts that are to be were set aside
   pub sets_out : (old new : BoardView R) (hosts : List ℕ) → HasSetAside hosts old new → hosts ≡ aside_in old.kernel → HasSetOut old new
   sets_out old new hosts aside are =
-      record { more = setting_aside hosts; begun = inr (ap setting_aside are); kernel = aside.kernel; runner = aside.runner; tallies = aside.tallies }
+      record { more = setting_aside hosts; begun = inr (ap setting_aside are); kernel = aside.kernel; context = aside.context; tallies = aside.tallies }
 
   pub sets_nobody : (board : BoardView R) → HasSetAside [] board board
   sets_nobody board =
-      record { kernel = same_kernel board board refl; runner = refl; tallies = refl; phase = refl; statuses = sym (changed_none (λ _. Held) (state_of board.kernel).statuses); rows = λ host. refl }
+      record { kernel = same_kernel board board refl; context = refl; tallies = refl; phase = refl; statuses = sym (changed_none (λ _. Held) (state_of board.kernel).statuses); rows = λ host. refl }
 
   pub sets_aside : (old new : BoardView R) (hosts : List ℕ) → 0 < length hosts → new ≡ with_event old (set_aside hosts) → HasSetAside hosts old new
   sets_aside old new hosts some is = subst (HasSetAside hosts old) (sym is) aside
@@ -166,7 +166,7 @@ module _ {R : Type 0} where
       aside : HasSetAside hosts old (with_event old (set_aside hosts))
       aside = record {
         kernel = ap (grown old.kernel) (sym (some_aside hosts some));
-        runner = refl;
+        context = refl;
         tallies = refl;
         phase = ap (λ (s : State). s.phase) after;
         statuses = ap (λ (s : State). s.statuses) after;

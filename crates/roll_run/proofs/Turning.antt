@@ -97,16 +97,16 @@ halts_early kernel legal over =
     early None is = tt
     early (Some step) is = omega (arith, is.0, kernel.play.sound.few_steps)
 
-pub same_by : {R : Type 0} (old new : BoardView R) (kernel : KernelView) → kernel ≡ record old.kernel { log = kernel.log } → new.kernel ≡ kernel → new.runner ≡ old.runner → IsSameRoll old new
-same_by old new kernel same is runner =
-    record { kernel = is ∙ same ∙ ap (λ (k : KernelView). record old.kernel { log = k.log }) (sym is); runner = runner }
+pub same_by : {R : Type 0} (old new : BoardView R) (kernel : KernelView) → kernel ≡ record old.kernel { log = kernel.log } → new.kernel ≡ kernel → new.context ≡ old.context → IsSameRoll old new
+same_by old new kernel same is context =
+    record { kernel = is ∙ same ∙ ap (λ (k : KernelView). record old.kernel { log = k.log }) (sym is); context = context }
 
 pub same_roll : {R : Type 0} (board : BoardView R) → IsSameRoll board board
-same_roll board = record { kernel = refl; runner = refl }
+same_roll board = record { kernel = refl; context = refl }
 
 pub same_further : {R : Type 0} (first old new : BoardView R) → IsSameRoll first old → IsSameRoll old new → IsSameRoll first new
 same_further first old new one other =
-    record { kernel = other.kernel ∙ ap (λ (k : KernelView). record k { log = new.kernel.log }) one.kernel; runner = other.runner ∙ one.runner }
+    record { kernel = other.kernel ∙ ap (λ (k : KernelView). record k { log = new.kernel.log }) one.kernel; context = other.context ∙ one.context }
 
 pub still_so : (forks workers : ℕ) (state : State) (why : Break) → workers ≡ forks → IsBreakIn workers state why → IsBreakIn forks state why
 still_so forks workers state why same is = subst (λ n. IsBreakIn n state why) same is
@@ -162,7 +162,7 @@ module _ {R : Type 0} (old ran new : BoardView R) (behind : List Boundary) (boun
 
   pub same_behind : IsSameRoll old new
   same_behind =
-      same_by old new (kernels.with_event (record old.kernel { log = old.kernel.log ++ opened (next_batch boundary.answer) ∷ run.more }) closed) refl done_is (ap (λ (b : BoardView R). b.runner) close ∙ run.runner)
+      same_by old new (kernels.with_event (record old.kernel { log = old.kernel.log ++ opened (next_batch boundary.answer) ∷ run.more }) closed) refl done_is (ap (λ (b : BoardView R). b.context) close ∙ run.context)
 
 -- what a step says of its fault is so where the board has come to
 pub step_says : {R : Type 0} (forks : ℕ) (board : BoardView R) (why : StepFault) → IsFaultOf forks board why → IsFaultIn forks (state_of board.kernel) why

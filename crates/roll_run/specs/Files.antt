@@ -7,9 +7,9 @@ use Rattle.batch_plan.specs.Beginnings.{restart_statuses}
 use Rattle.play_model.specs.declared.play.Play.{Play}
 use Rattle.play_course.specs.PlayPlans.{targets}
 use Rattle.play_course.specs.Files.{Course, PlaySetting}
+use Rattle.event_log.specs.Events.{Event}
 use Rattle.event_log.specs.Rolls.{Roll}
 use Rattle.event_log.specs.Columns.{Columns, Tells}
-use Rattle.roll_core.specs.Views.{events_of}
 use Rattle.roll_run.specs.declared.run.Run.{Run}
 use Rattle.roll_run.specs.Runs.{roll_by, setting_of}
 
@@ -18,19 +18,21 @@ abbrev pub roll_after : FleetView → ℕ → Play → Run → Roll
 roll_after fleet forks play before =
     roll_by fleet play forks (restart_statuses before.statuses.items (targets fleet play)) before.vars.items
 
--- of the plays after one with this run, the log of each run tells the columns of its play, which are numbered from here on
-abbrev pub TellLater : (ℕ → Columns) → FleetView → ℕ → ℕ → List Play → Run → List Run → Type 0
-TellLater columns fleet forks number [] before runs = Unit {0}
-TellLater columns fleet forks number (play ∷ plays) before [] = Unit {0}
-TellLater columns fleet forks number (play ∷ plays) before (run ∷ rest) =
-    Tells (columns number) (roll_after fleet forks play before) (events_of run.log.items) × TellLater columns fleet forks (number + 1) plays run rest
+-- of the plays after one with this run, each of these logs tells the columns of its play, which are numbered from here on
+abbrev pub TellLater : (ℕ → Columns) → FleetView → ℕ → ℕ → List Play → Run → List Run → List (List Event) → Type 0
+TellLater columns fleet forks number [] before runs logs = Unit {0}
+TellLater columns fleet forks number (play ∷ plays) before [] logs = Unit {0}
+TellLater columns fleet forks number (play ∷ plays) before (run ∷ rest) [] = Unit {0}
+TellLater columns fleet forks number (play ∷ plays) before (run ∷ rest) (log ∷ logs) =
+    Tells (columns number) (roll_after fleet forks play before) log × TellLater columns fleet forks (number + 1) plays run rest logs
 
 -- the log of each run of a file tells the columns of its play, numbered from 0
-abbrev pub TellTheirs : (ℕ → Columns) → FleetView → ℕ → List Play → List Status → List Vars → List Run → Type 0
-TellTheirs columns fleet forks [] statuses vars runs = Unit {0}
-TellTheirs columns fleet forks (first ∷ later) statuses vars [] = Unit {0}
-TellTheirs columns fleet forks (first ∷ later) statuses vars (run ∷ rest) =
-    Tells (columns 0) (roll_by fleet first forks statuses vars) (events_of run.log.items) × TellLater columns fleet forks 1 later run rest
+abbrev pub TellTheirs : (ℕ → Columns) → FleetView → ℕ → List Play → List Status → List Vars → List Run → List (List Event) → Type 0
+TellTheirs columns fleet forks [] statuses vars runs logs = Unit {0}
+TellTheirs columns fleet forks (first ∷ later) statuses vars [] logs = Unit {0}
+TellTheirs columns fleet forks (first ∷ later) statuses vars (run ∷ rest) [] = Unit {0}
+TellTheirs columns fleet forks (first ∷ later) statuses vars (run ∷ rest) (log ∷ logs) =
+    Tells (columns 0) (roll_by fleet first forks statuses vars) log × TellLater columns fleet forks 1 later run rest logs
 
 -- the course that a run took
 abbrev pub course_of : Run → Course

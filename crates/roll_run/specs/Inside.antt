@@ -24,7 +24,7 @@ use Rattle.roll_core.specs.declared.next.Next.TheVariants.{Step, BatchEnd, Halt}
 use Rattle.roll_core.specs.Barriers.{is_over, is_working}
 use Rattle.roll_core.specs.Views.{KernelView, roll_of, state_of}
 use Rattle.roll_core.specs.Boards.{BoardView}
-use Rattle.roll_run.specs.Runs.{IsAskedAt, IsBreakIn, MayBreak, TookItsCourse, WasOnCourse, aside_at, boundary_events, events_at_each, rows_behind, setting_aside, setting_of}
+use Rattle.roll_run.specs.Runs.{IsAskedAt, IsBreakIn, IsLastOpened, MayBreak, TookItsCourse, WasOnCourse, aside_at, boundary_events, events_at_each, rows_behind, setting_aside, setting_of}
 use Rattle.roll_run.specs.Plays.{AreBrokenAfter, AreRunsAfter}
 use Rattle.roll_run.specs.declared.run.Run.{Run}
 use Rattle.roll_run.specs.declared.fault.Break.{Break}
@@ -51,7 +51,7 @@ grown kernel more = record kernel { log = kernel.log ++ more }
 -- the same roll, at another place of its log
 pub record IsSameRoll {R : Type 0} (old new : BoardView R) : Type 0 where
   pub kernel : new.kernel ≡ record old.kernel { log = new.kernel.log }
-  pub runner : new.runner ≡ old.runner
+  pub context : new.context ≡ old.context
 
 -- whom the statuses say that is to be set aside
 abbrev pub aside_in : KernelView → List ℕ
@@ -62,13 +62,13 @@ pub record HasSetOut {R : Type 0} (old new : BoardView R) : Type 0 where
   pub more : List Event
   pub begun : (more ≡ []) ⊎ (more ≡ setting_aside (aside_in old.kernel))
   pub kernel : new.kernel ≡ grown old.kernel more
-  pub runner : new.runner ≡ old.runner
+  pub context : new.context ≡ old.context
   pub tallies : new.tallies ≡ old.tallies
 
 -- these hosts were set aside, if there are any
 pub record HasSetAside {R : Type 0} (hosts : List ℕ) (old new : BoardView R) : Type 0 where
   pub kernel : new.kernel ≡ grown old.kernel (setting_aside hosts)
-  pub runner : new.runner ≡ old.runner
+  pub context : new.context ≡ old.context
   pub tallies : new.tallies ≡ old.tallies
   pub phase : (state_of new.kernel).phase ≡ (state_of old.kernel).phase
   pub statuses : (state_of new.kernel).statuses ≡ holding.set_aside hosts (state_of old.kernel).statuses
@@ -79,7 +79,7 @@ pub record HasWorked {R : Type 0} (old new : BoardView R) : Type 0 where
   pub more : List Event
   pub inside : list_all is_inside more ≡ true
   pub kernel : new.kernel ≡ grown old.kernel more
-  pub runner : new.runner ≡ old.runner
+  pub context : new.context ≡ old.context
 
 -- what is told of a batch that has passed a step: it is at the next one, or over
 abbrev pub GoesTo : Next → Phase → Type 0
@@ -104,16 +104,16 @@ pub record HasRun {R : Type 0} (batch : List ℕ) (old new : BoardView R) : Type
   pub more : List Event
   pub inside : list_all is_inside more ≡ true
   pub kernel : new.kernel ≡ grown old.kernel (opened batch ∷ more)
-  pub runner : new.runner ≡ old.runner
+  pub context : new.context ≡ old.context
   pub over : is_over (state_of new.kernel).phase ≡ true
   pub tallies : new.tallies ≡ 0
 
--- the batch was opened or it wasn't, no other one was, and nobody was set aside
+-- the batch was opened, no other one was, and nobody was set aside; or nothing was done
 pub record HasBroken {R : Type 0} (batch : List ℕ) (old new : BoardView R) : Type 0 where
   pub more : List Event
-  pub opens_it : (boundary_events more ≡ []) ⊎ (boundary_events more ≡ opened batch ∷ [])
+  pub opens_it : (more ≡ []) ⊎ (boundary_events more ≡ opened batch ∷ [])
   pub kernel : new.kernel ≡ grown old.kernel more
-  pub runner : new.runner ≡ old.runner
+  pub context : new.context ≡ old.context
 
 -- where programs end as the columns say, the play came to these boundaries, whose batches are over; the last of them ended it as told, if it did
 pub record HasCome (columns : Columns) (kernel : KernelView) (behind : List Boundary) (before : Option End) : Type 0 where
@@ -161,6 +161,12 @@ abbrev pub IsOnCourse : KernelView → List Boundary → Type 0
 IsOnCourse kernel boundaries =
     (columns : Columns) → Tells columns (roll_of kernel) kernel.log → WasOnCourse kernel.fleet (roll_of kernel) columns boundaries kernel.log
 
+-- what is told of where it was broken off is so
+pub record IsBroken (boundaries : List Boundary) (kernel : KernelView) (why : Break) : Type 0 where
+  pub why_is : IsBreakIn kernel.forks (state_of kernel) why
+  pub asked : IsAskedAt boundaries kernel.log why
+  pub last : IsLastOpened (state_of kernel) boundaries kernel.log
+
 -- a batch is behind the play, and the counts are those of the statuses
 pub record IsBehind {R : Type 0} (boundaries : List Boundary) (counted : Counted) (board : BoardView R) (before : Option End) : Type 0 where
   pub is_between : IsBetween board.kernel boundaries before
@@ -171,7 +177,7 @@ pub record IsBehind {R : Type 0} (boundaries : List Boundary) (counted : Counted
 abbrev pub HasTurned : {R : Type 0} → List Boundary → Counted → BoardView R → Turn → Type 0
 HasTurned boundaries counted board (Behind before) = IsBehind boundaries counted board before
 HasTurned boundaries counted board (Ended end) = IsEnded board.kernel boundaries end
-HasTurned boundaries counted board (Broken why) = IsOnCourse board.kernel boundaries × IsBreakIn board.kernel.forks (state_of board.kernel) why × IsAskedAt boundaries board.kernel.log why
+HasTurned boundaries counted board (Broken why) = IsOnCourse board.kernel boundaries × IsBroken boundaries board.kernel why
 
 -- who asks for the end may ask
 abbrev pub MayTurn : Bool → Turn → Type 0
@@ -182,24 +188,24 @@ MayTurn asks (Broken why) = MayBreak asks why
 -- what all turns came to
 abbrev pub HasGone : List Boundary → KernelView → Result End Break → Type 0
 HasGone boundaries kernel (Ok end) = IsEnded kernel boundaries end
-HasGone boundaries kernel (Err why) = IsOnCourse kernel boundaries × IsBreakIn kernel.forks (state_of kernel) why × IsAskedAt boundaries kernel.log why
+HasGone boundaries kernel (Err why) = IsOnCourse kernel boundaries × IsBroken boundaries kernel why
 
 -- a plan may be made of the statuses that a run left, and it left the variables of each host
 pub record IsReadyRun (fleet : FleetView) (run : Run) : Type 0 where
   pub ready : IsReady fleet run.statuses.items
   pub each : length run.vars.items ≡ length fleet.hosts
 
--- a run stands behind those that were done before it, and behind it those of the plays after it
-pub record HasRunAfter (may : Work → Ending → Type 0) (fleet : FleetView) (forks : ℕ) (plays : List Play) (before : Run) (old new : List Run) : Type 0 where
+-- a run stands behind those that were done before it, and behind it those of the plays after it, whose logs these are
+pub record HasRunAfter (may : Work → Ending → Type 0) (fleet : FleetView) (forks : ℕ) (plays : List Play) (before : Run) (old new : List Run) (logs : List (List Event)) : Type 0 where
   pub rest : List Run
   pub items : new ≡ old ++ before ∷ rest
-  pub runs : AreRunsAfter may fleet forks plays before rest
+  pub runs : AreRunsAfter may fleet forks plays before rest logs
 
 -- the same, of which a fault broke the last one off
-pub record HasBrokenAfter (may : Work → Ending → Type 0) (fleet : FleetView) (forks : ℕ) (plays : List Play) (before : Run) (old new : List Run) (last : RunFault) : Type 0 where
+pub record HasBrokenAfter (may : Work → Ending → Type 0) (fleet : FleetView) (forks : ℕ) (plays : List Play) (before : Run) (old new : List Run) (last : RunFault) (logs : List (List Event)) : Type 0 where
   pub rest : List Run
   pub items : new ≡ old ++ before ∷ rest
-  pub broken : AreBrokenAfter may fleet forks plays before rest last
+  pub broken : AreBrokenAfter may fleet forks plays before rest last logs
 
 -- a play may follow one that ended so
 abbrev pub is_finished : End → Bool

@@ -3,3 +3,4 @@ pub mod Plays
 pub mod Files
 pub mod Laws
 pub mod Inside
+pub mod Histories

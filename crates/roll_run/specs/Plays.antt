@@ -10,10 +10,11 @@ use Rattle.play_model.specs.declared.play.Play.{Play}
 use Rattle.play_course.specs.PlayPlans.{targets}
 use Rattle.play_course.specs.declared.end.End.{End}
 use Rattle.play_course.specs.declared.end.End.TheVariants.{Finished}
+use Rattle.event_log.specs.Events.{Event}
 use Rattle.event_log.specs.Rolls.{Roll}
 use Rattle.event_log.specs.Told.{Work}
 use Rattle.fork_pool.specs.declared.fault.StepFault.TheVariants.{Mem}
-use Rattle.roll_run.specs.Runs.{IsBrokenOff, IsRun, roll_by}
+use Rattle.roll_run.specs.Runs.{IsBrokenOff, IsRun, IsSafeLog, roll_by}
 use Rattle.roll_run.specs.declared.run.Run.{Run}
 use Rattle.roll_run.specs.declared.fault.Break.TheVariants.{Fault}
 use Rattle.roll_run.specs.declared.fault.RunFault.{RunFault}
@@ -32,61 +33,96 @@ pub record IsRollAfter (fleet : FleetView) (play : Play) (forks : ℕ) (before :
   pub same : AreSameHosts vars before.vars.items
   pub roll_is : roll ≡ roll_by fleet play forks (restart_statuses before.statuses.items (targets fleet play)) vars
 
+-- these are the logs of one run, which came to its end
+pub record IsRunOf (may : Work → Ending → Type 0) (fleet : FleetView) (roll : Roll) (run : Run) (logs : List (List Event)) : Type 0 where
+  pub log : List Event
+  pub logs_are : logs ≡ log ∷ []
+  pub run_is : IsRun may fleet roll run log
+
 -- a run of a play after a run of another
-pub record IsRunAfter (may : Work → Ending → Type 0) (fleet : FleetView) (play : Play) (forks : ℕ) (before run : Run) : Type 0 where
+pub record IsRunAfter (may : Work → Ending → Type 0) (fleet : FleetView) (play : Play) (forks : ℕ) (before run : Run) (log : List Event) : Type 0 where
   pub roll : Roll
   pub begins : IsRollAfter fleet play forks before roll
-  pub run_is : IsRun may fleet roll run
+  pub run_is : IsRun may fleet roll run log
 
--- the runs of the plays after one: each play has its run while the one before it finished, and the first that ends otherwise is the last
-abbrev pub AreRunsAfter : (Work → Ending → Type 0) → FleetView → ℕ → List Play → Run → List Run → Type 0
-AreRunsAfter may fleet forks [] before runs = runs ≡ []
-AreRunsAfter may fleet forks (play ∷ plays) before [] = before.end ≡ Finished → ⊥
-AreRunsAfter may fleet forks (play ∷ plays) before (run ∷ rest) = (before.end ≡ Finished) × IsRunAfter may fleet play forks before run × AreRunsAfter may fleet forks plays run rest
+-- the runs of the plays after one, and their logs: each play has its run while the one before it finished, and the first that ends otherwise is the last
+abbrev pub AreRunsAfter : (Work → Ending → Type 0) → FleetView → ℕ → List Play → Run → List Run → List (List Event) → Type 0
+AreRunsAfter may fleet forks [] before runs logs = (logs ≡ []) × (runs ≡ [])
+AreRunsAfter may fleet forks (play ∷ plays) before [] logs = (logs ≡ []) × (before.end ≡ Finished → ⊥)
+AreRunsAfter may fleet forks (play ∷ plays) before (run ∷ rest) [] = ⊥
+AreRunsAfter may fleet forks (play ∷ plays) before (run ∷ rest) (log ∷ logs) =
+    (before.end ≡ Finished) × IsRunAfter may fleet play forks before run log × AreRunsAfter may fleet forks plays run rest logs
 
--- the runs of a file of plays, the first of which begins with these statuses and variables
-pub record AreRuns (may : Work → Ending → Type 0) (fleet : FleetView) (forks : ℕ) (plays : List Play) (statuses : List Status) (vars : List Vars) (runs : List Run) : Type 0 where
+-- the runs of a file of plays, the first of which begins with these statuses and variables, and their logs
+pub record AreRuns (may : Work → Ending → Type 0) (fleet : FleetView) (forks : ℕ) (plays : List Play) (statuses : List Status) (vars : List Vars) (runs : List Run) (logs : List (List Event)) : Type 0 where
   pub first : Play
   pub later : List Play
   pub plays_are : plays ≡ first ∷ later
   pub run : Run
   pub rest : List Run
   pub runs_are : runs ≡ run ∷ rest
-  pub is_first : IsRun may fleet (roll_by fleet first forks statuses vars) run
-  pub follow : AreRunsAfter may fleet forks later run rest
+  pub log : List Event
+  pub others : List (List Event)
+  pub logs_are : logs ≡ log ∷ others
+  pub is_first : IsRun may fleet (roll_by fleet first forks statuses vars) run log
+  pub follow : AreRunsAfter may fleet forks later run rest others
 
--- a play was to begin with these statuses, and memory was wanting before it had a board
-pub record IsNotBegun (statuses : List Status) (fault : RunFault) : Type 0 where
+-- a play was to begin with these statuses, and memory was wanting before it had a board: it has no log
+pub record IsNotBegun (statuses : List Status) (fault : RunFault) (logs : List (List Event)) : Type 0 where
+  pub none : logs ≡ []
   pub why : fault.why ≡ Fault Mem
   pub boundaries : fault.boundaries.items ≡ []
   pub opened : fault.opened ≡ 0
-  pub log : fault.log.items ≡ []
   pub statuses_are : fault.statuses.items ≡ statuses
   pub counts : fault.counts.items ≡ []
 
+-- a run was broken off that has this one log
+pub record IsCutShort (may : Work → Ending → Type 0) (fleet : FleetView) (roll : Roll) (fault : RunFault) (logs : List (List Event)) : Type 0 where
+  pub log : List Event
+  pub logs_are : logs ≡ log ∷ []
+  pub broken : IsBrokenOff may fleet roll fault log
+
+-- the same, or it had no board yet
+abbrev pub BreaksOff : (Work → Ending → Type 0) → FleetView → Roll → RunFault → List (List Event) → Type 0
+BreaksOff may fleet roll fault logs = IsCutShort may fleet roll fault logs ⊎ IsNotBegun roll.start fault logs
+
 -- the run of a play after a run of another was broken off
-pub record IsBrokenAfter (may : Work → Ending → Type 0) (fleet : FleetView) (play : Play) (forks : ℕ) (before : Run) (fault : RunFault) : Type 0 where
+pub record IsBrokenAfter (may : Work → Ending → Type 0) (fleet : FleetView) (play : Play) (forks : ℕ) (before : Run) (fault : RunFault) (logs : List (List Event)) : Type 0 where
   pub roll : Roll
   pub begins : IsRollAfter fleet play forks before roll
-  pub broken : IsBrokenOff may fleet roll fault
+  pub broken : BreaksOff may fleet roll fault logs
 
 -- of the plays after one, so many had their runs, each finished, and the next one was broken off, or not begun
-abbrev pub AreBrokenAfter : (Work → Ending → Type 0) → FleetView → ℕ → List Play → Run → List Run → RunFault → Type 0
-AreBrokenAfter may fleet forks [] before done last = ⊥
-AreBrokenAfter may fleet forks (play ∷ plays) before [] last =
-    (before.end ≡ Finished) × (IsBrokenAfter may fleet play forks before last ⊎ IsNotBegun before.statuses.items last)
-AreBrokenAfter may fleet forks (play ∷ plays) before (run ∷ rest) last =
-    (before.end ≡ Finished) × IsRunAfter may fleet play forks before run × AreBrokenAfter may fleet forks plays run rest last
+abbrev pub AreBrokenAfter : (Work → Ending → Type 0) → FleetView → ℕ → List Play → Run → List Run → RunFault → List (List Event) → Type 0
+AreBrokenAfter may fleet forks [] before done last logs = ⊥
+AreBrokenAfter may fleet forks (play ∷ plays) before [] last logs =
+    (before.end ≡ Finished) × (IsBrokenAfter may fleet play forks before last logs ⊎ IsNotBegun before.statuses.items last logs)
+AreBrokenAfter may fleet forks (play ∷ plays) before (run ∷ rest) last [] = ⊥
+AreBrokenAfter may fleet forks (play ∷ plays) before (run ∷ rest) last (log ∷ logs) =
+    (before.end ≡ Finished) × IsRunAfter may fleet play forks before run log × AreBrokenAfter may fleet forks plays run rest last logs
 
 -- the first play's run, and those of the later ones
-abbrev pub AreBrokenOff : (Work → Ending → Type 0) → FleetView → ℕ → Play → List Play → List Status → List Vars → List Run → RunFault → Type 0
-AreBrokenOff may fleet forks first later statuses vars [] last = IsBrokenOff may fleet (roll_by fleet first forks statuses vars) last
-AreBrokenOff may fleet forks first later statuses vars (run ∷ rest) last =
-    IsRun may fleet (roll_by fleet first forks statuses vars) run × AreBrokenAfter may fleet forks later run rest last
+abbrev pub AreBrokenOff : (Work → Ending → Type 0) → FleetView → ℕ → Play → List Play → List Status → List Vars → List Run → RunFault → List (List Event) → Type 0
+AreBrokenOff may fleet forks first later statuses vars [] last logs = BreaksOff may fleet (roll_by fleet first forks statuses vars) last logs
+AreBrokenOff may fleet forks first later statuses vars (run ∷ rest) last [] = ⊥
+AreBrokenOff may fleet forks first later statuses vars (run ∷ rest) last (log ∷ logs) =
+    IsRun may fleet (roll_by fleet first forks statuses vars) run log × AreBrokenAfter may fleet forks later run rest last logs
 
--- the runs of a file of plays that a fault broke off
-pub record AreBroken (may : Work → Ending → Type 0) (fleet : FleetView) (forks : ℕ) (plays : List Play) (statuses : List Status) (vars : List Vars) (done : List Run) (last : RunFault) : Type 0 where
+-- the runs of a file of plays that a fault broke off, and their logs
+pub record AreBroken (may : Work → Ending → Type 0) (fleet : FleetView) (forks : ℕ) (plays : List Play) (statuses : List Status) (vars : List Vars) (done : List Run) (last : RunFault) (logs : List (List Event)) : Type 0 where
   pub first : Play
   pub later : List Play
   pub plays_are : plays ≡ first ∷ later
-  pub broken : AreBrokenOff may fleet forks first later statuses vars done last
+  pub broken : AreBrokenOff may fleet forks first later statuses vars done last logs
+
+-- the log of a roll of a play is safe, whatever it began with
+pub record IsSafeRoll (may : Work → Ending → Type 0) (fleet : FleetView) (forks : ℕ) (play : Play) (log : List Event) : Type 0 where
+  pub statuses : List Status
+  pub vars : List Vars
+  pub is_safe : IsSafeLog may (roll_by fleet play forks statuses vars) log
+
+-- these are the logs of the first of these plays, one of each, in their order: at no moment of any of them is a group over its limit
+abbrev pub AreSafeRolls : (Work → Ending → Type 0) → FleetView → ℕ → List Play → List (List Event) → Type 0
+AreSafeRolls may fleet forks plays [] = Unit {0}
+AreSafeRolls may fleet forks [] (log ∷ logs) = ⊥
+AreSafeRolls may fleet forks (play ∷ plays) (log ∷ logs) = IsSafeRoll may fleet forks play log × AreSafeRolls may fleet forks plays logs

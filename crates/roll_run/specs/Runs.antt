@@ -24,7 +24,7 @@ use Rattle.event_log.specs.Logs.{IsLegal, end_state}
 use Rattle.event_log.specs.Columns.{Columns, Tells, fails_by, halt_by, steps_until}
 use Rattle.event_log.specs.Told.{AreTold, Work}
 use Rattle.roll_core.specs.Leavings.{AreKnown}
-use Rattle.roll_core.specs.Views.{FrontsAreSafe, RestsAtBoundaries, events_of}
+use Rattle.roll_core.specs.Views.{FrontsAreSafe, RestsAtBoundaries}
 use Rattle.fork_pool.specs.declared.fault.StepFault.{StepFault}
 use Rattle.fork_pool.specs.declared.fault.StepFault.TheVariants.{Mem, WorkerMem, Mixed}
 use Rattle.roll_run.specs.declared.run.Run.{Run}
@@ -127,16 +127,16 @@ pub record TookItsCourse (fleet : FleetView) (roll : Roll) (columns : Columns) (
   pub statuses_are : statuses ≡ last.statuses.items
   pub rows : (host : ℕ) → (end_state roll log).rows host ≡ rows_behind roll columns host [] behind
 
--- what a run that came to its end leaves: no batch is open
-pub record IsRun (may : Work → Ending → Type 0) (fleet : FleetView) (roll : Roll) (run : Run) : Type 0 where
-  pub log : IsSafeLog may roll (events_of run.log.items)
-  pub over : (end_state roll (events_of run.log.items)).phase ≡ between
-  pub statuses : run.statuses.items ≡ (end_state roll (events_of run.log.items)).statuses
-  pub vars : AreKnown roll (end_state roll (events_of run.log.items)) run.vars.items
+-- what a run with this log leaves that came to its end: no batch is open
+pub record IsRun (may : Work → Ending → Type 0) (fleet : FleetView) (roll : Roll) (run : Run) (log : List Event) : Type 0 where
+  pub is_safe : IsSafeLog may roll log
+  pub over : (end_state roll log).phase ≡ between
+  pub statuses : run.statuses.items ≡ (end_state roll log).statuses
+  pub vars : AreKnown roll (end_state roll log) run.vars.items
   pub all_counted : length run.counts.items ≡ length roll.start
-  pub counts : AreCounted roll (end_state roll (events_of run.log.items)) run.counts.items
-  pub by : (columns : Columns) → Tells columns roll (events_of run.log.items)
-      → TookItsCourse fleet roll columns run.boundaries.items (events_of run.log.items) run.statuses.items run.end
+  pub counts : AreCounted roll (end_state roll log) run.counts.items
+  pub by : (columns : Columns) → Tells columns roll log
+      → TookItsCourse fleet roll columns run.boundaries.items log run.statuses.items run.end
 
 -- whom a run set aside at the boundary at which it was broken off: the hosts of that boundary; where it isn't planned yet, nobody, or those whom the statuses
 -- say
@@ -178,13 +178,18 @@ abbrev pub MayBreak : Bool → Break → Type 0
 MayBreak asks (Fault why) = Unit {0}
 MayBreak asks Asked = asks ≡ true
 
--- what a run that was broken off leaves
-pub record IsBrokenOff (may : Work → Ending → Type 0) (fleet : FleetView) (roll : Roll) (fault : RunFault) : Type 0 where
-  pub log : IsSafeLog may roll (events_of fault.log.items)
-  pub statuses : fault.statuses.items ≡ (end_state roll (events_of fault.log.items)).statuses
-  pub counts : AreCounted roll (end_state roll (events_of fault.log.items)) fault.counts.items
-  pub why : IsBreakIn roll.forks (end_state roll (events_of fault.log.items)) fault.why
-  pub asked : IsAskedAt fault.boundaries.items (events_of fault.log.items) fault.why
-  pub opened_are : fault.opened ≡ length (batches_in (events_of fault.log.items))
-  pub by : (columns : Columns) → Tells columns roll (events_of fault.log.items)
-      → WasOnCourse fleet roll columns fault.boundaries.items (events_of fault.log.items)
+-- where a batch is open, each boundary has opened its batch: none was noted behind it
+abbrev pub IsLastOpened : State → List Boundary → List Event → Type 0
+IsLastOpened state boundaries log = (state.phase ≡ between) ⊎ (length boundaries ≡ length (batches_in log))
+
+-- what a run with this log leaves that was broken off
+pub record IsBrokenOff (may : Work → Ending → Type 0) (fleet : FleetView) (roll : Roll) (fault : RunFault) (log : List Event) : Type 0 where
+  pub is_safe : IsSafeLog may roll log
+  pub statuses : fault.statuses.items ≡ (end_state roll log).statuses
+  pub counts : AreCounted roll (end_state roll log) fault.counts.items
+  pub why : IsBreakIn roll.forks (end_state roll log) fault.why
+  pub asked : IsAskedAt fault.boundaries.items log fault.why
+  pub last : IsLastOpened (end_state roll log) fault.boundaries.items log
+  pub opened_are : fault.opened ≡ length (batches_in log)
+  pub by : (columns : Columns) → Tells columns roll log
+      → WasOnCourse fleet roll columns fault.boundaries.items log

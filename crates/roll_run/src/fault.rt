@@ -7,7 +7,6 @@ use fleet_states::Status;
 use fork_pool::StepFault;
 use host_track::Counts;
 use play_course::Boundary;
-use roll_core::Event;
 use std::alloc::Global;
 
 /// Why a run was broken off.
@@ -19,15 +18,14 @@ pub enum Break {
     Asked,
 }
 
-/// A run that was broken off: why; its boundaries, of which the first `opened` ones opened a batch; the log, the oldest event first; of each
-/// host its status, and how its rows were judged. The hosts of a batch that is open are down. Where the run had no board yet, the log and
-/// the list of counts are empty: no host has a row then.
+/// A run that was broken off: why; its boundaries, of which the first `opened` ones opened a batch; of each host its status, and how its rows were
+/// judged. Its log is in the history. The hosts of a batch that is open are down. Where the run had no board yet, it has no log, and the list of
+/// counts is empty: no host has a row then.
 #[derive(Drop)]
 pub struct RunFault {
     pub why: Break,
     pub boundaries: Vec<Boundary>,
     pub opened: usize,
-    pub log: Vec<Event>,
     pub statuses: Vec<Status>,
     pub counts: Vec<Counts>,
 }
@@ -35,13 +33,12 @@ pub struct RunFault {
 impl RunFault {
     /// Memory was wanting before there was a board: the statuses are those that the run was to begin with.
     pub(crate) fn before_a_log(alloc: Global, statuses: Vec<Status>) -> RunFault
-        ensures { IsNotBegun statuses.items result }
+        ensures { IsNotBegun statuses.items result [] }
     {
         RunFault {
             why: Break::Fault(StepFault::Mem),
             boundaries: Vec::new(alloc),
             opened: 0,
-            log: Vec::new(alloc),
             statuses,
             counts: Vec::new(alloc),
         }
@@ -59,7 +56,7 @@ impl RunsFault {
     /// Memory was wanting before the first play had a board.
     pub(crate) fn before_a_log(alloc: Global, statuses: Vec<Status>) -> RunsFault
         ensures done { result.done.items ≡ [] }
-        ensures last { IsNotBegun statuses.items result.last }
+        ensures last { IsNotBegun statuses.items result.last [] }
     {
         RunsFault {
             done: Vec::new(alloc),

@@ -1,5 +1,5 @@
 //! What holds of every run.
-ghost use Rattle.roll_run.specs.Laws.{NoWorkerAtBoundaries, RunsAreCourses};
+ghost use Rattle.roll_run.specs.Laws.{BrokenRunsAreSafe, NoWorkerAtBoundaries, RunsAreCourses, RunsAreSafe};
 
 use roll_core::Runner;
 
@@ -12,4 +12,11 @@ pub fn runs_are_courses<R: Runner>(runner: &R)
 /// A run that is broken off while no batch is open was asked to end, or memory was wanting, and no worker's.
 pub fn no_worker_fails_at_boundaries<R: Runner>(runner: &R)
     ensures { NoWorkerAtBoundaries (R.may runner.now) }
+{}
+
+/// All that the runs of a file of plays started is in their logs, and these are safe: each is legal, and at no moment of any of them is a group over
+/// its limit, however the runs ended.
+pub fn runs_are_safe<R: Runner>(runner: &R)
+    ensures ended { RunsAreSafe (R.may runner.now) }
+    ensures broken { BrokenRunsAreSafe (R.may runner.now) }
 {}

@@ -18,7 +18,7 @@ mod turns;
 pub use attend::Attend;
 pub use fault::{Break, RunFault, RunsFault};
 pub use fork_pool::StepFault;
-pub use laws::{no_worker_fails_at_boundaries, runs_are_courses};
+pub use laws::{no_worker_fails_at_boundaries, runs_are_courses, runs_are_safe};
 pub use play::run_play;
 pub use play_course::{Boundary, End};
 pub use pool::run_plays;

@@ -1,11 +1,13 @@
 //! A run begins, and what it leaves.
-ghost use Rattle.std.specs.Prelude.{◌≡◌, ◌<◌, ◌≤◌, [], Err, IfErr, IfOk, None, count_by, find, length};
+ghost use Rattle.std.specs.Prelude.{◌≡◌, ◌<◌, ◌≤◌, ◌++◌, ◌∷◌, [], Err, IfErr, IfOk, None, count_by, find, length};
 ghost use Rattle.fleet_states.specs.Groups.{IsSafe, groups_of};
 ghost use Rattle.fleet_states.specs.Statuses.{NobodyRuns};
 ghost use Rattle.domains.specs.Patterns.{names_nothing};
 ghost use Rattle.play_course.specs.PlayPlans.{parts_of_play, targets};
 ghost use Rattle.roll_core.specs.Views.{event_of, roll_of};
 ghost use Rattle.roll_run.specs.Inside.{HasGone, opens};
+ghost use Rattle.roll_run.specs.Histories.{Gains};
+ghost use Rattle.roll_run.specs.Plays.{IsCutShort, IsRunOf};
 ghost use Rattle.roll_run.specs.Runs.{IsBrokenOff, IsRun, MayBreak, roll_by};
 
 use crate::attend::Attend;
@@ -20,7 +22,7 @@ use fork_pool::Front;
 use host_vars::Vars;
 use play_course::{Boundary, End};
 use play_model::Play;
-use roll_core::{Board, Event, Runner, Watch};
+use roll_core::{Board, Event, History, Runner, Watch};
 use std::alloc::{AllocError, Global};
 use std::sync::Wait;
 use std::sync::ledger::{Blank, Ledger};
@@ -38,35 +40,41 @@ fn count_opened(log: &[Event]) -> usize
     log.iter().filter(|event| is_opening(event)).count()
 }
 
-/// What is left of a run that came to its end, or that a fault broke off.
+/// What is left of a run that came to its end, or that a fault broke off; and the history with its log.
 fn leave<R: Runner, L: Ledger, W: Watch>(
     board: Board<'_, R, L, W>,
     boundaries: Vec<Boundary>,
     gone: Result<End, Break>,
-) -> Result<Run, RunFault>
+) -> (Result<Run, RunFault>, History)
     requires { HasGone boundaries.items board.kernel gone }
-    ensures ok { IfOk result (IsRun (R.may board.entry.runner) board.entry.kernel.fleet (roll_of board.entry.kernel)) }
-    ensures err { IfErr result (IsBrokenOff (R.may board.entry.runner) board.entry.kernel.fleet (roll_of board.entry.kernel)) }
-    ensures why { IfErr result (λ fault. gone ≡ Err fault.why) }
+    ensures ok { IfOk result.0 (λ run. IsRun (R.may board.entry.context.runner) board.entry.kernel.fleet (roll_of board.entry.kernel) run board.entry.kernel.log) }
+    ensures err { IfErr result.0 (λ fault. IsBrokenOff (R.may board.entry.context.runner) board.entry.kernel.fleet (roll_of board.entry.kernel) fault board.entry.kernel.log) }
+    ensures why { IfErr result.0 (λ fault. gone ≡ Err fault.why) }
+    ensures history { result.1 ≡ board.entry.context.earlier ++ board.entry.kernel.log ∷ [] }
 {
-    let (left, _watch) = board.finish();
+    let opened = count_opened(board.log());
+    let (left, _watch, history) = board.finish();
     match gone {
-        Ok(end) => Ok(Run {
-            boundaries,
-            log: left.log,
-            statuses: left.statuses,
-            vars: left.vars,
-            counts: left.counts,
-            end,
-        }),
-        Err(why) => Err(RunFault {
-            why,
-            boundaries,
-            opened: count_opened(left.log.as_slice()),
-            log: left.log,
-            statuses: left.statuses,
-            counts: left.counts,
-        }),
+        Ok(end) => {
+            let run = Run {
+                boundaries,
+                statuses: left.statuses,
+                vars: left.vars,
+                counts: left.counts,
+                end,
+            };
+            (Ok(run), history)
+        }
+        Err(why) => {
+            let fault = RunFault {
+                why,
+                boundaries,
+                opened,
+                statuses: left.statuses,
+                counts: left.counts,
+            };
+            (Err(fault), history)
+        }
     }
 }
 
@@ -82,7 +90,7 @@ fn count_targets(alloc: Global, fleet: &Fleet, play: &Play) -> Result<u32, Alloc
 }
 
 /// A run of the play with the workers of a pool. The counts of the fleet stay in an arena of the coordinator's own. Where memory is wanting before there
-/// is a board, only that is told.
+/// is a board, the history comes back as it was.
 #[allow(clippy::too_many_arguments)]
 pub(crate) fn run_on<'f, 'b, 'w, R: Runner, L: Ledger, H: Wait, A: Attend, W: Watch>(
     rt: &H,
@@ -97,7 +105,8 @@ pub(crate) fn run_on<'f, 'b, 'w, R: Runner, L: Ledger, H: Wait, A: Attend, W: Wa
     runner: &'f R,
     forks: usize,
     blank: Blank,
-) -> Result<Result<Run, RunFault>, AllocError>
+    history: History,
+) -> Result<(Result<Run, RunFault>, History), History>
 where
     'f: 'b,
     requires all { length statuses.now ≡ length fleet.now.hosts }
@@ -111,17 +120,25 @@ where
     requires name { blank.name ≡ L.name }
     requires parts { blank.parts ≡ L.parts }
     requires many { blank.parts ≡ 129 }
-    ensures ok { IfOk result (λ run. IfOk run (IsRun (R.may runner.now) fleet.now (roll_by fleet.now play.now forks statuses.now vars.now))) }
-    ensures err { IfOk result (λ run. IfErr run (IsBrokenOff (R.may runner.now) fleet.now (roll_by fleet.now play.now forks statuses.now vars.now))) }
-    ensures asked { IfOk result (λ run. IfErr run (λ fault. MayBreak (A.asks attend.now) fault.why)) }
+    ensures ok { IfOk result (λ (run, after). IfOk run (λ run. Gains history after (IsRunOf (R.may runner.now) fleet.now (roll_by fleet.now play.now forks statuses.now vars.now) run))) }
+    ensures err { IfOk result (λ (run, after). IfErr run (λ fault. Gains history after (IsCutShort (R.may runner.now) fleet.now (roll_by fleet.now play.now forks statuses.now vars.now) fault))) }
+    ensures asked { IfOk result (λ (run, _). IfErr run (λ fault. MayBreak (A.asks attend.now) fault.why)) }
+    ensures none { IfErr result (λ back. back ≡ history) }
     ensures forks { front.new.forks ≡ front.old.forks }
 {
-    let targeted = count_targets(alloc, fleet, play)?;
     let arena = Bump::new(alloc);
-    let mut domains = counted(&arena, fleet, statuses)?;
-    let board = Board::<R, L, &mut W>::new(
-        alloc, fleet, play, runner, forks, statuses, vars, blank, watch,
-    )?;
+    let Ok(targeted) = count_targets(alloc, fleet, play) else {
+        return Err(history);
+    };
+    let Ok(mut domains) = counted(&arena, fleet, statuses) else {
+        return Err(history);
+    };
+    let board = match Board::<R, L, &mut W>::new(
+        alloc, fleet, play, runner, forks, statuses, vars, blank, watch, history,
+    ) {
+        Ok(board) => board,
+        Err(history) => return Err(history),
+    };
     let mut boundaries = Vec::new(alloc);
     let (gone, board) = go_on(
         rt,

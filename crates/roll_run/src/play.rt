@@ -4,7 +4,9 @@ ghost use Rattle.domains.specs.Patterns.{names_nothing};
 ghost use Rattle.fleet_states.specs.Groups.{IsSafe, groups_of};
 ghost use Rattle.fleet_states.specs.Statuses.{NobodyRuns};
 ghost use Rattle.play_course.specs.PlayPlans.{parts_of_play};
-ghost use Rattle.roll_run.specs.Runs.{IsBrokenOff, IsRun, MayBreak, roll_by};
+ghost use Rattle.roll_run.specs.Histories.{Gains};
+ghost use Rattle.roll_run.specs.Plays.{BreaksOff, IsRunOf};
+ghost use Rattle.roll_run.specs.Runs.{MayBreak, roll_by};
 
 use crate::attend::Attend;
 use crate::fault::RunFault;
@@ -14,7 +16,7 @@ use domains::Fleet;
 use fleet_states::Status;
 use host_vars::Vars;
 use play_model::Play;
-use roll_core::{Runner, Watch};
+use roll_core::{History, Runner, Watch};
 use std::alloc::Global;
 use std::process::{Processes, SystemProcess};
 use std::slice;
@@ -24,7 +26,7 @@ use std::thread::Threads;
 /// Runs a play on the hosts of its pattern, with `forks` workers, 1 to 64: at each boundary with the shortest plan that there is, and with
 /// that plan's first batch. At no moment is a group over its limit, whatever the programs answer and however many run at once. Want of
 /// memory breaks it off with what it came to, and so does `attend` before a batch; where a worker can't be started, nothing is opened. `watch` is told
-/// of it.
+/// of it. The history comes back with its log, where it had a board.
 #[allow(clippy::too_many_arguments)]
 pub fn run_play<
     R: Runner,
@@ -42,7 +44,8 @@ pub fn run_play<
     vars: Vec<Vars>,
     runner: &R,
     forks: usize,
-) -> Result<Run, RunFault>
+    history: History,
+) -> (Result<Run, RunFault>, History)
     requires all { length statuses.items ≡ length fleet.now.hosts }
     requires each { length vars.items ≡ length fleet.now.hosts }
     requires at_rest { NobodyRuns statuses.items }
@@ -50,11 +53,11 @@ pub fn run_play<
     requires some { 0 < forks }
     requires few { forks ≤ 64 }
     requires known { find (names_nothing fleet.now) (parts_of_play play.now) ≡ None }
-    ensures ok { IfOk result (IsRun (R.may runner.now) fleet.now (roll_by fleet.now play.now forks statuses.items vars.items)) }
-    ensures err { IfErr result (IsBrokenOff (R.may runner.now) fleet.now (roll_by fleet.now play.now forks statuses.items vars.items)) }
-    ensures asked { IfErr result (λ fault. MayBreak (A.asks attend.now) fault.why) }
+    ensures ok { IfOk result.0 (λ run. Gains history result.1 (IsRunOf (R.may runner.now) fleet.now (roll_by fleet.now play.now forks statuses.items vars.items) run)) }
+    ensures err { IfErr result.0 (λ fault. Gains history result.1 (BreaksOff (R.may runner.now) fleet.now (roll_by fleet.now play.now forks statuses.items vars.items) fault)) }
+    ensures asked { IfErr result.0 (λ fault. MayBreak (A.asks attend.now) fault.why) }
 {
-    match run_plays(
+    let (ran, history) = run_plays(
         rt,
         alloc,
         attend,
@@ -65,11 +68,13 @@ pub fn run_play<
         vars,
         runner,
         forks,
-    ) {
+        history,
+    );
+    match ran {
         Ok(mut runs) => match runs.pop() {
-            Some(run) => Ok(run),
+            Some(run) => (Ok(run), history),
             None => unreachable!(),
         },
-        Err(fault) => Err(fault.last),
+        Err(fault) => (Err(fault.last), history),
     }
 }

@@ -4,6 +4,7 @@ ghost use Rattle.domains.specs.Patterns.{names_nothing};
 ghost use Rattle.fleet_states.specs.Groups.{IsSafe, groups_of};
 ghost use Rattle.fleet_states.specs.Statuses.{NobodyRuns};
 ghost use Rattle.play_course.specs.PlayPlans.{named_parts};
+ghost use Rattle.roll_run.specs.Histories.{Gains};
 ghost use Rattle.roll_run.specs.Plays.{AreBroken, AreRuns};
 ghost use Rattle.roll_run.specs.Runs.{MayBreak};
 
@@ -16,7 +17,7 @@ use fleet_states::Status;
 use fork_pool::{Front, WorkerEnd, pool, serve};
 use host_vars::Vars;
 use play_model::Play;
-use roll_core::{Runner, Watch};
+use roll_core::{History, Runner, Watch};
 use std::alloc::Global;
 use std::process::{Processes, SystemProcess};
 use std::sync::Wait;
@@ -38,7 +39,8 @@ fn run_with_all<'f, R: Runner, H: Wait, A: Attend, W: Watch>(
     vars: Vec<Vars>,
     runner: &'f R,
     forks: usize,
-) -> Result<Vec<Run>, RunsFault>
+    history: History,
+) -> (Result<Vec<Run>, RunsFault>, History)
     requires play { 0 < length plays.now }
     requires all { length statuses.items ≡ length fleet.now.hosts }
     requires each { length vars.items ≡ length fleet.now.hosts }
@@ -48,15 +50,15 @@ fn run_with_all<'f, R: Runner, H: Wait, A: Attend, W: Watch>(
     requires few { forks ≤ 64 }
     requires known { find (names_nothing fleet.now) (named_parts plays.now) ≡ None }
     requires workers { front.old.forks ≡ forks }
-    ensures ok { IfOk result (λ runs. AreRuns (R.may runner.now) fleet.now forks plays.now statuses.items vars.items runs.items) }
-    ensures err { IfErr result (λ fault. AreBroken (R.may runner.now) fleet.now forks plays.now statuses.items vars.items fault.done.items fault.last) }
-    ensures asked { IfErr result (λ fault. MayBreak (A.asks attend.now) fault.last.why) }
+    ensures ok { IfOk result.0 (λ runs. Gains history result.1 (AreRuns (R.may runner.now) fleet.now forks plays.now statuses.items vars.items runs.items)) }
+    ensures err { IfErr result.0 (λ fault. Gains history result.1 (AreBroken (R.may runner.now) fleet.now forks plays.now statuses.items vars.items fault.done.items fault.last)) }
+    ensures asked { IfErr result.0 (λ fault. MayBreak (A.asks attend.now) fault.last.why) }
 {
     if missing {
-        return Err(RunsFault::before_a_log(alloc, statuses));
+        return (Err(RunsFault::before_a_log(alloc, statuses)), history);
     }
     run_each(
-        rt, alloc, attend, watch, front, fleet, plays, statuses, vars, runner, forks,
+        rt, alloc, attend, watch, front, fleet, plays, statuses, vars, runner, forks, history,
     )
 }
 
@@ -82,7 +84,8 @@ fn with_workers<
     vars: Vec<Vars>,
     runner: &'f R,
     forks: usize,
-) -> Result<Vec<Run>, RunsFault>
+    history: History,
+) -> (Result<Vec<Run>, RunsFault>, History)
     requires play { 0 < length plays.now }
     requires all { length statuses.items ≡ length fleet.now.hosts }
     requires each { length vars.items ≡ length fleet.now.hosts }
@@ -92,14 +95,14 @@ fn with_workers<
     requires few { forks ≤ 64 }
     requires known { find (names_nothing fleet.now) (named_parts plays.now) ≡ None }
     requires workers { front.forks ≡ forks }
-    ensures ok { IfOk result (λ runs. AreRuns (R.may runner.now) fleet.now forks plays.now statuses.items vars.items runs.items) }
-    ensures err { IfErr result (λ fault. AreBroken (R.may runner.now) fleet.now forks plays.now statuses.items vars.items fault.done.items fault.last) }
-    ensures asked { IfErr result (λ fault. MayBreak (A.asks attend.now) fault.last.why) }
+    ensures ok { IfOk result.0 (λ runs. Gains history result.1 (AreRuns (R.may runner.now) fleet.now forks plays.now statuses.items vars.items runs.items)) }
+    ensures err { IfErr result.0 (λ fault. Gains history result.1 (AreBroken (R.may runner.now) fleet.now forks plays.now statuses.items vars.items fault.done.items fault.last)) }
+    ensures asked { IfErr result.0 (λ fault. MayBreak (A.asks attend.now) fault.last.why) }
 {
     thread::scope(
         thread::scope_env(),
         rt,
-        move |scope| -> Result<Vec<Run>, RunsFault>
+        move |scope| -> (Result<Vec<Run>, RunsFault>, History)
             requires play { 0 < length plays.now }
             requires all { length statuses.items ≡ length fleet.now.hosts }
             requires each { length vars.items ≡ length fleet.now.hosts }
@@ -109,9 +112,9 @@ fn with_workers<
             requires few { forks ≤ 64 }
             requires known { find (names_nothing fleet.now) (named_parts plays.now) ≡ None }
             requires workers { front.forks ≡ forks }
-            ensures ok { IfOk result (λ runs. AreRuns (R.may runner.entry.now) fleet.entry.now forks plays.entry.now statuses.items vars.items runs.items) }
-            ensures err { IfErr result (λ fault. AreBroken (R.may runner.entry.now) fleet.entry.now forks plays.entry.now statuses.items vars.items fault.done.items fault.last) }
-            ensures asked { IfErr result (λ fault. MayBreak (A.asks attend.entry.now) fault.last.why) }
+            ensures ok { IfOk result.0 (λ runs. Gains history result.1 (AreRuns (R.may runner.entry.now) fleet.entry.now forks plays.entry.now statuses.items vars.items runs.items)) }
+            ensures err { IfErr result.0 (λ fault. Gains history result.1 (AreBroken (R.may runner.entry.now) fleet.entry.now forks plays.entry.now statuses.items vars.items fault.done.items fault.last)) }
+            ensures asked { IfErr result.0 (λ fault. MayBreak (A.asks attend.entry.now) fault.last.why) }
         {
             let mut front = front;
             let mut missing = false;
@@ -121,7 +124,7 @@ fn with_workers<
             }
             run_with_all(
                 rt, alloc, attend, watch, missing, &mut front, fleet, plays, statuses, vars,
-                runner, forks,
+                runner, forks, history,
             )
         },
     )
@@ -130,7 +133,8 @@ fn with_workers<
 /// Runs plays one after the other, with `forks` workers, 1 to 64, who stand throughout: each play as `run_play` does, the first one from these statuses and
 /// variables, each next one where the one before it ended and with the results that were registered before. A play that ends otherwise than finished is the last.
 /// Want of memory breaks the run off, and so does `attend` before a batch: the runs before it come back, with what the last one came to; where a worker
-/// can't be started, nothing is opened. `watch` is told of each play.
+/// can't be started, nothing is opened. `watch` is told of each play. The history comes back with the log of each play that had a board behind those that
+/// it had, in their order, however the runs ended: just these were started.
 #[allow(clippy::too_many_arguments)]
 pub fn run_plays<
     R: Runner,
@@ -148,7 +152,8 @@ pub fn run_plays<
     vars: Vec<Vars>,
     runner: &R,
     forks: usize,
-) -> Result<Vec<Run>, RunsFault>
+    history: History,
+) -> (Result<Vec<Run>, RunsFault>, History)
     requires play { 0 < length plays.now }
     requires all { length statuses.items ≡ length fleet.now.hosts }
     requires each { length vars.items ≡ length fleet.now.hosts }
@@ -157,14 +162,15 @@ pub fn run_plays<
     requires some { 0 < forks }
     requires few { forks ≤ 64 }
     requires known { find (names_nothing fleet.now) (named_parts plays.now) ≡ None }
-    ensures ok { IfOk result (λ runs. AreRuns (R.may runner.now) fleet.now forks plays.now statuses.items vars.items runs.items) }
-    ensures err { IfErr result (λ fault. AreBroken (R.may runner.now) fleet.now forks plays.now statuses.items vars.items fault.done.items fault.last) }
-    ensures asked { IfErr result (λ fault. MayBreak (A.asks attend.now) fault.last.why) }
+    ensures ok { IfOk result.0 (λ runs. Gains history result.1 (AreRuns (R.may runner.now) fleet.now forks plays.now statuses.items vars.items runs.items)) }
+    ensures err { IfErr result.0 (λ fault. Gains history result.1 (AreBroken (R.may runner.now) fleet.now forks plays.now statuses.items vars.items fault.done.items fault.last)) }
+    ensures asked { IfErr result.0 (λ fault. MayBreak (A.asks attend.now) fault.last.why) }
 {
     match pool(alloc, forks) {
         Ok((front, ends)) => with_workers(
             rt, alloc, attend, watch, front, ends, fleet, plays, statuses, vars, runner, forks,
+            history,
         ),
-        Err(_refused) => Err(RunsFault::before_a_log(alloc, statuses)),
+        Err(_refused) => (Err(RunsFault::before_a_log(alloc, statuses)), history),
     }
 }

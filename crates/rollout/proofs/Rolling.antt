@@ -3,6 +3,7 @@ use Rattle.std.proofs.Common.{◌≡◌, ℕ, Bool, true, List, Option, Result, 
 use Rattle.std.specs.Prelude.{IfOk, IfErr}
 use Rattle.command_line.specs.declared.command.Source.{Source}
 use Rattle.host_track.specs.Endings.{Ending}
+use Rattle.event_log.specs.Events.{Event}
 use Rattle.event_log.specs.Told.{Work}
 use Rattle.fork_pool.specs.declared.fault.StepFault.{StepFault}
 use Rattle.fork_pool.specs.declared.fault.StepFault.TheVariants as step
@@ -10,6 +11,8 @@ use Rattle.planning.specs.declared.fault.PlanFault.{PlanFault}
 use Rattle.planning.specs.declared.fault.PlanFault.TheVariants as plan
 use Rattle.roll_run.specs.declared.fault.Break.{Break}
 use Rattle.roll_run.specs.declared.fault.Break.TheVariants as break
+use Rattle.roll_run.specs.Histories.{Gains}
+use Rattle.roll_run.proofs.Following.{gains_as}
 use Rattle.running.specs.RunTexts.{MayBreakText}
 use Rattle.running.specs.declared.fault.RunTextFault.{RunTextFault}
 use Rattle.running.specs.declared.fault.RunTextFault.TheVariants as running
@@ -23,13 +26,13 @@ use Rattle.rollout.specs.declared.fault.Fault.TheVariants.{Stopped}
 use Rattle.rollout.specs.declared.status.Status.{Status}
 
 pub RollsInputs-of_texts : (may : Work → Ending → Type 0) (sources : Sources) (inventory playbook : Source) (forks : ℕ) (input_old input_new out_old out_new : Option (List ℕ))
-    (first second : List ℕ) (result : Result Status Fault) → ReadsBoth sources inventory playbook input_old input_new first second
-    → IfOk result (PrintsRecap may first second forks out_old out_new) → IfErr result (BreaksOff may first second forks out_old out_new)
-    → RollsInputs may sources inventory playbook forks input_old input_new out_old out_new result
-RollsInputs-of_texts may sources inventory playbook forks input_old input_new out_old out_new first second (Ok status) texts prints breaks =
-    record { first = first; second = second; texts = texts; prints = prints }
-RollsInputs-of_texts may sources inventory playbook forks input_old input_new out_old out_new first second (Err fault) texts prints breaks =
-    inr (record { first = first; second = second; texts = texts; breaks = breaks })
+    (first second : List ℕ) (result : Result Status Fault) (before after : List (List Event)) → ReadsBoth sources inventory playbook input_old input_new first second
+    → IfOk result (λ status. Gains before after (PrintsRecap may first second forks out_old out_new status)) → IfErr result (λ fault. Gains before after (BreaksOff may first second forks out_old out_new fault))
+    → Gains before after (RollsInputs may sources inventory playbook forks input_old input_new out_old out_new result)
+RollsInputs-of_texts may sources inventory playbook forks input_old input_new out_old out_new first second (Ok status) before after texts prints breaks =
+    gains_as before after (λ logs is. record { first = first; second = second; texts = texts; prints = is }) prints
+RollsInputs-of_texts may sources inventory playbook forks input_old input_new out_old out_new first second (Err fault) before after texts prints breaks =
+    gains_as before after (λ logs is. inr (record { first = first; second = second; texts = texts; breaks = is })) breaks
 
 pub fault_in : (fault : Fault) → ◌≡◌ {A = Result Status Fault} (Err fault) (Err Stopped) → fault ≡ Stopped
 fault_in fault same = cc

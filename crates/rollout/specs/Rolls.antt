@@ -1,8 +1,9 @@
 -- What the command `run` does with the inputs that a line names.
-use Rattle.std.specs.Prelude.{◌≡◌, ◌⊎◌, ◌<◌, ◌≤◌, ℕ, Bool, true, false, List, Option, Result, Ok, Err}
+use Rattle.std.specs.Prelude.{◌≡◌, ◌⊎◌, ◌<◌, ◌≤◌, ℕ, Bool, true, false, List, [], Option, Result, Ok, Err}
 use Rattle.std.specs.Io.KnownBytes.{Keeps}
 use Rattle.command_line.specs.declared.command.Source.{Source}
 use Rattle.host_track.specs.Endings.{Ending}
+use Rattle.event_log.specs.Events.{Event}
 use Rattle.event_log.specs.Told.{Work}
 use Rattle.running.specs.RunTexts.{WritesRecap, IsTrueFault}
 use Rattle.running.specs.declared.end.RunEnd.{RunEnd}
@@ -17,39 +18,40 @@ use Rattle.rollout.specs.declared.fault.Fault.TheVariants.{ChildrenIgnored, Memo
 use Rattle.rollout.specs.declared.status.Status.{Status}
 
 -- the plays of both texts were run with so many workers, their recap went out, and the status tells of their end
-pub record PrintsRecap (may : Work → Ending → Type 0) (inventory playbook : List ℕ) (forks : ℕ) (old new : Option (List ℕ)) (status : Status) : Type 0 where
+pub record PrintsRecap (may : Work → Ending → Type 0) (inventory playbook : List ℕ) (forks : ℕ) (old new : Option (List ℕ)) (status : Status) (logs : List (List Event)) : Type 0 where
   pub end : RunEnd
-  pub recap : WritesRecap may inventory playbook forks old new end
+  pub recap : WritesRecap may inventory playbook forks old new end logs
   pub tells : status ≡ status_of_run end
 
 -- the fault is true of both texts, of a run of their plays, or of where its recap broke off
-pub record BreaksOff (may : Work → Ending → Type 0) (inventory playbook : List ℕ) (forks : ℕ) (old new : Option (List ℕ)) (fault : Fault) : Type 0 where
+pub record BreaksOff (may : Work → Ending → Type 0) (inventory playbook : List ℕ) (forks : ℕ) (old new : Option (List ℕ)) (fault : Fault) (logs : List (List Event)) : Type 0 where
   pub cause : RunTextFault
   pub is : fault ≡ fault_of cause
-  pub is_true : IsTrueFault may inventory playbook forks old new cause
+  pub is_true : IsTrueFault may inventory playbook forks old new cause logs
 
 -- both inputs were read, and the plays of their texts were run
-pub record ShowsRecap (may : Work → Ending → Type 0) (sources : Sources) (inventory playbook : Source) (forks : ℕ) (input_old input_new out_old out_new : Option (List ℕ)) (status : Status) : Type 0 where
+pub record ShowsRecap (may : Work → Ending → Type 0) (sources : Sources) (inventory playbook : Source) (forks : ℕ) (input_old input_new out_old out_new : Option (List ℕ)) (status : Status) (logs : List (List Event)) : Type 0 where
   pub first : List ℕ
   pub second : List ℕ
   pub texts : ReadsBoth sources inventory playbook input_old input_new first second
-  pub prints : PrintsRecap may first second forks out_old out_new status
+  pub prints : PrintsRecap may first second forks out_old out_new status logs
 
 -- both inputs were read, and the fault is true of their texts or of a run
-pub record BreaksRun (may : Work → Ending → Type 0) (sources : Sources) (inventory playbook : Source) (forks : ℕ) (input_old input_new out_old out_new : Option (List ℕ)) (fault : Fault) : Type 0 where
+pub record BreaksRun (may : Work → Ending → Type 0) (sources : Sources) (inventory playbook : Source) (forks : ℕ) (input_old input_new out_old out_new : Option (List ℕ)) (fault : Fault) (logs : List (List Event)) : Type 0 where
   pub first : List ℕ
   pub second : List ℕ
   pub texts : ReadsBoth sources inventory playbook input_old input_new first second
-  pub breaks : BreaksOff may first second forks out_old out_new fault
+  pub breaks : BreaksOff may first second forks out_old out_new fault logs
 
--- both inputs were read and their plays were run, where each program may end so: nothing is run before both inputs were read
+-- both inputs were read and their plays were run, where each program may end so, and these are the logs of all that was started: nothing is before both
+-- inputs were read
 abbrev pub RollsInputs : (Work → Ending → Type 0) → Sources → Source → Source → ℕ → Option (List ℕ) → Option (List ℕ) → Option (List ℕ) → Option (List ℕ)
-    → Result Status Fault → Type 0
-RollsInputs may sources inventory playbook forks input_old input_new out_old out_new (Ok status) =
-    ShowsRecap may sources inventory playbook forks input_old input_new out_old out_new status
-RollsInputs may sources inventory playbook forks input_old input_new out_old out_new (Err fault) =
-    (LacksInput sources inventory playbook input_old input_new fault × Keeps out_old out_new)
-    ⊎ BreaksRun may sources inventory playbook forks input_old input_new out_old out_new fault
+    → Result Status Fault → List (List Event) → Type 0
+RollsInputs may sources inventory playbook forks input_old input_new out_old out_new (Ok status) logs =
+    ShowsRecap may sources inventory playbook forks input_old input_new out_old out_new status logs
+RollsInputs may sources inventory playbook forks input_old input_new out_old out_new (Err fault) logs =
+    (LacksInput sources inventory playbook input_old input_new fault × Keeps out_old out_new × (logs ≡ []))
+    ⊎ BreaksRun may sources inventory playbook forks input_old input_new out_old out_new fault logs
 
 -- why a run is refused before anything is read: the ends of children are ignored, or memory was wanting to look
 abbrev pub IsRefusedBy : Files → Fault → Type 0
@@ -58,25 +60,26 @@ IsRefusedBy files Memory = Unit {0}
 IsRefusedBy files fault = ⊥
 
 -- a run is refused: nothing was read, run or written
-pub record RefusesToRoll (sources : Sources) (input_old input_new out_old out_new : Option (List ℕ)) (result : Result Status Fault) : Type 0 where
+pub record RefusesToRoll (sources : Sources) (input_old input_new out_old out_new : Option (List ℕ)) (result : Result Status Fault) (logs : List (List Event)) : Type 0 where
   pub fault : Fault
   pub because : IsRefusedBy sources.files fault
   pub is : result ≡ Err fault
   pub unread : Keeps input_old input_new
   pub unwritten : Keeps out_old out_new
+  pub none : logs ≡ []
 
 -- the ends of children are not ignored, and the inputs were run, by as many workers as were asked for or fewer; that a run was stopped is told only where it may be
-pub record RollsOn (may : Work → Ending → Type 0) (asks : Bool) (sources : Sources) (inventory playbook : Source) (forks : ℕ) (input_old input_new out_old out_new : Option (List ℕ)) (result : Result Status Fault) : Type 0 where
+pub record RollsOn (may : Work → Ending → Type 0) (asks : Bool) (sources : Sources) (inventory playbook : Source) (forks : ℕ) (input_old input_new out_old out_new : Option (List ℕ)) (result : Result Status Fault) (logs : List (List Event)) : Type 0 where
   pub kept : IsAnswerOf sources.files false
   pub workers : ℕ
   pub some : 0 < workers
   pub few : workers ≤ forks
-  pub rolls : RollsInputs may sources inventory playbook workers input_old input_new out_old out_new result
+  pub rolls : RollsInputs may sources inventory playbook workers input_old input_new out_old out_new result logs
   pub stops : result ≡ Err Stopped → asks ≡ true
 
--- the command `run`, where each program may end so, and whether it may be stopped
+-- the command `run`, where each program may end so, and whether it may be stopped; and the logs of all that it started
 abbrev pub Rolls : (Work → Ending → Type 0) → Bool → Sources → Source → Source → ℕ → Option (List ℕ) → Option (List ℕ) → Option (List ℕ) → Option (List ℕ)
-    → Result Status Fault → Type 0
-Rolls may asks sources inventory playbook forks input_old input_new out_old out_new result =
-    RefusesToRoll sources input_old input_new out_old out_new result
-    ⊎ RollsOn may asks sources inventory playbook forks input_old input_new out_old out_new result
+    → Result Status Fault → List (List Event) → Type 0
+Rolls may asks sources inventory playbook forks input_old input_new out_old out_new result logs =
+    RefusesToRoll sources input_old input_new out_old out_new result logs
+    ⊎ RollsOn may asks sources inventory playbook forks input_old input_new out_old out_new result logs

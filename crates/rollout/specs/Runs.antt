@@ -1,5 +1,5 @@
 -- What a run of the program does, from the words that the system gives to the exit status.
-use Rattle.std.specs.Prelude.{◌≡◌, ◌≢◌, ◌⊎◌, ℕ, Bool, List, Option, Result, Err, drop, is_some}
+use Rattle.std.specs.Prelude.{◌≡◌, ◌≢◌, ◌⊎◌, ℕ, Bool, List, [], Option, Result, Err, drop, is_some}
 use Rattle.std.specs.declared.io.ErrorKind.{ErrorKind}
 use Rattle.std.specs.declared.io.ErrorKind.TheVariants.{OutOfMemory}
 use Rattle.std.specs.Io.KnownBytes.{Keeps}
@@ -13,6 +13,7 @@ use Rattle.command_line.specs.declared.command.Line.TheVariants.{Limits, Plan, R
 use Rattle.command_line.specs.declared.fault.LineFault.{LineFault}
 use Rattle.command_line.specs.declared.fault.LineFault.TheVariants as line_fault
 use Rattle.host_track.specs.Endings.{Ending}
+use Rattle.event_log.specs.Events.{Event}
 use Rattle.event_log.specs.Told.{Work}
 use Rattle.rollout.specs.Commands.{TabulatesLimits, Prints}
 use Rattle.rollout.specs.Endings.{Reports, status_of}
@@ -25,45 +26,46 @@ use Rattle.rollout.specs.declared.fault.Fault.{Fault}
 use Rattle.rollout.specs.declared.fault.Fault.TheVariants.{Line, Memory}
 use Rattle.rollout.specs.declared.status.Status.{Status}
 
--- what a line asks for was done, or its fault is true
-abbrev pub Does : (Work → Ending → Type 0) → Bool → Sources → declared_line.Line → Option (List ℕ) → Option (List ℕ) → Option (List ℕ) → Option (List ℕ) → Result Status Fault → Type 0
-Does may asks sources (Limits inventory) input_old input_new out_old out_new result =
-    TabulatesLimits sources inventory input_old input_new out_old out_new result
-Does may asks sources (Plan inventory playbook) input_old input_new out_old out_new result =
-    Plans sources inventory playbook input_old input_new out_old out_new result
-Does may asks sources (Run inventory playbook forks) input_old input_new out_old out_new result =
-    Rolls may asks sources inventory playbook forks input_old input_new out_old out_new result
-Does may asks sources (Rehearse inventory playbook) input_old input_new out_old out_new result =
-    RehearsesInputs sources inventory playbook input_old input_new out_old out_new result
-Does may asks sources (Print message) input_old input_new out_old out_new result =
-    Keeps input_old input_new × Prints (messages.text_of message) out_old out_new result
+-- what a line asks for was done, or its fault is true; and these are the logs of all that was started: `run` alone starts anything
+abbrev pub Does : (Work → Ending → Type 0) → Bool → Sources → declared_line.Line → Option (List ℕ) → Option (List ℕ) → Option (List ℕ) → Option (List ℕ) → Result Status Fault → List (List Event) → Type 0
+Does may asks sources (Limits inventory) input_old input_new out_old out_new result logs =
+    TabulatesLimits sources inventory input_old input_new out_old out_new result × (logs ≡ [])
+Does may asks sources (Plan inventory playbook) input_old input_new out_old out_new result logs =
+    Plans sources inventory playbook input_old input_new out_old out_new result × (logs ≡ [])
+Does may asks sources (Run inventory playbook forks) input_old input_new out_old out_new result logs =
+    Rolls may asks sources inventory playbook forks input_old input_new out_old out_new result logs
+Does may asks sources (Rehearse inventory playbook) input_old input_new out_old out_new result logs =
+    RehearsesInputs sources inventory playbook input_old input_new out_old out_new result × (logs ≡ [])
+Does may asks sources (Print message) input_old input_new out_old out_new result logs =
+    Keeps input_old input_new × Prints (messages.text_of message) out_old out_new result × (logs ≡ [])
 
 -- the words, but for the flag and the stop file of a run, are a line, and what it asks for was done: whether a run tells of itself while it goes on makes no
 -- difference, and it may be stopped where they name a file for that
-pub record FollowsLine (may : Work → Ending → Type 0) (sources : Sources) (words_given : List Word) (input_old input_new out_old out_new : Option (List ℕ)) (result : Result Status Fault) : Type 0 where
+pub record FollowsLine (may : Work → Ending → Type 0) (sources : Sources) (words_given : List Word) (input_old input_new out_old out_new : Option (List ℕ)) (result : Result Status Fault) (logs : List (List Event)) : Type 0 where
   pub line : declared_line.Line
   pub says : words.Says (plain words_given) line
-  pub does : Does may (is_some (stop_file words_given)) sources line input_old input_new out_old out_new result
+  pub does : Does may (is_some (stop_file words_given)) sources line input_old input_new out_old out_new result logs
 
 -- the words are no line, and nothing was read or written
-pub record RefusesWords (words_given : List Word) (input_old input_new out_old out_new : Option (List ℕ)) (result : Result Status Fault) : Type 0 where
+pub record RefusesWords (words_given : List Word) (input_old input_new out_old out_new : Option (List ℕ)) (result : Result Status Fault) (logs : List (List Event)) : Type 0 where
   pub fault : LineFault
   pub refuses : words.Refuses (plain words_given) fault
   pub is : result ≡ Err (Line fault)
   pub unread : Keeps input_old input_new
   pub unwritten : Keeps out_old out_new
+  pub none : logs ≡ []
 
-abbrev pub Attempts : (Work → Ending → Type 0) → Sources → List Word → Option (List ℕ) → Option (List ℕ) → Option (List ℕ) → Option (List ℕ) → Result Status Fault → Type 0
-Attempts may sources words_given input_old input_new out_old out_new result =
-    FollowsLine may sources words_given input_old input_new out_old out_new result ⊎ RefusesWords words_given input_old input_new out_old out_new result
+abbrev pub Attempts : (Work → Ending → Type 0) → Sources → List Word → Option (List ℕ) → Option (List ℕ) → Option (List ℕ) → Option (List ℕ) → Result Status Fault → List (List Event) → Type 0
+Attempts may sources words_given input_old input_new out_old out_new result logs =
+    FollowsLine may sources words_given input_old input_new out_old out_new result logs ⊎ RefusesWords words_given input_old input_new out_old out_new result logs
 
 -- the system gave the words; the first is the program's name
-pub record TakesWords (may : Work → Ending → Type 0) (given : Known (List Word)) (sources : Sources) (input_old input_new out_old out_new : Option (List ℕ)) (result : Result Status Fault) : Type 0 where
+pub record TakesWords (may : Work → Ending → Type 0) (given : Known (List Word)) (sources : Sources) (input_old input_new out_old out_new : Option (List ℕ)) (result : Result Status Fault) (logs : List (List Event)) : Type 0 where
   pub args : List Word
   pub gives : Gives given args
   pub words_given : List Word
   pub behind_name : words_given ≡ drop 1 args
-  pub attempts : Attempts may sources words_given input_old input_new out_old out_new result
+  pub attempts : Attempts may sources words_given input_old input_new out_old out_new result logs
 
 -- what an error of this kind makes of words that the system doesn't give: words that are no text make the line a bad one
 abbrev pub IsFaultOfWords : ErrorKind → Fault → Type 0
@@ -73,7 +75,7 @@ IsFaultOfWords kind (Line line_fault.Memory) = ⊥
 IsFaultOfWords kind fault = ⊥
 
 -- the system gave no words, and nothing was read or written
-pub record LacksWords (given : Known (List Word)) (input_old input_new out_old out_new : Option (List ℕ)) (result : Result Status Fault) : Type 0 where
+pub record LacksWords (given : Known (List Word)) (input_old input_new out_old out_new : Option (List ℕ)) (result : Result Status Fault) (logs : List (List Event)) : Type 0 where
   pub kind : ErrorKind
   pub fails : Fails given kind
   pub fault : Fault
@@ -81,14 +83,15 @@ pub record LacksWords (given : Known (List Word)) (input_old input_new out_old o
   pub is : result ≡ Err fault
   pub unread : Keeps input_old input_new
   pub unwritten : Keeps out_old out_new
+  pub none : logs ≡ []
 
-abbrev pub Performs : (Work → Ending → Type 0) → Known (List Word) → Sources → Option (List ℕ) → Option (List ℕ) → Option (List ℕ) → Option (List ℕ) → Result Status Fault → Type 0
-Performs may given sources input_old input_new out_old out_new result =
-    TakesWords may given sources input_old input_new out_old out_new result ⊎ LacksWords given input_old input_new out_old out_new result
+abbrev pub Performs : (Work → Ending → Type 0) → Known (List Word) → Sources → Option (List ℕ) → Option (List ℕ) → Option (List ℕ) → Option (List ℕ) → Result Status Fault → List (List Event) → Type 0
+Performs may given sources input_old input_new out_old out_new result logs =
+    TakesWords may given sources input_old input_new out_old out_new result logs ⊎ LacksWords given input_old input_new out_old out_new result logs
 
--- a whole run: what was done, what was reported, and the exit status
-pub record Runs (may : Work → Ending → Type 0) (given : Known (List Word)) (sources : Sources) (input_old input_new out_old out_new errors_old errors_new : Option (List ℕ)) (status : ℕ) : Type 0 where
+-- a whole run: what was done, what was reported, the exit status, and the logs of all that was started
+pub record Runs (may : Work → Ending → Type 0) (given : Known (List Word)) (sources : Sources) (input_old input_new out_old out_new errors_old errors_new : Option (List ℕ)) (status : ℕ) (logs : List (List Event)) : Type 0 where
   pub outcome : Result Status Fault
-  pub performs : Performs may given sources input_old input_new out_old out_new outcome
+  pub performs : Performs may given sources input_old input_new out_old out_new outcome logs
   pub reports : Reports outcome errors_old errors_new
   pub ends : status ≡ code_of (status_of outcome)

@@ -22,6 +22,7 @@ use crate::program::run;
 use crate::system::Host;
 use bounded_io::Fallible;
 use local_programs::{LocalPrograms, Notes, occupy_standard};
+use roll_core::History;
 use std::io;
 use std::io::{IsTerminal, Stderr, Stdin, Stdout};
 use std::process::ExitCode;
@@ -35,7 +36,7 @@ fn main(rt: HostRuntime) -> ExitCode {
     let programs = LocalPrograms::new(&notes);
     let mut teller = Teller::new(&rt, rt.alloc(), &notes, io::writer(&errors));
     let prompts = prompts_of(rt.stdin(), rt.stdout(), errors);
-    let code = run(
+    let (code, _history) = run(
         &Host::new(&rt, errors, prompts),
         &rt,
         rt.alloc(),
@@ -45,6 +46,7 @@ fn main(rt: HostRuntime) -> ExitCode {
         &mut Fallible(rt.reader()),
         &mut io::writer(&rt),
         &mut io::writer(&errors),
+        History::new(&rt),
     );
     teller.run_ends();
     code

@@ -1,6 +1,8 @@
 //! A run of the program: its words, what they ask for, and the end.
 ghost use Rattle.std.specs.Prelude.{map, string_bytes};
 ghost use Rattle.std.specs.Process.{exit_status};
+ghost use Rattle.roll_run.specs.Histories.{Gains};
+ghost use Rattle.running.specs.RunTexts.{AreSafe};
 ghost use Rattle.rollout.specs.Runs.{Attempts, Does, Performs, Runs};
 ghost use Rattle.rollout.specs.Systems.{sources_of};
 
@@ -15,7 +17,7 @@ use bounded_io::Input;
 use command_line::command::Line;
 use command_line::{Request, request_of};
 use local_programs::Notes;
-use roll_core::{Runner, Watch};
+use roll_core::{History, Runner, Watch};
 use roll_run::Attend;
 use std::alloc::Global;
 use std::io::Write;
@@ -25,7 +27,8 @@ use std::thread::Threads;
 use telling::Tell;
 
 /// Does what the words say; a fault is reported on `errors`, and the exit status tells of it too. `tell` is told of a run, and whether the words
-/// ask for its lines.
+/// ask for its lines. The history comes back with the logs of all rolls that were started behind those that it had: at no moment of any of them is a
+/// group over its limit, however the run ended.
 #[allow(clippy::too_many_arguments)]
 pub fn run<
     S: System,
@@ -45,12 +48,14 @@ pub fn run<
     input: &mut I,
     out: &mut O,
     errors: &mut E,
-) -> ExitCode
-    ensures { Runs (R.may runner.now) (S.words system.now) (sources_of (S.files system.now) (I.is_reliable input.old))
-        (I.remaining input.old) (I.remaining input.new) (O.contents out.old) (O.contents out.new) (E.contents errors.old) (E.contents errors.new) (exit_status result) }
+    history: History,
+) -> (ExitCode, History)
+    ensures runs { Gains history result.1 (Runs (R.may runner.now) (S.words system.now) (sources_of (S.files system.now) (I.is_reliable input.old))
+        (I.remaining input.old) (I.remaining input.new) (O.contents out.old) (O.contents out.new) (E.contents errors.old) (E.contents errors.new) (exit_status result.0)) }
+    ensures safe { Gains history result.1 (AreSafe (R.may runner.now)) }
 {
-    let outcome = perform(system, rt, alloc, runner, notes, tell, input, out);
-    exit_code(conclude(outcome, errors))
+    let (outcome, history) = perform(system, rt, alloc, runner, notes, tell, input, out, history);
+    (exit_code(conclude(outcome, errors)), history)
 }
 
 /// Does what the words say, where the system gives them.
@@ -70,9 +75,11 @@ fn perform<
     tell: &mut T,
     input: &mut I,
     out: &mut O,
-) -> Result<Status, Fault>
-    ensures { Performs (R.may runner.now) (S.words system.now) (sources_of (S.files system.now) (I.is_reliable input.old))
-        (I.remaining input.old) (I.remaining input.new) (O.contents out.old) (O.contents out.new) result }
+    history: History,
+) -> (Result<Status, Fault>, History)
+    ensures performs { Gains history result.1 (Performs (R.may runner.now) (S.words system.now) (sources_of (S.files system.now) (I.is_reliable input.old))
+        (I.remaining input.old) (I.remaining input.new) (O.contents out.old) (O.contents out.new) result.0) }
+    ensures safe { Gains history result.1 (AreSafe (R.may runner.now)) }
 {
     match system.args() {
         Ok(args) => attempt(
@@ -85,8 +92,9 @@ fn perform<
             words_of(args.as_slice()),
             input,
             out,
+            history,
         ),
-        Err(error) => Err(words_fault(&error)),
+        Err(error) => (Err(words_fault(&error)), history),
     }
 }
 
@@ -109,9 +117,11 @@ fn attempt<
     words: &[String],
     input: &mut I,
     out: &mut O,
-) -> Result<Status, Fault>
-    ensures { Attempts (R.may runner.now) (sources_of (S.files system.now) (I.is_reliable input.old)) (map string_bytes words.now) (I.remaining input.old) (I.remaining input.new)
-        (O.contents out.old) (O.contents out.new) result }
+    history: History,
+) -> (Result<Status, Fault>, History)
+    ensures attempts { Gains history result.1 (Attempts (R.may runner.now) (sources_of (S.files system.now) (I.is_reliable input.old)) (map string_bytes words.now)
+        (I.remaining input.old) (I.remaining input.new) (O.contents out.old) (O.contents out.new) result.0) }
+    ensures safe { Gains history result.1 (AreSafe (R.may runner.now)) }
 {
     match request_of(alloc, words) {
         Ok(
@@ -124,9 +134,11 @@ fn attempt<
         ) => {
             begin_telling(system, tell, &line, is_verbose, is_quiet);
             let attend = Attendant::new(system, notes, stop_file);
-            follow(system, rt, alloc, runner, &attend, tell, line, input, out)
+            follow(
+                system, rt, alloc, runner, &attend, tell, line, input, out, history,
+            )
         }
-        Err(fault) => Err(Fault::Line(fault)),
+        Err(fault) => (Err(Fault::Line(fault)), history),
     }
 }
 
@@ -164,27 +176,36 @@ fn follow<
     line: Line,
     input: &mut I,
     out: &mut O,
-) -> Result<Status, Fault>
-    ensures { Does (R.may runner.now) (A.asks attend.now) (sources_of (S.files system.now) (I.is_reliable input.old)) line (I.remaining input.old) (I.remaining input.new)
-        (O.contents out.old) (O.contents out.new) result }
+    history: History,
+) -> (Result<Status, Fault>, History)
+    ensures does { Gains history result.1 (Does (R.may runner.now) (A.asks attend.now) (sources_of (S.files system.now) (I.is_reliable input.old)) line
+        (I.remaining input.old) (I.remaining input.new) (O.contents out.old) (O.contents out.new) result.0) }
+    ensures safe { Gains history result.1 (AreSafe (R.may runner.now)) }
 {
     match line {
-        Line::Limits { inventory } => limits(system, alloc, inventory, input, out),
+        Line::Limits { inventory } => (limits(system, alloc, inventory, input, out), history),
         Line::Plan {
             inventory,
             playbook,
-        } => plan(system, alloc, watch, inventory, playbook, input, out),
+        } => (
+            plan(system, alloc, watch, inventory, playbook, input, out),
+            history,
+        ),
         Line::Run {
             inventory,
             playbook,
             forks,
         } => roll(
             system, rt, alloc, runner, attend, watch, inventory, playbook, forks, input, out,
+            history,
         ),
         Line::Rehearse {
             inventory,
             playbook,
-        } => rehearse(system, alloc, inventory, playbook, input, out),
-        Line::Print(message) => print(message.as_str(), out),
+        } => (
+            rehearse(system, alloc, inventory, playbook, input, out),
+            history,
+        ),
+        Line::Print(message) => (print(message.as_str(), out), history),
     }
 }

@@ -59,7 +59,7 @@ module _ (fleet : FleetView) (play : Play) (forks : ℕ) (statuses : List Status
       by_end (Some other) its = one_course setting statuses (boundaries_of rehearsal) boundaries other end its course
 
 pub runs_go_as_rehearsed : (may : Work → Ending → Type 0) → RunsGoAsRehearsed may
-runs_go_as_rehearsed may fleet play forks statuses vars run is sound rehearsal of columns so =
+runs_go_as_rehearsed may fleet play forks statuses vars run log is sound rehearsal of columns so =
     let course = (is.by columns so.0).course in
     record {
       so_far = goes_so_far fleet play forks statuses vars columns sound rehearsal of run.boundaries.items (Some run.end) so.1 course;
@@ -68,5 +68,5 @@ runs_go_as_rehearsed may fleet play forks statuses vars run is sound rehearsal o
     }
 
 pub broken_runs_go_as_rehearsed : (may : Work → Ending → Type 0) → BrokenRunsGoAsRehearsed may
-broken_runs_go_as_rehearsed may fleet play forks statuses vars fault is sound rehearsal of columns so =
+broken_runs_go_as_rehearsed may fleet play forks statuses vars fault log is sound rehearsal of columns so =
     goes_so_far fleet play forks statuses vars columns sound rehearsal of fault.boundaries.items None so.1 (is.by columns so.0).course

@@ -13,7 +13,6 @@ use Rattle.event_log.specs.Columns.{Columns, Tells, fails_by}
 use Rattle.event_log.specs.Events.{Event}
 use Rattle.event_log.specs.Rolls.{Roll}
 use Rattle.event_log.specs.Told.{Work}
-use Rattle.roll_core.specs.Views.{events_of}
 use Rattle.roll_run.specs.declared.fault.RunFault.{RunFault}
 use Rattle.roll_run.specs.declared.run.Run.{Run}
 use Rattle.roll_run.specs.Runs.{IsBrokenOff, IsRun, roll_by}
@@ -39,17 +38,17 @@ pub record GoesAsRehearsed (rehearsal : RehearsalView) (boundaries : List Bounda
 -- a run of the play whose hosts fail as they were named goes as rehearsed, with any number of workers
 abbrev pub RunsGoAsRehearsed : (Work → Ending → Type 0) → Type 0
 RunsGoAsRehearsed may =
-    (fleet : FleetView) (play : Play) (forks : ℕ) (statuses : List Status) (vars : List Vars) (run : Run) → IsRun may fleet (roll_by fleet play forks statuses vars) run
+    (fleet : FleetView) (play : Play) (forks : ℕ) (statuses : List Status) (vars : List Vars) (run : Run) (log : List Event) → IsRun may fleet (roll_by fleet play forks statuses vars) run log
     → IsSound play.sizes.items play.steps.items play.tasks
     → (rehearsal : RehearsalView) → IsRehearsalOf fleet play statuses rehearsal
-    → (columns : Columns) → EndAsNamed (roll_by fleet play forks statuses vars) (events_of run.log.items) columns rehearsal
+    → (columns : Columns) → EndAsNamed (roll_by fleet play forks statuses vars) log columns rehearsal
     → GoesAsRehearsed rehearsal run.boundaries.items run.end
 
 -- and so does one that a fault broke off, as far as it came
 abbrev pub BrokenRunsGoAsRehearsed : (Work → Ending → Type 0) → Type 0
 BrokenRunsGoAsRehearsed may =
-    (fleet : FleetView) (play : Play) (forks : ℕ) (statuses : List Status) (vars : List Vars) (fault : RunFault) → IsBrokenOff may fleet (roll_by fleet play forks statuses vars) fault
+    (fleet : FleetView) (play : Play) (forks : ℕ) (statuses : List Status) (vars : List Vars) (fault : RunFault) (log : List Event) → IsBrokenOff may fleet (roll_by fleet play forks statuses vars) fault log
     → IsSound play.sizes.items play.steps.items play.tasks
     → (rehearsal : RehearsalView) → IsRehearsalOf fleet play statuses rehearsal
-    → (columns : Columns) → EndAsNamed (roll_by fleet play forks statuses vars) (events_of fault.log.items) columns rehearsal
+    → (columns : Columns) → EndAsNamed (roll_by fleet play forks statuses vars) log columns rehearsal
     → AreSameSoFar (boundaries_of rehearsal) fault.boundaries.items

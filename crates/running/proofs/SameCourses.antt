@@ -34,8 +34,8 @@ use Rattle.std.specs.Prelude.{codes}
 use Rattle.event_log.specs.Rolls.{Roll}
 use Rattle.event_log.specs.Columns.{Columns, Tells, fails_by, halt_by, steps_until}
 use Rattle.event_log.specs.Told.{Work}
+use Rattle.event_log.specs.Events.{Event}
 use Rattle.event_log.specs.Logs.{end_state}
-use Rattle.roll_core.specs.Views.{events_of}
 use Rattle.roll_run.specs.declared.run.Run.{Run}
 use Rattle.roll_run.specs.Runs.{AreCounted, IsRun, TookItsCourse, rows_behind, rows_of, setting_of}
 use Rattle.recap.specs.RecapText.{boundary_lines, boundary_text, counts_at, end_line, host_line_of, host_lines, open_line, text_by_place}
@@ -128,11 +128,11 @@ pub record BeginAlike (roll other : Roll) : Type 0 where
   pub known : (host : ℕ) → roll.known host ≡ other.known host
 
 -- what two such runs leave
-pub record LeaveAlike (fleet : FleetView) (roll other : Roll) (run also : Run) : Type 0 where
+pub record LeaveAlike (fleet : FleetView) (roll other : Roll) (run also : Run) (log second : List Event) : Type 0 where
   pub text : run_text fleet run ≡ run_text fleet also
   pub statuses : run.statuses.items ≡ also.statuses.items
   pub end : run.end ≡ also.end
-  pub rows : (host : ℕ) → (end_state roll (events_of run.log.items)).rows host ≡ (end_state other (events_of also.log.items)).rows host
+  pub rows : (host : ℕ) → (end_state roll log).rows host ≡ (end_state other second).rows host
 
 module _ (fleet : FleetView) (roll other : Roll) (columns : Columns) (alike : BeginAlike roll other) where
   fails : (host : ℕ) → fails_by roll columns host ≡ fails_by other columns host
@@ -189,12 +189,12 @@ module _ (fleet : FleetView) (roll other : Roll) (columns : Columns) (alike : Be
       ap entries next ∙ ap (λ (rows : List Entry). cond (has_number host (next_batch c.answer)) rows before) (same_rows (next_batch c.answer) host) in
       same_behind host (entries (next_batch b.answer)) bs cs same.1 ∙ ap (λ (rows : List Entry). rows_behind other columns host rows cs) here
 
-  module _ (may might : Work → Ending → Type 0) (run also : Run) (all : length roll.start ≡ length fleet.hosts) (one : IsRun may fleet roll run) (tells : Tells columns roll (events_of run.log.items))
-      (two : IsRun might fleet other also) (tell : Tells columns other (events_of also.log.items)) where
-    first : TookItsCourse fleet roll columns run.boundaries.items (events_of run.log.items) run.statuses.items run.end
+  module _ (may might : Work → Ending → Type 0) (run also : Run) (log other_log : List Event) (all : length roll.start ≡ length fleet.hosts) (one : IsRun may fleet roll run log) (tells : Tells columns roll log)
+      (two : IsRun might fleet other also other_log) (tell : Tells columns other other_log) where
+    first : TookItsCourse fleet roll columns run.boundaries.items log run.statuses.items run.end
     first = one.by columns tells
 
-    second : TookItsCourse fleet other columns also.boundaries.items (events_of also.log.items) also.statuses.items also.end
+    second : TookItsCourse fleet other columns also.boundaries.items other_log also.statuses.items also.end
     second = two.by columns tell
 
     courses : AreSameBoundaries run.boundaries.items also.boundaries.items × (run.end ≡ also.end)
@@ -209,7 +209,7 @@ module _ (fleet : FleetView) (roll other : Roll) (columns : Columns) (alike : Be
         (subst (λ (l : List Boundary). AreSameBoundaries l (second.behind ++ second.last ∷ [])) first.boundaries_are
         (subst (AreSameBoundaries run.boundaries.items) second.boundaries_are courses.0))
 
-    rows : (host : ℕ) → (end_state roll (events_of run.log.items)).rows host ≡ (end_state other (events_of also.log.items)).rows host
+    rows : (host : ℕ) → (end_state roll log).rows host ≡ (end_state other other_log).rows host
     rows host = first.rows host ∙ same_behind host [] first.behind second.behind split.0 ∙ sym (second.rows host)
 
     statuses : run.statuses.items ≡ also.statuses.items
@@ -220,7 +220,7 @@ module _ (fleet : FleetView) (roll other : Roll) (columns : Columns) (alike : Be
         let start : length roll.start ≡ length other.start = ap length alike.start in
         one.counts host (omega (arith, within, all)) ∙ ap counts_in (rows host) ∙ sym (two.counts host (omega (arith, within, all, start)))
 
-    pub leave_alike : LeaveAlike fleet roll other run also
+    pub leave_alike : LeaveAlike fleet roll other run also log other_log
     leave_alike = record {
       text =
           ap₂ ◌++◌ (same_boundaries fleet run.boundaries.items also.boundaries.items courses.0)

@@ -26,10 +26,10 @@ use Rattle.planning.proofs.UniqueLemmas.{one_inventory}
 use Rattle.event_log.specs.Works.{known_at, known_with}
 use Rattle.event_log.specs.Rolls.{Roll}
 use Rattle.event_log.specs.Columns.{Columns, gives}
+use Rattle.event_log.specs.Events.{Event}
 use Rattle.event_log.specs.Logs.{end_state}
 use Rattle.event_log.specs.States.{start_state}
 use Rattle.event_log.specs.Told.{Work}
-use Rattle.roll_core.specs.Views.{events_of}
 use Rattle.roll_run.specs.declared.run.Run.{Run}
 use Rattle.roll_run.specs.Runs.{IsRun, roll_by}
 use Rattle.roll_run.proofs.Lengths.{as_many}
@@ -65,8 +65,15 @@ known_both ones others many host each = go (slice_get ones host) refl (slice_get
 same_targets : (fleet : FleetView) (play other : Play) → AreAlikePlays play other → targets fleet play ≡ targets fleet other
 same_targets fleet play other alike = ap (λ (pattern : List ℕ). named_hosts fleet (parts_of pattern)) alike.pattern
 
-many_left : (may : Work → Ending → Type 0) (fleet : FleetView) (roll : Roll) (run : Run) → IsRun may fleet roll run → length run.statuses.items ≡ length roll.start
-many_left may fleet roll run is = ap length is.statuses ∙ as_many roll (start_state roll) (events_of run.log.items)
+many_left : (may : Work → Ending → Type 0) (fleet : FleetView) (roll : Roll) (run : Run) (log : List Event) → IsRun may fleet roll run log → length run.statuses.items ≡ length roll.start
+many_left may fleet roll run log is = ap length is.statuses ∙ as_many roll (start_state roll) log
+
+-- the same of lists that are known part by part
+all_told : (columns : ℕ → Columns) (fleet : FleetView) (forks : ℕ) (plays : List Play) (statuses : List Status) (vars : List Vars) (runs : List Run) (logs : List (List Event)) (others : List Play) (again : List Run) (anew : List (List Event))
+    → plays ≡ others → runs ≡ again → logs ≡ anew → TellTheirs columns fleet forks plays statuses vars runs logs → TellTheirs columns fleet forks others statuses vars again anew
+all_told columns fleet forks plays statuses vars runs logs others again anew plays_are runs_are logs_are tell =
+    subst (λ (p : List Play). TellTheirs columns fleet forks p statuses vars again anew) plays_are
+    (subst (λ (l : List Run). TellTheirs columns fleet forks plays statuses vars l anew) runs_are (subst (TellTheirs columns fleet forks plays statuses vars runs) logs_are tell))
 
 module _ (may might : Work → Ending → Type 0) (columns : ℕ → Columns) (fleet : FleetView) (forks more : ℕ) where
   -- two runs left the same
@@ -76,18 +83,18 @@ module _ (may might : Work → Ending → Type 0) (columns : ℕ → Columns) (f
     known : (host : ℕ) → known_at before.vars.items host ≡ known_at also.vars.items host
     many : length before.statuses.items ≡ length fleet.hosts
 
-  ended : (roll other : Roll) (run also : Run) → BeginAlike roll other → length roll.start ≡ length fleet.hosts → IsRun may fleet roll run → IsRun might fleet other also → LeaveAlike fleet roll other run also
+  ended : (roll other : Roll) (run also : Run) (log second : List Event) → BeginAlike roll other → length roll.start ≡ length fleet.hosts → IsRun may fleet roll run log → IsRun might fleet other also second → LeaveAlike fleet roll other run also log second
       → EndAlike run also
-  ended roll other run also alike all one two leaves = record {
+  ended roll other run also log second alike all one two leaves = record {
     statuses = leaves.statuses;
     end = leaves.end;
     known = λ host. known_both run.vars.items also.vars.items (one.vars.all ∙ ap length alike.start ∙ sym two.vars.all) host (each host);
-    many = many_left may fleet roll run one ∙ all;
+    many = many_left may fleet roll run log one ∙ all;
   }
     where
       each : (host : ℕ) (v w : Vars) → slice_get run.vars.items host ≡ Some v → slice_get also.vars.items host ≡ Some w → known_of v ≡ known_of w
       each host v w e f =
-          let rows : List Entry = (end_state other (events_of also.log.items)).rows host in
+          let rows : List Entry = (end_state other second).rows host in
           one.vars.each host v e ∙ ap (known_after roll.play (roll.known host)) (leaves.rows host) ∙ same_known_after roll.play other.play alike.play rows (roll.known host)
           ∙ ap (λ (k : Known). known_after other.play k rows) (alike.known host) ∙ sym (two.vars.each host w f)
 
@@ -102,52 +109,53 @@ module _ (may might : Work → Ending → Type 0) (columns : ℕ → Columns) (f
   text_from : Bool → ℕ → List Run → List ℕ
   text_from several place runs = text_by_place (λ at run. headed several (at + 1) (run_text fleet run)) place runs
 
-  after : (number : ℕ) (plays others : List Play) → AllZip AreAlikePlays plays others → (before also : Run) → EndAlike before also → (runs seconds : List Run) → AreRunsAfter may fleet forks plays before runs
-      → AreRunsAfter might fleet more others also seconds → TellLater columns fleet forks number plays before runs → TellLater columns fleet more number others also seconds → (several : Bool) (place : ℕ)
+  after : (number : ℕ) (plays others : List Play) → AllZip AreAlikePlays plays others → (before also : Run) → EndAlike before also → (runs seconds : List Run) (logs again : List (List Event)) → AreRunsAfter may fleet forks plays before runs logs
+      → AreRunsAfter might fleet more others also seconds again → TellLater columns fleet forks number plays before runs logs → TellLater columns fleet more number others also seconds again → (several : Bool) (place : ℕ)
       → text_from several place runs ≡ text_from several place seconds
   unfolding text_from
-  after number [] [] alike before also ends runs seconds one two tell told several place =
-      ap (text_by_place (λ at run. headed several (at + 1) (run_text fleet run)) place) one ∙ sym (ap (text_by_place (λ at run. headed several (at + 1) (run_text fleet run)) place) two)
-  after number [] (o ∷ os) alike before also ends runs seconds one two tell told several place = absurd alike
-  after number (p ∷ ps) [] alike before also ends runs seconds one two tell told several place = absurd alike
-  after number (p ∷ ps) (o ∷ os) alike before also ends [] [] one two tell told several place = refl
-  after number (p ∷ ps) (o ∷ os) alike before also ends [] (s ∷ ss) one two tell told several place = absurd (one (ends.end ∙ two.0))
-  after number (p ∷ ps) (o ∷ os) alike before also ends (r ∷ rs) [] one two tell told several place = absurd (two (sym ends.end ∙ one.0))
-  after number (p ∷ ps) (o ∷ os) alike before also ends (r ∷ rs) (s ∷ ss) one two tell told several place =
+  after number [] [] alike before also ends runs seconds logs again one two tell told several place =
+      ap (text_by_place (λ at run. headed several (at + 1) (run_text fleet run)) place) one.1 ∙ sym (ap (text_by_place (λ at run. headed several (at + 1) (run_text fleet run)) place) two.1)
+  after number [] (o ∷ os) alike before also ends runs seconds logs again one two tell told several place = absurd alike
+  after number (p ∷ ps) [] alike before also ends runs seconds logs again one two tell told several place = absurd alike
+  after number (p ∷ ps) (o ∷ os) alike before also ends [] [] logs again one two tell told several place = refl
+  after number (p ∷ ps) (o ∷ os) alike before also ends [] (s ∷ ss) logs [] one two tell told several place = absurd two
+  after number (p ∷ ps) (o ∷ os) alike before also ends [] (s ∷ ss) logs (m ∷ ms) one two tell told several place = absurd (one.1 (ends.end ∙ two.0))
+  after number (p ∷ ps) (o ∷ os) alike before also ends (r ∷ rs) seconds [] again one two tell told several place = absurd one
+  after number (p ∷ ps) (o ∷ os) alike before also ends (r ∷ rs) [] (l ∷ ls) again one two tell told several place = absurd (two.1 (sym ends.end ∙ one.0))
+  after number (p ∷ ps) (o ∷ os) alike before also ends (r ∷ rs) (s ∷ ss) (l ∷ ls) [] one two tell told several place = absurd two
+  after number (p ∷ ps) (o ∷ os) alike before also ends (r ∷ rs) (s ∷ ss) (l ∷ ls) (m ∷ ms) one two tell told several place =
       let roll : Roll = roll_after fleet forks p before in
       let other : Roll = roll_after fleet more o also in
       let begins = later_alike p o alike.0 before also ends in
-      let is : IsRun may fleet roll r = subst (λ (l : Roll). IsRun may fleet l r) (begins_after fleet p forks before one.1.roll one.1.begins) one.1.run_is in
-      let too : IsRun might fleet other s = subst (λ (l : Roll). IsRun might fleet l s) (begins_after fleet o more also two.1.roll two.1.begins) two.1.run_is in
-      let leaves = leave_alike fleet roll other (columns number) begins.0 may might r s begins.1 is tell.0 too told.0 in
+      let is : IsRun may fleet roll r l = subst (λ (f : Roll). IsRun may fleet f r l) (begins_after fleet p forks before one.1.roll one.1.begins) one.1.run_is in
+      let too : IsRun might fleet other s m = subst (λ (f : Roll). IsRun might fleet f s m) (begins_after fleet o more also two.1.roll two.1.begins) two.1.run_is in
+      let leaves = leave_alike fleet roll other (columns number) begins.0 may might r s l m begins.1 is tell.0 too told.0 in
       ap₂ ◌++◌ (ap (headed several (place + 1)) leaves.text)
-      (after (number + 1) ps os alike.1 r s (ended roll other r s begins.0 begins.1 is too leaves) rs ss one.2 two.2 tell.1 told.1 several (place + 1))
+      (after (number + 1) ps os alike.1 r s (ended roll other r s l m begins.0 begins.1 is too leaves) rs ss ls ms one.2 two.2 tell.1 told.1 several (place + 1))
 
   all_runs : (plays others : List Play) → AllZip AreAlikePlays plays others → (statuses again : List Status) → statuses ≡ again → length statuses ≡ length fleet.hosts → (vars twice : List Vars)
-      → ((host : ℕ) → known_at vars host ≡ known_at twice host) → (runs seconds : List Run) → AreRuns may fleet forks plays statuses vars runs → AreRuns might fleet more others again twice seconds
-      → TellTheirs columns fleet forks plays statuses vars runs → TellTheirs columns fleet more others again twice seconds → runs_text fleet (are_several plays) runs ≡ runs_text fleet (are_several others) seconds
+      → ((host : ℕ) → known_at vars host ≡ known_at twice host) → (runs seconds : List Run) (logs anew : List (List Event)) → AreRuns may fleet forks plays statuses vars runs logs → AreRuns might fleet more others again twice seconds anew
+      → TellTheirs columns fleet forks plays statuses vars runs logs → TellTheirs columns fleet more others again twice seconds anew → runs_text fleet (are_several plays) runs ≡ runs_text fleet (are_several others) seconds
   unfolding text_from
-  all_runs plays others alike statuses again same all vars twice known runs seconds one two tell told =
+  all_runs plays others alike statuses again same all vars twice known runs seconds logs anew one two tell told =
       let zip : AllZip AreAlikePlays (one.first ∷ one.later) (two.first ∷ two.later) =
       subst (λ (l : List Play). AllZip AreAlikePlays l (two.first ∷ two.later)) one.plays_are (subst (AllZip AreAlikePlays plays) two.plays_are alike) in
-      let its : TellTheirs columns fleet forks (one.first ∷ one.later) statuses vars (one.run ∷ one.rest) =
-      subst (λ (l : List Play). TellTheirs columns fleet forks l statuses vars (one.run ∷ one.rest)) one.plays_are (subst (TellTheirs columns fleet forks plays statuses vars) one.runs_are tell) in
-      let theirs : TellTheirs columns fleet more (two.first ∷ two.later) again twice (two.run ∷ two.rest) =
-      subst (λ (l : List Play). TellTheirs columns fleet more l again twice (two.run ∷ two.rest)) two.plays_are (subst (TellTheirs columns fleet more others again twice) two.runs_are told) in
+      let its = all_told columns fleet forks plays statuses vars runs logs (one.first ∷ one.later) (one.run ∷ one.rest) (one.log ∷ one.others) one.plays_are one.runs_are one.logs_are tell in
+      let theirs = all_told columns fleet more others again twice seconds anew (two.first ∷ two.later) (two.run ∷ two.rest) (two.log ∷ two.others) two.plays_are two.runs_are two.logs_are told in
       let roll : Roll = roll_by fleet one.first forks statuses vars in
       let other : Roll = roll_by fleet two.first more again twice in
       let begins : BeginAlike roll other = record { play = zip.0; start = same; known = known } in
-      let leaves = leave_alike fleet roll other (columns 0) begins may might one.run two.run all one.is_first its.0 two.is_first theirs.0 in
-      let ends = ended roll other one.run two.run begins all one.is_first two.is_first leaves in
+      let leaves = leave_alike fleet roll other (columns 0) begins may might one.run two.run one.log two.log all one.is_first its.0 two.is_first theirs.0 in
+      let ends = ended roll other one.run two.run one.log two.log begins all one.is_first two.is_first leaves in
       let several : are_several plays ≡ are_several others = ap (nat_lt 1) (sym (AllZip-long AreAlikePlays plays others alike)) in
-      let rest = after 1 one.later two.later zip.1 one.run two.run ends one.rest two.rest one.follow two.follow its.1 theirs.1 (are_several plays) 1 in
+      let rest = after 1 one.later two.later zip.1 one.run two.run ends one.rest two.rest one.others two.others one.follow two.follow its.1 theirs.1 (are_several plays) 1 in
       ap (runs_text fleet (are_several plays)) one.runs_are ∙ ap₂ ◌++◌ (ap (headed (are_several plays) 1) leaves.text) rest
       ∙ sym (ap (runs_text fleet (are_several plays)) two.runs_are) ∙ ap (λ (b : Bool). runs_text fleet b seconds) several
 
   -- what two readings of the same texts say
-  same_inputs : (inventory playbook : List ℕ) (plays others : List Play) (runs seconds : List Run) (one : AreRunsIn may inventory playbook forks fleet plays runs) (two : AreRunsIn might inventory playbook more fleet others seconds)
-      → TellTheirs columns fleet forks plays one.statuses one.vars runs → TellTheirs columns fleet more others two.statuses two.vars seconds → runs_text fleet (are_several plays) runs ≡ runs_text fleet (are_several others) seconds
-  same_inputs inventory playbook plays others runs seconds one two tell told =
+  same_inputs : (inventory playbook : List ℕ) (plays others : List Play) (runs seconds : List Run) (logs anew : List (List Event)) (one : AreRunsIn may inventory playbook forks fleet plays runs logs) (two : AreRunsIn might inventory playbook more fleet others seconds anew)
+      → TellTheirs columns fleet forks plays one.statuses one.vars runs logs → TellTheirs columns fleet more others two.statuses two.vars seconds anew → runs_text fleet (are_several plays) runs ≡ runs_text fleet (are_several others) seconds
+  same_inputs inventory playbook plays others runs seconds logs anew one two tell told =
       let document : one.inputs.says.reads.document ≡ two.inputs.says.reads.document = same_Some _ _ (sym one.inputs.says.reads.reads ∙ two.inputs.says.reads.reads) in
       let alike : AllZip AreAlikePlays plays others =
       all_alike_plays (plays_of two.inputs.says.reads.document) plays others (subst (λ d. AllZip playbooks.IsPlay (plays_of d) plays) document one.inputs.says.reads.says) two.inputs.says.reads.says in
@@ -156,38 +164,39 @@ module _ (may might : Work → Ending → Type 0) (columns : ℕ → Columns) (f
       let start : one.statuses ≡ two.statuses =
       one.inputs.begins.statuses_are ∙ ap (start_statuses fleet) (same_targets fleet one.inputs.begins.first two.inputs.begins.first first.0) ∙ sym two.inputs.begins.statuses_are in
       let all : length one.statuses ≡ length fleet.hosts = ap length one.inputs.begins.statuses_are ∙ started (targets fleet one.inputs.begins.first) in
-      all_runs plays others alike one.statuses two.statuses start all one.vars two.vars (same_known inventory fleet one.vars two.vars one.inputs.hosts two.inputs.hosts) runs seconds one.runs_are two.runs_are tell told
+      all_runs plays others alike one.statuses two.statuses start all one.vars two.vars (same_known inventory fleet one.vars two.vars one.inputs.hosts two.inputs.hosts) runs seconds logs anew one.runs_are two.runs_are tell told
     where
       started : (target : List ℕ) → length (start_statuses fleet target) ≡ length fleet.hosts
       started target = length-map-range_with_len _ 0 (length fleet.hosts)
 
 pub one_recap_by_plays : (may might : Work → Ending → Type 0) → OneRecapByPlays may might
-one_recap_by_plays may might columns inventory playbook text other forks more runs others first second =
+one_recap_by_plays may might columns inventory playbook text other forks more runs others logs seconds first second =
     let one = first.is in
     let two = second.is in
     let same_inventory : one.are.inputs.hosts.inventory ≡ two.are.inputs.hosts.inventory = one_inventory inventory _ _ one.are.inputs.hosts.reads two.are.inputs.hosts.reads in
     let same : one.fleet ≡ two.fleet =
     one_fleet one.are.inputs.hosts.inventory one.fleet two.fleet one.are.inputs.hosts.built (subst (λ (i : Inventory). IsFleetOf i two.fleet) (sym same_inventory) two.are.inputs.hosts.built) in
-    let again = subst (λ (f : FleetView). (are : AreRunsIn might inventory playbook more f two.plays others) × TellTheirs columns f more two.plays are.statuses are.vars others) (sym same) (two.are, second.tell) in
-    one.text_is ∙ same_inputs may might columns one.fleet forks more inventory playbook one.plays two.plays runs others one.are again.0 first.tell again.1
+    let again = subst (λ (f : FleetView). (are : AreRunsIn might inventory playbook more f two.plays others seconds) × TellTheirs columns f more two.plays are.statuses are.vars others seconds) (sym same) (two.are, second.tell) in
+    one.text_is ∙ same_inputs may might columns one.fleet forks more inventory playbook one.plays two.plays runs others logs seconds one.are again.0 first.tell again.1
     ∙ ap (λ (f : FleetView). runs_text f (are_several two.plays) others) same ∙ sym two.text_is
 
 -- where all plays have the same columns, each log tells its own
 module _ (columns : Columns) (fleet : FleetView) (forks : ℕ) where
-  later_tell : (number : ℕ) (plays : List Play) (before : Run) (runs : List Run) → AreRunsAfter (gives columns) fleet forks plays before runs → TellLater (λ _. columns) fleet forks number plays before runs
-  later_tell number [] before runs are = tt
-  later_tell number (play ∷ plays) before [] are = tt
-  later_tell number (play ∷ plays) before (run ∷ rest) are =
-      let is : IsRun (gives columns) fleet (roll_after fleet forks play before) run = subst (λ (l : Roll). IsRun (gives columns) fleet l run) (begins_after fleet play forks before are.1.roll are.1.begins) are.1.run_is in
-      (is.log.told, later_tell (number + 1) plays run rest are.2)
+  later_tell : (number : ℕ) (plays : List Play) (before : Run) (runs : List Run) (logs : List (List Event)) → AreRunsAfter (gives columns) fleet forks plays before runs logs → TellLater (λ _. columns) fleet forks number plays before runs logs
+  later_tell number [] before runs logs are = tt
+  later_tell number (play ∷ plays) before [] logs are = tt
+  later_tell number (play ∷ plays) before (run ∷ rest) [] are = tt
+  later_tell number (play ∷ plays) before (run ∷ rest) (log ∷ logs) are =
+      let is : IsRun (gives columns) fleet (roll_after fleet forks play before) run log = subst (λ (l : Roll). IsRun (gives columns) fleet l run log) (begins_after fleet play forks before are.1.roll are.1.begins) are.1.run_is in
+      (is.is_safe.told, later_tell (number + 1) plays run rest logs are.2)
 
-  all_tell : (plays : List Play) (statuses : List Status) (vars : List Vars) (runs : List Run) → AreRuns (gives columns) fleet forks plays statuses vars runs → TellTheirs (λ _. columns) fleet forks plays statuses vars runs
-  all_tell plays statuses vars runs are =
-      subst (λ (l : List Play). TellTheirs (λ _. columns) fleet forks l statuses vars runs) (sym are.plays_are)
-      (subst (TellTheirs (λ _. columns) fleet forks (are.first ∷ are.later) statuses vars) (sym are.runs_are) (are.is_first.log.told, later_tell 1 are.later are.run are.rest are.follow))
+  all_tell : (plays : List Play) (statuses : List Status) (vars : List Vars) (runs : List Run) (logs : List (List Event)) → AreRuns (gives columns) fleet forks plays statuses vars runs logs → TellTheirs (λ _. columns) fleet forks plays statuses vars runs logs
+  all_tell plays statuses vars runs logs are =
+      all_told (λ _. columns) fleet forks (are.first ∷ are.later) statuses vars (are.run ∷ are.rest) (are.log ∷ are.others) plays runs logs (sym are.plays_are) (sym are.runs_are) (sym are.logs_are)
+      (are.is_first.is_safe.told, later_tell 1 are.later are.run are.rest are.others are.follow)
 
 pub one_recap : OneRecap
-one_recap columns inventory playbook text other forks more runs others first second =
-    one_recap_by_plays (gives columns) (gives columns) (λ _. columns) inventory playbook text other forks more runs others
-    (record { is = first; tell = all_tell columns first.fleet forks first.plays first.are.statuses first.are.vars runs first.are.runs_are })
-    (record { is = second; tell = all_tell columns second.fleet more second.plays second.are.statuses second.are.vars others second.are.runs_are })
+one_recap columns inventory playbook text other forks more runs others logs seconds first second =
+    one_recap_by_plays (gives columns) (gives columns) (λ _. columns) inventory playbook text other forks more runs others logs seconds
+    (record { is = first; tell = all_tell columns first.fleet forks first.plays first.are.statuses first.are.vars runs logs first.are.runs_are })
+    (record { is = second; tell = all_tell columns second.fleet more second.plays second.are.statuses second.are.vars others seconds second.are.runs_are })

@@ -11,13 +11,17 @@ use Rattle.host_track.specs.Endings.{Ending}
 use Rattle.planning.specs.PlanTexts.{IsPlaybookFault}
 use Rattle.planning.specs.declared.fault.PlanFault.{PlanFault}
 use Rattle.play_model.specs.declared.play.Play.{Play}
+use Rattle.event_log.specs.Events.{Event}
 use Rattle.event_log.specs.Told.{Work}
 use Rattle.roll_run.specs.declared.run.Run.{Run}
 use Rattle.roll_run.specs.declared.fault.RunFault.{RunFault}
+use Rattle.roll_run.specs.Histories.{Gains}
 use Rattle.roll_run.specs.Plays.{AreBroken, AreRuns}
+use Rattle.roll_run.proofs.Following.{gains_none}
+use Rattle.roll_run.proofs.SafeRolls.{broken_runs_are_safe, runs_are_safe}
 use Rattle.running.specs.Inputs.{AreHostsIn, AreInputs, IsNoInventory, RefusesTexts}
 use Rattle.running.specs.Recaps.{are_several, broken_text, runs_text}
-use Rattle.running.specs.RunTexts.{IsBrokenRecap, IsRecap, IsTrueFault, TellsBroken, TellsRuns, WritesRecap}
+use Rattle.running.specs.RunTexts.{AreSafe, IsBrokenRecap, IsRecap, IsTrueFault, TellsBroken, TellsRuns, WritesRecap}
 use Rattle.running.specs.declared.end.RunEnd.{RunEnd}
 use Rattle.running.specs.declared.fault.RunTextFault.{RunTextFault}
 use Rattle.running.specs.declared.fault.RunTextFault.TheVariants.{Refused, Memory, Broken, Write}
@@ -39,53 +43,82 @@ playbook_is_refused inventory playbook fleet vars fault hosts refused =
     inr (record { fleet = fleet; built = record { inventory = hosts.inventory; reads = hosts.reads; built = hosts.built }; refused = refused })
 
 module _ (may : Work → Ending → Type 0) (inventory playbook : List ℕ) (forks : ℕ) (old new : Option (List ℕ)) where
-  pub refusal_is_true : (fault : RunTextFault) → Keeps old new → RefusesTexts inventory playbook fault → IsTrueFault may inventory playbook forks old new fault
-  refusal_is_true (Refused fault) keeps refused = (refused, keeps)
-  refusal_is_true Memory keeps refused = keeps
+  pub refusal_is_true : (fault : RunTextFault) → Keeps old new → RefusesTexts inventory playbook fault → IsTrueFault may inventory playbook forks old new fault []
+  refusal_is_true (Refused fault) keeps refused = (refused, keeps, refl)
+  refusal_is_true Memory keeps refused = (keeps, refl)
   refusal_is_true (Broken why) keeps refused = absurd refused
   refusal_is_true (Write fault) keeps refused = absurd refused
 
   module _ (fleet : FleetView) (vars : List Vars) (plays : List Play) (statuses : List Status) (inputs : AreInputs inventory playbook fleet vars plays statuses) where
-    recap_of : (runs : List Run) → AreRuns may fleet forks plays statuses vars runs → IsRecap may inventory playbook forks runs (runs_text fleet (are_several plays) runs)
-    recap_of runs are = record { fleet = fleet; plays = plays; are = record { vars = vars; statuses = statuses; inputs = inputs; runs_are = are }; text_is = refl }
+    recap_of : (runs : List Run) (logs : List (List Event)) → AreRuns may fleet forks plays statuses vars runs logs → IsRecap may inventory playbook forks runs logs (runs_text fleet (are_several plays) runs)
+    recap_of runs logs are = record { fleet = fleet; plays = plays; are = record { vars = vars; statuses = statuses; inputs = inputs; runs_are = are }; text_is = refl }
 
-    broken_recap_of : (done : List Run) (last : RunFault) → AreBroken may fleet forks plays statuses vars done last
-        → IsBrokenRecap may inventory playbook forks done last (broken_text fleet (are_several plays) done last)
-    broken_recap_of done last broken =
+    broken_recap_of : (done : List Run) (last : RunFault) (logs : List (List Event)) → AreBroken may fleet forks plays statuses vars done last logs
+        → IsBrokenRecap may inventory playbook forks done last logs (broken_text fleet (are_several plays) done last)
+    broken_recap_of done last logs broken =
         record { fleet = fleet; plays = plays; are = record { vars = vars; statuses = statuses; inputs = inputs; broken = broken }; text_is = refl }
 
-    runs_are_told : (runs : List Run) (result : Result RunEnd RunTextFault) → AreRuns may fleet forks plays statuses vars runs
+    runs_are_told : (runs : List Run) (logs : List (List Event)) (result : Result RunEnd RunTextFault) → AreRuns may fleet forks plays statuses vars runs logs
         → TellsRuns fleet (are_several plays) runs old new result
-        → IfOk result (WritesRecap may inventory playbook forks old new) × IfErr result (IsTrueFault may inventory playbook forks old new)
-    runs_are_told runs (Ok end) are told =
-        (record { runs = runs; text = runs_text fleet (are_several plays) runs; is = recap_of runs are; written = told.1; ends = told.0 }, tt)
-    runs_are_told runs (Err (Write fault)) are told =
-        (tt, inl (record { runs = runs; text = runs_text fleet (are_several plays) runs; is = recap_of runs are; written = told }))
-    runs_are_told runs (Err (Refused fault)) are told = absurd told
-    runs_are_told runs (Err Memory) are told = absurd told
-    runs_are_told runs (Err (Broken why)) are told = absurd told
+        → IfOk result (λ end. WritesRecap may inventory playbook forks old new end logs) × IfErr result (λ fault. IsTrueFault may inventory playbook forks old new fault logs)
+    runs_are_told runs logs (Ok end) are told =
+        (record { runs = runs; text = runs_text fleet (are_several plays) runs; is = recap_of runs logs are; written = told.1; ends = told.0 }, tt)
+    runs_are_told runs logs (Err (Write fault)) are told =
+        (tt, inl (record { runs = runs; text = runs_text fleet (are_several plays) runs; is = recap_of runs logs are; written = told }))
+    runs_are_told runs logs (Err (Refused fault)) are told = absurd told
+    runs_are_told runs logs (Err Memory) are told = absurd told
+    runs_are_told runs logs (Err (Broken why)) are told = absurd told
 
-    fault_is_told : (done : List Run) (last : RunFault) (fault : RunTextFault) → AreBroken may fleet forks plays statuses vars done last
-        → TellsBroken fleet (are_several plays) done last old new fault → IsTrueFault may inventory playbook forks old new fault
-    fault_is_told done last (Broken why) broken told =
-        record { done = done; last = last; text = broken_text fleet (are_several plays) done last; is = broken_recap_of done last broken; written = told.1; why_is = told.0 }
-    fault_is_told done last (Write fault) broken told =
-        inr (record { done = done; last = last; text = broken_text fleet (are_several plays) done last; is = broken_recap_of done last broken; written = told })
-    fault_is_told done last (Refused fault) broken told = absurd told
-    fault_is_told done last Memory broken told = absurd told
+    fault_is_told : (done : List Run) (last : RunFault) (logs : List (List Event)) (fault : RunTextFault) → AreBroken may fleet forks plays statuses vars done last logs
+        → TellsBroken fleet (are_several plays) done last old new fault → IsTrueFault may inventory playbook forks old new fault logs
+    fault_is_told done last logs (Broken why) broken told =
+        record { done = done; last = last; text = broken_text fleet (are_several plays) done last; is = broken_recap_of done last logs broken; written = told.1; why_is = told.0 }
+    fault_is_told done last logs (Write fault) broken told =
+        inr (record { done = done; last = last; text = broken_text fleet (are_several plays) done last; is = broken_recap_of done last logs broken; written = told })
+    fault_is_told done last logs (Refused fault) broken told = absurd told
+    fault_is_told done last logs Memory broken told = absurd told
 
 -- the same of lists that are lent
 pub runs_told : (may : Work → Ending → Type 0) (inventory playbook : List ℕ) (forks : ℕ) (old new : Option (List ℕ)) (fleet : FleetView) (vars : List Vars) (plays lent : List Play) (statuses : List Status) (several : Bool) (runs shown : List Run)
-    (result : Result RunEnd RunTextFault) → AreInputs inventory playbook fleet vars plays statuses → lent ≡ plays → several ≡ are_several lent → AreRuns may fleet forks lent statuses vars runs → shown ≡ runs
-    → TellsRuns fleet several shown old new result → IfOk result (WritesRecap may inventory playbook forks old new) × IfErr result (IsTrueFault may inventory playbook forks old new)
-runs_told may inventory playbook forks old new fleet vars plays lent statuses several runs shown result inputs same many are listed told =
-    runs_are_told may inventory playbook forks old new fleet vars plays statuses inputs runs result
-    (subst (λ (l : List Play). AreRuns may fleet forks l statuses vars runs) same are)
+    (logs : List (List Event)) (result : Result RunEnd RunTextFault) → AreInputs inventory playbook fleet vars plays statuses → lent ≡ plays → several ≡ are_several lent → AreRuns may fleet forks lent statuses vars runs logs → shown ≡ runs
+    → TellsRuns fleet several shown old new result → IfOk result (λ end. WritesRecap may inventory playbook forks old new end logs) × IfErr result (λ fault. IsTrueFault may inventory playbook forks old new fault logs)
+runs_told may inventory playbook forks old new fleet vars plays lent statuses several runs shown logs result inputs same many are listed told =
+    runs_are_told may inventory playbook forks old new fleet vars plays statuses inputs runs logs result
+    (subst (λ (l : List Play). AreRuns may fleet forks l statuses vars runs logs) same are)
     (subst (λ (b : Bool). TellsRuns fleet b runs old new result) (many ∙ ap are_several same) (subst (λ (l : List Run). TellsRuns fleet several l old new result) listed told))
 
 pub fault_told : (may : Work → Ending → Type 0) (inventory playbook : List ℕ) (forks : ℕ) (old new : Option (List ℕ)) (fleet : FleetView) (vars : List Vars) (plays lent : List Play) (statuses : List Status) (several : Bool) (done : List Run) (last : RunFault)
-    (fault : RunTextFault) → AreInputs inventory playbook fleet vars plays statuses → lent ≡ plays → several ≡ are_several lent → AreBroken may fleet forks lent statuses vars done last
-    → TellsBroken fleet several done last old new fault → IsTrueFault may inventory playbook forks old new fault
-fault_told may inventory playbook forks old new fleet vars plays lent statuses several done last fault inputs same many broken told =
-    fault_is_told may inventory playbook forks old new fleet vars plays statuses inputs done last fault
-    (subst (λ (l : List Play). AreBroken may fleet forks l statuses vars done last) same broken) (subst (λ (b : Bool). TellsBroken fleet b done last old new fault) (many ∙ ap are_several same) told)
+    (logs : List (List Event)) (fault : RunTextFault) → AreInputs inventory playbook fleet vars plays statuses → lent ≡ plays → several ≡ are_several lent → AreBroken may fleet forks lent statuses vars done last logs
+    → TellsBroken fleet several done last old new fault → IsTrueFault may inventory playbook forks old new fault logs
+fault_told may inventory playbook forks old new fleet vars plays lent statuses several done last logs fault inputs same many broken told =
+    fault_is_told may inventory playbook forks old new fleet vars plays statuses inputs done last logs fault
+    (subst (λ (l : List Play). AreBroken may fleet forks l statuses vars done last logs) same broken) (subst (λ (b : Bool). TellsBroken fleet b done last old new fault) (many ∙ ap are_several same) told)
+
+-- what holds of a result holds of it beside what a history gained
+pub gains_ok : {V E : Type 0} {Is : List (List Event) → Type 0} (Does : V → List (List Event) → Type 0) (result : Result V E) (before after : List (List Event)) (gained : Gains before after Is)
+    → IfOk result (λ value. Does value gained.logs) → IfOk result (λ value. Gains before after (Does value))
+gains_ok Does (Ok value) before after gained does = record { logs = gained.logs; grown = gained.grown; are = does }
+gains_ok Does (Err fault) before after gained does = tt
+
+pub gains_err : {V E : Type 0} {Is : List (List Event) → Type 0} (Does : E → List (List Event) → Type 0) (result : Result V E) (before after : List (List Event)) (gained : Gains before after Is)
+    → IfErr result (λ fault. Does fault gained.logs) → IfErr result (λ fault. Gains before after (Does fault))
+gains_err Does (Ok value) before after gained does = tt
+gains_err Does (Err fault) before after gained does = record { logs = gained.logs; grown = gained.grown; are = does }
+
+-- the logs of runs, and of runs that were broken off, are safe
+pub safe_runs : (may : Work → Ending → Type 0) (fleet : FleetView) (forks : ℕ) (plays : List Play) (statuses : List Status) (vars : List Vars) (runs : List Run) (before after : List (List Event))
+    → Gains before after (AreRuns may fleet forks plays statuses vars runs) → Gains before after (AreSafe may)
+safe_runs may fleet forks plays statuses vars runs before after gained =
+    record { logs = gained.logs; grown = gained.grown; are = record { fleet = fleet; forks = forks; plays = plays; rolls = runs_are_safe may fleet forks plays statuses vars runs gained.logs gained.are } }
+
+pub safe_broken : (may : Work → Ending → Type 0) (fleet : FleetView) (forks : ℕ) (plays : List Play) (statuses : List Status) (vars : List Vars) (done : List Run) (last : RunFault) (before after : List (List Event))
+    → Gains before after (AreBroken may fleet forks plays statuses vars done last) → Gains before after (AreSafe may)
+safe_broken may fleet forks plays statuses vars done last before after gained =
+    record { logs = gained.logs; grown = gained.grown; are = record { fleet = fleet; forks = forks; plays = plays; rolls = broken_runs_are_safe may fleet forks plays statuses vars done last gained.logs gained.are } }
+
+-- nothing was started
+pub safe_none : (may : Work → Ending → Type 0) (history : List (List Event)) → Gains history history (AreSafe may)
+safe_none may history = gains_none history history refl (record { fleet = none; forks = 1; plays = []; rolls = tt })
+  where
+    none : FleetView
+    none = record { hosts = []; groups = []; limits = []; parents = []; members = []; chains = []; off = []; order = [] }

@@ -1,6 +1,7 @@
 -- What holds of every recap.
 use Rattle.std.specs.Prelude.{◌≡◌, ℕ, List}
 use Rattle.event_log.specs.Columns.{Columns, gives}
+use Rattle.event_log.specs.Events.{Event}
 use Rattle.host_track.specs.Endings.{Ending}
 use Rattle.event_log.specs.Told.{Work}
 use Rattle.roll_run.specs.declared.run.Run.{Run}
@@ -10,16 +11,16 @@ use Rattle.running.specs.RunTexts.{IsRecap}
 -- the recaps of two runs of the same texts, in which programs end as the same columns say, are one text, however many workers there were
 abbrev pub OneRecap : Type 0
 OneRecap =
-    (columns : Columns) (inventory playbook text other : List ℕ) (forks more : ℕ) (runs others : List Run) → IsRecap (gives columns) inventory playbook forks runs text
-    → IsRecap (gives columns) inventory playbook more others other → text ≡ other
+    (columns : Columns) (inventory playbook text other : List ℕ) (forks more : ℕ) (runs others : List Run) (logs seconds : List (List Event)) → IsRecap (gives columns) inventory playbook forks runs logs text
+    → IsRecap (gives columns) inventory playbook more others seconds other → text ≡ other
 
 -- the text is the recaps of such runs, and the log of each run tells the columns of its play: those of one play bind no other
-pub record IsRecapBy (columns : ℕ → Columns) (may : Work → Ending → Type 0) (inventory playbook : List ℕ) (forks : ℕ) (runs : List Run) (text : List ℕ) : Type 0 where
-  pub is : IsRecap may inventory playbook forks runs text
-  pub tell : TellTheirs columns is.fleet forks is.plays is.are.statuses is.are.vars runs
+pub record IsRecapBy (columns : ℕ → Columns) (may : Work → Ending → Type 0) (inventory playbook : List ℕ) (forks : ℕ) (runs : List Run) (logs : List (List Event)) (text : List ℕ) : Type 0 where
+  pub is : IsRecap may inventory playbook forks runs logs text
+  pub tell : TellTheirs columns is.fleet forks is.plays is.are.statuses is.are.vars runs logs
 
 -- the recaps of two runs of the same texts, in each of whose plays programs end as the same columns say, are one text
 abbrev pub OneRecapByPlays : (Work → Ending → Type 0) → (Work → Ending → Type 0) → Type 0
 OneRecapByPlays may might =
-    (columns : ℕ → Columns) (inventory playbook text other : List ℕ) (forks more : ℕ) (runs others : List Run) → IsRecapBy columns may inventory playbook forks runs text
-    → IsRecapBy columns might inventory playbook more others other → text ≡ other
+    (columns : ℕ → Columns) (inventory playbook text other : List ℕ) (forks more : ℕ) (runs others : List Run) (logs seconds : List (List Event)) → IsRecapBy columns may inventory playbook forks runs logs text
+    → IsRecapBy columns might inventory playbook more others seconds other → text ≡ other

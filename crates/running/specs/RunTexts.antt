@@ -1,5 +1,5 @@
 -- What `run` writes of the texts of an inventory and a playbook.
-use Rattle.std.specs.Prelude.{◌≡◌, ◌⊎◌, ℕ, Bool, List, Option, Result, Ok, Err}
+use Rattle.std.specs.Prelude.{◌≡◌, ◌⊎◌, ℕ, Bool, List, [], Option, Result, Ok, Err}
 use Rattle.std.specs.Io.KnownBytes.{Appends, Keeps}
 use Rattle.bounded_io.specs.Sending.{SendsFirst}
 use Rattle.domains.specs.FleetViews.{FleetView}
@@ -7,11 +7,12 @@ use Rattle.fleet_states.specs.declared.status.Status.{Status}
 use Rattle.host_vars.specs.declared.vars.Vars.{Vars}
 use Rattle.host_track.specs.Endings.{Ending}
 use Rattle.play_model.specs.declared.play.Play.{Play}
+use Rattle.event_log.specs.Events.{Event}
 use Rattle.event_log.specs.Told.{Work}
 use Rattle.roll_run.specs.declared.run.Run.{Run}
 use Rattle.roll_run.specs.declared.fault.Break.{Break}
 use Rattle.roll_run.specs.declared.fault.RunFault.{RunFault}
-use Rattle.roll_run.specs.Plays.{AreBroken, AreRuns}
+use Rattle.roll_run.specs.Plays.{AreBroken, AreRuns, AreSafeRolls}
 use Rattle.roll_run.specs.Runs.{MayBreak}
 use Rattle.running.specs.Ends.{IsEndOf}
 use Rattle.running.specs.Inputs.{AreInputs, RefusesTexts}
@@ -20,74 +21,82 @@ use Rattle.running.specs.declared.end.RunEnd.{RunEnd}
 use Rattle.running.specs.declared.fault.RunTextFault.{RunTextFault}
 use Rattle.running.specs.declared.fault.RunTextFault.TheVariants.{Refused, Memory, Broken, Write}
 
--- runs of the plays that both texts say, with so many workers, in which each program ends in a way that may be told of it
-pub record AreRunsIn (may : Work → Ending → Type 0) (inventory playbook : List ℕ) (forks : ℕ) (fleet : FleetView) (plays : List Play) (runs : List Run) : Type 0 where
+-- runs of the plays that both texts say, with so many workers, in which each program ends in a way that may be told of it; and their logs
+pub record AreRunsIn (may : Work → Ending → Type 0) (inventory playbook : List ℕ) (forks : ℕ) (fleet : FleetView) (plays : List Play) (runs : List Run) (logs : List (List Event)) : Type 0 where
   pub vars : List Vars
   pub statuses : List Status
   pub inputs : AreInputs inventory playbook fleet vars plays statuses
-  pub runs_are : AreRuns may fleet forks plays statuses vars runs
+  pub runs_are : AreRuns may fleet forks plays statuses vars runs logs
 
 -- the same, of which a fault broke the last one off
-pub record AreBrokenIn (may : Work → Ending → Type 0) (inventory playbook : List ℕ) (forks : ℕ) (fleet : FleetView) (plays : List Play) (done : List Run) (last : RunFault) : Type 0 where
+pub record AreBrokenIn (may : Work → Ending → Type 0) (inventory playbook : List ℕ) (forks : ℕ) (fleet : FleetView) (plays : List Play) (done : List Run) (last : RunFault) (logs : List (List Event)) : Type 0 where
   pub vars : List Vars
   pub statuses : List Status
   pub inputs : AreInputs inventory playbook fleet vars plays statuses
-  pub broken : AreBroken may fleet forks plays statuses vars done last
+  pub broken : AreBroken may fleet forks plays statuses vars done last logs
 
 -- the text is the recaps of such runs
-pub record IsRecap (may : Work → Ending → Type 0) (inventory playbook : List ℕ) (forks : ℕ) (runs : List Run) (text : List ℕ) : Type 0 where
+pub record IsRecap (may : Work → Ending → Type 0) (inventory playbook : List ℕ) (forks : ℕ) (runs : List Run) (logs : List (List Event)) (text : List ℕ) : Type 0 where
   pub fleet : FleetView
   pub plays : List Play
-  pub are : AreRunsIn may inventory playbook forks fleet plays runs
+  pub are : AreRunsIn may inventory playbook forks fleet plays runs logs
   pub text_is : text ≡ runs_text fleet (are_several plays) runs
 
 -- the text is the recaps of such runs that a fault broke off
-pub record IsBrokenRecap (may : Work → Ending → Type 0) (inventory playbook : List ℕ) (forks : ℕ) (done : List Run) (last : RunFault) (text : List ℕ) : Type 0 where
+pub record IsBrokenRecap (may : Work → Ending → Type 0) (inventory playbook : List ℕ) (forks : ℕ) (done : List Run) (last : RunFault) (logs : List (List Event)) (text : List ℕ) : Type 0 where
   pub fleet : FleetView
   pub plays : List Play
-  pub are : AreBrokenIn may inventory playbook forks fleet plays done last
+  pub are : AreBrokenIn may inventory playbook forks fleet plays done last logs
   pub text_is : text ≡ broken_text fleet (are_several plays) done last
 
--- the recaps of runs of the plays went out, and nothing else; the end is that of the last of them
-pub record WritesRecap (may : Work → Ending → Type 0) (inventory playbook : List ℕ) (forks : ℕ) (old new : Option (List ℕ)) (end : RunEnd) : Type 0 where
+-- the recaps of runs of the plays went out, and nothing else; the end is that of the last of them; and just these were started
+pub record WritesRecap (may : Work → Ending → Type 0) (inventory playbook : List ℕ) (forks : ℕ) (old new : Option (List ℕ)) (end : RunEnd) (logs : List (List Event)) : Type 0 where
   pub runs : List Run
   pub text : List ℕ
-  pub is : IsRecap may inventory playbook forks runs text
+  pub is : IsRecap may inventory playbook forks runs logs text
   pub written : Appends old new text
   pub ends : IsEndOf runs end
 
--- the recaps of runs of the plays broke off after so many bytes
-pub record BreaksRecap (may : Work → Ending → Type 0) (inventory playbook : List ℕ) (forks : ℕ) (old new : Option (List ℕ)) (count : ℕ) : Type 0 where
+-- the recaps of runs of the plays broke off after so many bytes; just these were started
+pub record BreaksRecap (may : Work → Ending → Type 0) (inventory playbook : List ℕ) (forks : ℕ) (old new : Option (List ℕ)) (count : ℕ) (logs : List (List Event)) : Type 0 where
   pub runs : List Run
   pub text : List ℕ
-  pub is : IsRecap may inventory playbook forks runs text
+  pub is : IsRecap may inventory playbook forks runs logs text
   pub written : SendsFirst old new text count
 
--- the runs were broken off, and the recaps of what they came to went out, and nothing else
-pub record WritesBroken (may : Work → Ending → Type 0) (inventory playbook : List ℕ) (forks : ℕ) (old new : Option (List ℕ)) (why : Break) : Type 0 where
+-- the runs were broken off, and the recaps of what they came to went out, and nothing else; just these were started
+pub record WritesBroken (may : Work → Ending → Type 0) (inventory playbook : List ℕ) (forks : ℕ) (old new : Option (List ℕ)) (why : Break) (logs : List (List Event)) : Type 0 where
   pub done : List Run
   pub last : RunFault
   pub text : List ℕ
-  pub is : IsBrokenRecap may inventory playbook forks done last text
+  pub is : IsBrokenRecap may inventory playbook forks done last logs text
   pub written : Appends old new text
   pub why_is : why ≡ last.why
 
--- the runs were broken off, and the recaps of what they came to broke off after so many bytes
-pub record BreaksBroken (may : Work → Ending → Type 0) (inventory playbook : List ℕ) (forks : ℕ) (old new : Option (List ℕ)) (count : ℕ) : Type 0 where
+-- the runs were broken off, and the recaps of what they came to broke off after so many bytes; just these were started
+pub record BreaksBroken (may : Work → Ending → Type 0) (inventory playbook : List ℕ) (forks : ℕ) (old new : Option (List ℕ)) (count : ℕ) (logs : List (List Event)) : Type 0 where
   pub done : List Run
   pub last : RunFault
   pub text : List ℕ
-  pub is : IsBrokenRecap may inventory playbook forks done last text
+  pub is : IsBrokenRecap may inventory playbook forks done last logs text
   pub written : SendsFirst old new text count
 
--- what the fault says is true: a text is refused, or memory was wanting, before anything was run or went out; or the runs were broken off; or their text
--- broke off where the fault says
-abbrev pub IsTrueFault : (Work → Ending → Type 0) → List ℕ → List ℕ → ℕ → Option (List ℕ) → Option (List ℕ) → RunTextFault → Type 0
-IsTrueFault may inventory playbook forks old new (Refused fault) = RefusesTexts inventory playbook (Refused fault) × Keeps old new
-IsTrueFault may inventory playbook forks old new Memory = Keeps old new
-IsTrueFault may inventory playbook forks old new (Broken why) = WritesBroken may inventory playbook forks old new why
-IsTrueFault may inventory playbook forks old new (Write fault) =
-    BreaksRecap may inventory playbook forks old new fault.written ⊎ BreaksBroken may inventory playbook forks old new fault.written
+-- what the fault says is true: a text is refused, or memory was wanting, and nothing was started and nothing went out; or the runs were broken off; or
+-- their text broke off where the fault says. The logs are those of all that was started
+abbrev pub IsTrueFault : (Work → Ending → Type 0) → List ℕ → List ℕ → ℕ → Option (List ℕ) → Option (List ℕ) → RunTextFault → List (List Event) → Type 0
+IsTrueFault may inventory playbook forks old new (Refused fault) logs = RefusesTexts inventory playbook (Refused fault) × Keeps old new × (logs ≡ [])
+IsTrueFault may inventory playbook forks old new Memory logs = Keeps old new × (logs ≡ [])
+IsTrueFault may inventory playbook forks old new (Broken why) logs = WritesBroken may inventory playbook forks old new why logs
+IsTrueFault may inventory playbook forks old new (Write fault) logs =
+    BreaksRecap may inventory playbook forks old new fault.written logs ⊎ BreaksBroken may inventory playbook forks old new fault.written logs
+
+-- what was started is rolls of the first plays of one playbook over one fleet, in their order, by so many workers: each of them legal, and at no moment of
+-- any of them is a group over its limit
+pub record AreSafe (may : Work → Ending → Type 0) (logs : List (List Event)) : Type 0 where
+  pub fleet : FleetView
+  pub forks : ℕ
+  pub plays : List Play
+  pub rolls : AreSafeRolls may fleet forks plays logs
 
 -- a run is told to have been asked to end only where it may be
 abbrev pub MayBreakText : Bool → RunTextFault → Type 0

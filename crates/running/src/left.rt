@@ -4,18 +4,35 @@ use fleet_states::Status;
 use host_track::Counts;
 use play_course::End;
 use play_model::Play;
-use roll_core::Event;
+use roll_core::{Event, History};
 use roll_run::{Run, RunFault};
 use std::alloc::{AllocError, Global};
 
-/// The runs of the first plays of a file, and behind them the one that was broken off, if one was.
+/// The runs of the first plays of a file, and behind them the one that was broken off, if one was; with the history that has their logs, behind those
+/// of so many rolls.
 #[derive(Clone, Copy)]
 pub(crate) struct Left<'r> {
-    pub(crate) done: &'r [Run],
-    pub(crate) broken: Option<&'r RunFault>,
+    done: &'r [Run],
+    broken: Option<&'r RunFault>,
+    history: &'r History,
+    before: usize,
 }
 
 impl<'r> Left<'r> {
+    pub(crate) fn new(
+        done: &'r [Run],
+        broken: Option<&'r RunFault>,
+        history: &'r History,
+        before: usize,
+    ) -> Left<'r> {
+        Left {
+            done,
+            broken,
+            history,
+            before,
+        }
+    }
+
     /// How the last play ended, if it came to its end.
     pub(crate) fn end(&self) -> Option<End> {
         match (self.broken, self.done.last()) {
@@ -44,11 +61,7 @@ impl<'r> Left<'r> {
 
     /// The log of the play at this place, from 0; of one that wasn't begun it is empty.
     fn log(&self, place: usize) -> &'r [Event] {
-        match (self.done.get(place), self.broken) {
-            (Some(run), _) => run.log.as_slice(),
-            (None, Some(fault)) if place == self.done.len() => fault.log.as_slice(),
-            (None, _) => &[],
-        }
+        self.history.log(self.before.saturating_add(place))
     }
 
     /// The plays with their logs.

@@ -1,7 +1,8 @@
 //! From the bytes of an inventory and a playbook to the recaps of the runs of its plays.
 ghost use Rattle.std.specs.Prelude.{◌≡◌, ◌<◌, ◌≤◌, IfErr, IfOk, length};
 ghost use Rattle.running.specs.Recaps as model;
-ghost use Rattle.running.specs.RunTexts.{IsTrueFault, MayBreakText, TellsBroken, TellsRuns, WritesRecap};
+ghost use Rattle.roll_run.specs.Histories.{Gains};
+ghost use Rattle.running.specs.RunTexts.{AreSafe, IsTrueFault, MayBreakText, TellsBroken, TellsRuns, WritesRecap};
 
 use crate::behind::{tell_behind, tell_left_out};
 use crate::end::{RunEnd, end_of_runs};
@@ -11,7 +12,7 @@ use crate::left::Left;
 use crate::recaps::{send_broken, send_runs};
 use domains::Fleet;
 use play_model::Play;
-use roll_core::{Runner, Watch};
+use roll_core::{History, Runner, Watch};
 use roll_run::{Attend, Run, RunsFault, run_plays};
 use std::alloc::Global;
 use std::io::Write;
@@ -63,6 +64,7 @@ fn tell_broken<W: Write>(
 /// pattern, of any play, that names nothing. Where a fault breaks the runs off, the recap of what they came to goes out, and then the answer
 /// is that fault. Where a write fails, exactly the first bytes of the text went out, as many as the fault says. Writing takes no memory.
 /// `watch` is told of the plays, of hosts that they leave out, and behind the recap why hosts are down; `attend` may have the run end before a batch.
+/// The history comes back with the logs of the runs that the recap tells of behind those that it had, however they ended: just these were started.
 #[allow(clippy::too_many_arguments)]
 pub fn run_text<
     R: Runner,
@@ -80,12 +82,14 @@ pub fn run_text<
     forks: usize,
     runner: &R,
     out: &mut W,
-) -> Result<RunEnd, RunTextFault>
+    history: History,
+) -> (Result<RunEnd, RunTextFault>, History)
     requires some { 0 < forks }
     requires few { forks ≤ 64 }
-    ensures ok { IfOk result (WritesRecap (R.may runner.now) inventory.now playbook.now forks (W.contents out.old) (W.contents out.new)) }
-    ensures err { IfErr result (IsTrueFault (R.may runner.now) inventory.now playbook.now forks (W.contents out.old) (W.contents out.new)) }
-    ensures asked { IfErr result (MayBreakText (A.asks attend.now)) }
+    ensures ok { IfOk result.0 (λ end. Gains history result.1 (WritesRecap (R.may runner.now) inventory.now playbook.now forks (W.contents out.old) (W.contents out.new) end)) }
+    ensures err { IfErr result.0 (λ fault. Gains history result.1 (IsTrueFault (R.may runner.now) inventory.now playbook.now forks (W.contents out.old) (W.contents out.new) fault)) }
+    ensures asked { IfErr result.0 (MayBreakText (A.asks attend.now)) }
+    ensures safe { Gains history result.1 (AreSafe (R.may runner.now)) }
 {
     let Inputs {
         fleet,
@@ -94,35 +98,31 @@ pub fn run_text<
         statuses,
     } = match read_inputs(alloc, inventory, playbook) {
         Ok(inputs) => inputs,
-        Err(fault) => return Err(fault),
+        Err(fault) => return (Err(fault), history),
     };
+    let rolls = history.rolls();
     let listed = plays.as_slice();
     let several = are_several(listed);
     tell_left_out(alloc, watch, &fleet, listed);
     watch.plays_begin(listed.len());
-    match run_plays(
-        rt, alloc, attend, watch, &fleet, listed, statuses, vars, runner, forks,
-    ) {
+    let (ran, history) = run_plays(
+        rt, alloc, attend, watch, &fleet, listed, statuses, vars, runner, forks, history,
+    );
+    match ran {
         Ok(runs) => {
             watch.plays_end();
             let told = tell_runs(&fleet, several, runs.as_slice(), out);
-            let left = Left {
-                done: runs.as_slice(),
-                broken: None,
-            };
+            let left = Left::new(runs.as_slice(), None, &history, rolls);
             tell_behind(alloc, watch, &fleet, listed, &left, told.is_ok());
-            told
+            (told, history)
         }
         Err(fault) => {
             watch.plays_end();
             let told = tell_broken(&fleet, several, &fault, out);
             let is_whole = !matches!(told, RunTextFault::Write(_));
-            let left = Left {
-                done: fault.done.as_slice(),
-                broken: Some(&fault.last),
-            };
+            let left = Left::new(fault.done.as_slice(), Some(&fault.last), &history, rolls);
             tell_behind(alloc, watch, &fleet, listed, &left, is_whole);
-            Err(told)
+            (Err(told), history)
         }
     }
 }

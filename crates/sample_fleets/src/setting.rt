@@ -7,7 +7,7 @@ use domains::Fleet;
 use group_tree::{Group, Tree};
 use host_vars::Vars;
 use play_model::Play;
-use roll_core::{Board, Runner, Status, Unwatched};
+use roll_core::{Board, History, Runner, Status, Unwatched};
 use std::alloc::{AllocError, Global};
 use std::sync::ledger::{Blank, Ledger};
 use std::test::Fail;
@@ -62,13 +62,14 @@ pub fn set_up(alloc: Global, all: Group<Global>, playbook: &str) -> Result<Setti
     })
 }
 
-/// A board on which nothing has happened.
+/// A board on which nothing has happened. Want of memory drops the history.
 pub fn board_of<'s, R: Runner, L: Ledger>(
     alloc: Global,
     setting: &'s Setting,
     runner: &'s R,
     forks: usize,
     blank: Blank,
+    history: History,
 ) -> Result<Board<'s, R, L, Unwatched>, AllocError>
     requires some { 0 < forks }
     requires few { forks ≤ 64 }
@@ -78,7 +79,7 @@ pub fn board_of<'s, R: Runner, L: Ledger>(
     ensures forks { IfOk result (λ board. board.kernel.forks ≡ forks) }
     ensures tallies { IfOk result (λ board. board.tallies ≡ 0) }
 {
-    Board::new(
+    match Board::new(
         alloc,
         &setting.fleet,
         &setting.play,
@@ -88,5 +89,9 @@ pub fn board_of<'s, R: Runner, L: Ledger>(
         setting.vars.as_slice(),
         blank,
         Unwatched,
-    )
+        history,
+    ) {
+        Ok(board) => Ok(board),
+        Err(_history) => Err(AllocError),
+    }
 }

@@ -1,27 +1,28 @@
 //! A roll is over.
-ghost use Rattle.std.specs.Prelude.{◌≡◌, length};
+ghost use Rattle.std.specs.Prelude.{◌≡◌, ◌++◌, ◌∷◌, [], length};
 ghost use Rattle.event_log.specs.Logs.{IsLegal};
 ghost use Rattle.event_log.specs.States.{start_state};
 ghost use Rattle.roll_core.specs.Leavings.{AreCounted, AreKnown};
-ghost use Rattle.roll_core.specs.Views.{FrontsAreSafe, RestsAtBoundaries, events_of, roll_of, state_of};
+ghost use Rattle.roll_core.specs.Views.{FrontsAreSafe, RestsAtBoundaries, roll_of, state_of};
 ghost use Rattle.event_log.specs.Told.{AreTold};
 ghost use Rattle.roll_core.specs.Tellings.{IsTold};
 
 use crate::board::Board;
 use crate::finished::Finished;
+use crate::history::History;
 use crate::runner::Runner;
 use crate::watch::Watch;
 use std::sync::ledger::Ledger;
 
 impl<'f, R: Runner, L: Ledger, W: Watch> Board<'f, R, L, W> {
-    /// Hands out the log and what is left of each host, also while a batch is open: its hosts are down then. The watcher, which comes back,
-    /// has heard what is told of the log from some moment on, and nothing else since. It takes no memory.
-    pub fn finish(self) -> (Finished, W)
-        ensures log { events_of result.0.log.items ≡ self.entry.kernel.log }
+    /// Hands out what is left of each host, also while a batch is open: its hosts are down then. The watcher, which comes back, has heard what is
+    /// told of the log from some moment on, and nothing else since; and the history has the log behind those that it had. It takes no memory.
+    pub fn finish(self) -> (Finished, W, History)
+        ensures log { result.2 ≡ self.entry.context.earlier ++ self.entry.kernel.log ∷ [] }
         ensures legal { IsLegal (roll_of self.entry.kernel) (start_state (roll_of self.entry.kernel)) self.entry.kernel.log }
         ensures safe { FrontsAreSafe (roll_of self.entry.kernel) self.entry.kernel.log }
         ensures rests { RestsAtBoundaries (roll_of self.entry.kernel) self.entry.kernel.log }
-        ensures told { AreTold (R.may self.entry.runner) (roll_of self.entry.kernel) (start_state (roll_of self.entry.kernel)) self.entry.kernel.log }
+        ensures told { AreTold (R.may self.entry.context.runner) (roll_of self.entry.kernel) (start_state (roll_of self.entry.kernel)) self.entry.kernel.log }
         ensures statuses { result.0.statuses.items ≡ (state_of self.entry.kernel).statuses }
         ensures vars { AreKnown (roll_of self.entry.kernel) (state_of self.entry.kernel) result.0.vars.items }
         ensures counts { AreCounted (roll_of self.entry.kernel) (state_of self.entry.kernel) result.0.counts.items }
@@ -35,7 +36,9 @@ impl<'f, R: Runner, L: Ledger, W: Watch> Board<'f, R, L, W> {
             tallies: _,
             joined: _,
             watch,
+            place,
         } = self;
-        (kernel.finish(), watch)
+        let (log, left) = kernel.finish();
+        (left, watch, place.fill(log))
     }
 }

@@ -32,7 +32,7 @@ impl<'f, R: Runner, L: Ledger, W: Watch> Board<'f, R, L, W> {
         ensures legal { IsLegal (roll_of self.now.kernel) (start_state (roll_of self.now.kernel)) self.now.kernel.log }
         ensures safe { FrontsAreSafe (roll_of self.now.kernel) self.now.kernel.log }
         ensures rests { RestsAtBoundaries (roll_of self.now.kernel) self.now.kernel.log }
-        ensures told { AreTold (R.may self.now.runner) (roll_of self.now.kernel) (start_state (roll_of self.now.kernel)) self.now.kernel.log }
+        ensures told { AreTold (R.may self.now.context.runner) (roll_of self.now.kernel) (start_state (roll_of self.now.kernel)) self.now.kernel.log }
     {
         self.kernel.log()
     }
@@ -50,7 +50,7 @@ impl<'f, R: Runner, L: Ledger, W: Watch> Board<'f, R, L, W> {
     }
 
     pub fn runner(&self) -> &'f R
-        ensures { result.now ≡ self.now.runner }
+        ensures { result.now ≡ self.now.context.runner }
     {
         self.runner
     }

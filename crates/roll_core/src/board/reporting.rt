@@ -21,7 +21,7 @@ impl<'f, R: Runner, L: Ledger, W: Watch> Board<'f, R, L, W> {
     pub fn report(&mut self, done: Done<'f, R>, tally: &mut Tally<L>) -> Result<(), Stranger<'f, R>>
         ensures ok { OnOk result (self.new ≡ with_event self.old (event_in done.entry.completion)) }
         ensures allowed { OnOk result (IsOut (roll_of self.old.kernel) (state_of self.old.kernel) done.entry.completion) }
-        ensures alike { OnOk result (R.alike self.old.runner done.entry.runner) }
+        ensures alike { OnOk result (R.alike self.old.context.runner done.entry.runner) }
         ensures counted { OnOk result (tally.new.count ≡ suc tally.old.count) }
         ensures err { IfErr result (IsStranger R.alike self.old done.entry) }
         ensures unchanged { OnErr result (self.new ≡ self.old) }

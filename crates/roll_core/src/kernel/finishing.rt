@@ -5,19 +5,20 @@ ghost use Rattle.event_log.specs.States.{start_state};
 ghost use Rattle.roll_core.specs.Leavings.{AreCounted, AreKnown};
 ghost use Rattle.roll_core.specs.Views.{FrontsAreSafe, RestsAtBoundaries, events_of, roll_of, state_of};
 
+use crate::event::Event;
 use crate::finished::Finished;
 use crate::kernel::Kernel;
 
 impl<'f> Kernel<'f> {
     /// Hands out the log and what is left of each host, also while a batch is open: its hosts are down then. It takes no memory.
-    pub fn finish(self) -> Finished
-        ensures log { events_of result.log.items ≡ self.entry.log }
+    pub fn finish(self) -> (Vec<Event>, Finished)
+        ensures log { events_of result.0.items ≡ self.entry.log }
         ensures legal { IsLegal (roll_of self.entry) (start_state (roll_of self.entry)) self.entry.log }
         ensures safe { FrontsAreSafe (roll_of self.entry) self.entry.log }
         ensures rests { RestsAtBoundaries (roll_of self.entry) self.entry.log }
-        ensures statuses { result.statuses.items ≡ (state_of self.entry).statuses }
-        ensures vars { AreKnown (roll_of self.entry) (state_of self.entry) result.vars.items }
-        ensures counts { AreCounted (roll_of self.entry) (state_of self.entry) result.counts.items }
+        ensures statuses { result.1.statuses.items ≡ (state_of self.entry).statuses }
+        ensures vars { AreKnown (roll_of self.entry) (state_of self.entry) result.1.vars.items }
+        ensures counts { AreCounted (roll_of self.entry) (state_of self.entry) result.1.counts.items }
     {
         let Kernel {
             roster,
@@ -30,11 +31,11 @@ impl<'f> Kernel<'f> {
         } = self;
         let statuses = roster.into_statuses();
         let (vars, counts) = work.finish();
-        Finished {
-            log,
+        let left = Finished {
             statuses,
             vars,
             counts,
-        }
+        };
+        (log, left)
     }
 }

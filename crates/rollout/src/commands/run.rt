@@ -1,5 +1,7 @@
 //! The command `run`: from the files of an inventory and a playbook to the recap of a run.
 ghost use Rattle.std.specs.Prelude.{◌≡◌, ◌<◌, ◌≤◌, Err, IfOk, IfErr, true};
+ghost use Rattle.roll_run.specs.Histories.{Gains};
+ghost use Rattle.running.specs.RunTexts.{AreSafe};
 ghost use Rattle.rollout.specs.Rolls.{BreaksOff, PrintsRecap, Rolls, RollsInputs};
 ghost use Rattle.rollout.specs.Systems.{sources_of};
 ghost use Rattle.rollout.specs.declared.fault.Fault.TheVariants.{Stopped};
@@ -12,7 +14,7 @@ use crate::system::System;
 use bounded_io::Input;
 use command_line::{Forks, Source};
 use local_programs::workers;
-use roll_core::{Runner, Watch};
+use roll_core::{History, Runner, Watch};
 use roll_run::Attend;
 use running::run_text;
 use std::alloc::Global;
@@ -22,7 +24,7 @@ use std::sync::Wait;
 use std::thread::Threads;
 
 /// Runs the playbook's plays with so many workers, where the ends of programs can be had, and writes the recap of the run. `watch` is told of
-/// it while it goes on, and `attend` may have it end before a batch.
+/// it while it goes on, and `attend` may have it end before a batch. The history has the log of each roll that was started then.
 #[allow(clippy::too_many_arguments)]
 pub fn roll<
     S: System,
@@ -44,16 +46,19 @@ pub fn roll<
     forks: Forks,
     input: &mut I,
     out: &mut W,
-) -> Result<Status, Fault>
-    ensures { Rolls (R.may runner.now) (A.asks attend.now) (sources_of (S.files system.now) (I.is_reliable input.old)) inventory playbook forks
-        (I.remaining input.old) (I.remaining input.new) (W.contents out.old) (W.contents out.new) result }
+    history: History,
+) -> (Result<Status, Fault>, History)
+    ensures rolls { Gains history result.1 (Rolls (R.may runner.now) (A.asks attend.now) (sources_of (S.files system.now) (I.is_reliable input.old)) inventory playbook forks
+        (I.remaining input.old) (I.remaining input.new) (W.contents out.old) (W.contents out.new) result.0) }
+    ensures safe { Gains history result.1 (AreSafe (R.may runner.now)) }
 {
     match refusal(system, alloc) {
-        Some(fault) => Err(fault),
+        Some(fault) => (Err(fault), history),
         None => {
             let forks = workers(rt, forks.number());
             roll_inputs(
                 system, rt, alloc, runner, attend, watch, inventory, playbook, forks, input, out,
+                history,
             )
         }
     }
@@ -81,22 +86,24 @@ fn roll_inputs<
     forks: usize,
     input: &mut I,
     out: &mut W,
-) -> Result<Status, Fault>
+    history: History,
+) -> (Result<Status, Fault>, History)
     requires some { 0 < forks }
     requires few { forks ≤ 64 }
-    ensures rolls { RollsInputs (R.may runner.now) (sources_of (S.files system.now) (I.is_reliable input.old)) inventory playbook forks
-        (I.remaining input.old) (I.remaining input.new) (W.contents out.old) (W.contents out.new) result }
-    ensures stops { result ≡ Err Stopped → A.asks attend.now ≡ true }
+    ensures rolls { Gains history result.1 (RollsInputs (R.may runner.now) (sources_of (S.files system.now) (I.is_reliable input.old)) inventory playbook forks
+        (I.remaining input.old) (I.remaining input.new) (W.contents out.old) (W.contents out.new) result.0) }
+    ensures stops { result.0 ≡ Err Stopped → A.asks attend.now ≡ true }
+    ensures safe { Gains history result.1 (AreSafe (R.may runner.now)) }
 {
     match read_both(system, alloc, inventory, playbook, input) {
         Ok((inventory, playbook)) => {
             let inventory = inventory.as_slice();
             let playbook = playbook.as_slice();
             roll_texts(
-                rt, alloc, runner, attend, watch, inventory, playbook, forks, out,
+                rt, alloc, runner, attend, watch, inventory, playbook, forks, out, history,
             )
         }
-        Err(fault) => Err(fault),
+        Err(fault) => (Err(fault), history),
     }
 }
 
@@ -118,17 +125,20 @@ fn roll_texts<
     playbook: &[u8],
     forks: usize,
     out: &mut W,
-) -> Result<Status, Fault>
+    history: History,
+) -> (Result<Status, Fault>, History)
     requires some { 0 < forks }
     requires few { forks ≤ 64 }
-    ensures ok { IfOk result (PrintsRecap (R.may runner.now) inventory.now playbook.now forks (W.contents out.old) (W.contents out.new)) }
-    ensures err { IfErr result (BreaksOff (R.may runner.now) inventory.now playbook.now forks (W.contents out.old) (W.contents out.new)) }
-    ensures stops { result ≡ Err Stopped → A.asks attend.now ≡ true }
+    ensures ok { IfOk result.0 (λ status. Gains history result.1 (PrintsRecap (R.may runner.now) inventory.now playbook.now forks (W.contents out.old) (W.contents out.new) status)) }
+    ensures err { IfErr result.0 (λ fault. Gains history result.1 (BreaksOff (R.may runner.now) inventory.now playbook.now forks (W.contents out.old) (W.contents out.new) fault)) }
+    ensures stops { result.0 ≡ Err Stopped → A.asks attend.now ≡ true }
+    ensures safe { Gains history result.1 (AreSafe (R.may runner.now)) }
 {
-    match run_text(
-        rt, alloc, attend, watch, inventory, playbook, forks, runner, out,
-    ) {
-        Ok(end) => Ok(Status::from(end)),
-        Err(fault) => Err(Fault::from(fault)),
+    let (ran, history) = run_text(
+        rt, alloc, attend, watch, inventory, playbook, forks, runner, out, history,
+    );
+    match ran {
+        Ok(end) => (Ok(Status::from(end)), history),
+        Err(fault) => (Err(Fault::from(fault)), history),
     }
 }

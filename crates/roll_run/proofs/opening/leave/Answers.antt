@@ -1,7 +1,5 @@
 use Rattle.std.proofs.Common.{ap, ◌∙◌, subst}
-use Rattle.std.specs.List.{count_by}
-use Rattle.roll_core.specs.Views.{event_of}
-use Rattle.roll_run.specs.Inside.{HasGone, opens}
+use Rattle.roll_run.specs.Inside.{HasGone}
 use Rattle.roll_run.proofs.Ending.{is_broken, is_run}
 use Rattle.roll_run.proofs.opening.leave.Goals as goal
 
@@ -9,11 +7,10 @@ pub returns-in-Ok-clause-ok : goal.returns-in-Ok-clause-ok
 returns-in-Ok-clause-ok g c =
     let left = c.finish-left.ensures in
     let gone = subst (HasGone c.args.boundaries.items c.args.board.kernel) c.in-Ok.is c.requires in
-    is_run (g.R.Runner.may c.args.board.runner) c.args.board.kernel _ left.log left.legal left.safe left.rests left.told left.statuses left.vars left.counts gone
+    is_run (g.R.Runner.may c.args.board.context.runner) c.args.board.kernel _ left.legal left.safe left.rests left.told left.statuses left.vars left.counts gone
 
 pub returns-in-Err-clause-err : goal.returns-in-Err-clause-err
 returns-in-Err-clause-err g c =
     let left = c.finish-left.ensures in
     let gone = subst (HasGone c.args.boundaries.items c.args.board.kernel) c.in-Err.is c.requires in
-    let opened = c.count_opened.ensures ∙ ap (count_by (λ event. opens (event_of event))) c.as_slice.ensures.value in
-    is_broken (g.R.Runner.may c.args.board.runner) c.args.board.kernel _ left.log left.legal left.safe left.rests left.told left.statuses left.counts opened gone.0 gone.1 gone.2
+    is_broken (g.R.Runner.may c.args.board.context.runner) c.args.board.kernel _ c.log.result.now c.log.ensures.value left.legal left.safe left.rests left.told left.statuses left.counts c.count_opened-opened.ensures gone.0 gone.1

@@ -1,8 +1,6 @@
-use Rattle.roll_run.specs.Runs.{roll_by}
-use Rattle.roll_run.proofs.Ending.{is_unbegun}
+use Rattle.std.proofs.Common.{inr}
+use Rattle.roll_run.proofs.Following.{gains_none}
 use Rattle.roll_run.proofs.plays.run_one.Goals as goal
 
 pub returns-in-Err-clause-err : goal.returns-in-Err-clause-err
-returns-in-Err-clause-err g c =
-    is_unbegun (g.R.Runner.may c.args.runner.now) c.args.fleet.now (roll_by c.args.fleet.now c.args.play.now c.args.forks c.args.statuses.items c.args.vars.items) c.before_a_log.result c.requires.safe c.requires.at_rest
-    c.before_a_log.ensures
+returns-in-Err-clause-err g c = gains_none c.args.history c.in-Err.history c.in-Err.ensures.none (inr c.before_a_log.ensures)

@@ -10,7 +10,7 @@ use Rattle.roll_core.specs.Views.{KernelView, state_of}
 use Rattle.roll_run.specs.Inside.{HasBroken, HasRun, grown}
 use Rattle.roll_core.specs.Tellings.{halt_in}
 use Rattle.roll_run.proofs.Counting.{told_fleet}
-use Rattle.roll_run.proofs.Ending.{asked_at, broken_at, ends_here}
+use Rattle.roll_run.proofs.Ending.{asked_at, broken_at, ends_here, last_opened}
 use Rattle.roll_run.proofs.Turning.{is_behind, last_is, opens_some, same_behind, same_by, still_so}
 use Rattle.roll_run.proofs.turns.pass.Goals as goal
 
@@ -68,11 +68,14 @@ returns-in-Err-clause-turned g c =
     let broken = subst (λ hosts. HasBroken hosts c.args.board c.in-Err.board) batch c.in-Err.ensures.err in
     let forks = c.requires.forks ∙ sym (ap (λ (k : KernelView). k.forks) broken.kernel) in (
       broken_at c.args.board c.in-Err.board noted.behind c.args.boundaries.now noted.boundary c.args.before noted.at noted.boundaries_are goes_on broken,
-      still_so c.in-Err.board.kernel.forks c.args.front.now.forks (state_of c.in-Err.board.kernel) c.in-Err.why forks c.in-Err.ensures.why,
-      asked_at c.args.board c.in-Err.board noted.behind c.args.boundaries.now noted.boundary c.args.before c.in-Err.why noted.at noted.boundaries_are c.in-Err.ensures.unopened,
+      record {
+        why_is = still_so c.in-Err.board.kernel.forks c.args.front.now.forks (state_of c.in-Err.board.kernel) c.in-Err.why forks c.in-Err.ensures.why;
+        asked = asked_at c.args.board c.in-Err.board noted.behind c.args.boundaries.now noted.boundary c.args.before c.in-Err.why noted.at noted.boundaries_are c.in-Err.ensures.unopened;
+        last = last_opened c.args.board c.in-Err.board noted.behind c.args.boundaries.now noted.boundary c.args.before noted.at noted.boundaries_are broken;
+      },
     )
 
 pub returns-in-Err-clause-same : goal.returns-in-Err-clause-same
 returns-in-Err-clause-same g c =
     let broken = c.in-Err.ensures.err in
-    same_by c.args.board c.in-Err.board (grown c.args.board.kernel broken.more) refl broken.kernel broken.runner
+    same_by c.args.board c.in-Err.board (grown c.args.board.kernel broken.more) refl broken.kernel broken.context

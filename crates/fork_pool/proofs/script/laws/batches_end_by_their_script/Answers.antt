@@ -8,5 +8,5 @@ returns g c =
     let board = c.args.board.now in
     record {
       tells = c.log-log.ensures.told;
-      ends = λ halt at. ends_by_columns (roll_of board.kernel) board.kernel.log (told_by board.runner) halt c.log-log.ensures.legal c.log-log.ensures.told at;
+      ends = λ halt at. ends_by_columns (roll_of board.kernel) board.kernel.log (told_by board.context.runner) halt c.log-log.ensures.legal c.log-log.ensures.told at;
     }

@@ -4,6 +4,7 @@ use Rattle.roll_core.specs.declared.claim.Handed.{Handed}
 use Rattle.roll_core.specs.Claims.{IsClaim, IsHandedOut}
 use Rattle.roll_core.specs.Views.{KernelView}
 use Rattle.roll_core.specs.Boards.{BoardView}
+use Rattle.roll_core.specs.Histories.{logs_of}
 use Rattle.roll_core.specs.Givings.{IsGiven}
 use Rattle.roll_core.specs.Inside.{IsKept}
 use Rattle.roll_core.specs.Tellings.{HasHeard, Hears, IsTold, begun_by}
@@ -34,7 +35,7 @@ invariant_of-self-2 g c =
 
 pub returns-clause-ok : goal.returns-clause-ok
 returns-clause-ok g c =
-    let view : KernelView → BoardView g.row.R.Denot = λ k. record { kernel = k; runner = c.self.inside.runner.now; tallies = c.self.inside.tallies; joined = c.self.inside.joined } in
+    let view : KernelView → BoardView g.row.R.Denot = λ k. record { kernel = k; context = record { runner = c.self.inside.runner.now; earlier = logs_of c.self.inside.place.logs.items }; tallies = c.self.inside.tallies; joined = c.self.inside.joined } in
     let made : IsGiven (view c.self.inside.kernel) (view c.claim.new.self) c.given_out.result = record {
       handed = c.in-Some.handed;
       claim = subst (λ (o : Option Handed). IsClaim c.self.inside.kernel c.claim.new.self o) c.in-Some.is c.in_ok-handed.ensures.ok;

@@ -5,4 +5,4 @@ use Rattle.roll_core.proofs.board.Board.finish.Goals as goal
 
 pub returns-clause-safe : goal.returns-clause-safe
 returns-clause-safe g c =
-    subst (λ (v : BoardView g.row.R.Denot). FrontsAreSafe (roll_of v.kernel) v.kernel.log) c.self.view_is c.finish.ensures.safe
+    subst (λ (v : BoardView g.row.R.Denot). FrontsAreSafe (roll_of v.kernel) v.kernel.log) c.self.view_is c.finish-log.ensures.safe

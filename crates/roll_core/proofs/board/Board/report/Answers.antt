@@ -3,6 +3,7 @@ use Rattle.roll_core.specs.Claims.{event_in}
 use Rattle.roll_core.specs.Views.{KernelView, roll_of, state_of}
 use Rattle.roll_core.specs.Ways.{Completed}
 use Rattle.roll_core.specs.Boards.{BoardView}
+use Rattle.roll_core.specs.Histories.{logs_of}
 use Rattle.roll_core.specs.Dones.{DoneView}
 use Rattle.roll_core.specs.Reports.{IsStranger}
 use Rattle.roll_core.specs.Inside.{IsKept}
@@ -39,7 +40,7 @@ invariant_of-self-2 g c =
 
 pub returns-in-Err-clause-err : goal.returns-in-Err-clause-err
 returns-in-Err-clause-err g c =
-    let old : BoardView g.row.R.Denot = record { kernel = c.self.inside.kernel; runner = c.self.inside.runner.now; tallies = c.self.inside.tallies; joined = c.self.inside.joined } in
+    let old : BoardView g.row.R.Denot = record { kernel = c.self.inside.kernel; context = record { runner = c.self.inside.runner.now; earlier = logs_of c.self.inside.place.logs.items }; tallies = c.self.inside.tallies; joined = c.self.inside.joined } in
     let mine : DoneView g.row.R.Denot = record { completion = c.done.inside.completion; runner = c.done.inside.runner.now } in
     let refused = c.in-Err.ensures.err in
     let same = c.of.ensures ∙ ap (λ (k : Completed). record mine { completion = k }) refused.same in

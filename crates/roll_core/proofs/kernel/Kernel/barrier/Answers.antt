@@ -39,7 +39,7 @@ invariant_of-self c =
     λ host here. (kept_behind kernel old work _ kept).rows host step (suc step) may.at here (omega arith) in
     let passes = c.pass.ensures (roll_of kernel) (state_of kernel) kept.held.works may none ahead in
     let owes = owed_passed (roll_of kernel) (state_of kernel) step may.at (step_within (roll_of kernel) (state_of kernel) work kept.held.works step at) in
-    kept_grown old old c.self.inside.play.now c.self.inside.forks c.self.inside.start.now c.self.inside.vars.now log c.keep.new.log.items
+    kept_grown old old c.self.inside.play.now c.self.inside.forks c.self.inside.start.now c.self.inside.vars.now log c.keep.new.items.items
     (Barrier step) (passed step) work c.pass.new.self _ _ kept refl refl c.keep.ensures.items may
     (held_passed (roll_of kernel) (state_of kernel) old work kept.held step c.pass.new.self passes)
     (omega (arith, owes, kept.places, length-map log event_of, c.keep.ensures.capacity))
@@ -60,15 +60,15 @@ returns-clause-ok c =
     let ahead : (host : ℕ) → has_number host (state_of kernel).batch ≡ true → has_row ((state_of kernel).rows host) (suc step) ≡ false =
     λ host here. (kept_behind kernel old work _ kept).rows host step (suc step) may.at here (omega arith) in
     let passes = c.pass.ensures (roll_of kernel) (state_of kernel) kept.held.works may none ahead in
-    let seen = view_more old old c.self.inside.play.now c.self.inside.forks c.self.inside.start.now c.self.inside.vars.now log c.keep.new.log.items (Barrier step) refl c.keep.ensures.items in
+    let seen = view_more old old c.self.inside.play.now c.self.inside.forks c.self.inside.start.now c.self.inside.vars.now log c.keep.new.items.items (Barrier step) refl c.keep.ensures.items in
     let at_stage : phase_of c.stage-2.result ≡ phase_after kernel.play (state_of kernel) step = ap phase_of c.stage-2.ensures ∙ passes.phase in
-    let in_log : (state_of (view c.keep.new.log.items)).phase ≡ phase_after kernel.play (state_of kernel) step =
+    let in_log : (state_of (view c.keep.new.items.items)).phase ≡ phase_after kernel.play (state_of kernel) step =
     ap (λ (v : KernelView). (state_of v).phase) seen ∙ ap (λ (s : State). s.phase) (state_more kernel (passed step)) in
     let told = c.next_of.ensures step (subst (GoesOn step) (sym at_stage) (goes_on kernel.play (state_of kernel) step)) in
-    let made : HasPassed kernel (view c.keep.new.log.items) c.next_of.result = record {
+    let made : HasPassed kernel (view c.keep.new.items.items) c.next_of.result = record {
       step = step;
       may = may;
       grown = seen;
       next = subst (λ (phase : Phase). IsNext step phase c.next_of.result) (at_stage ∙ sym in_log) told;
     } in
-    subst (λ (v : KernelView). HasPassed v (view c.keep.new.log.items) c.next_of.result) c.self.view_is made
+    subst (λ (v : KernelView). HasPassed v (view c.keep.new.items.items) c.next_of.result) c.self.view_is made

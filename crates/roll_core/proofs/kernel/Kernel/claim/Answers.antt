@@ -31,7 +31,7 @@ invariant_of-self-2 c =
     let owed = c.owed-owed.ensures ∙ ap (λ (v : KernelView). owed_by (roll_of v) (state_of v)) (sym c.self.view_is) in
     let reserves = c.in_ok-reserve.ensures in
     let grown = c.keep.ensures.items ∙ ap (λ (l : List Event). l ++ Claim taken.host taken.step ∷ []) reserves.items in
-    kept_grown old new c.self.inside.play.now c.self.inside.forks c.self.inside.start.now c.self.inside.vars.now log c.keep.new.log.items
+    kept_grown old new c.self.inside.play.now c.self.inside.forks c.self.inside.start.now c.self.inside.vars.now log c.keep.new.items.items
     (Claim taken.host taken.step) (claimed taken.host.index taken.step) work c.claim.new.self _ _ kept refl
     (ap (λ (r : RosterView). r.fleet) c.lend-share.ensures.rest) grown takes.may
     (held_claimed (roll_of kernel) (state_of kernel) old work kept.held taken.host.index taken.step new c.claim.new.self c.lend-share.ensures.rest takes.work)
@@ -54,9 +54,9 @@ returns-clause-ok c =
     let task = task_at (roll_of kernel) (state_of kernel) work kept.held.works taken.step at in
     let reserves = c.in_ok-reserve.ensures in
     let grown = c.keep.ensures.items ∙ ap (λ (l : List Event). l ++ Claim taken.host taken.step ∷ []) reserves.items in
-    let seen = view_more old new c.self.inside.play.now c.self.inside.forks c.self.inside.start.now c.self.inside.vars.now log c.keep.new.log.items
+    let seen = view_more old new c.self.inside.play.now c.self.inside.forks c.self.inside.start.now c.self.inside.vars.now log c.keep.new.items.items
     (Claim taken.host taken.step) (ap (λ (r : RosterView). r.fleet) c.lend-share.ensures.rest) grown in
-    let made : IsHandedOut kernel (view new c.keep.new.log.items) c.claimed.result = record {
+    let made : IsHandedOut kernel (view new c.keep.new.items.items) c.claimed.result = record {
       host = taken.host.index;
       step = taken.step;
       task = task.0;
@@ -66,4 +66,4 @@ returns-clause-ok c =
       handed = subst (λ (r : Request). IsClaimedAs taken.host.index taken.step r c.claimed.result) (takes.asks task.0 task.1) c.claimed.ensures;
       grown = seen;
     } in
-    subst (λ (v : KernelView). IsHandedOut v (view new c.keep.new.log.items) c.claimed.result) c.self.view_is made
+    subst (λ (v : KernelView). IsHandedOut v (view new c.keep.new.items.items) c.claimed.result) c.self.view_is made

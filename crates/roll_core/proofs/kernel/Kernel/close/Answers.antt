@@ -50,7 +50,7 @@ invariant_of-self c =
     let over = c.end.ensures (roll_of kernel) (state_of kernel) halt kept.held.works at (kept_over_out kernel old work _ kept halt at) in
     let owes = owed_closed (roll_of kernel) (state_of kernel) halt at in
     kept_grown old c.end_hosts.new.roster c.self.inside.play.now c.self.inside.forks c.self.inside.start.now c.self.inside.vars.now log
-    c.keep.new.log.items Close closed work c.end.new.self _ _ kept refl c.end_hosts.ensures.fleet c.keep.ensures.items
+    c.keep.new.items.items Close closed work c.end.new.self _ _ kept refl c.end_hosts.ensures.fleet c.keep.ensures.items
     (record { halt = halt; at = at })
     (held_closed (roll_of kernel) (state_of kernel) old work kept.held halt c.end_hosts.new.roster c.end.new.self at changes over)
     (omega (arith, owes, kept.places, length-map log event_of, c.keep.ensures.capacity))
@@ -62,7 +62,7 @@ returns-clause-boundary c =
     let kernel : KernelView = view_of old c.self.inside.play.now c.self.inside.forks c.self.inside.start.now c.self.inside.vars.now log in
     let at = kept_phase kernel old c.self.inside.work _ c.self.invariant (Ended c.in-Ended.halt) (sym c.stage.ensures ∙ c.in-Ended.is) in
     let seen = view_more old c.end_hosts.new.roster c.self.inside.play.now c.self.inside.forks c.self.inside.start.now c.self.inside.vars.now log
-    c.keep.new.log.items Close c.end_hosts.ensures.fleet c.keep.ensures.items in
+    c.keep.new.items.items Close c.end_hosts.ensures.fleet c.keep.ensures.items in
     ap (λ (v : KernelView). (state_of v).phase) seen ∙ ap (λ (s : State). s.phase) (state_more kernel closed) ∙ ap (λ (p : Phase). (closed_state p (state_of kernel)).phase) at
 
 pub returns-clause-legal : goal.returns-clause-legal
@@ -75,8 +75,8 @@ returns-clause-statuses c =
     let view : RosterView → List Event → KernelView = λ r l. view_of r c.self.inside.play.now c.self.inside.forks c.self.inside.start.now c.self.inside.vars.now l in
     let kernel : KernelView = view old log in
     let seen = view_more old c.end_hosts.new.roster c.self.inside.play.now c.self.inside.forks c.self.inside.start.now c.self.inside.vars.now log
-    c.keep.new.log.items Close c.end_hosts.ensures.fleet c.keep.ensures.items in
-    let left : List Status = (state_of (view c.end_hosts.new.roster c.keep.new.log.items)).statuses in
+    c.keep.new.items.items Close c.end_hosts.ensures.fleet c.keep.ensures.items in
+    let left : List Status = (state_of (view c.end_hosts.new.roster c.keep.new.items.items)).statuses in
     let grown : left ≡ (next (roll_of kernel) (state_of kernel) closed).statuses = ap (λ (v : KernelView). (state_of v).statuses) seen ∙ ap (λ (s : State). s.statuses) (state_more kernel closed) in
     let Ends : KernelView → Type 0 = λ v. (columns : Columns) (halt : Option ℕ) → Tells columns (roll_of v) v.log → (state_of v).phase ≡ ended halt
     → left ≡ statuses_after halt (fails_by (roll_of v) columns) (state_of v).batch (state_of v).opening in

@@ -23,7 +23,7 @@ invariant_of-self-2 c =
     let none = owed_between (roll_of kernel) (state_of kernel) may.boundary (kept_none_out kernel old c.self.inside.work _ kept may.boundary) in
     let reserves = c.in_ok-reserve.ensures in
     let grown = c.keep.ensures.items ∙ ap (λ (l : List Event). l ++ Hold c.in_ok-batch.batch ∷ []) reserves.items in
-    kept_grown old new c.self.inside.play.now c.self.inside.forks c.self.inside.start.now c.self.inside.vars.now log c.keep.new.log.items
+    kept_grown old new c.self.inside.play.now c.self.inside.forks c.self.inside.start.now c.self.inside.vars.now log c.keep.new.items.items
     (Hold c.in_ok-batch.batch) (set_aside numbers) c.self.inside.work c.self.inside.work _ _ kept (ap set_aside c.in_ok-batch.ensures)
     (ap (λ (r : RosterView). r.fleet) c.set_all_aside.ensures) grown may
     (held_aside (roll_of kernel) (state_of kernel) old c.self.inside.work kept.held numbers new c.set_all_aside.ensures)

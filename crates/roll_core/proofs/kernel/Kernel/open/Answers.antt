@@ -53,7 +53,7 @@ invariant_of-self-2 c =
     let owes = owed_opened (roll_of kernel) (state_of kernel) numbers none in
     let reserves = c.in_ok-reserve.ensures in
     let grown = c.keep.ensures.items ∙ ap (λ (l : List Event). l ++ Open c.in_ok-batch.batch ∷ []) reserves.items in
-    kept_grown old new c.self.inside.play.now c.self.inside.forks c.self.inside.start.now c.self.inside.vars.now log c.keep.new.log.items
+    kept_grown old new c.self.inside.play.now c.self.inside.forks c.self.inside.start.now c.self.inside.vars.now log c.keep.new.items.items
     (Open c.in_ok-batch.batch) (opened numbers) work c.begin.new.self _ _ kept (ap opened c.in_ok-batch.ensures) c.take_down.ensures.fleet grown
     may
     (held_opened (roll_of kernel) (state_of kernel) old work kept.held numbers new c.begin.new.self (kept_bare kernel old work _ kept may.boundary) none c.take_down.ensures begun)
@@ -67,6 +67,6 @@ returns-clause-working c =
     let kernel : KernelView = view_of old c.self.inside.play.now c.self.inside.forks c.self.inside.start.now c.self.inside.vars.now log in
     let numbers : List ℕ = host_numbers c.args.hosts.now in
     let grown = c.keep.ensures.items ∙ ap (λ (l : List Event). l ++ Open c.in_ok-batch.batch ∷ []) c.in_ok-reserve.ensures.items in
-    let seen = view_more old new c.self.inside.play.now c.self.inside.forks c.self.inside.start.now c.self.inside.vars.now log c.keep.new.log.items
+    let seen = view_more old new c.self.inside.play.now c.self.inside.forks c.self.inside.start.now c.self.inside.vars.now log c.keep.new.items.items
     (Open c.in_ok-batch.batch) c.take_down.ensures.fleet grown ∙ ap (λ hosts. with_event kernel (opened hosts)) c.in_ok-batch.ensures in
     ap (λ (v : KernelView). (state_of v).phase) seen ∙ ap (λ (s : State). s.phase) (state_more kernel (opened numbers))

@@ -71,7 +71,7 @@ invariant_of-self c =
     c.rest.ensures ∙ ap (λ (h : HostId). with_host old h.index c.status_after.result true) (sym c.host-host.ensures)
     ∙ ap (λ (s : Status). with_host old host.index s true) c.status_after.ensures in
     let owes = owed_reported (roll_of kernel) (state_of kernel) host.index step (ending_of outcome) kept.held.works.single may.claimed in
-    kept_grown old c.rest.new.self c.self.inside.play.now c.self.inside.forks c.self.inside.start.now c.self.inside.vars.now log c.keep.new.log.items
+    kept_grown old c.rest.new.self c.self.inside.play.now c.self.inside.forks c.self.inside.start.now c.self.inside.vars.now log c.keep.new.items.items
     (Report host step outcome) (reported host.index step (ending_of outcome)) work c.enter-entered.new.self _ _ kept refl
     (ap (λ (r : RosterView). r.fleet) c.rest.ensures) c.keep.ensures.items may
     (held_reported (roll_of kernel) (state_of kernel) old work kept.held (kept_at_work kernel old work _ kept) host.index step (ending_of outcome)
