@@ -1,6 +1,7 @@
 #!/bin/sh
-# What a worker may do once alone, or not at all: a second use of a leave, a claim, a `Done` or a ticket, a leave that is kept after its ticket went, a
-# tally that is forgotten, and a job with other words are refused before any proof.
+# What may be done once alone, or not at all: a second use of a leave, a claim, a `Done` or a ticket, a leave that is kept after its ticket went, a
+# tally that is forgotten, a job with other words; a second board with a history, one that is copied, one that is made where no `HostRuntime` is, and one that
+# is kept beside its board, are refused before any proof.
 # It needs `rt`; nothing has to be built.
 set -u
 top=$(cd "$(dirname "$0")/.." && pwd)
@@ -28,7 +29,7 @@ add() {
 }
 add roll_core
 add ticket_line
-echo 'once: roll_core ticket_line' >>"$work/crates.txt"
+echo 'once: domains fleet_states host_vars play_model roll_core ticket_line' >>"$work/crates.txt"
 
 # tried WANTED: what `rt` says first of a crate with the function on standard input
 tried() {
@@ -39,11 +40,15 @@ tried() {
 
 ghost use Rattle.roll_core.specs.Leaves.{IsGoOf};
 
-use roll_core::{Claim, Done, Go, Job, Outcome, Runner, Tally};
+use domains::Fleet;
+use fleet_states::Status;
+use host_vars::Vars;
+use play_model::Play;
+use roll_core::{Board, Claim, Done, Go, History, Job, Outcome, Runner, Tally, Unwatched};
 use std::alloc::{AllocError, Global};
 use std::process::{Processes, SystemProcess};
 use std::sync::Wait;
-use std::sync::ledger::Ledger;
+use std::sync::ledger::{Blank, Ledger};
 use std::thread::Threads;
 use ticket_line::PutEnd;
 
@@ -114,6 +119,53 @@ E2
 tried 'error\[private-field\]: field `words` of struct `Job` is private' <<'E2'
 pub fn run_other_words(alloc: Global, job: &Job) -> Job {
     Job { host: job.host(), step: job.step(), words: Vec::new(alloc) }
+}
+E2
+tried 'error\[borrow-e0382\]: use of moved value: `history`' <<'E2'
+pub fn two_boards<'f, R: Runner, L: Ledger>(
+    alloc: Global,
+    fleet: &'f Fleet,
+    play: &'f Play,
+    runner: &'f R,
+    start: &'f [Status],
+    vars: &'f [Vars],
+    blanks: (Blank, Blank),
+    history: History,
+) {
+    let (one, other) = blanks;
+    let _first = Board::<R, L, Unwatched>::new(
+        alloc, fleet, play, runner, 1, start, vars, one, Unwatched, history,
+    );
+    let _second = Board::<R, L, Unwatched>::new(
+        alloc, fleet, play, runner, 1, start, vars, other, Unwatched, history,
+    );
+}
+E2
+tried 'error\[borrow-e0382\]: use of moved value: `history`' <<'E2'
+pub fn beside_its_board<'f, R: Runner, L: Ledger>(
+    alloc: Global,
+    fleet: &'f Fleet,
+    play: &'f Play,
+    runner: &'f R,
+    start: &'f [Status],
+    vars: &'f [Vars],
+    blank: Blank,
+    history: History,
+) -> History {
+    let _board = Board::<R, L, Unwatched>::new(
+        alloc, fleet, play, runner, 1, start, vars, blank, Unwatched, history,
+    );
+    history
+}
+E2
+tried 'error\[' <<'E2'
+pub fn copied(history: &History) -> History {
+    history.clone()
+}
+E2
+tried 'error\[' <<'E2'
+pub fn made_anywhere<H: Threads + Wait + Processes<Started = SystemProcess> + Sync>(rt: &H) -> History {
+    History::new(rt)
 }
 E2
 

@@ -16,6 +16,8 @@ import usage
 from sources import items_of
 
 HANDLES = "Handles allowed: Threads, Wait, Processes.\n"
+# `main` makes the history of all rolls from it.
+MAY_NAME_THE_HANDLE = ("crates/rollout/src/main.rt", "crates/roll_core/src/history.rt")
 # Numbers of papers, theorems and issues; the repository stands alone.
 CITES = re.compile(r"(?<!\w)(?:R(?:1[0-6]|[1-9])|T[1-5]|D(?:1[0-9]|2[01]|[1-9])|W(?:1[0-9]|2[01]|[1-9])|[Dd]ocument 0[1-4]|[Ii]ssue #?\d+)(?!\w)")
 # What ran at some time, under the names of that time.
@@ -386,6 +388,14 @@ def compare_texts(count):
         count.row(not cite, f"{path} cites by number: {cite[0] if cite else ''}")
 
 
+def compare_handles(count, crates):
+    """What makes a history is named where it is made, where that is written, and in crates of tests alone."""
+    for path in tree.found("crates/*/src/**/*.rt"):
+        crate = path.split("/")[1]
+        if "HostRuntime" in tree.read(path):
+            count.row(path in MAY_NAME_THE_HANDLE or crate.endswith("_tests"), f"{path} names HostRuntime")
+
+
 def main():
     count, crates = Count(), tree.crates()
     named = {name: tree.Crate(name) for name in crates}
@@ -407,6 +417,7 @@ def main():
     compare_folders(count)
     compare_trusted(count, crates)
     compare_texts(count)
+    compare_handles(count, crates)
     print(f"{count.passed} passed, {count.failed} failed")
     return 1 if count.failed or not count.passed else 0
 

@@ -26,7 +26,7 @@ use Rattle.event_log.specs.Told.{Work}
 use Rattle.fleet_states.specs.declared.status.Status.{Status}
 use Rattle.roll_run.specs.Runs.{IsRun, roll_by}
 use Rattle.roll_run.specs.Histories.{Gains}
-use Rattle.roll_run.specs.Plays.{AreBroken, AreBrokenAfter, AreBrokenOff, AreRuns, AreRunsAfter, AreSameHosts, BreaksOff, IsBrokenAfter, IsNotBegun, IsRollAfter, IsRunAfter, IsRunOf}
+use Rattle.roll_run.specs.Plays.{AreBroken, AreBrokenAfter, AreBrokenOff, AreRuns, AreRunsAfter, AreSameHosts, IsBrokenOrNotBegun, IsBrokenAfter, IsNotBegun, IsRollAfter, IsRunAfter, IsRunOf}
 use Rattle.roll_run.specs.declared.run.Run.{Run}
 use Rattle.roll_run.specs.declared.fault.RunFault.{RunFault}
 use Rattle.roll_run.specs.declared.fault.RunsFault.{RunsFault}
@@ -142,7 +142,7 @@ module _ (may : Work → Ending → Type 0) (fleet : FleetView) (forks : ℕ) (p
       (λ (logs : List (List Event)) has. subst (λ (l : List Play). HasBrokenAfter may fleet forks l before old new last (first.are.log ∷ logs)) (sym split)
       (one_broken_more may fleet forks play rest before run first.are.log logs old kept new last finished (follows run first.are.log first.are.run_is) puts has)) more
 
-  pub gains_fault : (last : RunFault) → Gains history mid (BreaksOff may fleet roll last) → Gains history mid (HasBrokenAfter may fleet forks plays before old kept last)
+  pub gains_fault : (last : RunFault) → Gains history mid (IsBrokenOrNotBegun may fleet roll last) → Gains history mid (HasBrokenAfter may fleet forks plays before old kept last)
   gains_fault last broke =
       gains_as history mid
       (λ (logs : List (List Event)) is. subst (λ (l : List Play). HasBrokenAfter may fleet forks l before old kept last logs) (sym split)
@@ -219,14 +219,14 @@ the_run may fleet forks play statuses vars runs logs are = by are.first are.late
     by first (more ∷ later) same is follow = absurd (cc)
 
 pub the_fault : (may : Work → Ending → Type 0) (fleet : FleetView) (forks : ℕ) (play : Play) (statuses : List Status) (vars : List Vars) (done : List Run) (last : RunFault) (logs : List (List Event)) → AreBroken may fleet forks (play ∷ []) statuses vars done last logs
-    → BreaksOff may fleet (roll_by fleet play forks statuses vars) last logs
+    → IsBrokenOrNotBegun may fleet (roll_by fleet play forks statuses vars) last logs
 the_fault may fleet forks play statuses vars done last logs are = by done are.first are.later logs are.plays_are are.broken
   where
     by : (done : List Run) (first : Play) (later : List Play) (logs : List (List Event)) → play ∷ [] ≡ first ∷ later → AreBrokenOff may fleet forks first later statuses vars done last logs
-        → BreaksOff may fleet (roll_by fleet play forks statuses vars) last logs
+        → IsBrokenOrNotBegun may fleet (roll_by fleet play forks statuses vars) last logs
     by [] first later logs same broken =
         let first_is : play ≡ first = cc in
-        subst (λ p. BreaksOff may fleet (roll_by fleet p forks statuses vars) last logs) (sym first_is) broken
+        subst (λ p. IsBrokenOrNotBegun may fleet (roll_by fleet p forks statuses vars) last logs) (sym first_is) broken
     by (run ∷ rest) first later [] same broken = absurd broken
     by (run ∷ rest) first [] (log ∷ logs) same broken = absurd broken.1
     by (run ∷ rest) first (more ∷ later) (log ∷ logs) same broken = absurd (cc)

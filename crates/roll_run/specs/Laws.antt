@@ -32,14 +32,14 @@ abbrev pub NoWorkerAtBoundaries : (Work → Ending → Type 0) → Type 0
 NoWorkerAtBoundaries may =
     (fleet : FleetView) (roll : Roll) (fault : RunFault) (log : List Event) → IsBrokenOff may fleet roll fault log → (end_state roll log).phase ≡ between → (fault.why ≡ Asked) ⊎ (fault.why ≡ Fault Mem)
 
--- the logs of runs that came to their ends are safe, one a play
+-- the logs of runs that came to their ends are those of safe rolls, one a play, each behind the one before it
 abbrev pub RunsAreSafe : (Work → Ending → Type 0) → Type 0
 RunsAreSafe may =
     (fleet : FleetView) (forks : ℕ) (plays : List Play) (statuses : List Status) (vars : List Vars) (runs : List Run) (logs : List (List Event))
-    → AreRuns may fleet forks plays statuses vars runs logs → AreSafeRolls may fleet forks plays logs
+    → AreRuns may fleet forks plays statuses vars runs logs → AreSafeRolls may fleet forks plays statuses vars logs
 
 -- and so are those of runs that were broken off
 abbrev pub BrokenRunsAreSafe : (Work → Ending → Type 0) → Type 0
 BrokenRunsAreSafe may =
     (fleet : FleetView) (forks : ℕ) (plays : List Play) (statuses : List Status) (vars : List Vars) (done : List Run) (last : RunFault) (logs : List (List Event))
-    → AreBroken may fleet forks plays statuses vars done last logs → AreSafeRolls may fleet forks plays logs
+    → AreBroken may fleet forks plays statuses vars done last logs → AreSafeRolls may fleet forks plays statuses vars logs

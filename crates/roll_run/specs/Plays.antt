@@ -11,8 +11,11 @@ use Rattle.play_course.specs.PlayPlans.{targets}
 use Rattle.play_course.specs.declared.end.End.{End}
 use Rattle.play_course.specs.declared.end.End.TheVariants.{Finished}
 use Rattle.event_log.specs.Events.{Event}
+use Rattle.event_log.specs.Logs.{end_state}
 use Rattle.event_log.specs.Rolls.{Roll}
+use Rattle.event_log.specs.States.{between}
 use Rattle.event_log.specs.Told.{Work}
+use Rattle.roll_core.specs.Leavings.{AreKnown}
 use Rattle.fork_pool.specs.declared.fault.StepFault.TheVariants.{Mem}
 use Rattle.roll_run.specs.Runs.{IsBrokenOff, IsRun, IsSafeLog, roll_by}
 use Rattle.roll_run.specs.declared.run.Run.{Run}
@@ -77,20 +80,20 @@ pub record IsNotBegun (statuses : List Status) (fault : RunFault) (logs : List (
   pub counts : fault.counts.items ≡ []
 
 -- a run was broken off that has this one log
-pub record IsCutShort (may : Work → Ending → Type 0) (fleet : FleetView) (roll : Roll) (fault : RunFault) (logs : List (List Event)) : Type 0 where
+pub record IsOneBrokenOff (may : Work → Ending → Type 0) (fleet : FleetView) (roll : Roll) (fault : RunFault) (logs : List (List Event)) : Type 0 where
   pub log : List Event
   pub logs_are : logs ≡ log ∷ []
   pub broken : IsBrokenOff may fleet roll fault log
 
 -- the same, or it had no board yet
-abbrev pub BreaksOff : (Work → Ending → Type 0) → FleetView → Roll → RunFault → List (List Event) → Type 0
-BreaksOff may fleet roll fault logs = IsCutShort may fleet roll fault logs ⊎ IsNotBegun roll.start fault logs
+abbrev pub IsBrokenOrNotBegun : (Work → Ending → Type 0) → FleetView → Roll → RunFault → List (List Event) → Type 0
+IsBrokenOrNotBegun may fleet roll fault logs = IsOneBrokenOff may fleet roll fault logs ⊎ IsNotBegun roll.start fault logs
 
 -- the run of a play after a run of another was broken off
 pub record IsBrokenAfter (may : Work → Ending → Type 0) (fleet : FleetView) (play : Play) (forks : ℕ) (before : Run) (fault : RunFault) (logs : List (List Event)) : Type 0 where
   pub roll : Roll
   pub begins : IsRollAfter fleet play forks before roll
-  pub broken : BreaksOff may fleet roll fault logs
+  pub broken : IsBrokenOrNotBegun may fleet roll fault logs
 
 -- of the plays after one, so many had their runs, each finished, and the next one was broken off, or not begun
 abbrev pub AreBrokenAfter : (Work → Ending → Type 0) → FleetView → ℕ → List Play → Run → List Run → RunFault → List (List Event) → Type 0
@@ -103,7 +106,7 @@ AreBrokenAfter may fleet forks (play ∷ plays) before (run ∷ rest) last (log 
 
 -- the first play's run, and those of the later ones
 abbrev pub AreBrokenOff : (Work → Ending → Type 0) → FleetView → ℕ → Play → List Play → List Status → List Vars → List Run → RunFault → List (List Event) → Type 0
-AreBrokenOff may fleet forks first later statuses vars [] last logs = BreaksOff may fleet (roll_by fleet first forks statuses vars) last logs
+AreBrokenOff may fleet forks first later statuses vars [] last logs = IsBrokenOrNotBegun may fleet (roll_by fleet first forks statuses vars) last logs
 AreBrokenOff may fleet forks first later statuses vars (run ∷ rest) last [] = ⊥
 AreBrokenOff may fleet forks first later statuses vars (run ∷ rest) last (log ∷ logs) =
     IsRun may fleet (roll_by fleet first forks statuses vars) run log × AreBrokenAfter may fleet forks later run rest last logs
@@ -115,14 +118,26 @@ pub record AreBroken (may : Work → Ending → Type 0) (fleet : FleetView) (for
   pub plays_are : plays ≡ first ∷ later
   pub broken : AreBrokenOff may fleet forks first later statuses vars done last logs
 
--- the log of a roll of a play is safe, whatever it began with
-pub record IsSafeRoll (may : Work → Ending → Type 0) (fleet : FleetView) (forks : ℕ) (play : Play) (log : List Event) : Type 0 where
-  pub statuses : List Status
+-- the roll of a play behind one with this log, which is over: who failed, was halted or is off stays so; of the others those wait whom the play is for; and of
+-- each host is known what it had registered
+pub record Follows (fleet : FleetView) (play : Play) (forks : ℕ) (before : Roll) (log : List Event) (roll : Roll) : Type 0 where
+  pub over : (end_state before log).phase ≡ between
+  pub left : List Vars
+  pub known : AreKnown before (end_state before log) left
   pub vars : List Vars
-  pub is_safe : IsSafeLog may (roll_by fleet play forks statuses vars) log
+  pub same : AreSameHosts vars left
+  pub roll_is : roll ≡ roll_by fleet play forks (restart_statuses (end_state before log).statuses (targets fleet play)) vars
 
--- these are the logs of the first of these plays, one of each, in their order: at no moment of any of them is a group over its limit
-abbrev pub AreSafeRolls : (Work → Ending → Type 0) → FleetView → ℕ → List Play → List (List Event) → Type 0
-AreSafeRolls may fleet forks plays [] = Unit {0}
-AreSafeRolls may fleet forks [] (log ∷ logs) = ⊥
-AreSafeRolls may fleet forks (play ∷ plays) (log ∷ logs) = IsSafeRoll may fleet forks play log × AreSafeRolls may fleet forks plays logs
+-- behind a roll with this log these are the logs of rolls of the first of these plays, one of each, in their order; each is safe
+abbrev pub AreSafeAfter : (Work → Ending → Type 0) → FleetView → ℕ → List Play → Roll → List Event → List (List Event) → Type 0
+AreSafeAfter may fleet forks plays before last [] = Unit {0}
+AreSafeAfter may fleet forks [] before last (log ∷ logs) = ⊥
+AreSafeAfter may fleet forks (play ∷ plays) before last (log ∷ logs) =
+    (roll : Roll) × Follows fleet play forks before last roll × IsSafeLog may roll log × AreSafeAfter may fleet forks plays roll log logs
+
+-- the same from the first play on, which begins with these statuses and variables: at no moment of any of the rolls is a group over its limit
+abbrev pub AreSafeRolls : (Work → Ending → Type 0) → FleetView → ℕ → List Play → List Status → List Vars → List (List Event) → Type 0
+AreSafeRolls may fleet forks plays statuses vars [] = Unit {0}
+AreSafeRolls may fleet forks [] statuses vars (log ∷ logs) = ⊥
+AreSafeRolls may fleet forks (first ∷ later) statuses vars (log ∷ logs) =
+    IsSafeLog may (roll_by fleet first forks statuses vars) log × AreSafeAfter may fleet forks later (roll_by fleet first forks statuses vars) log logs

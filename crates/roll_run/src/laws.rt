@@ -14,8 +14,8 @@ pub fn no_worker_fails_at_boundaries<R: Runner>(runner: &R)
     ensures { NoWorkerAtBoundaries (R.may runner.now) }
 {}
 
-/// All that the runs of a file of plays started is in their logs, and these are safe: each is legal, and at no moment of any of them is a group over
-/// its limit, however the runs ended.
+/// The logs of the runs of a file of plays are those of safe rolls, each behind the one before it: each is legal, and at no moment of any of them is a
+/// group over its limit, however the runs ended.
 pub fn runs_are_safe<R: Runner>(runner: &R)
     ensures ended { RunsAreSafe (R.may runner.now) }
     ensures broken { BrokenRunsAreSafe (R.may runner.now) }

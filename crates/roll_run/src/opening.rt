@@ -7,7 +7,7 @@ ghost use Rattle.play_course.specs.PlayPlans.{parts_of_play, targets};
 ghost use Rattle.roll_core.specs.Views.{event_of, roll_of};
 ghost use Rattle.roll_run.specs.Inside.{HasGone, opens};
 ghost use Rattle.roll_run.specs.Histories.{Gains};
-ghost use Rattle.roll_run.specs.Plays.{IsCutShort, IsRunOf};
+ghost use Rattle.roll_run.specs.Plays.{IsOneBrokenOff, IsRunOf};
 ghost use Rattle.roll_run.specs.Runs.{IsBrokenOff, IsRun, MayBreak, roll_by};
 
 use crate::attend::Attend;
@@ -121,7 +121,7 @@ where
     requires parts { blank.parts ≡ L.parts }
     requires many { blank.parts ≡ 129 }
     ensures ok { IfOk result (λ (run, after). IfOk run (λ run. Gains history after (IsRunOf (R.may runner.now) fleet.now (roll_by fleet.now play.now forks statuses.now vars.now) run))) }
-    ensures err { IfOk result (λ (run, after). IfErr run (λ fault. Gains history after (IsCutShort (R.may runner.now) fleet.now (roll_by fleet.now play.now forks statuses.now vars.now) fault))) }
+    ensures err { IfOk result (λ (run, after). IfErr run (λ fault. Gains history after (IsOneBrokenOff (R.may runner.now) fleet.now (roll_by fleet.now play.now forks statuses.now vars.now) fault))) }
     ensures asked { IfOk result (λ (run, _). IfErr run (λ fault. MayBreak (A.asks attend.now) fault.why)) }
     ensures none { IfErr result (λ back. back ≡ history) }
     ensures forks { front.new.forks ≡ front.old.forks }

@@ -5,7 +5,7 @@ ghost use Rattle.fleet_states.specs.Groups.{IsSafe, groups_of};
 ghost use Rattle.fleet_states.specs.Statuses.{NobodyRuns};
 ghost use Rattle.play_course.specs.PlayPlans.{parts_of_play};
 ghost use Rattle.roll_run.specs.Histories.{Gains};
-ghost use Rattle.roll_run.specs.Plays.{BreaksOff, IsRunOf};
+ghost use Rattle.roll_run.specs.Plays.{IsBrokenOrNotBegun, IsRunOf};
 ghost use Rattle.roll_run.specs.Runs.{MayBreak, roll_by};
 
 use crate::attend::Attend;
@@ -54,7 +54,7 @@ pub fn run_play<
     requires few { forks ≤ 64 }
     requires known { find (names_nothing fleet.now) (parts_of_play play.now) ≡ None }
     ensures ok { IfOk result.0 (λ run. Gains history result.1 (IsRunOf (R.may runner.now) fleet.now (roll_by fleet.now play.now forks statuses.items vars.items) run)) }
-    ensures err { IfErr result.0 (λ fault. Gains history result.1 (BreaksOff (R.may runner.now) fleet.now (roll_by fleet.now play.now forks statuses.items vars.items) fault)) }
+    ensures err { IfErr result.0 (λ fault. Gains history result.1 (IsBrokenOrNotBegun (R.may runner.now) fleet.now (roll_by fleet.now play.now forks statuses.items vars.items) fault)) }
     ensures asked { IfErr result.0 (λ fault. MayBreak (A.asks attend.now) fault.why) }
 {
     let (ran, history) = run_plays(

@@ -6,7 +6,7 @@ ghost use Rattle.fleet_states.specs.Statuses.{NobodyRuns};
 ghost use Rattle.play_course.specs.PlayPlans.{named_parts, parts_of_play};
 ghost use Rattle.roll_run.specs.Histories.{Gains};
 ghost use Rattle.roll_run.specs.Inside.{HasBrokenAfter, HasRunAfter, IsReadyRun, is_finished};
-ghost use Rattle.roll_run.specs.Plays.{AreBroken, AreRuns, BreaksOff, IsRunOf};
+ghost use Rattle.roll_run.specs.Plays.{AreBroken, AreRuns, IsBrokenOrNotBegun, IsRunOf};
 ghost use Rattle.roll_run.specs.Runs.{MayBreak, roll_by};
 
 use crate::attend::Attend;
@@ -51,7 +51,7 @@ fn run_one<'f, R: Runner, H: Wait, A: Attend, W: Watch>(
     requires known { find (names_nothing fleet.now) (parts_of_play play.now) ≡ None }
     requires workers { front.old.forks ≡ forks }
     ensures ok { IfOk result.0 (λ run. Gains history result.1 (IsRunOf (R.may runner.now) fleet.now (roll_by fleet.now play.now forks statuses.items vars.items) run)) }
-    ensures err { IfErr result.0 (λ fault. Gains history result.1 (BreaksOff (R.may runner.now) fleet.now (roll_by fleet.now play.now forks statuses.items vars.items) fault)) }
+    ensures err { IfErr result.0 (λ fault. Gains history result.1 (IsBrokenOrNotBegun (R.may runner.now) fleet.now (roll_by fleet.now play.now forks statuses.items vars.items) fault)) }
     ensures asked { IfErr result.0 (λ fault. MayBreak (A.asks attend.now) fault.why) }
     ensures forks { front.new.forks ≡ front.old.forks }
 {

@@ -2,3 +2,4 @@ pub mod Ignoring
 pub mod Rehearsing
 pub mod Rolling
 pub mod Tables
+mod Starting

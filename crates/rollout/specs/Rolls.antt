@@ -5,7 +5,7 @@ use Rattle.command_line.specs.declared.command.Source.{Source}
 use Rattle.host_track.specs.Endings.{Ending}
 use Rattle.event_log.specs.Events.{Event}
 use Rattle.event_log.specs.Told.{Work}
-use Rattle.running.specs.RunTexts.{WritesRecap, IsTrueFault}
+use Rattle.running.specs.RunTexts.{AreSafeIn, WritesRecap, IsTrueFault}
 use Rattle.running.specs.declared.end.RunEnd.{RunEnd}
 use Rattle.running.specs.declared.fault.RunTextFault.{RunTextFault}
 use Rattle.rollout.specs.Children.{IsAnswerOf}
@@ -83,3 +83,13 @@ abbrev pub Rolls : (Work → Ending → Type 0) → Bool → Sources → Source 
 Rolls may asks sources inventory playbook forks input_old input_new out_old out_new result logs =
     RefusesToRoll sources input_old input_new out_old out_new result logs
     ⊎ RollsOn may asks sources inventory playbook forks input_old input_new out_old out_new result logs
+
+-- both inputs were read, and these are the logs of rolls of their plays on their fleet, by as many workers as this or fewer: at no moment of any of them is a
+-- group over its limit
+pub record AreSafeFrom (may : Work → Ending → Type 0) (sources : Sources) (inventory playbook : Source) (forks : ℕ) (input_old input_new : Option (List ℕ)) (logs : List (List Event)) : Type 0 where
+  pub first : List ℕ
+  pub second : List ℕ
+  pub texts : ReadsBoth sources inventory playbook input_old input_new first second
+  pub workers : ℕ
+  pub few : workers ≤ forks
+  pub rolls : AreSafeIn may first second workers logs

@@ -9,6 +9,7 @@ use Rattle.command_line.specs.StopFiles.{stop_file}
 use Rattle.command_line.specs.Flags.{plain}
 use Rattle.command_line.specs.Words as words
 use Rattle.command_line.specs.declared.command.Line as declared_line
+use Rattle.command_line.specs.declared.command.Source.{Source}
 use Rattle.command_line.specs.declared.command.Line.TheVariants.{Limits, Plan, Run, Rehearse, Print}
 use Rattle.command_line.specs.declared.fault.LineFault.{LineFault}
 use Rattle.command_line.specs.declared.fault.LineFault.TheVariants as line_fault
@@ -19,7 +20,7 @@ use Rattle.rollout.specs.Commands.{TabulatesLimits, Prints}
 use Rattle.rollout.specs.Endings.{Reports, status_of}
 use Rattle.rollout.specs.Plans.{Plans}
 use Rattle.rollout.specs.Rehearsals.{RehearsesInputs}
-use Rattle.rollout.specs.Rolls.{Rolls}
+use Rattle.rollout.specs.Rolls.{AreSafeFrom, Rolls}
 use Rattle.rollout.specs.Status.{code_of}
 use Rattle.rollout.specs.Systems.{Fails, Sources, Gives, Known}
 use Rattle.rollout.specs.declared.fault.Fault.{Fault}
@@ -95,3 +96,17 @@ pub record Runs (may : Work → Ending → Type 0) (given : Known (List Word)) (
   pub performs : Performs may given sources input_old input_new out_old out_new outcome logs
   pub reports : Reports outcome errors_old errors_new
   pub ends : status ≡ code_of (status_of outcome)
+
+-- these are the logs of the rolls that a line `run` of these words asks for
+pub record AreSafeByWords (may : Work → Ending → Type 0) (given : Known (List Word)) (sources : Sources) (input_old input_new : Option (List ℕ)) (logs : List (List Event)) : Type 0 where
+  pub args : List Word
+  pub gives : Gives given args
+  pub inventory : Source
+  pub playbook : Source
+  pub forks : ℕ
+  pub says : words.Says (plain (drop 1 args)) (Run inventory playbook forks)
+  pub safe : AreSafeFrom may sources inventory playbook forks input_old input_new logs
+
+-- nothing was started, or the words are a line `run`, and at no moment of what was started is a group of its inventory over its limit
+abbrev pub StartsSafely : (Work → Ending → Type 0) → Known (List Word) → Sources → Option (List ℕ) → Option (List ℕ) → List (List Event) → Type 0
+StartsSafely may given sources input_old input_new logs = (logs ≡ []) ⊎ AreSafeByWords may given sources input_old input_new logs

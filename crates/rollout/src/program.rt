@@ -2,8 +2,7 @@
 ghost use Rattle.std.specs.Prelude.{map, string_bytes};
 ghost use Rattle.std.specs.Process.{exit_status};
 ghost use Rattle.roll_run.specs.Histories.{Gains};
-ghost use Rattle.running.specs.RunTexts.{AreSafe};
-ghost use Rattle.rollout.specs.Runs.{Attempts, Does, Performs, Runs};
+ghost use Rattle.rollout.specs.Runs.{Attempts, Does, Performs, Runs, StartsSafely};
 ghost use Rattle.rollout.specs.Systems.{sources_of};
 
 use crate::attendant::Attendant;
@@ -52,7 +51,7 @@ pub fn run<
 ) -> (ExitCode, History)
     ensures runs { Gains history result.1 (Runs (R.may runner.now) (S.words system.now) (sources_of (S.files system.now) (I.is_reliable input.old))
         (I.remaining input.old) (I.remaining input.new) (O.contents out.old) (O.contents out.new) (E.contents errors.old) (E.contents errors.new) (exit_status result.0)) }
-    ensures safe { Gains history result.1 (AreSafe (R.may runner.now)) }
+    ensures safe { Gains history result.1 (StartsSafely (R.may runner.now) (S.words system.now) (sources_of (S.files system.now) (I.is_reliable input.old)) (I.remaining input.old) (I.remaining input.new)) }
 {
     let (outcome, history) = perform(system, rt, alloc, runner, notes, tell, input, out, history);
     (exit_code(conclude(outcome, errors)), history)
@@ -77,9 +76,8 @@ fn perform<
     out: &mut O,
     history: History,
 ) -> (Result<Status, Fault>, History)
-    ensures performs { Gains history result.1 (Performs (R.may runner.now) (S.words system.now) (sources_of (S.files system.now) (I.is_reliable input.old))
+    ensures { Gains history result.1 (Performs (R.may runner.now) (S.words system.now) (sources_of (S.files system.now) (I.is_reliable input.old))
         (I.remaining input.old) (I.remaining input.new) (O.contents out.old) (O.contents out.new) result.0) }
-    ensures safe { Gains history result.1 (AreSafe (R.may runner.now)) }
 {
     match system.args() {
         Ok(args) => attempt(
@@ -119,9 +117,8 @@ fn attempt<
     out: &mut O,
     history: History,
 ) -> (Result<Status, Fault>, History)
-    ensures attempts { Gains history result.1 (Attempts (R.may runner.now) (sources_of (S.files system.now) (I.is_reliable input.old)) (map string_bytes words.now)
+    ensures { Gains history result.1 (Attempts (R.may runner.now) (sources_of (S.files system.now) (I.is_reliable input.old)) (map string_bytes words.now)
         (I.remaining input.old) (I.remaining input.new) (O.contents out.old) (O.contents out.new) result.0) }
-    ensures safe { Gains history result.1 (AreSafe (R.may runner.now)) }
 {
     match request_of(alloc, words) {
         Ok(
@@ -178,9 +175,8 @@ fn follow<
     out: &mut O,
     history: History,
 ) -> (Result<Status, Fault>, History)
-    ensures does { Gains history result.1 (Does (R.may runner.now) (A.asks attend.now) (sources_of (S.files system.now) (I.is_reliable input.old)) line
+    ensures { Gains history result.1 (Does (R.may runner.now) (A.asks attend.now) (sources_of (S.files system.now) (I.is_reliable input.old)) line
         (I.remaining input.old) (I.remaining input.new) (O.contents out.old) (O.contents out.new) result.0) }
-    ensures safe { Gains history result.1 (AreSafe (R.may runner.now)) }
 {
     match line {
         Line::Limits { inventory } => (limits(system, alloc, inventory, input, out), history),

@@ -4,3 +4,4 @@ pub mod SameCourses
 pub mod SameHosts
 pub mod SameRuns
 pub mod TextLemmas
+pub mod SafeRecaps

@@ -17,11 +17,9 @@ use Rattle.roll_run.specs.declared.run.Run.{Run}
 use Rattle.roll_run.specs.declared.fault.RunFault.{RunFault}
 use Rattle.roll_run.specs.Histories.{Gains}
 use Rattle.roll_run.specs.Plays.{AreBroken, AreRuns}
-use Rattle.roll_run.proofs.Following.{gains_none}
-use Rattle.roll_run.proofs.SafeRolls.{broken_runs_are_safe, runs_are_safe}
 use Rattle.running.specs.Inputs.{AreHostsIn, AreInputs, IsNoInventory, RefusesTexts}
 use Rattle.running.specs.Recaps.{are_several, broken_text, runs_text}
-use Rattle.running.specs.RunTexts.{AreSafe, IsBrokenRecap, IsRecap, IsTrueFault, TellsBroken, TellsRuns, WritesRecap}
+use Rattle.running.specs.RunTexts.{IsBrokenRecap, IsRecap, IsTrueFault, TellsBroken, TellsRuns, WritesRecap}
 use Rattle.running.specs.declared.end.RunEnd.{RunEnd}
 use Rattle.running.specs.declared.fault.RunTextFault.{RunTextFault}
 use Rattle.running.specs.declared.fault.RunTextFault.TheVariants.{Refused, Memory, Broken, Write}
@@ -104,21 +102,3 @@ pub gains_err : {V E : Type 0} {Is : List (List Event) → Type 0} (Does : E →
     → IfErr result (λ fault. Does fault gained.logs) → IfErr result (λ fault. Gains before after (Does fault))
 gains_err Does (Ok value) before after gained does = tt
 gains_err Does (Err fault) before after gained does = record { logs = gained.logs; grown = gained.grown; are = does }
-
--- the logs of runs, and of runs that were broken off, are safe
-pub safe_runs : (may : Work → Ending → Type 0) (fleet : FleetView) (forks : ℕ) (plays : List Play) (statuses : List Status) (vars : List Vars) (runs : List Run) (before after : List (List Event))
-    → Gains before after (AreRuns may fleet forks plays statuses vars runs) → Gains before after (AreSafe may)
-safe_runs may fleet forks plays statuses vars runs before after gained =
-    record { logs = gained.logs; grown = gained.grown; are = record { fleet = fleet; forks = forks; plays = plays; rolls = runs_are_safe may fleet forks plays statuses vars runs gained.logs gained.are } }
-
-pub safe_broken : (may : Work → Ending → Type 0) (fleet : FleetView) (forks : ℕ) (plays : List Play) (statuses : List Status) (vars : List Vars) (done : List Run) (last : RunFault) (before after : List (List Event))
-    → Gains before after (AreBroken may fleet forks plays statuses vars done last) → Gains before after (AreSafe may)
-safe_broken may fleet forks plays statuses vars done last before after gained =
-    record { logs = gained.logs; grown = gained.grown; are = record { fleet = fleet; forks = forks; plays = plays; rolls = broken_runs_are_safe may fleet forks plays statuses vars done last gained.logs gained.are } }
-
--- nothing was started
-pub safe_none : (may : Work → Ending → Type 0) (history : List (List Event)) → Gains history history (AreSafe may)
-safe_none may history = gains_none history history refl (record { fleet = none; forks = 1; plays = []; rolls = tt })
-  where
-    none : FleetView
-    none = record { hosts = []; groups = []; limits = []; parents = []; members = []; chains = []; off = []; order = [] }

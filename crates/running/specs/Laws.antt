@@ -6,13 +6,14 @@ use Rattle.host_track.specs.Endings.{Ending}
 use Rattle.event_log.specs.Told.{Work}
 use Rattle.roll_run.specs.declared.run.Run.{Run}
 use Rattle.roll_run.specs.Files.{TellTheirs}
-use Rattle.running.specs.RunTexts.{IsRecap}
+use Rattle.roll_run.specs.declared.fault.RunFault.{RunFault}
+use Rattle.running.specs.RunTexts.{AreSafeIn, IsBrokenRecap, IsRecap}
 
 -- the recaps of two runs of the same texts, in which programs end as the same columns say, are one text, however many workers there were
 abbrev pub OneRecap : Type 0
 OneRecap =
-    (columns : Columns) (inventory playbook text other : List ℕ) (forks more : ℕ) (runs others : List Run) (logs seconds : List (List Event)) → IsRecap (gives columns) inventory playbook forks runs logs text
-    → IsRecap (gives columns) inventory playbook more others seconds other → text ≡ other
+    (columns : Columns) (inventory playbook text other : List ℕ) (forks more : ℕ) (runs others : List Run) (logs other_logs : List (List Event)) → IsRecap (gives columns) inventory playbook forks runs logs text
+    → IsRecap (gives columns) inventory playbook more others other_logs other → text ≡ other
 
 -- the text is the recaps of such runs, and the log of each run tells the columns of its play: those of one play bind no other
 pub record IsRecapBy (columns : ℕ → Columns) (may : Work → Ending → Type 0) (inventory playbook : List ℕ) (forks : ℕ) (runs : List Run) (logs : List (List Event)) (text : List ℕ) : Type 0 where
@@ -22,5 +23,15 @@ pub record IsRecapBy (columns : ℕ → Columns) (may : Work → Ending → Type
 -- the recaps of two runs of the same texts, in each of whose plays programs end as the same columns say, are one text
 abbrev pub OneRecapByPlays : (Work → Ending → Type 0) → (Work → Ending → Type 0) → Type 0
 OneRecapByPlays may might =
-    (columns : ℕ → Columns) (inventory playbook text other : List ℕ) (forks more : ℕ) (runs others : List Run) (logs seconds : List (List Event)) → IsRecapBy columns may inventory playbook forks runs logs text
-    → IsRecapBy columns might inventory playbook more others seconds other → text ≡ other
+    (columns : ℕ → Columns) (inventory playbook text other : List ℕ) (forks more : ℕ) (runs others : List Run) (logs other_logs : List (List Event)) → IsRecapBy columns may inventory playbook forks runs logs text
+    → IsRecapBy columns might inventory playbook more others other_logs other → text ≡ other
+
+-- the logs of the runs that a recap tells of are safe
+abbrev pub RecapsAreOfSafeRolls : (Work → Ending → Type 0) → Type 0
+RecapsAreOfSafeRolls may =
+    (inventory playbook text : List ℕ) (forks : ℕ) (runs : List Run) (logs : List (List Event)) → IsRecap may inventory playbook forks runs logs text → AreSafeIn may inventory playbook forks logs
+
+-- and so are those of runs that were broken off
+abbrev pub BrokenRecapsAreOfSafeRolls : (Work → Ending → Type 0) → Type 0
+BrokenRecapsAreOfSafeRolls may =
+    (inventory playbook text : List ℕ) (forks : ℕ) (done : List Run) (last : RunFault) (logs : List (List Event)) → IsBrokenRecap may inventory playbook forks done last logs text → AreSafeIn may inventory playbook forks logs

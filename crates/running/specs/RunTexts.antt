@@ -90,13 +90,15 @@ IsTrueFault may inventory playbook forks old new (Broken why) logs = WritesBroke
 IsTrueFault may inventory playbook forks old new (Write fault) logs =
     BreaksRecap may inventory playbook forks old new fault.written logs ⊎ BreaksBroken may inventory playbook forks old new fault.written logs
 
--- what was started is rolls of the first plays of one playbook over one fleet, in their order, by so many workers: each of them legal, and at no moment of
--- any of them is a group over its limit
-pub record AreSafe (may : Work → Ending → Type 0) (logs : List (List Event)) : Type 0 where
+-- these are the logs of rolls of the first of the plays that both texts say, by so many workers, on the fleet that they say, which begins as they say: each behind
+-- the one before it, and at no moment of any of them is a group over its limit
+pub record AreSafeIn (may : Work → Ending → Type 0) (inventory playbook : List ℕ) (forks : ℕ) (logs : List (List Event)) : Type 0 where
   pub fleet : FleetView
-  pub forks : ℕ
+  pub vars : List Vars
   pub plays : List Play
-  pub rolls : AreSafeRolls may fleet forks plays logs
+  pub statuses : List Status
+  pub inputs : AreInputs inventory playbook fleet vars plays statuses
+  pub rolls : AreSafeRolls may fleet forks plays statuses vars logs
 
 -- a run is told to have been asked to end only where it may be
 abbrev pub MayBreakText : Bool → RunTextFault → Type 0

@@ -1,5 +1,5 @@
 //! What holds of every recap.
-ghost use Rattle.running.specs.Laws.{OneRecap, OneRecapByPlays};
+ghost use Rattle.running.specs.Laws.{BrokenRecapsAreOfSafeRolls, OneRecap, OneRecapByPlays, RecapsAreOfSafeRolls};
 
 use roll_core::Runner;
 
@@ -12,4 +12,10 @@ pub fn one_recap()
 /// The same where the program of a host's step may end otherwise in each play of the playbook, whatever the two runners may tell.
 pub fn one_recap_by_plays<R: Runner, S: Runner>(one: &R, other: &S)
     ensures { OneRecapByPlays (R.may one.now) (S.may other.now) }
+{}
+
+/// What a recap tells of, whole or broken off, was safe: on the fleet of the inventory, at no moment of any of the runs was a group over its limit.
+pub fn recaps_are_of_safe_rolls<R: Runner>(runner: &R)
+    ensures ended { RecapsAreOfSafeRolls (R.may runner.now) }
+    ensures broken { BrokenRecapsAreOfSafeRolls (R.may runner.now) }
 {}

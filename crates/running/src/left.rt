@@ -1,4 +1,8 @@
 //! What runs have left.
+ghost use Rattle.std.specs.Prelude.{◌≡◌, ◌+◌, ◌≤◌};
+ghost use Rattle.roll_core.specs.Histories.{log_at};
+ghost use Rattle.roll_core.specs.Views.{events_of};
+
 use aftermath::Played;
 use fleet_states::Status;
 use host_track::Counts;
@@ -15,7 +19,7 @@ pub(crate) struct Left<'r> {
     done: &'r [Run],
     broken: Option<&'r RunFault>,
     history: &'r History,
-    before: usize,
+    rolls_before: usize,
 }
 
 impl<'r> Left<'r> {
@@ -23,13 +27,16 @@ impl<'r> Left<'r> {
         done: &'r [Run],
         broken: Option<&'r RunFault>,
         history: &'r History,
-        before: usize,
-    ) -> Left<'r> {
+        rolls_before: usize,
+    ) -> Left<'r>
+        ensures history { result.history.now ≡ history.now }
+        ensures before { result.rolls_before ≡ rolls_before }
+    {
         Left {
             done,
             broken,
             history,
-            before,
+            rolls_before,
         }
     }
 
@@ -60,8 +67,10 @@ impl<'r> Left<'r> {
     }
 
     /// The log of the play at this place, from 0; of one that wasn't begun it is empty.
-    fn log(&self, place: usize) -> &'r [Event] {
-        self.history.log(self.before.saturating_add(place))
+    fn log(&self, place: usize) -> &'r [Event]
+        ensures { self.now.rolls_before + place ≤ 18446744073709551615 → events_of result.now ≡ log_at self.now.history.now (self.now.rolls_before + place) }
+    {
+        self.history.log(self.rolls_before.saturating_add(place))
     }
 
     /// The plays with their logs.

@@ -14,5 +14,5 @@ mod recaps;
 
 pub use end::RunEnd;
 pub use fault::RunTextFault;
-pub use laws::{one_recap, one_recap_by_plays};
+pub use laws::{one_recap, one_recap_by_plays, recaps_are_of_safe_rolls};
 pub use printing::run_text;

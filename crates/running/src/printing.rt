@@ -2,7 +2,7 @@
 ghost use Rattle.std.specs.Prelude.{◌≡◌, ◌<◌, ◌≤◌, IfErr, IfOk, length};
 ghost use Rattle.running.specs.Recaps as model;
 ghost use Rattle.roll_run.specs.Histories.{Gains};
-ghost use Rattle.running.specs.RunTexts.{AreSafe, IsTrueFault, MayBreakText, TellsBroken, TellsRuns, WritesRecap};
+ghost use Rattle.running.specs.RunTexts.{IsTrueFault, MayBreakText, TellsBroken, TellsRuns, WritesRecap};
 
 use crate::behind::{tell_behind, tell_left_out};
 use crate::end::{RunEnd, end_of_runs};
@@ -89,7 +89,6 @@ pub fn run_text<
     ensures ok { IfOk result.0 (λ end. Gains history result.1 (WritesRecap (R.may runner.now) inventory.now playbook.now forks (W.contents out.old) (W.contents out.new) end)) }
     ensures err { IfErr result.0 (λ fault. Gains history result.1 (IsTrueFault (R.may runner.now) inventory.now playbook.now forks (W.contents out.old) (W.contents out.new) fault)) }
     ensures asked { IfErr result.0 (MayBreakText (A.asks attend.now)) }
-    ensures safe { Gains history result.1 (AreSafe (R.may runner.now)) }
 {
     let Inputs {
         fleet,

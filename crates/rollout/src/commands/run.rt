@@ -1,7 +1,6 @@
 //! The command `run`: from the files of an inventory and a playbook to the recap of a run.
 ghost use Rattle.std.specs.Prelude.{◌≡◌, ◌<◌, ◌≤◌, Err, IfOk, IfErr, true};
 ghost use Rattle.roll_run.specs.Histories.{Gains};
-ghost use Rattle.running.specs.RunTexts.{AreSafe};
 ghost use Rattle.rollout.specs.Rolls.{BreaksOff, PrintsRecap, Rolls, RollsInputs};
 ghost use Rattle.rollout.specs.Systems.{sources_of};
 ghost use Rattle.rollout.specs.declared.fault.Fault.TheVariants.{Stopped};
@@ -48,9 +47,8 @@ pub fn roll<
     out: &mut W,
     history: History,
 ) -> (Result<Status, Fault>, History)
-    ensures rolls { Gains history result.1 (Rolls (R.may runner.now) (A.asks attend.now) (sources_of (S.files system.now) (I.is_reliable input.old)) inventory playbook forks
+    ensures { Gains history result.1 (Rolls (R.may runner.now) (A.asks attend.now) (sources_of (S.files system.now) (I.is_reliable input.old)) inventory playbook forks
         (I.remaining input.old) (I.remaining input.new) (W.contents out.old) (W.contents out.new) result.0) }
-    ensures safe { Gains history result.1 (AreSafe (R.may runner.now)) }
 {
     match refusal(system, alloc) {
         Some(fault) => (Err(fault), history),
@@ -93,7 +91,6 @@ fn roll_inputs<
     ensures rolls { Gains history result.1 (RollsInputs (R.may runner.now) (sources_of (S.files system.now) (I.is_reliable input.old)) inventory playbook forks
         (I.remaining input.old) (I.remaining input.new) (W.contents out.old) (W.contents out.new) result.0) }
     ensures stops { result.0 ≡ Err Stopped → A.asks attend.now ≡ true }
-    ensures safe { Gains history result.1 (AreSafe (R.may runner.now)) }
 {
     match read_both(system, alloc, inventory, playbook, input) {
         Ok((inventory, playbook)) => {
@@ -132,7 +129,6 @@ fn roll_texts<
     ensures ok { IfOk result.0 (λ status. Gains history result.1 (PrintsRecap (R.may runner.now) inventory.now playbook.now forks (W.contents out.old) (W.contents out.new) status)) }
     ensures err { IfErr result.0 (λ fault. Gains history result.1 (BreaksOff (R.may runner.now) inventory.now playbook.now forks (W.contents out.old) (W.contents out.new) fault)) }
     ensures stops { result.0 ≡ Err Stopped → A.asks attend.now ≡ true }
-    ensures safe { Gains history result.1 (AreSafe (R.may runner.now)) }
 {
     let (ran, history) = run_text(
         rt, alloc, attend, watch, inventory, playbook, forks, runner, out, history,

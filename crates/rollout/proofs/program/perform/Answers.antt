@@ -1,10 +1,6 @@
 use Rattle.std.proofs.Common.{refl, rules}
 use Rattle.roll_run.proofs.Following.{gains_none}
-use Rattle.running.proofs.TextLemmas.{safe_none}
 use Rattle.rollout.proofs.program.perform.Goals as goal
 
-pub returns-in-Err-clause-performs : goal.returns-in-Err-clause-performs
-returns-in-Err-clause-performs g c = gains_none c.args.history c.args.history refl (search rules)
-
-pub returns-in-Err-clause-safe : goal.returns-in-Err-clause-safe
-returns-in-Err-clause-safe g c = safe_none (g.R.Runner.may c.args.runner.now) c.args.history
+pub returns-in-Err : goal.returns-in-Err
+returns-in-Err g c = gains_none c.args.history c.args.history refl (search rules)

@@ -1,10 +1,7 @@
 use Rattle.roll_run.proofs.Following.{err_of, ok_of}
-use Rattle.running.proofs.TextLemmas.{fault_told, gains_err, gains_ok, runs_told, safe_broken, safe_none, safe_runs}
+use Rattle.running.proofs.TextLemmas.{fault_told, gains_err, gains_ok, runs_told}
 use Rattle.running.specs.RunTexts.{IsTrueFault, WritesRecap}
 use Rattle.running.proofs.printing.run_text.Goals as goal
-
-pub returns-in-Err-clause-safe : goal.returns-in-Err-clause-safe
-returns-in-Err-clause-safe g c = safe_none (g.R.Runner.may c.args.runner.now) c.args.history
 
 pub returns-in-Ok-ran-clause-ok : goal.returns-in-Ok-ran-clause-ok
 returns-in-Ok-ran-clause-ok g c =
@@ -28,11 +25,6 @@ returns-in-Ok-ran-clause-err g c =
     c.in-Ok.inputs.statuses.items _ c.in-Ok-ran.runs.items _ gained.logs c.tell_runs-told.result c.in-Ok.ensures.ok c.as_slice-listed.ensures.value c.are_several-several.ensures gained.are
     c.as_slice.ensures.value c.tell_runs-told.ensures).1
 
-pub returns-in-Ok-ran-clause-safe : goal.returns-in-Ok-ran-clause-safe
-returns-in-Ok-ran-clause-safe g c =
-    let gained = ok_of _ c.run_plays-ran.result.0 c.in-Ok-ran.runs c.in-Ok-ran.is c.run_plays-ran.ensures.ok in
-    safe_runs (g.R.Runner.may c.args.runner.now) c.in-Ok.inputs.fleet c.args.forks c.as_slice-listed.result.now c.in-Ok.inputs.statuses.items c.in-Ok.inputs.vars.items c.in-Ok-ran.runs.items c.args.history c.run_plays-ran.result.1 gained
-
 pub returns-clause-err : goal.returns-clause-err
 returns-clause-err g c =
     let may = g.R.Runner.may c.args.runner.now in
@@ -44,9 +36,3 @@ returns-clause-err g c =
           c.in-Ok.inputs.statuses.items _ c.in-Err-ran.fault.done.items c.in-Err-ran.fault.last gained.logs c.tell_broken-told.result c.in-Ok.ensures.ok c.as_slice-listed.ensures.value
           c.are_several-several.ensures gained.are c.tell_broken-told.ensures;
     }
-
-pub returns-clause-safe : goal.returns-clause-safe
-returns-clause-safe g c =
-    let gained = err_of _ c.run_plays-ran.result.0 c.in-Err-ran.fault c.in-Err-ran.is c.run_plays-ran.ensures.err in
-    safe_broken (g.R.Runner.may c.args.runner.now) c.in-Ok.inputs.fleet c.args.forks c.as_slice-listed.result.now c.in-Ok.inputs.statuses.items c.in-Ok.inputs.vars.items c.in-Err-ran.fault.done.items c.in-Err-ran.fault.last c.args.history
-    c.run_plays-ran.result.1 gained

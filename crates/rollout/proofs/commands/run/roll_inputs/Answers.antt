@@ -1,7 +1,6 @@
 use Rattle.std.proofs.Common.{inl, refl}
 use Rattle.std.proofs.KnownBytes.{Keeps-refl}
 use Rattle.roll_run.proofs.Following.{gains_none}
-use Rattle.running.proofs.TextLemmas.{safe_none}
 use Rattle.rollout.proofs.Rolling.{RollsInputs-of_texts, fault_in, never_lacking}
 use Rattle.rollout.proofs.commands.run.roll_inputs.Goals as goal
 
@@ -17,6 +16,3 @@ returns-in-Err-clause-rolls g c = gains_none c.args.history c.args.history refl 
 pub returns-in-Err-clause-stops : goal.returns-in-Err-clause-stops
 returns-in-Err-clause-stops g c same =
     absurd (never_lacking _ c.args.inventory c.args.playbook _ _ c.in-Err.fault (fault_in c.in-Err.fault same) c.in-Err.ensures.err)
-
-pub returns-in-Err-clause-safe : goal.returns-in-Err-clause-safe
-returns-in-Err-clause-safe g c = safe_none (g.R.Runner.may c.args.runner.now) c.args.history

@@ -1,0 +1,79 @@
+-- What is started is safe, as what is done says what that was.
+use Rattle.std.proofs.Common.{◌≡◌, ◌⊎◌, ℕ, ◌≤◌, List, [], Option, Result, Ok, Err, inl, inr, subst}
+use Rattle.std.specs.Prelude.{drop, is_some}
+use Rattle.command_line.specs.Flags.{plain}
+use Rattle.command_line.specs.Operands.{Word}
+use Rattle.command_line.specs.StopFiles.{stop_file}
+use Rattle.command_line.specs.Words as words
+use Rattle.command_line.specs.declared.command.Line.{Line}
+use Rattle.command_line.specs.declared.command.Line.TheVariants as line
+use Rattle.command_line.specs.declared.command.Source.{Source}
+use Rattle.host_track.specs.Endings.{Ending}
+use Rattle.event_log.specs.Events.{Event}
+use Rattle.event_log.specs.Told.{Work}
+use Rattle.running.specs.RunTexts.{AreSafeIn, IsTrueFault}
+use Rattle.running.specs.declared.fault.RunTextFault.{RunTextFault}
+use Rattle.running.specs.declared.fault.RunTextFault.TheVariants as running
+use Rattle.running.proofs.SafeRecaps.{broken_recaps_are_of_safe_rolls, recaps_are_of_safe_rolls}
+use Rattle.rollout.specs.Rolls.{AreSafeFrom, Rolls, RollsInputs}
+use Rattle.rollout.specs.Runs.{Attempts, Does, Performs, StartsSafely}
+use Rattle.rollout.specs.Systems.{Gives, Known, Sources}
+use Rattle.rollout.specs.declared.fault.Fault.{Fault}
+use Rattle.rollout.specs.declared.status.Status.{Status}
+
+module _ (may : Work → Ending → Type 0) where
+  -- whatever a fault says, nothing was started, or what it tells of was safe
+  faults_are_safe : (inventory playbook : List ℕ) (forks : ℕ) (old new : Option (List ℕ)) (fault : RunTextFault) (logs : List (List Event)) → IsTrueFault may inventory playbook forks old new fault logs
+      → (logs ≡ []) ⊎ AreSafeIn may inventory playbook forks logs
+  faults_are_safe inventory playbook forks old new (running.Refused fault) logs is = inl is.2
+  faults_are_safe inventory playbook forks old new running.Memory logs is = inl is.1
+  faults_are_safe inventory playbook forks old new (running.Broken why) logs is = inr (broken_recaps_are_of_safe_rolls may inventory playbook is.text forks is.done is.last logs is.is)
+  faults_are_safe inventory playbook forks old new (running.Write fault) logs (inl is) = inr (recaps_are_of_safe_rolls may inventory playbook is.text forks is.runs logs is.is)
+  faults_are_safe inventory playbook forks old new (running.Write fault) logs (inr is) = inr (broken_recaps_are_of_safe_rolls may inventory playbook is.text forks is.done is.last logs is.is)
+
+  module _ (sources : Sources) (inventory playbook : Source) (forks workers : ℕ) (few : workers ≤ forks) (input_old input_new out_old out_new : Option (List ℕ)) where
+    inputs_are_safe : (result : Result Status Fault) (logs : List (List Event)) → RollsInputs may sources inventory playbook workers input_old input_new out_old out_new result logs
+        → (logs ≡ []) ⊎ AreSafeFrom may sources inventory playbook forks input_old input_new logs
+    inputs_are_safe (Ok status) logs is =
+        inr (record {
+          first = is.first;
+          second = is.second;
+          texts = is.texts;
+          workers = workers;
+          few = few;
+          rolls = recaps_are_of_safe_rolls may is.first is.second is.prints.recap.text workers is.prints.recap.runs logs is.prints.recap.is;
+        })
+    inputs_are_safe (Err fault) logs (inl lacks) = inl lacks.2
+    inputs_are_safe (Err fault) logs (inr is) = by (faults_are_safe is.first is.second workers out_old out_new is.breaks.cause logs is.breaks.is_true)
+      where
+        by : (logs ≡ []) ⊎ AreSafeIn may is.first is.second workers logs → (logs ≡ []) ⊎ AreSafeFrom may sources inventory playbook forks input_old input_new logs
+        by (inl none) = inl none
+        by (inr rolls) = inr (record { first = is.first; second = is.second; texts = is.texts; workers = workers; few = few; rolls = rolls })
+
+  module _ (given : Known (List Word)) (sources : Sources) (input_old input_new out_old out_new : Option (List ℕ)) where
+    rolls_are_safe : (asks : Option (List ℕ)) (inventory playbook : Source) (forks : ℕ) (result : Result Status Fault) (logs : List (List Event))
+        → Rolls may (is_some asks) sources inventory playbook forks input_old input_new out_old out_new result logs → (logs ≡ []) ⊎ AreSafeFrom may sources inventory playbook forks input_old input_new logs
+    rolls_are_safe asks inventory playbook forks result logs (inl refuses) = inl refuses.none
+    rolls_are_safe asks inventory playbook forks result logs (inr on) =
+        inputs_are_safe sources inventory playbook forks on.workers on.few input_old input_new out_old out_new result logs on.rolls
+
+    lines_are_safe : (args : List Word) → Gives given args → (asked : Line) → words.Says (plain (drop 1 args)) asked → (asks : Option (List ℕ)) (result : Result Status Fault) (logs : List (List Event))
+        → Does may (is_some asks) sources asked input_old input_new out_old out_new result logs → StartsSafely may given sources input_old input_new logs
+    lines_are_safe args gives (line.Limits inventory) says asks result logs does = inl does.1
+    lines_are_safe args gives (line.Plan inventory playbook) says asks result logs does = inl does.1
+    lines_are_safe args gives (line.Rehearse inventory playbook) says asks result logs does = inl does.1
+    lines_are_safe args gives (line.Print message) says asks result logs does = inl does.2
+    lines_are_safe args gives (line.Run inventory playbook forks) says asks result logs does = by (rolls_are_safe asks inventory playbook forks result logs does)
+      where
+        by : (logs ≡ []) ⊎ AreSafeFrom may sources inventory playbook forks input_old input_new logs → StartsSafely may given sources input_old input_new logs
+        by (inl none) = inl none
+        by (inr safe) = inr (record { args = args; gives = gives; inventory = inventory; playbook = playbook; forks = forks; says = says; safe = safe })
+
+    pub performs_safely : (result : Result Status Fault) (logs : List (List Event)) → Performs may given sources input_old input_new out_old out_new result logs → StartsSafely may given sources input_old input_new logs
+    performs_safely result logs (inr lacks) = inl lacks.none
+    performs_safely result logs (inl takes) = by takes.words_given takes.behind_name takes.attempts
+      where
+        by : (behind : List Word) → behind ≡ drop 1 takes.args → Attempts may sources behind input_old input_new out_old out_new result logs → StartsSafely may given sources input_old input_new logs
+        by behind are (inr refuses) = inl refuses.none
+        by behind are (inl follows) =
+            lines_are_safe takes.args takes.gives follows.line (subst (λ (w : List Word). words.Says (plain w) follows.line) are follows.says) (stop_file behind) result logs follows.does
