@@ -394,6 +394,13 @@ boundary 3: plan batches=0 bound=nothing
 $(counted a 2 0 updated)
 $(counted b 2 0 updated)
 end finished"
+# as many plays as a file may have, each on one host
+sixteen=''
+for number in $(seq 16); do
+    sixteen="$sixteen$newline$(printf '%s\n' "play $number" 'boundary 1: plan batches=1 bound=group g waiting=1 room=1' 'open: a' 'boundary 2: plan batches=0 bound=nothing' "$(counted a 1 0 updated)" 'end finished')"
+done
+one='{"hosts":"a","tasks":[{"command":"true"}]}'
+rolled 'a run of sixteen plays' 0 "$pair" "[$(printf "$one,%.0s" $(seq 15))$one]" "${sixteen#?}"
 
 # ---- outputs that take nothing, or not all
 
