@@ -158,12 +158,12 @@ pub fn beside_its_board<'f, R: Runner, L: Ledger>(
     history
 }
 E2
-tried 'error\[' <<'E2'
+tried 'error\[unsupported-method\]: `History` is not `Clone`' <<'E2'
 pub fn copied(history: &History) -> History {
     history.clone()
 }
 E2
-tried 'error\[' <<'E2'
+tried 'error\[mismatched-types\]: expected `&LibcRuntime`, found `&H`' <<'E2'
 pub fn made_anywhere<H: Threads + Wait + Processes<Started = SystemProcess> + Sync>(rt: &H) -> History {
     History::new(rt)
 }
