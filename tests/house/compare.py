@@ -107,9 +107,9 @@ def compare_crates(count, crates):
 
 
 def section(text, heading):
-    """What stands under a heading of the second level, up to the next one."""
+    """What stands under a heading of the second level, up to the next one or to the end."""
     start = text.find(f"\n## {heading}\n")
-    return text[start : text.find("\n## ", start + 1)] if start >= 0 else ""
+    return "\n## " + text[start + 4 :].partition("\n## ")[0] if start >= 0 else ""
 
 
 def places_in(cell):
@@ -203,6 +203,40 @@ def compare_table_of_contracts(count, named):
                 count.row(call in has.public | has.functions | has.types, f"docs/PROVED.md: {crate} has no {call}")
                 holds = any(f"fn {name}" in texts.get(path, "") for path in files) or is_handed_out(call, crate, texts)
                 count.row(holds, f"docs/PROVED.md: {crate} doesn't hand out {call}, and no file beside it has it")
+
+
+def names_by_place(crate, root, items):
+    """The names that a crate hands out, by the module in which they stand: its root, or one that is public. A program hands out nothing."""
+    uses = re.findall(r"^pub use ([^;]+);", root, re.M)
+    leaves = [leaf for said in uses for leaf in re.sub(r"^.*\{|\}", "", said, flags=re.S).split(",")]
+    places = {"": {re.split(r"::|\bas\b", leaf)[-1].strip() for leaf in leaves} | set(re.findall(r"^pub (?:fn|struct|enum|trait) (\w+)", root, re.M))}
+    for module in re.findall(r"^pub mod (\w+)", root, re.M):
+        places[module] = {item.name for path, item in items if re.match(rf"crates/{crate}/src/{module}(\.rt|/)", path) and not item.owner}
+    return places
+
+
+def compare_public_names(count, named):
+    """Each row of DECISIONS's table of public names: the crate in which a name stands hands it out, one in which it doesn't hands out none of that name, and what is in
+    backticks of its form stands in its declaration."""
+    items = [(path, item) for path in tree.found("crates/*/src/**/*.rt") for item in items_of(tree.read(path)) if item.is_public]
+    handed = {crate: names_by_place(crate, tree.read(path), items) for crate in named for path in tree.found(f"crates/{crate}/src/lib.rt")}
+    rows = made.rows_of(section(tree.read("docs/DECISIONS.md"), "Public names"))
+    count.row(rows, "docs/DECISIONS.md: no table of public names")
+    for cells in rows:
+        names, (stands, apart, other) = ticks(cells[0]), cells[1].partition("not ")
+        count.row(len(cells) == 4 and names and cells[3] and (apart or cells[2]), f"docs/DECISIONS.md: of {cells[0]} nothing differs, or no reason stands there")
+        for name in names:
+            for place in ticks(stands):
+                crate, _, module = place.partition("::")
+                # What a crate only hands on is declared elsewhere.
+                of = [(path, item.said) for path, item in items if item.path() == name]
+                of = [each for each in of if each[0].startswith(f"crates/{crate}/")] or of
+                count.row(of and name.split("::")[0] in handed.get(crate, {}).get(module, set()), f"docs/DECISIONS.md: {place} doesn't hand out {name}")
+                for word in ticks(cells[2]):
+                    holds = any(re.search(rf"(?<!\w){re.escape(word)}(?!\w)", said) for _, said in of)
+                    count.row(holds, f"docs/DECISIONS.md: in the declaration of {name} stands no {word}")
+            for place in ticks(other):
+                count.row(name not in handed.get(place, {}).get("", set()), f"docs/DECISIONS.md: {place} does hand out {name}")
 
 
 def definitions_in(text):
@@ -406,6 +440,7 @@ def main():
     compare_promises(count)
     compare_crates_of_proved(count, crates)
     compare_table_of_contracts(count, named)
+    compare_public_names(count, named)
     compare_definitions(count, crates)
     compare_counts(count, crates)
     compare_paths(count)

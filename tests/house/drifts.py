@@ -72,6 +72,33 @@ def a_call_that_its_crate_keeps(copy):
     copy.change("docs/PROVED.md", re.search(r"^- `\w+`( \(`src/\w+\.rt`\)):", said.split("#### `play_read`")[1], re.M)[1], "")
 
 
+def row_of_public_name(copy, name):
+    return re.search(rf"^\| .*`{name}`.* \|", compare.section(copy.read("docs/DECISIONS.md"), "Public names"), re.M)[0]
+
+
+def a_public_name_in_another_crate(copy):
+    row = row_of_public_name(copy, "plan_text")
+    copy.change("docs/DECISIONS.md", row, row.replace("`planning`", "`running`", 1))
+
+
+def a_public_name_that_came_where_one_looks_for_it(copy):
+    copy.write("crates/recap/src/lib.rt", copy.read("crates/recap/src/lib.rt") + "pub use bounded_io::WriteFault;\n")
+
+
+def a_public_name_that_its_crate_keeps(copy):
+    copy.change("crates/roll_core/src/lib.rt", "pub use job::Job;\n", "")
+
+
+def a_parameter_that_a_public_name_has_no_more(copy):
+    row = row_of_public_name(copy, "rehearse_text")
+    copy.change("docs/DECISIONS.md", row, row.replace("`prompt`", "`prompter`", 1))
+
+
+def a_public_name_without_a_reason(copy):
+    row = row_of_public_name(copy, "Limit")
+    copy.change("docs/DECISIONS.md", row, row.rsplit(" | ", 1)[0] + " | |")
+
+
 def a_command_without_a_promise(copy):
     said = compare.section(tree.read("README.md"), "What is promised, by command")
     copy.change("README.md", re.search(r"^\| `rehearse` \|.*\n", said, re.M)[0], "")
