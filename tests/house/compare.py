@@ -92,18 +92,24 @@ def compare_edits(count):
 
 
 def compare_crates(count, crates):
-    """Each folder of crates/ has its line, which names only what the crate's files name; each root says first what it is for."""
+    """Each folder of crates/ has its line, which names only what the crate's files name, and all that they use; each root says first what it is for."""
     folders = {path.split("/")[1] for path in tree.found("crates/*/src")}
+    libraries = set(crates) | {below for name in crates for below in crates[name]}
     for name in folders | set(crates):
         count.row(name in folders, f"crates.txt has {name}, and crates/{name} has no src")
         count.row(name in crates, f"crates/{name} has no line in crates.txt")
     for name in folders & set(crates):
         count.row(tree.purpose(name), f"crates/{name}: the first line of its root doesn't say what it is for")
-        words = set()
+        words, used = set(), set()
         for path in tree.found(f"crates/{name}/**/*.rt", f"crates/{name}/**/*.antt"):
-            words.update(re.findall(r"\w+", tree.read(path)))
+            text = tree.read(path)
+            words.update(re.findall(r"\w+", text))
+            used.update(re.findall(r"^\s*(?:pub )?use (\w+)::|\bRattle\.(?=(\w+)\.)", text, re.M))
+        used = {library for each in used for library in each if library in libraries and not stands(f"crates/{name}/src/{library}.rt")}
         for below in crates[name]:
             count.row(below in words, f"crates.txt: {name} stands on {below}, which no file of it names")
+        for below in used - {name}:
+            count.row(below in crates[name], f"crates.txt: {name} uses {below}, and doesn't stand on it")
 
 
 def section(text, heading):

@@ -178,11 +178,6 @@ def a_dependency_off(copy):
     copy.change("crates.txt", line, line.rsplit(" ", 1)[0])
 
 
-def a_dependency_off_in_the_page(copy):
-    path, row = row_in("crates", -1)
-    copy.change(path, row, row.rsplit(", ", 1)[0] + " |\n")
-
-
 def a_first_line_off(copy):
     root = tree.found("crates/*/src/lib.rt")[2]
     first = copy.read(root).split("\n")[0]

@@ -42,14 +42,14 @@ def in_words(name):
 
 
 def made_crates(_said):
-    """Each crate, lowest first, with the paragraph at its top and what it stands on: under the heading of its family, where crates.txt has families."""
+    """Each crate, lowest first, with the paragraph at its top: under the heading of its family, where crates.txt has families."""
     crates, families = tree.crates(), tree.families()
     placed = {name for own in families.values() for name in own}
     lists = {"": [name for name in crates if name not in placed], **{family: [name for name in crates if name in own] for family, own in families.items()}}
-    head = ("Crate", "What it is for", "Stands on")
+    head = ("Crate", "What it is for")
     parts = [f"{len(crates)} crates."]
     for family, own in lists.items():
-        rows = [(f"`{name}`", tree.purpose(name), ", ".join(f"`{below}`" for below in crates[name])) for name in own]
+        rows = [(f"`{name}`", tree.purpose(name)) for name in own]
         if family:
             parts.append(f"### {family}")
         if rows:
@@ -58,20 +58,12 @@ def made_crates(_said):
 
 
 def made_families(said):
-    """The families, each with its crates that are there, lowest first: by crates.txt where that has families, else by what is said here. What a family is about is
-    taken over by its name. A crate of none stands in a row of its own, for somebody to say."""
-    crates, families = list(tree.crates()), tree.families()
+    """The families of crates.txt. What one is about is taken over by its name. A crate of none stands in a row of its own, for somebody to say."""
+    families = tree.families()
     about = {cells[0]: cells[1] for cells in rows_of(said)}
-    if not families:
-        families = {cells[0]: re.findall(r"`(\w+)`", cells[2]) for cells in rows_of(said) if cells[0]}
-    rows, placed = [], set()
-    for family, members in families.items():
-        own = [name for name in crates if name in members and name not in placed]
-        placed.update(own)
-        if own:
-            rows.append((family, about.get(family, ""), ", ".join(f"`{name}`" for name in own)))
-    lost = [name for name in crates if name not in placed]
-    return table(("Family", "What it is about", "Crates"), rows + [("", "", f"`{name}`") for name in lost])
+    placed = {name for own in families.values() for name in own}
+    lost = [name for name in tree.crates() if name not in placed]
+    return table(("Family", "What it is about"), [(family, about.get(family, "")) for family in families] + [("", f"`{name}`") for name in lost])
 
 
 def made_edits(said):
