@@ -63,8 +63,10 @@ def compare_made_parts(count):
             print("    " + line[:200])
         count.row(old == text, f"{path}: `make pages` changes {len(lines)} lines")
         for _, name, body, _ in made.PART.findall(text):
-            for cells in made.rows_of(body) if name != "crates" else []:
+            for cells in made.rows_of(body):
                 count.row(all(cells), f"{path}: the row '{cells[0]}' of {name} has an empty cell")
+            for line in re.findall(r"^- .*", body, re.M):
+                count.row(re.match(r"- \S+: \S", line), f"{path}: of {line[2:]} in {name} nothing is said")
 
 
 def compare_edits(count):

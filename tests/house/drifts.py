@@ -57,7 +57,17 @@ def row_in(part, place=3):
 
 
 def a_crate_left_out_of_architecture(copy):
-    copy.change(*row_in("crates"), "")
+    path, body = page_of("crates")
+    copy.change(path, re.search(r"^- `\w+`: .*\n", body, re.M)[0], "")
+
+
+def a_crate_of_no_family(copy):
+    copy.change("crates.txt", re.search(r"^# \w+\n", copy.read("crates.txt"), re.M)[0], "")
+
+
+def a_family_of_which_nothing_is_said(copy):
+    path, body = page_of("families")
+    copy.change(path, *re.search(r"^- (\*\*\w+\*\*: .*)\n()", body, re.M).groups())
 
 
 def a_crate_left_out_of_proved(copy):

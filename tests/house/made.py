@@ -46,24 +46,22 @@ def made_crates(_said):
     crates, families = tree.crates(), tree.families()
     placed = {name for own in families.values() for name in own}
     lists = {"": [name for name in crates if name not in placed], **{family: [name for name in crates if name in own] for family, own in families.items()}}
-    head = ("Crate", "What it is for")
     parts = [f"{len(crates)} crates."]
     for family, own in lists.items():
-        rows = [(f"`{name}`", tree.purpose(name)) for name in own]
         if family:
             parts.append(f"### {family}")
-        if rows:
-            parts.append(table(head, rows).rstrip("\n"))
+        if own:
+            parts.append("\n".join(f"- `{name}`: {tree.purpose(name)}" for name in own))
     return "\n\n".join(parts) + "\n"
 
 
 def made_families(said):
     """The families of crates.txt. What one is about is taken over by its name. A crate of none stands in a row of its own, for somebody to say."""
     families = tree.families()
-    about = {cells[0]: cells[1] for cells in rows_of(said)}
+    about = dict(re.findall(r"^- \*\*(\w+)\*\*: (.+)$", said, re.M))
     placed = {name for own in families.values() for name in own}
     lost = [name for name in tree.crates() if name not in placed]
-    return table(("Family", "What it is about"), [(family, about.get(family, "")) for family in families] + [("", f"`{name}`") for name in lost])
+    return "".join([f"- **{family}**: {about.get(family, '')}".rstrip() + "\n" for family in families] + [f"- `{name}`\n" for name in lost])
 
 
 def made_edits(said):
