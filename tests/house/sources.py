@@ -3,6 +3,7 @@
 It knows no more of the language than where an item begins and ends: brackets, comments and texts. So it reads any revision.
 """
 
+import functools
 import re
 
 NOT_CODE = re.compile(
@@ -48,8 +49,9 @@ def end_of(code, at):
     return len(code)
 
 
+@functools.cache
 def items_of(text, is_test=False):
-    """The items of a file, those of its test modules left out."""
+    """The items of a file, those of its test modules left out. A text is read once."""
     return list(_items(text, blanked(text), 0, len(text), "", None))
 
 
