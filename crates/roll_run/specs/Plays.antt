@@ -1,11 +1,11 @@
 -- What the runs of several plays leave.
-use Rattle.std.specs.Prelude.{◌≡◌, ℕ, ◌⊎◌, List, [], ◌∷◌}
+use Rattle.std.specs.Prelude.{◌≡◌, ℕ, ◌⊎◌, List, [], ◌∷◌, length}
 use Rattle.domains.specs.FleetViews.{FleetView}
 use Rattle.fleet_states.specs.declared.status.Status.{Status}
 use Rattle.host_vars.specs.declared.vars.Vars.{Vars}
 use Rattle.host_vars.specs.HostVars.{IsSameHost}
 use Rattle.host_track.specs.Endings.{Ending}
-use Rattle.batch_plan.specs.Beginnings.{restart_statuses}
+use Rattle.batch_plan.specs.Beginnings.{IsReady, restart_statuses}
 use Rattle.play_model.specs.declared.play.Play.{Play}
 use Rattle.play_course.specs.PlayPlans.{targets}
 use Rattle.play_course.specs.declared.end.End.{End}
@@ -21,6 +21,12 @@ use Rattle.roll_run.specs.Runs.{IsBrokenOff, IsRun, IsSafeLog, roll_by}
 use Rattle.roll_run.specs.declared.run.Run.{Run}
 use Rattle.roll_run.specs.declared.fault.Break.TheVariants.{Fault}
 use Rattle.roll_run.specs.declared.fault.RunFault.{RunFault}
+use Rattle.roll_run.specs.declared.start.Start.{Start}
+
+-- a play may begin so: each host has a status and variables, nobody runs, and no group is over its limit
+pub record MayStart (fleet : FleetView) (start : Start) : Type 0 where
+  pub ready : IsReady fleet start.statuses.items
+  pub each : length start.vars.items ≡ length fleet.hosts
 
 -- of each host the same variables and results
 abbrev pub AreSameHosts : List Vars → List Vars → Type 0

@@ -9,6 +9,7 @@ ghost use Rattle.roll_run.specs.Runs.{IsBreakIn, IsFaultIn, MayBreak};
 ghost use Rattle.roll_run.specs.declared.fault.Break.TheVariants.{Asked};
 
 use crate::attend::Attend;
+use crate::coordinator::Coordinator;
 use crate::fault::Break;
 use fork_pool::{Front, StepFault};
 use group_tree::HostId;
@@ -97,9 +98,7 @@ where
 
 /// Opens a batch where whoever attends the run lets it go on, and works on it until it is over. Where it isn't opened, nothing has changed.
 pub(crate) fn run_batch<'f, 'b, R: Runner, L: Ledger, H: Wait, A: Attend, W: Watch>(
-    rt: &H,
-    alloc: Global,
-    attend: &A,
+    coordinator: &Coordinator<'_, H, A>,
     front: &mut Front<'f, R>,
     board: Board<'b, R, L, W>,
     batch: &[HostId],
@@ -113,14 +112,14 @@ where
     ensures ok { IfOk result (HasRun (host_numbers batch.now) board.entry) }
     ensures err { IfErr result (λ refused. HasBroken (host_numbers batch.now) board.entry refused.1) }
     ensures why { IfErr result (λ refused. IsBreakIn front.old.forks (state_of refused.1.kernel) refused.0) }
-    ensures asked { IfErr result (λ refused. MayBreak (A.asks attend.now) refused.0) }
+    ensures asked { IfErr result (λ refused. MayBreak (A.asks coordinator.now.attend.now) refused.0) }
     ensures unopened { IfErr result (λ refused. refused.0 ≡ Asked → refused.1 ≡ board.entry) }
     ensures forks { front.new.forks ≡ front.old.forks }
 {
-    if !attend.goes_on(rt) {
+    if !coordinator.attend.goes_on(coordinator.rt) {
         return Err((Break::Asked, board));
     }
-    match work_off(rt, alloc, front, board, batch) {
+    match work_off(coordinator.rt, coordinator.alloc, front, board, batch) {
         Ok(board) => Ok(board),
         Err((why, board)) => Err((Break::Fault(why), board)),
     }

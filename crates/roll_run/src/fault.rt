@@ -31,7 +31,8 @@ pub struct RunFault {
 }
 
 impl RunFault {
-    /// Memory was wanting before there was a board: the statuses are those that the run was to begin with.
+    /// Memory was wanting before there was a board: the statuses are those that were known then, which are what the run was to begin with, or, where
+    /// that couldn't be made, what the run before it left.
     pub(crate) fn before_a_log(alloc: Global, statuses: Vec<Status>) -> RunFault
         ensures { IsNotBegun statuses.items result [] }
     {

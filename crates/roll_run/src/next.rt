@@ -6,19 +6,13 @@ ghost use Rattle.play_course.specs.PlayPlans.{parts_of_play, targets};
 ghost use Rattle.roll_run.specs.Plays.{AreSameHosts};
 
 use crate::run::Run;
+use crate::start::Start;
 use batch_plan::restart;
 use domains::Fleet;
 use fleet_states::Status;
 use host_vars::Vars;
 use play_model::Play;
 use std::alloc::{AllocError, Global};
-
-/// What a play begins with: of each host its status, and its variables with the results that earlier plays registered.
-#[derive(Drop)]
-pub(crate) struct Start {
-    pub(crate) statuses: Vec<Status>,
-    pub(crate) vars: Vec<Vars>,
-}
 
 fn copy_all(alloc: Global, vars: &[Vars]) -> Result<Vec<Vars>, AllocError>
     ensures { IfOk result (λ copies. AreSameHosts copies.items vars.now) }

@@ -1,25 +1,24 @@
 //! A run begins, and what it leaves.
-ghost use Rattle.std.specs.Prelude.{◌≡◌, ◌<◌, ◌≤◌, ◌++◌, ◌∷◌, [], Err, IfErr, IfOk, None, count_by, find, length};
-ghost use Rattle.fleet_states.specs.Groups.{IsSafe, groups_of};
-ghost use Rattle.fleet_states.specs.Statuses.{NobodyRuns};
+ghost use Rattle.std.specs.Prelude.{◌≡◌, ◌++◌, ◌∷◌, [], Err, IfErr, IfOk, None, count_by, find, length};
 ghost use Rattle.domains.specs.Patterns.{names_nothing};
 ghost use Rattle.play_course.specs.PlayPlans.{parts_of_play, targets};
 ghost use Rattle.roll_core.specs.Views.{event_of, roll_of};
 ghost use Rattle.roll_run.specs.Inside.{HasGone, opens};
 ghost use Rattle.roll_run.specs.Histories.{Gains};
-ghost use Rattle.roll_run.specs.Plays.{IsOneBrokenOff, IsRunOf};
+ghost use Rattle.roll_run.specs.Plays.{IsOneBrokenOff, IsRunOf, MayStart};
 ghost use Rattle.roll_run.specs.Runs.{IsBrokenOff, IsRun, MayBreak, roll_by};
 
 use crate::attend::Attend;
+use crate::coordinator::Coordinator;
 use crate::fault::{Break, RunFault};
 use crate::run::Run;
+use crate::setup::Setup;
+use crate::start::Start;
 use crate::turns::go_on;
 use batch_plan::counted;
 use bumpalo::Bump;
 use domains::Fleet;
-use fleet_states::Status;
 use fork_pool::Front;
-use host_vars::Vars;
 use play_course::{Boundary, End};
 use play_model::Play;
 use roll_core::{Board, Event, History, Runner, Watch};
@@ -93,39 +92,32 @@ fn count_targets(alloc: Global, fleet: &Fleet, play: &Play) -> Result<u32, Alloc
 /// is a board, the history comes back as it was.
 #[allow(clippy::too_many_arguments)]
 pub(crate) fn run_on<'f, 'b, 'w, R: Runner, L: Ledger, H: Wait, A: Attend, W: Watch>(
-    rt: &H,
-    alloc: Global,
-    attend: &A,
+    coordinator: &Coordinator<'_, H, A>,
     watch: &'w mut W,
     front: &mut Front<'f, R>,
-    fleet: &'b Fleet,
+    setup: &Setup<'f, R>,
     play: &'b Play,
-    statuses: &'b [Status],
-    vars: &'b [Vars],
-    runner: &'f R,
-    forks: usize,
+    start: &'b Start,
     blank: Blank,
     history: History,
 ) -> Result<(Result<Run, RunFault>, History), History>
 where
     'f: 'b,
-    requires all { length statuses.now ≡ length fleet.now.hosts }
-    requires each { length vars.now ≡ length fleet.now.hosts }
-    requires at_rest { NobodyRuns statuses.now }
-    requires safe { IsSafe (groups_of fleet.now) statuses.now }
-    requires some { 0 < forks }
-    requires few { forks ≤ 64 }
-    requires known { find (names_nothing fleet.now) (parts_of_play play.now) ≡ None }
-    requires workers { front.old.forks ≡ forks }
+    requires starts { MayStart setup.now.fleet.now start.now }
+    requires known { find (names_nothing setup.now.fleet.now) (parts_of_play play.now) ≡ None }
+    requires workers { front.old.forks ≡ setup.now.forks }
     requires name { blank.name ≡ L.name }
     requires parts { blank.parts ≡ L.parts }
     requires many { blank.parts ≡ 129 }
-    ensures ok { IfOk result (λ (run, after). IfOk run (λ run. Gains history after (IsRunOf (R.may runner.now) fleet.now (roll_by fleet.now play.now forks statuses.now vars.now) run))) }
-    ensures err { IfOk result (λ (run, after). IfErr run (λ fault. Gains history after (IsOneBrokenOff (R.may runner.now) fleet.now (roll_by fleet.now play.now forks statuses.now vars.now) fault))) }
-    ensures asked { IfOk result (λ (run, _). IfErr run (λ fault. MayBreak (A.asks attend.now) fault.why)) }
+    ensures ok { IfOk result (λ (run, after). IfOk run (λ run. Gains history after (IsRunOf (R.may setup.now.runner.now) setup.now.fleet.now (roll_by setup.now.fleet.now play.now setup.now.forks start.now.statuses.items start.now.vars.items) run))) }
+    ensures err { IfOk result (λ (run, after). IfErr run (λ fault. Gains history after (IsOneBrokenOff (R.may setup.now.runner.now) setup.now.fleet.now (roll_by setup.now.fleet.now play.now setup.now.forks start.now.statuses.items start.now.vars.items) fault))) }
+    ensures asked { IfOk result (λ (run, _). IfErr run (λ fault. MayBreak (A.asks coordinator.now.attend.now) fault.why)) }
     ensures none { IfErr result (λ back. back ≡ history) }
     ensures forks { front.new.forks ≡ front.old.forks }
 {
+    let alloc = coordinator.alloc;
+    let fleet = setup.fleet;
+    let statuses = start.statuses.as_slice();
     let arena = Bump::new(alloc);
     let Ok(targeted) = count_targets(alloc, fleet, play) else {
         return Err(history);
@@ -134,16 +126,23 @@ where
         return Err(history);
     };
     let board = match Board::<R, L, &mut W>::new(
-        alloc, fleet, play, runner, forks, statuses, vars, blank, watch, history,
+        alloc,
+        fleet,
+        play,
+        setup.runner,
+        setup.forks,
+        statuses,
+        start.vars.as_slice(),
+        blank,
+        watch,
+        history,
     ) {
         Ok(board) => board,
         Err(history) => return Err(history),
     };
     let mut boundaries = Vec::new(alloc);
     let (gone, board) = go_on(
-        rt,
-        alloc,
-        attend,
+        coordinator,
         front,
         board,
         &mut domains,

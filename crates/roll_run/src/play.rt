@@ -1,23 +1,21 @@
 //! A run of one play.
-ghost use Rattle.std.specs.Prelude.{◌≡◌, ◌<◌, ◌≤◌, IfErr, IfOk, None, find, length};
+ghost use Rattle.std.specs.Prelude.{◌≡◌, ◌<◌, ◌≤◌, IfErr, IfOk, None, find};
 ghost use Rattle.domains.specs.Patterns.{names_nothing};
-ghost use Rattle.fleet_states.specs.Groups.{IsSafe, groups_of};
-ghost use Rattle.fleet_states.specs.Statuses.{NobodyRuns};
 ghost use Rattle.play_course.specs.PlayPlans.{parts_of_play};
 ghost use Rattle.roll_run.specs.Histories.{Gains};
-ghost use Rattle.roll_run.specs.Plays.{IsBrokenOrNotBegun, IsRunOf};
+ghost use Rattle.roll_run.specs.Plays.{IsBrokenOrNotBegun, IsRunOf, MayStart};
 ghost use Rattle.roll_run.specs.Runs.{MayBreak, roll_by};
 
 use crate::attend::Attend;
+use crate::coordinator::Coordinator;
 use crate::fault::RunFault;
 use crate::pool::run_plays;
 use crate::run::Run;
+use crate::setup::Setup;
+use crate::start::Start;
 use domains::Fleet;
-use fleet_states::Status;
-use host_vars::Vars;
 use play_model::Play;
 use roll_core::{History, Runner, Watch};
-use std::alloc::Global;
 use std::process::{Processes, SystemProcess};
 use std::slice;
 use std::sync::Wait;
@@ -34,42 +32,30 @@ pub fn run_play<
     A: Attend,
     W: Watch,
 >(
-    rt: &H,
-    alloc: Global,
-    attend: &A,
+    coordinator: &Coordinator<'_, H, A>,
     watch: &mut W,
     fleet: &Fleet,
     play: &Play,
-    statuses: Vec<Status>,
-    vars: Vec<Vars>,
     runner: &R,
     forks: usize,
+    start: Start,
     history: History,
 ) -> (Result<Run, RunFault>, History)
-    requires all { length statuses.items ≡ length fleet.now.hosts }
-    requires each { length vars.items ≡ length fleet.now.hosts }
-    requires at_rest { NobodyRuns statuses.items }
-    requires safe { IsSafe (groups_of fleet.now) statuses.items }
+    requires starts { MayStart fleet.now start }
     requires some { 0 < forks }
     requires few { forks ≤ 64 }
     requires known { find (names_nothing fleet.now) (parts_of_play play.now) ≡ None }
-    ensures ok { IfOk result.0 (λ run. Gains history result.1 (IsRunOf (R.may runner.now) fleet.now (roll_by fleet.now play.now forks statuses.items vars.items) run)) }
-    ensures err { IfErr result.0 (λ fault. Gains history result.1 (IsBrokenOrNotBegun (R.may runner.now) fleet.now (roll_by fleet.now play.now forks statuses.items vars.items) fault)) }
-    ensures asked { IfErr result.0 (λ fault. MayBreak (A.asks attend.now) fault.why) }
+    ensures ok { IfOk result.0 (λ run. Gains history result.1 (IsRunOf (R.may runner.now) fleet.now (roll_by fleet.now play.now forks start.statuses.items start.vars.items) run)) }
+    ensures err { IfErr result.0 (λ fault. Gains history result.1 (IsBrokenOrNotBegun (R.may runner.now) fleet.now (roll_by fleet.now play.now forks start.statuses.items start.vars.items) fault)) }
+    ensures asked { IfErr result.0 (λ fault. MayBreak (A.asks coordinator.now.attend.now) fault.why) }
 {
-    let (ran, history) = run_plays(
-        rt,
-        alloc,
-        attend,
-        watch,
+    let setup = Setup {
         fleet,
-        slice::from_ref(play),
-        statuses,
-        vars,
+        plays: slice::from_ref(play),
         runner,
         forks,
-        history,
-    );
+    };
+    let (ran, history) = run_plays(coordinator, watch, &setup, start, history);
     match ran {
         Ok(mut runs) => match runs.pop() {
             Some(run) => (Ok(run), history),

@@ -1,23 +1,22 @@
 //! The runs of several plays on one pool.
 ghost use Rattle.std.specs.Prelude.{◌≡◌, ◌+◌, ◌<◌, ◌≤◌, ◌++◌, ◌∷◌, [], List, IfErr, IfOk, None, OnOk, find, length, vec_capacity, vec_len};
 ghost use Rattle.domains.specs.Patterns.{names_nothing};
-ghost use Rattle.fleet_states.specs.Groups.{IsSafe, groups_of};
-ghost use Rattle.fleet_states.specs.Statuses.{NobodyRuns};
-ghost use Rattle.play_course.specs.PlayPlans.{named_parts, parts_of_play};
+ghost use Rattle.play_course.specs.PlayPlans.{parts_of_play};
 ghost use Rattle.roll_run.specs.Histories.{Gains};
 ghost use Rattle.roll_run.specs.Inside.{HasBrokenAfter, HasRunAfter, IsReadyRun, is_finished};
-ghost use Rattle.roll_run.specs.Plays.{AreBroken, AreRuns, IsBrokenOrNotBegun, IsRunOf};
+ghost use Rattle.roll_run.specs.Plays.{AreBroken, AreRuns, IsBrokenOrNotBegun, IsRunOf, MayStart};
 ghost use Rattle.roll_run.specs.Runs.{MayBreak, roll_by};
 
 use crate::attend::Attend;
+use crate::coordinator::Coordinator;
 use crate::fault::{RunFault, RunsFault};
 use crate::next::{begin_after, copy_into, keep};
 use crate::opening::run_on;
 use crate::run::Run;
-use domains::Fleet;
+use crate::setup::Setup;
+use crate::start::Start;
 use fleet_states::Status;
 use fork_pool::Front;
-use host_vars::Vars;
 use play_course::End;
 use play_model::Play;
 use roll_core::{History, Runner, Watch};
@@ -27,53 +26,40 @@ use std::sync::Wait;
 use std::sync::ledger::Blank;
 
 /// A run of a play on the workers of a pool, whose log is put into the history; where memory was wanting before it had one, none is.
-#[allow(clippy::too_many_arguments)]
 fn run_one<'f, R: Runner, H: Wait, A: Attend, W: Watch>(
-    rt: &H,
-    alloc: Global,
-    attend: &A,
+    coordinator: &Coordinator<'_, H, A>,
     watch: &mut W,
     front: &mut Front<'f, R>,
-    fleet: &Fleet,
+    setup: &Setup<'f, R>,
     play: &Play,
-    statuses: Vec<Status>,
-    vars: Vec<Vars>,
-    runner: &'f R,
-    forks: usize,
+    start: Start,
     history: History,
 ) -> (Result<Run, RunFault>, History)
-    requires all { length statuses.items ≡ length fleet.now.hosts }
-    requires each { length vars.items ≡ length fleet.now.hosts }
-    requires at_rest { NobodyRuns statuses.items }
-    requires safe { IsSafe (groups_of fleet.now) statuses.items }
-    requires some { 0 < forks }
-    requires few { forks ≤ 64 }
-    requires known { find (names_nothing fleet.now) (parts_of_play play.now) ≡ None }
-    requires workers { front.old.forks ≡ forks }
-    ensures ok { IfOk result.0 (λ run. Gains history result.1 (IsRunOf (R.may runner.now) fleet.now (roll_by fleet.now play.now forks statuses.items vars.items) run)) }
-    ensures err { IfErr result.0 (λ fault. Gains history result.1 (IsBrokenOrNotBegun (R.may runner.now) fleet.now (roll_by fleet.now play.now forks statuses.items vars.items) fault)) }
-    ensures asked { IfErr result.0 (λ fault. MayBreak (A.asks attend.now) fault.why) }
+    requires starts { MayStart setup.now.fleet.now start }
+    requires known { find (names_nothing setup.now.fleet.now) (parts_of_play play.now) ≡ None }
+    requires workers { front.old.forks ≡ setup.now.forks }
+    ensures ok { IfOk result.0 (λ run. Gains history result.1 (IsRunOf (R.may setup.now.runner.now) setup.now.fleet.now (roll_by setup.now.fleet.now play.now setup.now.forks start.statuses.items start.vars.items) run)) }
+    ensures err { IfErr result.0 (λ fault. Gains history result.1 (IsBrokenOrNotBegun (R.may setup.now.runner.now) setup.now.fleet.now (roll_by setup.now.fleet.now play.now setup.now.forks start.statuses.items start.vars.items) fault)) }
+    ensures asked { IfErr result.0 (λ fault. MayBreak (A.asks coordinator.now.attend.now) fault.why) }
     ensures forks { front.new.forks ≡ front.old.forks }
 {
     watch.play_begins();
     let answer = run_on::<R, Brand, H, A, W>(
-        rt,
-        alloc,
-        attend,
+        coordinator,
         watch,
         front,
-        fleet,
+        setup,
         play,
-        statuses.as_slice(),
-        vars.as_slice(),
-        runner,
-        forks,
+        &start,
         Blank::new(129),
         history,
     );
     match answer {
         Ok(run) => run,
-        Err(history) => (Err(RunFault::before_a_log(alloc, statuses)), history),
+        Err(history) => {
+            let fault = RunFault::before_a_log(coordinator.alloc, start.statuses);
+            (Err(fault), history)
+        }
     }
 }
 
@@ -88,34 +74,26 @@ fn is_finished(end: End) -> bool
 /// `room` is for as many statuses as there are hosts, for a play that can't begin. The history has their logs then.
 #[allow(clippy::too_many_arguments)]
 fn run_later<'f, R: Runner, H: Wait, A: Attend, W: Watch>(
-    rt: &H,
-    alloc: Global,
-    attend: &A,
+    coordinator: &Coordinator<'_, H, A>,
     watch: &mut W,
     front: &mut Front<'f, R>,
-    fleet: &Fleet,
-    plays: &[Play],
-    runner: &'f R,
-    forks: usize,
+    setup: &Setup<'f, R>,
     before: Run,
     done: &mut Vec<Run>,
     room: Vec<Status>,
     history: History,
 ) -> (Result<(), RunFault>, History)
-    requires ready { IsReadyRun fleet.now before }
-    requires some { 0 < forks }
-    requires few { forks ≤ 64 }
-    requires known { find (names_nothing fleet.now) (named_parts plays.now) ≡ None }
-    requires workers { front.old.forks ≡ forks }
-    requires places { vec_len done.old + length plays.now < vec_capacity done.old }
+    requires ready { IsReadyRun setup.now.fleet.now before }
+    requires workers { front.old.forks ≡ setup.now.forks }
+    requires places { vec_len done.old + length setup.now.plays.now < vec_capacity done.old }
     requires empty { room.items ≡ [] }
-    requires room { length fleet.now.hosts ≤ vec_capacity room }
-    ensures ok { OnOk result.0 (Gains history result.1 (HasRunAfter (R.may runner.now) fleet.now forks plays.now before done.old.items done.new.items)) }
-    ensures err { IfErr result.0 (λ fault. Gains history result.1 (HasBrokenAfter (R.may runner.now) fleet.now forks plays.now before done.old.items done.new.items fault)) }
-    ensures asked { IfErr result.0 (λ fault. MayBreak (A.asks attend.now) fault.why) }
+    requires room { length setup.now.fleet.now.hosts ≤ vec_capacity room }
+    ensures ok { OnOk result.0 (Gains history result.1 (HasRunAfter (R.may setup.now.runner.now) setup.now.fleet.now setup.now.forks setup.now.plays.now before done.old.items done.new.items)) }
+    ensures err { IfErr result.0 (λ fault. Gains history result.1 (HasBrokenAfter (R.may setup.now.runner.now) setup.now.fleet.now setup.now.forks setup.now.plays.now before done.old.items done.new.items fault)) }
+    ensures asked { IfErr result.0 (λ fault. MayBreak (A.asks coordinator.now.attend.now) fault.why) }
     ensures forks { front.new.forks ≡ front.old.forks }
 {
-    let [play, rest @ ..] = plays else {
+    let [play, rest @ ..] = setup.plays else {
         keep(done, before);
         return (Ok(()), history);
     };
@@ -123,35 +101,28 @@ fn run_later<'f, R: Runner, H: Wait, A: Attend, W: Watch>(
         keep(done, before);
         return (Ok(()), history);
     }
-    match begin_after(alloc, fleet, play, &before) {
+    match begin_after(coordinator.alloc, setup.fleet, play, &before) {
         Ok(start) => {
             keep(done, before);
-            let (run, history) = run_one(
-                rt,
-                alloc,
-                attend,
-                watch,
-                front,
-                fleet,
-                play,
-                start.statuses,
-                start.vars,
-                runner,
-                forks,
-                history,
-            );
+            let (run, history) = run_one(coordinator, watch, front, setup, play, start, history);
             match run {
-                Ok(run) => run_later(
-                    rt, alloc, attend, watch, front, fleet, rest, runner, forks, run, done, room,
-                    history,
-                ),
+                Ok(run) => {
+                    let later = Setup {
+                        fleet: setup.fleet,
+                        plays: rest,
+                        runner: setup.runner,
+                        forks: setup.forks,
+                    };
+                    run_later(coordinator, watch, front, &later, run, done, room, history)
+                }
                 Err(fault) => (Err(fault), history),
             }
         }
         Err(_refused) => {
             let statuses = copy_into(room, before.statuses.as_slice());
             keep(done, before);
-            (Err(RunFault::before_a_log(alloc, statuses)), history)
+            let fault = RunFault::before_a_log(coordinator.alloc, statuses);
+            (Err(fault), history)
         }
     }
 }
@@ -167,47 +138,45 @@ fn places(alloc: Global, runs: usize, hosts: usize) -> Result<(Vec<Run>, Vec<Sta
 }
 
 /// Runs the plays, one after the other, on the workers of a pool. The history has their logs then.
-#[allow(clippy::too_many_arguments)]
 pub(crate) fn run_each<'f, R: Runner, H: Wait, A: Attend, W: Watch>(
-    rt: &H,
-    alloc: Global,
-    attend: &A,
+    coordinator: &Coordinator<'_, H, A>,
     watch: &mut W,
     front: &mut Front<'f, R>,
-    fleet: &Fleet,
-    plays: &[Play],
-    statuses: Vec<Status>,
-    vars: Vec<Vars>,
-    runner: &'f R,
-    forks: usize,
+    setup: &Setup<'f, R>,
+    start: Start,
     history: History,
 ) -> (Result<Vec<Run>, RunsFault>, History)
-    requires play { 0 < length plays.now }
-    requires all { length statuses.items ≡ length fleet.now.hosts }
-    requires each { length vars.items ≡ length fleet.now.hosts }
-    requires at_rest { NobodyRuns statuses.items }
-    requires safe { IsSafe (groups_of fleet.now) statuses.items }
-    requires some { 0 < forks }
-    requires few { forks ≤ 64 }
-    requires known { find (names_nothing fleet.now) (named_parts plays.now) ≡ None }
-    requires workers { front.old.forks ≡ forks }
-    ensures ok { IfOk result.0 (λ runs. Gains history result.1 (AreRuns (R.may runner.now) fleet.now forks plays.now statuses.items vars.items runs.items)) }
-    ensures err { IfErr result.0 (λ fault. Gains history result.1 (AreBroken (R.may runner.now) fleet.now forks plays.now statuses.items vars.items fault.done.items fault.last)) }
-    ensures asked { IfErr result.0 (λ fault. MayBreak (A.asks attend.now) fault.last.why) }
+    requires play { 0 < length setup.now.plays.now }
+    requires starts { MayStart setup.now.fleet.now start }
+    requires workers { front.old.forks ≡ setup.now.forks }
+    ensures ok { IfOk result.0 (λ runs. Gains history result.1 (AreRuns (R.may setup.now.runner.now) setup.now.fleet.now setup.now.forks setup.now.plays.now start.statuses.items start.vars.items runs.items)) }
+    ensures err { IfErr result.0 (λ fault. Gains history result.1 (AreBroken (R.may setup.now.runner.now) setup.now.fleet.now setup.now.forks setup.now.plays.now start.statuses.items start.vars.items fault.done.items fault.last)) }
+    ensures asked { IfErr result.0 (λ fault. MayBreak (A.asks coordinator.now.attend.now) fault.last.why) }
 {
-    let [first, later @ ..] = plays else {
+    let [first, rest @ ..] = setup.plays else {
         unreachable!()
     };
-    let Ok((mut done, room)) = places(alloc, plays.len(), fleet.hosts()) else {
-        return (Err(RunsFault::before_a_log(alloc, statuses)), history);
+    let alloc = coordinator.alloc;
+    let Ok((mut done, room)) = places(alloc, setup.plays.len(), setup.fleet.hosts()) else {
+        return (Err(RunsFault::before_a_log(alloc, start.statuses)), history);
     };
-    let (run, history) = run_one(
-        rt, alloc, attend, watch, front, fleet, first, statuses, vars, runner, forks, history,
-    );
+    let (run, history) = run_one(coordinator, watch, front, setup, first, start, history);
     match run {
         Ok(run) => {
+            let later = Setup {
+                fleet: setup.fleet,
+                plays: rest,
+                runner: setup.runner,
+                forks: setup.forks,
+            };
             let (ended, history) = run_later(
-                rt, alloc, attend, watch, front, fleet, later, runner, forks, run, &mut done, room,
+                coordinator,
+                watch,
+                front,
+                &later,
+                run,
+                &mut done,
+                room,
                 history,
             );
             match ended {

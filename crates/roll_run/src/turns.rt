@@ -11,12 +11,13 @@ use crate::attend::Attend;
 use crate::batch::run_batch;
 use crate::boundary::come_to_boundary;
 use crate::close::close_batch;
+use crate::coordinator::Coordinator;
 use crate::fault::Break;
 use batch_plan::{Answer, Domains};
 use fork_pool::{Front, StepFault};
 use play_course::{Boundary, End};
 use roll_core::{Board, Runner, Watch};
-use std::alloc::{Allocator, Global};
+use std::alloc::Allocator;
 use std::sync::Wait;
 use std::sync::ledger::Ledger;
 
@@ -52,11 +53,8 @@ fn ahead(answer: &Answer) -> usize
 }
 
 /// Ends the play at the last boundary, or runs its batch.
-#[allow(clippy::too_many_arguments)]
 fn pass<'f, 'b, A: Allocator, R: Runner, L: Ledger, H: Wait, E: Attend, W: Watch>(
-    rt: &H,
-    alloc: Global,
-    attend: &E,
+    coordinator: &Coordinator<'_, H, E>,
     front: &mut Front<'f, R>,
     board: Board<'b, R, L, W>,
     domains: &mut Domains<'_, A>,
@@ -70,7 +68,7 @@ where
     requires counts { AreCountsOf (state_of board.kernel).statuses domains.old }
     requires noted { IsNoted board.kernel boundaries.now before }
     ensures turned { HasTurned boundaries.now domains.new result.1 result.0 }
-    ensures asked { MayTurn (E.asks attend.now) result.0 }
+    ensures asked { MayTurn (E.asks coordinator.now.attend.now) result.0 }
     ensures same { IsSameRoll board.entry result.1 }
     ensures fleet { domains.new.fleet ≡ domains.old.fleet }
     ensures forks { front.new.forks ≡ front.old.forks }
@@ -79,8 +77,10 @@ where
     match end_at(before, boundary) {
         Some(end) => (Turn::Ended(end), board),
         None => {
-            attend.plans(rt, ahead(&boundary.answer));
-            match run_batch(rt, alloc, attend, front, board, boundary.next_batch()) {
+            coordinator
+                .attend
+                .plans(coordinator.rt, ahead(&boundary.answer));
+            match run_batch(coordinator, front, board, boundary.next_batch()) {
                 Ok(mut board) => {
                     let end = close_batch(&mut board, domains, boundary.next_batch());
                     (Turn::Behind(end), board)
@@ -92,11 +92,8 @@ where
 }
 
 /// Comes to the next boundary, and ends the play there or runs its batch.
-#[allow(clippy::too_many_arguments)]
 fn move_on<'f, 'b, A: Allocator, R: Runner, L: Ledger, H: Wait, E: Attend, W: Watch>(
-    rt: &H,
-    alloc: Global,
-    attend: &E,
+    coordinator: &Coordinator<'_, H, E>,
     front: &mut Front<'f, R>,
     mut board: Board<'b, R, L, W>,
     domains: &mut Domains<'_, A>,
@@ -113,16 +110,14 @@ where
     requires targeted { targeted ≡ length (targets board.kernel.fleet board.kernel.play) }
     requires between { IsBetween board.kernel boundaries.old.items before }
     ensures turned { HasTurned boundaries.new.items domains.new result.1 result.0 }
-    ensures asked { MayTurn (E.asks attend.now) result.0 }
+    ensures asked { MayTurn (E.asks coordinator.now.attend.now) result.0 }
     ensures same { IsSameRoll board.entry result.1 }
     ensures fleet { domains.new.fleet ≡ domains.old.fleet }
     ensures forks { front.new.forks ≡ front.old.forks }
 {
-    match come_to_boundary(alloc, &mut board, domains, boundaries, targeted) {
+    match come_to_boundary(coordinator.alloc, &mut board, domains, boundaries, targeted) {
         Ok(()) => pass(
-            rt,
-            alloc,
-            attend,
+            coordinator,
             front,
             board,
             domains,
@@ -134,11 +129,8 @@ where
 }
 
 /// From the present boundary to the end of the play, or until it is broken off.
-#[allow(clippy::too_many_arguments)]
 pub(crate) fn go_on<'f, 'b, A: Allocator, R: Runner, L: Ledger, H: Wait, E: Attend, W: Watch>(
-    rt: &H,
-    alloc: Global,
-    attend: &E,
+    coordinator: &Coordinator<'_, H, E>,
     front: &mut Front<'f, R>,
     mut board: Board<'b, R, L, W>,
     domains: &mut Domains<'_, A>,
@@ -154,14 +146,20 @@ where
     requires targeted { targeted ≡ length (targets board.kernel.fleet board.kernel.play) }
     requires between { IsBetween board.kernel boundaries.old.items None }
     ensures gone { HasGone boundaries.new.items result.1.kernel result.0 }
-    ensures asked { IfErr result.0 (MayBreak (E.asks attend.now)) }
+    ensures asked { IfErr result.0 (MayBreak (E.asks coordinator.now.attend.now)) }
     ensures same { IsSameRoll board.entry result.1 }
     ensures forks { front.new.forks ≡ front.old.forks }
 {
     let mut before = None;
-    for _ in rt.forever() {
+    for _ in coordinator.rt.forever() {
         let (turn, back) = move_on(
-            rt, alloc, attend, front, board, domains, boundaries, before, targeted,
+            coordinator,
+            front,
+            board,
+            domains,
+            boundaries,
+            before,
+            targeted,
         );
         board = back;
         match turn {

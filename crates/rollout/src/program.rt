@@ -17,7 +17,7 @@ use command_line::command::Line;
 use command_line::{Request, request_of};
 use local_programs::Notes;
 use roll_core::{History, Runner, Watch};
-use roll_run::Attend;
+use roll_run::{Attend, Coordinator};
 use std::alloc::Global;
 use std::io::Write;
 use std::process::{ExitCode, Processes, SystemProcess};
@@ -131,8 +131,20 @@ fn attempt<
         ) => {
             begin_telling(system, tell, &line, is_verbose, is_quiet);
             let attend = Attendant::new(system, notes, stop_file);
+            let coordinator = Coordinator {
+                rt,
+                alloc,
+                attend: &attend,
+            };
             follow(
-                system, rt, alloc, runner, &attend, tell, line, input, out, history,
+                system,
+                &coordinator,
+                runner,
+                tell,
+                line,
+                input,
+                out,
+                history,
             )
         }
         Err(fault) => (Err(Fault::Line(fault)), history),
@@ -165,19 +177,18 @@ fn follow<
     O: Write,
 >(
     system: &S,
-    rt: &H,
-    alloc: Global,
+    coordinator: &Coordinator<'_, H, A>,
     runner: &R,
-    attend: &A,
     watch: &mut T,
     line: Line,
     input: &mut I,
     out: &mut O,
     history: History,
 ) -> (Result<Status, Fault>, History)
-    ensures { Gains history result.1 (Does (R.may runner.now) (A.asks attend.now) (sources_of (S.files system.now) (I.is_reliable input.old)) line
+    ensures { Gains history result.1 (Does (R.may runner.now) (A.asks coordinator.now.attend.now) (sources_of (S.files system.now) (I.is_reliable input.old)) line
         (I.remaining input.old) (I.remaining input.new) (O.contents out.old) (O.contents out.new) result.0) }
 {
+    let alloc = coordinator.alloc;
     match line {
         Line::Limits { inventory } => (limits(system, alloc, inventory, input, out), history),
         Line::Plan {
@@ -192,7 +203,15 @@ fn follow<
             playbook,
             forks,
         } => roll(
-            system, rt, alloc, runner, attend, watch, inventory, playbook, forks, input, out,
+            system,
+            coordinator,
+            runner,
+            watch,
+            inventory,
+            playbook,
+            forks,
+            input,
+            out,
             history,
         ),
         Line::Rehearse {

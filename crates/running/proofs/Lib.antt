@@ -4,4 +4,5 @@ pub mod SameCourses
 pub mod SameHosts
 pub mod SameRuns
 pub mod TextLemmas
+pub mod LeftLemmas
 pub mod SafeRecaps

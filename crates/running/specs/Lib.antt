@@ -1,5 +1,6 @@
 pub mod Ends
 pub mod Inputs
+pub mod Lefts
 pub mod Recaps
 pub mod RunTexts
 pub mod Laws

@@ -3,6 +3,7 @@ ghost use Rattle.std.specs.Prelude.{◌≡◌, IfErr, IfOk};
 ghost use Rattle.fleet_states.specs.Starts.{start_statuses};
 ghost use Rattle.batch_plan.specs.Beginnings.{IsReady};
 ghost use Rattle.play_course.specs.PlayPlans.{targets};
+ghost use Rattle.roll_run.specs.Plays.{MayStart};
 ghost use Rattle.running.specs.Inputs.{AreInputs, RefusesTexts};
 
 use crate::fault::RunTextFault;
@@ -10,19 +11,17 @@ use crate::hosts::{Hosts, read_hosts};
 use batch_plan::start;
 use domains::Fleet;
 use fleet_states::Status;
-use host_vars::Vars;
 use planning::read_known_plays;
 use play_model::Play;
+use roll_run::Start;
 use std::alloc::{AllocError, Global};
 
-/// What the texts of an inventory and a playbook say: the fleet, of each host its variables, the plays, and the status of each host with
-/// which the first play begins.
+/// What the texts of an inventory and a playbook say: the fleet, the plays, and what the first play begins with.
 #[derive(Drop)]
 pub(crate) struct Inputs {
     pub(crate) fleet: Fleet,
-    pub(crate) vars: Vec<Vars>,
     pub(crate) plays: Vec<Play>,
-    pub(crate) statuses: Vec<Status>,
+    pub(crate) start: Start,
 }
 
 /// The statuses with which a first play begins. Only want of memory refuses it, where its pattern was looked up.
@@ -43,8 +42,8 @@ pub(crate) fn read_inputs(
     inventory: &[u8],
     playbook: &[u8],
 ) -> Result<Inputs, RunTextFault>
-    ensures ok { IfOk result (λ inputs. AreInputs inventory.now playbook.now inputs.fleet inputs.vars.items inputs.plays.items inputs.statuses.items) }
-    ensures ready { IfOk result (λ inputs. IsReady inputs.fleet inputs.statuses.items) }
+    ensures ok { IfOk result (λ inputs. AreInputs inventory.now playbook.now inputs.fleet inputs.start.vars.items inputs.plays.items inputs.start.statuses.items) }
+    ensures starts { IfOk result (λ inputs. MayStart inputs.fleet inputs.start) }
     ensures err { IfErr result (RefusesTexts inventory.now playbook.now) }
 {
     let Hosts { fleet, vars } = match read_hosts(alloc, inventory) {
@@ -58,8 +57,7 @@ pub(crate) fn read_inputs(
     let statuses = start_first(alloc, &fleet, &plays[0])?;
     Ok(Inputs {
         fleet,
-        vars,
         plays,
-        statuses,
+        start: Start { statuses, vars },
     })
 }

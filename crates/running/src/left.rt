@@ -1,5 +1,6 @@
 //! What runs have left.
 ghost use Rattle.std.specs.Prelude.{◌≡◌, ◌+◌, ◌≤◌};
+ghost use Rattle.running.specs.Lefts.{EndsWithBroken, EndsWithDone};
 ghost use Rattle.roll_core.specs.Histories.{log_at};
 ghost use Rattle.roll_core.specs.Views.{events_of};
 
@@ -9,7 +10,7 @@ use host_track::Counts;
 use play_course::End;
 use play_model::Play;
 use roll_core::{Event, History};
-use roll_run::{Run, RunFault};
+use roll_run::{Run, RunFault, RunsFault};
 use std::alloc::{AllocError, Global};
 
 /// The runs of the first plays of a file, and behind them the one that was broken off, if one was; with the history that has their logs, behind those
@@ -23,18 +24,33 @@ pub(crate) struct Left<'r> {
 }
 
 impl<'r> Left<'r> {
-    pub(crate) fn new(
-        done: &'r [Run],
-        broken: Option<&'r RunFault>,
-        history: &'r History,
-        rolls_before: usize,
-    ) -> Left<'r>
+    /// What runs have left that came to their ends, whose logs the history has behind those of so many rolls.
+    pub(crate) fn of_all(done: &'r [Run], history: &'r History, rolls_before: usize) -> Left<'r>
+        requires { EndsWithDone rolls_before done.now history.now }
         ensures history { result.history.now ≡ history.now }
         ensures before { result.rolls_before ≡ rolls_before }
     {
         Left {
             done,
-            broken,
+            broken: None,
+            history,
+            rolls_before,
+        }
+    }
+
+    /// The same of runs of which a fault broke the last one off.
+    pub(crate) fn of_broken(
+        fault: &'r RunsFault,
+        history: &'r History,
+        rolls_before: usize,
+    ) -> Left<'r>
+        requires { EndsWithBroken rolls_before fault.now.done.items history.now }
+        ensures history { result.history.now ≡ history.now }
+        ensures before { result.rolls_before ≡ rolls_before }
+    {
+        Left {
+            done: fault.done.as_slice(),
+            broken: Some(&fault.last),
             history,
             rolls_before,
         }

@@ -13,8 +13,7 @@ use crate::recaps::{send_broken, send_runs};
 use domains::Fleet;
 use play_model::Play;
 use roll_core::{History, Runner, Watch};
-use roll_run::{Attend, Run, RunsFault, run_plays};
-use std::alloc::Global;
+use roll_run::{Attend, Coordinator, Run, RunsFault, Setup, run_plays};
 use std::io::Write;
 use std::process::{Processes, SystemProcess};
 use std::sync::Wait;
@@ -73,9 +72,7 @@ pub fn run_text<
     T: Watch,
     W: Write,
 >(
-    rt: &H,
-    alloc: Global,
-    attend: &A,
+    coordinator: &Coordinator<'_, H, A>,
     watch: &mut T,
     inventory: &[u8],
     playbook: &[u8],
@@ -88,13 +85,13 @@ pub fn run_text<
     requires few { forks ≤ 64 }
     ensures ok { IfOk result.0 (λ end. Gains history result.1 (WritesRecap (R.may runner.now) inventory.now playbook.now forks (W.contents out.old) (W.contents out.new) end)) }
     ensures err { IfErr result.0 (λ fault. Gains history result.1 (IsTrueFault (R.may runner.now) inventory.now playbook.now forks (W.contents out.old) (W.contents out.new) fault)) }
-    ensures asked { IfErr result.0 (MayBreakText (A.asks attend.now)) }
+    ensures asked { IfErr result.0 (MayBreakText (A.asks coordinator.now.attend.now)) }
 {
+    let alloc = coordinator.alloc;
     let Inputs {
         fleet,
-        vars,
         plays,
-        statuses,
+        start,
     } = match read_inputs(alloc, inventory, playbook) {
         Ok(inputs) => inputs,
         Err(fault) => return (Err(fault), history),
@@ -104,14 +101,18 @@ pub fn run_text<
     let several = are_several(listed);
     tell_left_out(alloc, watch, &fleet, listed);
     watch.plays_begin(listed.len());
-    let (ran, history) = run_plays(
-        rt, alloc, attend, watch, &fleet, listed, statuses, vars, runner, forks, history,
-    );
+    let setup = Setup {
+        fleet: &fleet,
+        plays: listed,
+        runner,
+        forks,
+    };
+    let (ran, history) = run_plays(coordinator, watch, &setup, start, history);
     match ran {
         Ok(runs) => {
             watch.plays_end();
             let told = tell_runs(&fleet, several, runs.as_slice(), out);
-            let left = Left::new(runs.as_slice(), None, &history, rolls);
+            let left = Left::of_all(runs.as_slice(), &history, rolls);
             tell_behind(alloc, watch, &fleet, listed, &left, told.is_ok());
             (told, history)
         }
@@ -119,7 +120,7 @@ pub fn run_text<
             watch.plays_end();
             let told = tell_broken(&fleet, several, &fault, out);
             let is_whole = !matches!(told, RunTextFault::Write(_));
-            let left = Left::new(fault.done.as_slice(), Some(&fault.last), &history, rolls);
+            let left = Left::of_broken(&fault, &history, rolls);
             tell_behind(alloc, watch, &fleet, listed, &left, is_whole);
             (Err(told), history)
         }

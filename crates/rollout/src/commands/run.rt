@@ -14,9 +14,8 @@ use bounded_io::Input;
 use command_line::{Forks, Source};
 use local_programs::workers;
 use roll_core::{History, Runner, Watch};
-use roll_run::Attend;
+use roll_run::{Attend, Coordinator};
 use running::run_text;
-use std::alloc::Global;
 use std::io::Write;
 use std::process::{Processes, SystemProcess};
 use std::sync::Wait;
@@ -35,10 +34,8 @@ pub fn roll<
     W: Write,
 >(
     system: &S,
-    rt: &H,
-    alloc: Global,
+    coordinator: &Coordinator<'_, H, A>,
     runner: &R,
-    attend: &A,
     watch: &mut T,
     inventory: Source,
     playbook: Source,
@@ -47,15 +44,23 @@ pub fn roll<
     out: &mut W,
     history: History,
 ) -> (Result<Status, Fault>, History)
-    ensures { Gains history result.1 (Rolls (R.may runner.now) (A.asks attend.now) (sources_of (S.files system.now) (I.is_reliable input.old)) inventory playbook forks
+    ensures { Gains history result.1 (Rolls (R.may runner.now) (A.asks coordinator.now.attend.now) (sources_of (S.files system.now) (I.is_reliable input.old)) inventory playbook forks
         (I.remaining input.old) (I.remaining input.new) (W.contents out.old) (W.contents out.new) result.0) }
 {
-    match refusal(system, alloc) {
+    match refusal(system, coordinator.alloc) {
         Some(fault) => (Err(fault), history),
         None => {
-            let forks = workers(rt, forks.number());
+            let forks = workers(coordinator.rt, forks.number());
             roll_inputs(
-                system, rt, alloc, runner, attend, watch, inventory, playbook, forks, input, out,
+                system,
+                coordinator,
+                runner,
+                watch,
+                inventory,
+                playbook,
+                forks,
+                input,
+                out,
                 history,
             )
         }
@@ -74,10 +79,8 @@ fn roll_inputs<
     W: Write,
 >(
     system: &S,
-    rt: &H,
-    alloc: Global,
+    coordinator: &Coordinator<'_, H, A>,
     runner: &R,
-    attend: &A,
     watch: &mut T,
     inventory: Source,
     playbook: Source,
@@ -90,14 +93,21 @@ fn roll_inputs<
     requires few { forks ≤ 64 }
     ensures rolls { Gains history result.1 (RollsInputs (R.may runner.now) (sources_of (S.files system.now) (I.is_reliable input.old)) inventory playbook forks
         (I.remaining input.old) (I.remaining input.new) (W.contents out.old) (W.contents out.new) result.0) }
-    ensures stops { result.0 ≡ Err Stopped → A.asks attend.now ≡ true }
+    ensures stops { result.0 ≡ Err Stopped → A.asks coordinator.now.attend.now ≡ true }
 {
-    match read_both(system, alloc, inventory, playbook, input) {
+    match read_both(system, coordinator.alloc, inventory, playbook, input) {
         Ok((inventory, playbook)) => {
             let inventory = inventory.as_slice();
             let playbook = playbook.as_slice();
             roll_texts(
-                rt, alloc, runner, attend, watch, inventory, playbook, forks, out, history,
+                coordinator,
+                runner,
+                watch,
+                inventory,
+                playbook,
+                forks,
+                out,
+                history,
             )
         }
         Err(fault) => (Err(fault), history),
@@ -113,10 +123,8 @@ fn roll_texts<
     T: Watch,
     W: Write,
 >(
-    rt: &H,
-    alloc: Global,
+    coordinator: &Coordinator<'_, H, A>,
     runner: &R,
-    attend: &A,
     watch: &mut T,
     inventory: &[u8],
     playbook: &[u8],
@@ -128,10 +136,17 @@ fn roll_texts<
     requires few { forks ≤ 64 }
     ensures ok { IfOk result.0 (λ status. Gains history result.1 (PrintsRecap (R.may runner.now) inventory.now playbook.now forks (W.contents out.old) (W.contents out.new) status)) }
     ensures err { IfErr result.0 (λ fault. Gains history result.1 (BreaksOff (R.may runner.now) inventory.now playbook.now forks (W.contents out.old) (W.contents out.new) fault)) }
-    ensures stops { result.0 ≡ Err Stopped → A.asks attend.now ≡ true }
+    ensures stops { result.0 ≡ Err Stopped → A.asks coordinator.now.attend.now ≡ true }
 {
     let (ran, history) = run_text(
-        rt, alloc, attend, watch, inventory, playbook, forks, runner, out, history,
+        coordinator,
+        watch,
+        inventory,
+        playbook,
+        forks,
+        runner,
+        out,
+        history,
     );
     match ran {
         Ok(end) => (Ok(Status::from(end)), history),

@@ -1,5 +1,9 @@
+use Rattle.std.proofs.Common.{List, subst, sym}
+use Rattle.roll_run.specs.declared.run.Run.{Run}
 use Rattle.roll_run.proofs.Following.{err_of, ok_of}
+use Rattle.running.proofs.LeftLemmas.{ends_with_broken, ends_with_done}
 use Rattle.running.proofs.TextLemmas.{fault_told, gains_err, gains_ok, runs_told}
+use Rattle.running.specs.Lefts.{EndsWithDone}
 use Rattle.running.specs.RunTexts.{IsTrueFault, WritesRecap}
 use Rattle.running.proofs.printing.run_text.Goals as goal
 
@@ -10,8 +14,8 @@ returns-in-Ok-ran-clause-ok g c =
     let new = g.W.Write.contents c.tell_runs-told.new.out in
     let gained = ok_of _ c.run_plays-ran.result.0 c.in-Ok-ran.runs c.in-Ok-ran.is c.run_plays-ran.ensures.ok in
     gains_ok (WritesRecap may c.args.inventory.now c.args.playbook.now c.args.forks old new) c.tell_runs-told.result c.args.history c.run_plays-ran.result.1 gained
-    (runs_told may c.args.inventory.now c.args.playbook.now c.args.forks old new c.in-Ok.inputs.fleet c.in-Ok.inputs.vars.items c.in-Ok.inputs.plays.items _
-    c.in-Ok.inputs.statuses.items _ c.in-Ok-ran.runs.items _ gained.logs c.tell_runs-told.result c.in-Ok.ensures.ok c.as_slice-listed.ensures.value c.are_several-several.ensures gained.are
+    (runs_told may c.args.inventory.now c.args.playbook.now c.args.forks old new c.in-Ok.inputs.fleet c.in-Ok.inputs.start.vars.items c.in-Ok.inputs.plays.items _
+    c.in-Ok.inputs.start.statuses.items _ c.in-Ok-ran.runs.items _ gained.logs c.tell_runs-told.result c.in-Ok.ensures.ok c.as_slice-listed.ensures.value c.are_several-several.ensures gained.are
     c.as_slice.ensures.value c.tell_runs-told.ensures).0
 
 pub returns-in-Ok-ran-clause-err : goal.returns-in-Ok-ran-clause-err
@@ -21,8 +25,8 @@ returns-in-Ok-ran-clause-err g c =
     let new = g.W.Write.contents c.tell_runs-told.new.out in
     let gained = ok_of _ c.run_plays-ran.result.0 c.in-Ok-ran.runs c.in-Ok-ran.is c.run_plays-ran.ensures.ok in
     gains_err (IsTrueFault may c.args.inventory.now c.args.playbook.now c.args.forks old new) c.tell_runs-told.result c.args.history c.run_plays-ran.result.1 gained
-    (runs_told may c.args.inventory.now c.args.playbook.now c.args.forks old new c.in-Ok.inputs.fleet c.in-Ok.inputs.vars.items c.in-Ok.inputs.plays.items _
-    c.in-Ok.inputs.statuses.items _ c.in-Ok-ran.runs.items _ gained.logs c.tell_runs-told.result c.in-Ok.ensures.ok c.as_slice-listed.ensures.value c.are_several-several.ensures gained.are
+    (runs_told may c.args.inventory.now c.args.playbook.now c.args.forks old new c.in-Ok.inputs.fleet c.in-Ok.inputs.start.vars.items c.in-Ok.inputs.plays.items _
+    c.in-Ok.inputs.start.statuses.items _ c.in-Ok-ran.runs.items _ gained.logs c.tell_runs-told.result c.in-Ok.ensures.ok c.as_slice-listed.ensures.value c.are_several-several.ensures gained.are
     c.as_slice.ensures.value c.tell_runs-told.ensures).1
 
 pub returns-clause-err : goal.returns-clause-err
@@ -32,7 +36,21 @@ returns-clause-err g c =
     record {
       logs = gained.logs;
       grown = gained.grown;
-      are = fault_told may c.args.inventory.now c.args.playbook.now c.args.forks _ _ c.in-Ok.inputs.fleet c.in-Ok.inputs.vars.items c.in-Ok.inputs.plays.items _
-          c.in-Ok.inputs.statuses.items _ c.in-Err-ran.fault.done.items c.in-Err-ran.fault.last gained.logs c.tell_broken-told.result c.in-Ok.ensures.ok c.as_slice-listed.ensures.value
+      are = fault_told may c.args.inventory.now c.args.playbook.now c.args.forks _ _ c.in-Ok.inputs.fleet c.in-Ok.inputs.start.vars.items c.in-Ok.inputs.plays.items _
+          c.in-Ok.inputs.start.statuses.items _ c.in-Err-ran.fault.done.items c.in-Err-ran.fault.last gained.logs c.tell_broken-told.result c.in-Ok.ensures.ok c.as_slice-listed.ensures.value
           c.are_several-several.ensures gained.are c.tell_broken-told.ensures;
     }
+
+pub of_all-left-requires : goal.of_all-left-requires
+of_all-left-requires g c =
+    let after = c.run_plays-ran.result.1 in
+    let gained = ok_of _ c.run_plays-ran.result.0 c.in-Ok-ran.runs c.in-Ok-ran.is c.run_plays-ran.ensures.ok in
+    subst (λ (l : List Run). EndsWithDone c.rolls-rolls.result l after) (sym c.as_slice-in-Ok-ran.ensures.value)
+    (ends_with_done (g.R.Runner.may c.args.runner.now) c.in-Ok.inputs.fleet c.args.forks _ c.in-Ok.inputs.start.statuses.items _ c.rolls-rolls.result c.args.history after c.rolls-rolls.ensures c.in-Ok-ran.runs.items gained)
+
+pub of_broken-left-requires : goal.of_broken-left-requires
+of_broken-left-requires g c =
+    let after = c.run_plays-ran.result.1 in
+    let fault = c.in-Err-ran.fault in
+    let gained = err_of _ c.run_plays-ran.result.0 fault c.in-Err-ran.is c.run_plays-ran.ensures.err in
+    ends_with_broken (g.R.Runner.may c.args.runner.now) c.in-Ok.inputs.fleet c.args.forks _ c.in-Ok.inputs.start.statuses.items _ c.rolls-rolls.result c.args.history after c.rolls-rolls.ensures fault.done.items fault.last gained

@@ -11,4 +11,4 @@ returns-in-Err-clause-err g c =
 pub returns-in-Err-clause-stops : goal.returns-in-Err-clause-stops
 returns-in-Err-clause-stops g c same =
     let asked = err_of _ c.run_text-ran.result.0 c.in-Err.fault c.in-Err.is c.run_text-ran.ensures.asked in
-    stops_where_asked (g.A.Attend.asks c.args.attend.now) c.in-Err.fault asked (sym c.from-in-Err.ensures ∙ fault_in c.from-in-Err.result same)
+    stops_where_asked (g.A.Attend.asks c.args.coordinator.now.attend.now) c.in-Err.fault asked (sym c.from-in-Err.ensures ∙ fault_in c.from-in-Err.result same)

@@ -1,0 +1,20 @@
+//! What the plays of a file are run with.
+ghost use Rattle.std.specs.Prelude.{◌≡◌, ◌<◌, ◌≤◌, None, find};
+ghost use Rattle.domains.specs.Patterns.{names_nothing};
+ghost use Rattle.play_course.specs.PlayPlans.{named_parts};
+
+use domains::Fleet;
+use play_model::Play;
+
+/// What the plays of a file are run with: the fleet, the plays that are to come, whose programs run, and how many workers start them, 1 to 64. Each part
+/// of a pattern of these plays names a group or a host of the fleet.
+#[derive(Drop)]
+pub struct Setup<'r, R> {
+    pub fleet: &'r Fleet,
+    pub plays: &'r [Play],
+    pub runner: &'r R,
+    pub forks: usize,
+    ghost known: { find (names_nothing fleet.now) (named_parts plays.now) ≡ None },
+    ghost some: { 0 < forks },
+    ghost few: { forks ≤ 64 },
+}
