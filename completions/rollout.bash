@@ -60,7 +60,7 @@ _rollout() {
     command=${words[1]}
     case $command in
     limits) most=1 options=(-h --help) ;;
-    plan) most=2 options=(-v --verbose -h --help) ;;
+    plan) most=2 options=(--course --failing -v --verbose -h --help) ;;
     run) most=2 options=(--forks -v --verbose --quiet --stop-file -h --help) ;;
     rehearse) most=2 options=(-h --help) ;;
     help)
@@ -77,12 +77,12 @@ _rollout() {
             files=$((files + 1))
         elif [[ ${words[i]} == -- ]]; then
             ends=yes
-        elif [[ $command == run && ${words[i]} == --@(forks|stop-file) ]]; then
+        elif [[ $command == run && ${words[i]} == --@(forks|stop-file) || $command == plan && ${words[i]} == --@(failing) ]]; then
             wants=${words[i]}
         fi
     done
     # The value may stand in the word of its option.
-    if [[ -z $ends$wants && $command == run && $current == --@(forks|stop-file)=* ]]; then
+    if [[ -z $ends$wants ]] && [[ $command == run && $current == --@(forks|stop-file)=* || $command == plan && $current == --@(failing)=* ]]; then
         wants=${current%%=*}
         option=$wants=
         current=${current#*=}
@@ -93,6 +93,7 @@ _rollout() {
         _rollout_offer {1..64}
         ;;
     --stop-file) _rollout_files ;;
+    --failing) ;;
     *)
         if [[ -z $ends && $current == -* ]]; then
             _rollout_offer "${options[@]}"

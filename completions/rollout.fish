@@ -28,6 +28,8 @@ function __rollout_lacks
             set ends 1
         else if test $words[2] = run; and contains -- $word --forks --stop-file
             set wants 1
+        else if test $words[2] = plan; and test $word = --failing
+            set wants 1
         end
     end
     test $files -lt $argv[1]
@@ -45,6 +47,8 @@ complete -c rollout -n __rollout_of -a help -d 'Prints the help of the program, 
 complete -c rollout -n '__rollout_of limits' -s h -l help -d 'Print help'
 complete -c rollout -n '__rollout_lacks 1 limits' -k -a '(__fish_complete_suffix .json)'
 
+complete -c rollout -n '__rollout_of plan' -l course -d 'Prints what a run would open to its end, play by play, where no program fails'
+complete -c rollout -n '__rollout_of plan' -l failing -x -d 'Beside --course these hosts and groups, parted by commas, fail at their first step'
 complete -c rollout -n '__rollout_of plan' -s v -l verbose -d 'Tells on standard error which hosts of the play are down already, and left out'
 complete -c rollout -n '__rollout_of plan' -s h -l help -d 'Print help'
 

@@ -529,8 +529,10 @@ Arguments:
   <PLAY>  The playbook: a file of JSON that lists plays with their hosts and tasks
 
 Options:
-  -v, --verbose  Tells on standard error which hosts of the play are down already, and left out
-  -h, --help     Print help
+      --course           Prints what a run would open to its end, play by play, where no program fails
+      --failing <HOSTS>  Beside --course these hosts and groups, parted by commas, fail at their first step
+  -v, --verbose          Tells on standard error which hosts of the play are down already, and left out
+  -h, --help             Print help
 '
 for words in 'plan --help' 'plan -h' 'help plan'; do
     run $words

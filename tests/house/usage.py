@@ -149,7 +149,7 @@ def of_zsh():
     parts = [(TOP, re.search(r"^    _arguments -C .*$", text, re.M)[0]), *re.findall(r"^        (\w+)\)\n(.*?)^            ;;", text, re.S | re.M)]
     for command, part in parts:
         usage.command(command)
-        for short, name, alone, value, about in re.findall(r"(?:\{(-\w),(--[\w-]+)\}'|['\"](--[\w-]+)(=?))\[([^\]]*)\]", part.replace("$help", helps)):
+        for short, name, alone, value, about in re.findall(r"(?:\{(-\w),(--[\w-]+)\}'|['\"]\*?(--[\w-]+)(=?))\[([^\]]*)\]", part.replace("$help", helps)):
             usage.option(command, [each for each in (short, name, alone) if each], "VALUE" if value else "", about)
     return usage
 

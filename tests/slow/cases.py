@@ -108,6 +108,33 @@ def draw_told(seed, number):
     return replace(case, words=(*case.words, "-v"))
 
 
+def draw_foreseen(seed, number):
+    """The course of this number: plays for which nothing is run, in which some hosts fail."""
+    random = Random(f"{seed}/foreseen/{number}")
+    inventory = write(draw_right_inventory(random, crossing=0.02, down=random.choice([0, 0.05, 0.2]), limited=random.choice([0.1, 0.4, 0.7])), random)
+    value = draw_right_playbook(random, names_in(inventory), RunStyle([]), random.choice([1, 1, 2, 3]))
+    playbook = write(mutate(value, random) if random.random() < 0.03 else value, random)
+    return Case(("plan", INVENTORY, PLAYBOOK, "--course", *_failing(random, hosts_in(inventory), names_in(inventory))), inventory, playbook)
+
+
+def _failing(random, hosts, names):
+    """The words that say which hosts fail: nobody, some hosts, groups among them; now and then a name that nobody has."""
+    share = random.choice([0, 0.1, 0.1, 0.3, 0.3, 1])
+    failing = [host for host in hosts if random.random() < share]
+    if random.random() < 0.2:
+        failing.append(random.choice(names))
+    if random.random() < 0.05:
+        failing.insert(random.randint(0, len(failing)), random.choice(["nobody", "a b", "caf\u00e9", "www[1"]))
+    random.shuffle(failing)
+    cut = random.choice([0, 0, len(failing) // 2])
+    texts = [text for text in (failing[:cut], failing[cut:]) if text or random.random() < 0.1]
+    words = []
+    for text in texts:
+        value = random.choice([",", ",", ", ", ":", ",,"]).join(text)
+        words += [f"--failing={value}"] if random.random() < 0.3 else ["--failing", value]
+    return words
+
+
 def _run(random, further=lambda play: None):
     """A run of programs whose outcomes are known; to each play something further may be done."""
     while True:

@@ -5,7 +5,8 @@ from dataclasses import dataclass
 from aftermath import left_out, why
 from course import next_boundary
 from faults import Fault
-from fleet import Fleet
+from fleet import Fleet, parts_of
+from foreseen import foresee, foreseen_text
 from inventory import read_inventory
 from planning import Blocked, start
 from playbook import read_playbook
@@ -31,6 +32,8 @@ def command(words, files, typed):
     """What is said to a line of words, its files having been read; `typed` is standard input."""
     if not words or words[0] == "limits":
         return limits(*files)
+    if words[0] == "plan" and "--course" in words:
+        return course(*files, names_to_fail(words))
     if words[0] == "plan":
         return plan(*files)
     if words[0] == "run":
@@ -58,6 +61,28 @@ def plan(inventory, playbook):
     boundary = next_boundary(fleet, plays[0], state, cap(plays[0].sizes, targeted(fleet, targets[0]), 0))
     left_out = boundary.aside and not turned("held-hosts-make-status-three")
     return Said(plan_text(boundary.answer, boundary.aside), "", 3 if isinstance(boundary.answer, Blocked) or left_out else 0)
+
+
+def names_to_fail(words):
+    """The names that `--failing` gives, as a word of its own or behind a `=`, in their order."""
+    apart = [value for word, value in zip(words, words[1:]) if word == "--failing"]
+    attached = [word.removeprefix("--failing=") for word in words if word.startswith("--failing=")]
+    return [name for value in apart + attached for name in parts_of(value)]
+
+
+def course(inventory, playbook, names):
+    """What a run would open to its end, where just the hosts of these names fail."""
+    try:
+        if turned("course-names-last"):
+            Fleet(read_inventory(inventory)).target(names)
+        fleet, plays, targets = accepted(inventory, playbook)
+        if turned("course-groups-may-fail"):
+            names = [name for name in names if name not in {place.name for place in fleet.places}]
+        failing = fleet.target(names)
+    except Fault as fault:
+        return refused(fault)
+    courses = foresee(fleet, plays, targets, lambda target: targeted(fleet, target), failing)
+    return Said(foreseen_text(courses, len(plays) > 1), "", status_of(courses))
 
 
 def run(inventory, playbook, is_verbose=False):

@@ -69,6 +69,7 @@ SAME = [
     ("a session of one byte too many", inputs.long_session(1)),
     ("a session and a line of one byte too many", inputs.long_session_in_a_long_line()),
     ("512 batches advanced and undone", inputs.many_advances(512)),
+    ("a course of 512 batches", inputs.long_course(512)),
 ]
 
 

@@ -107,3 +107,9 @@ def many_advances(count):
     """So many batches advanced, and undone again."""
     case = one_by_one(count)
     return Case(("rehearse", INVENTORY, PLAYBOOK), case.inventory, case.playbook, b"advance\n" * count + b"undo\n" * (count + 1))
+
+
+def long_course(count):
+    """A course of so many batches."""
+    case = one_by_one(count)
+    return Case((*case.words, "--course"), case.inventory, case.playbook)

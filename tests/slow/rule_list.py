@@ -17,4 +17,5 @@ RULES = {
     **runs.PLAYS,
     **runs.TELLING,
     **runs.REHEARSALS,
+    **runs.COURSES,
 }

@@ -149,3 +149,13 @@ REHEARSALS = {
     "undo-takes-the-end-back": "undo takes the end back.",
     "unknown-before-over": "An unknown name is told before that all is over.",
 }
+
+COURSES = {
+    "course-counts-all-plays": "The batches of all plays are counted.",
+    "course-failed-hosts-are-down": "A host that fails in a course is down behind its batch.",
+    "course-failed-hosts-stay-failed": "A host that fails in a course doesn't wait in a later play.",
+    "course-groups-may-fail": "A group's name stands for its hosts that are to fail.",
+    "course-hosts-fail-at-the-first-step": "Hosts that are to fail do so at the first step.",
+    "course-names-last": "Names of hosts that are to fail are looked up after those of patterns.",
+    "course-takes-later-sizes": "A course takes the next size of a list too.",
+}

@@ -1,46 +1,51 @@
 """Shows that the drawn cases of the gate tell each rule from its turned one, and with which case.
 
 For each rule the slow program says with that rule turned what it says of the cases, one after the other, until it says something else than with
-all rules right. Rules of what a run tells are held against the runs that tell of themselves. `python3 turned.py [SEED [CASES [NAME..]]]` prints a line a rule; its last line counts them.
+all rules right. Rules of what a run tells are held against the runs that tell of themselves, those of courses against courses. `python3 turned.py [SEED [CASES [NAME..]]]` prints a line a rule; its last line counts them.
 """
 
 import os
 import sys
 from multiprocessing import Pool
 
-from cases import draw_case, draw_told
-from gate import CASES, SEED, TOLD
+from cases import draw_case, draw_foreseen, draw_told
+from gate import CASES, FORESEEN, SEED, TOLD
 from programs import Unmodelled
 from rule_list import RULES
 from rules import turn, turn_none
-from rules_of_runs import TELLING
+from rules_of_runs import COURSES, TELLING
 
-# By whether they are runs that tell of themselves: the cases, and what is right of each.
-_cases = {False: [], True: []}
-_right = {False: [], True: []}
+# By what the cases are of: a command, a run that tells of itself, or a course. The cases, and what is right of each.
+_cases = {"": [], "told": [], "course": []}
+_right = {"": [], "told": [], "course": []}
 
 
 def main(seed, count, names):
     # Cases are drawn with all rules right, before the first is turned; the workers take them over.
-    for is_told, draw, drawn in ((False, draw_case, count), (True, draw_told, min(count, TOLD))):
-        for number in range(drawn if any((name in TELLING) == is_told for name in names) else 0):
-            _cases[is_told].append(draw(seed, number))
-            _right[is_told].append(_cases[is_told][-1].said())
+    for kind, draw, drawn in (("", draw_case, count), ("told", draw_told, min(count, TOLD)), ("course", draw_foreseen, min(count, FORESEEN))):
+        for number in range(drawn if any(_kind(name) == kind for name in names) else 0):
+            _cases[kind].append(draw(seed, number))
+            _right[kind].append(_cases[kind][-1].said())
     told = 0
     with Pool(len(os.sched_getaffinity(0))) as pool:
         for name, number in pool.imap(_first, names):
             told += number is not None
-            kind = "told" if name in TELLING else _cases[False][number].kind if number is not None else ""
+            kind = _kind(name) or (_cases[""][number].kind if number is not None else "")
             by = f"{kind} {number}" if number is not None else "FAILED: no case tells it"
             print(f"{name:40} {by:15} {RULES[name]}", flush=True)
     print(f"{told} passed, {len(names) - told} failed")
     return 0 if told == len(names) else 1
 
 
+def _kind(name):
+    """What the cases are of that are to tell a rule from its turned one."""
+    return "told" if name in TELLING else "course" if name in COURSES else ""
+
+
 def _first(name):
     """The number of the first case that tells a rule from its turned one."""
     turn(name)
-    cases, right = _cases[name in TELLING], _right[name in TELLING]
+    cases, right = _cases[_kind(name)], _right[_kind(name)]
     try:
         return name, next((number for number, case in enumerate(cases) if _differs(case, right[number])), None)
     finally:

@@ -135,7 +135,7 @@ plan_alone first second p q = record {
 plan_before : (first second : Word) → IsValue first → IsValue second → ReadsBoth (codes "plan") (codes "plan" ∷ first ∷ second ∷ codes "--" ∷ []) (first, second)
 unfolding clap_on_literals
 plan_before first second p q = record {
-  taken = simp (p.no_end, p.no_long, p.no_short, q.no_end, q.no_long, q.no_short);
+  taken = rw (p.no_end, p.no_long, p.no_short, q.no_end, q.no_long, q.no_short) refl;
   inventory = simp (p.no_end, p.no_long, p.no_short, q.no_end, q.no_long, q.no_short);
   playbook = simp (p.no_end, p.no_long, p.no_short, q.no_end, q.no_long, q.no_short);
 }
@@ -143,7 +143,7 @@ plan_before first second p q = record {
 plan_between : (first second : Word) → IsValue first → ReadsBoth (codes "plan") (codes "plan" ∷ first ∷ codes "--" ∷ second ∷ []) (first, second)
 unfolding clap_on_literals
 plan_between first second p = record {
-  taken = simp (p.no_end, p.no_long, p.no_short);
+  taken = rw (p.no_end, p.no_long, p.no_short) refl;
   inventory = simp (p.no_end, p.no_long, p.no_short);
   playbook = simp (p.no_end, p.no_long, p.no_short);
 }

@@ -1,9 +1,11 @@
 pub mod Answers
+pub mod Failing
 pub mod Faults
 pub mod Flags
 pub mod Forks
 pub mod Messages
 pub mod Operands
+pub mod OptionValues
 pub mod Options
 pub mod Runs
 pub mod StopFiles

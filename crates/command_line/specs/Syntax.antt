@@ -28,6 +28,14 @@ forks_argument = record (new_rule (codes "forks")) {
 abbrev pub verbose_argument : Rule
 verbose_argument = record (new_rule (codes "verbose")) { short = Some 118; long = Some (codes "verbose"); action = Some SetTrue }
 
+-- the flag that asks a plan for its course
+abbrev pub course_argument : Rule
+course_argument = record (new_rule (codes "course")) { long = Some (codes "course"); action = Some SetTrue }
+
+-- the option that names hosts which are to fail in the course of a plan
+abbrev pub failing_argument : Rule
+failing_argument = record (new_rule (codes "failing")) { long = Some (codes "failing"); value_names = 1 }
+
 -- the flag that asks a run to tell nothing unasked
 abbrev pub quiet_argument : Rule
 quiet_argument = record (new_rule (codes "quiet")) { long = Some (codes "quiet"); action = Some SetTrue }
@@ -41,7 +49,9 @@ limits_command = with_rule (new_app (codes "limits")) inventory_argument
 
 abbrev pub plan_command : App
 plan_command =
-    with_rule (with_rule (with_rule (new_app (codes "plan")) inventory_argument) playbook_argument) verbose_argument
+    with_rule
+    (with_rule (with_rule (with_rule (with_rule (new_app (codes "plan")) inventory_argument) playbook_argument) course_argument) failing_argument)
+    verbose_argument
 
 abbrev pub run_command : App
 run_command =

@@ -1,4 +1,4 @@
-//! The flags that ask a command to tell of itself, or to be quiet.
+//! The flags that ask a command to tell of itself, or to be quiet, or a plan for its course.
 ghost use Rattle.std.specs.Prelude.{◌≡◌, ◌&&◌, ◌∷◌, ◌++◌, [], IfOk, OnOk, if◌then◌else◌, map, string_bytes};
 ghost use Rattle.command_line.specs.Flags as spec;
 
@@ -13,6 +13,9 @@ pub(crate) enum Flags {
     Quiet,
     /// Either of them.
     Either,
+    Course,
+    /// Those of a plan: `Verbose` and `Course`.
+    Planning,
 }
 
 impl Flags {
@@ -23,6 +26,8 @@ impl Flags {
             Flags::Verbose => is_verbose(word),
             Flags::Quiet => is_word(word, "--quiet"),
             Flags::Either => is_verbose(word) || is_word(word, "--quiet"),
+            Flags::Course => is_word(word, "--course"),
+            Flags::Planning => is_verbose(word) || is_word(word, "--course"),
         }
     }
 }

@@ -2,10 +2,12 @@
 #![tactic(auto)]
 
 pub mod command;
+mod failing;
 mod fault;
 mod flags;
 mod forks;
 mod message;
+mod option_values;
 mod option_words;
 mod reading;
 mod request;

@@ -1,13 +1,15 @@
 //! A line, with what it says of being told.
-ghost use Rattle.std.specs.Prelude.{◌≡◌, ◌∷◌, IfErr, IfOk, None, false, map, string_bytes};
+ghost use Rattle.std.specs.Prelude.{◌≡◌, ◌∷◌, IfErr, IfOk, None, Some, false, if◌then◌else◌, map, string_bytes};
 ghost use Rattle.std.specs.List.{last_or};
 ghost use Rattle.std.specs.Option.{option_map};
+ghost use Rattle.command_line.specs.Failing as failing;
 ghost use Rattle.command_line.specs.Flags as spec;
 ghost use Rattle.command_line.specs.StopFiles as stops;
 ghost use Rattle.command_line.specs.Words.{Refuses, Says};
-ghost use Rattle.command_line.specs.declared.flags.Flags.TheVariants.{Either, Quiet, Verbose};
+ghost use Rattle.command_line.specs.declared.flags.Flags.TheVariants.{Course, Either, Planning, Quiet, Verbose};
 
 use crate::command::Line;
+use crate::failing::without_failing;
 use crate::fault::LineFault;
 use crate::flags::{Flags, asks, without_flags};
 use crate::reading::line;
@@ -25,16 +27,19 @@ pub struct Request {
     pub is_quiet: bool,
     /// The file that ends the run before its next batch, once it is there.
     pub stop_file: Option<String>,
+    /// Where a plan is asked for its course, the names of the hosts that are to fail in it, a comma behind each.
+    pub course: Option<String>,
 }
 
-/// What the words ask for, the program's name left out. The stop files and the flags of a run, and the flag of a plan, may stand anywhere before the
-/// word that ends options, and more than once. They are taken out before clap reads the words: what clap makes of the others is the same wherever they
-/// stood.
+/// What the words ask for, the program's name left out. The stop files and the flags of a run, and the flags of a plan and the names of hosts that are to fail in
+/// its course, may stand anywhere before the word that ends options, and more than once. They are taken out before clap reads the words: what clap makes of the
+/// others is the same wherever they stood. Names of failing hosts stay where no course is asked for, so that the words are no line.
 pub fn request_of(alloc: Global, words: &[String]) -> Result<Request, LineFault>
     ensures ok { IfOk result (λ asked. Says (spec.plain (map string_bytes words.now)) asked.line) }
     ensures verbose { IfOk result (λ asked. asked.is_verbose ≡ spec.is_verbose (map string_bytes words.now)) }
     ensures quiet { IfOk result (λ asked. asked.is_quiet ≡ spec.is_quiet (map string_bytes words.now)) }
     ensures stop_file { IfOk result (λ asked. option_map string_bytes asked.stop_file ≡ stops.stop_file (map string_bytes words.now)) }
+    ensures course { IfOk result (λ asked. option_map string_bytes asked.course ≡ spec.course (map string_bytes words.now)) }
     ensures err { IfErr result (Refuses (spec.plain (map string_bytes words.now))) }
 {
     match words {
@@ -46,6 +51,7 @@ pub fn request_of(alloc: Global, words: &[String]) -> Result<Request, LineFault>
                 is_verbose: false,
                 is_quiet: false,
                 stop_file: None,
+                course: None,
             }),
             Err(fault) => Err(fault),
         },
@@ -54,13 +60,39 @@ pub fn request_of(alloc: Global, words: &[String]) -> Result<Request, LineFault>
 
 /// What the words of a plan ask for.
 fn plan_request(alloc: Global, command: &String, words: &[String]) -> Result<Request, LineFault>
-    ensures ok { IfOk result (λ asked. Says (string_bytes command.now ∷ spec.without_flags Verbose (map string_bytes words.now)) asked.line) }
+    ensures ok { IfOk result (λ asked. Says (string_bytes command.now ∷ spec.without_flags Planning (spec.without_names (map string_bytes words.now))) asked.line) }
+    ensures verbose { IfOk result (λ asked. asked.is_verbose ≡ spec.asks Verbose (spec.without_names (map string_bytes words.now))) }
+    ensures quiet { IfOk result (λ asked. asked.is_quiet ≡ false) }
+    ensures stop_file { IfOk result (λ asked. asked.stop_file ≡ None) }
+    ensures course { IfOk result (λ asked. option_map string_bytes asked.course
+        ≡ (if spec.asks Course (failing.without_failing (map string_bytes words.now)) then Some (failing.failing_names (map string_bytes words.now)) else None)) }
+    ensures err { IfErr result (Refuses (string_bytes command.now ∷ spec.without_flags Planning (spec.without_names (map string_bytes words.now)))) }
+{
+    let Ok((others, names)) = without_failing(alloc, words) else {
+        return Err(LineFault::Memory);
+    };
+    if asks(Flags::Course, others.as_slice()) {
+        flagged_plan(alloc, command, others.as_slice(), Some(names))
+    } else {
+        flagged_plan(alloc, command, words, None)
+    }
+}
+
+/// What the words of a plan ask for, without the names of hosts that are to fail in its course, if it is asked for.
+fn flagged_plan(
+    alloc: Global,
+    command: &String,
+    words: &[String],
+    course: Option<String>,
+) -> Result<Request, LineFault>
+    ensures ok { IfOk result (λ asked. Says (string_bytes command.now ∷ spec.without_flags Planning (map string_bytes words.now)) asked.line) }
     ensures verbose { IfOk result (λ asked. asked.is_verbose ≡ spec.asks Verbose (map string_bytes words.now)) }
     ensures quiet { IfOk result (λ asked. asked.is_quiet ≡ false) }
     ensures stop_file { IfOk result (λ asked. asked.stop_file ≡ None) }
-    ensures err { IfErr result (Refuses (string_bytes command.now ∷ spec.without_flags Verbose (map string_bytes words.now))) }
+    ensures course { IfOk result (λ asked. asked.course ≡ course) }
+    ensures err { IfErr result (Refuses (string_bytes command.now ∷ spec.without_flags Planning (map string_bytes words.now))) }
 {
-    let Ok(plain) = without_flags(alloc, Flags::Verbose, command, words) else {
+    let Ok(plain) = without_flags(alloc, Flags::Planning, command, words) else {
         return Err(LineFault::Memory);
     };
     match line(alloc, plain.as_slice()) {
@@ -69,6 +101,7 @@ fn plan_request(alloc: Global, command: &String, words: &[String]) -> Result<Req
             is_verbose: asks(Flags::Verbose, words),
             is_quiet: false,
             stop_file: None,
+            course,
         }),
         Err(fault) => Err(fault),
     }
@@ -80,6 +113,7 @@ fn run_request(alloc: Global, command: &String, words: &[String]) -> Result<Requ
     ensures verbose { IfOk result (λ asked. asked.is_verbose ≡ spec.asks Verbose (stops.without_stops (map string_bytes words.now))) }
     ensures quiet { IfOk result (λ asked. asked.is_quiet ≡ spec.asks Quiet (stops.without_stops (map string_bytes words.now))) }
     ensures stop_file { IfOk result (λ asked. option_map string_bytes asked.stop_file ≡ last_or None (stops.stop_files (map string_bytes words.now))) }
+    ensures course { IfOk result (λ asked. asked.course ≡ None) }
     ensures err { IfErr result (Refuses (string_bytes command.now ∷ spec.without_flags Either (stops.without_stops (map string_bytes words.now)))) }
 {
     let Ok((others, file)) = without_stops(alloc, words) else {
@@ -99,6 +133,7 @@ fn flagged_request(
     ensures verbose { IfOk result (λ asked. asked.is_verbose ≡ spec.asks Verbose (map string_bytes words.now)) }
     ensures quiet { IfOk result (λ asked. asked.is_quiet ≡ spec.asks Quiet (map string_bytes words.now)) }
     ensures stop_file { IfOk result (λ asked. asked.stop_file ≡ stop_file) }
+    ensures course { IfOk result (λ asked. asked.course ≡ None) }
     ensures err { IfErr result (Refuses (string_bytes command.now ∷ spec.without_flags Either (map string_bytes words.now))) }
 {
     let Ok(plain) = without_flags(alloc, Flags::Either, command, words) else {
@@ -110,6 +145,7 @@ fn flagged_request(
             is_verbose: asks(Flags::Verbose, words),
             is_quiet: asks(Flags::Quiet, words),
             stop_file,
+            course: None,
         }),
         Err(fault) => Err(fault),
     }

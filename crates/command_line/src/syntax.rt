@@ -22,6 +22,10 @@ const QUIET: &str = "quiet";
 
 const STOP_FILE: &str = "stop-file";
 
+const COURSE: &str = "course";
+
+const FAILING: &str = "failing";
+
 const INVENTORY_HELP: &str =
     "The inventory: a file of JSON that lists groups with their hosts, children and variables";
 
@@ -29,6 +33,12 @@ const PLAYBOOK_HELP: &str =
     "The playbook: a file of JSON that lists plays with their hosts and tasks";
 
 const FORKS_HELP: &str = "How many hosts are worked on at once, 1 to 64";
+
+const COURSE_HELP: &str =
+    "Prints what a run would open to its end, play by play, where no program fails";
+
+const FAILING_HELP: &str =
+    "Beside --course these hosts and groups, parted by commas, fail at their first step";
 
 const PLAN_VERBOSE_HELP: &str =
     "Tells on standard error which hosts of the play are down already, and left out";
@@ -97,6 +107,8 @@ fn plan<'a>(alloc: Global) -> Result<Command<'a>, AllocError>
         )
         .arg(inventory(alloc))?
         .arg(playbook(alloc))?
+        .arg(course(alloc))?
+        .arg(failing(alloc))?
         .arg(verbose(alloc, PLAN_VERBOSE_HELP))
 }
 
@@ -165,6 +177,28 @@ fn verbose<'a>(alloc: Global, help: &'a str) -> Arg<'a>
         .long(VERBOSE)
         .action(ArgAction::SetTrue)
         .help(help)
+}
+
+/// It stands in the help. The words that clap reads are without it.
+fn course<'a>(alloc: Global) -> Arg<'a>
+    ensures rule { rule_of result ≡ spec.course_argument }
+    ensures local { result.global ≡ false }
+{
+    Arg::new(alloc, COURSE)
+        .long(COURSE)
+        .action(ArgAction::SetTrue)
+        .help(COURSE_HELP)
+}
+
+/// It stands in the help, and clap says what is wrong where its names are wanting. The words that clap reads are without it, but where no course is asked for.
+fn failing<'a>(alloc: Global) -> Arg<'a>
+    ensures rule { rule_of result ≡ spec.failing_argument }
+    ensures local { result.global ≡ false }
+{
+    Arg::new(alloc, FAILING)
+        .long(FAILING)
+        .value_name("HOSTS")
+        .help(FAILING_HELP)
 }
 
 /// It stands in the help. The words that clap reads are without it.

@@ -1,7 +1,7 @@
 -- A batch in which hosts fail at the first step alone.
-use Rattle.std.proofs.Common.{◌≡◌, ℕ, ◌+◌, ◌<◌, ◌≤◌, ◌&&◌, nat_eq, Bool, true, false, cond, Option, Some, None, List, [], ◌∷◌, length, not, refl, sym, ap, ◌∙◌, subst, arith, inl, inr, ◌⊎◌, get_or, is_some, find, take}
+use Rattle.std.proofs.Common.{◌≡◌, ℕ, ◌+◌, ◌^◌, ◌<◌, ◌≤◌, ◌&&◌, ◌++◌, append-nil, drop, nat_eq, Bool, true, false, cond, Option, Some, None, List, [], ◌∷◌, length, not, refl, sym, ap, ◌∙◌, subst, arith, inl, inr, ◌⊎◌, get_or, is_some, find, take}
 use Rattle.std.proofs.lemmas.Bool.{cases_eq, cases_lt, eq-eqb, false_from_ne_true, lt-ltb, or_left, or_right}
-use Rattle.std.proofs.lemmas.List.{get_or_past}
+use Rattle.std.proofs.lemmas.List.{drop_all, get_or_past, take_all}
 use Rattle.std.specs.Prelude.{IfSome, if◌then◌else◌}
 use Rattle.group_tree.specs.declared.ids.HostId.{HostId}
 use Rattle.fleet_numbers.specs.NumberLists.{are_below, has_number}
@@ -15,24 +15,46 @@ use Rattle.fleet_states.proofs.BatchLaws.{least, own_failures_decide}
 use Rattle.play_course.specs.declared.boundary.Boundary.{Boundary}
 use Rattle.play_course.specs.Courses.{end_behind, end_with, halt_of, next_batch, statuses_behind}
 use Rattle.rehearsing.specs.Stacks.{Rules, fail_first, first_outside, where_fail}
-use Rattle.rehearsing.specs.Advances.{AreFirstSteps, halt_at_first}
+use Rattle.fleet_states.specs.declared.status.Status.{Status}
+use Rattle.play_course.specs.declared.end.End.{End}
+use Rattle.rehearsing.specs.Advances.{AreFirstSteps, IsEndOfBatch, halt_by}
 
--- of one step a batch can halt at the first alone
-halts_at_0 : (fails : Fails) (batch : List ℕ) (percentage found : Option ℕ) → IsLeastHalt fails batch percentage 1 found → IfSome found (λ step. step ≡ 0)
-halts_at_0 fails batch percentage None is = tt
-halts_at_0 fails batch percentage (Some step) is = omega (arith, is.0)
+-- the step at which a batch halts is one of its steps
+within_steps : (fails : Fails) (batch : List ℕ) (percentage : Option ℕ) (steps : ℕ) (found : Option ℕ) → IsLeastHalt fails batch percentage steps found → IfSome found (λ step. step < steps)
+within_steps fails batch percentage steps None is = tt
+within_steps fails batch percentage steps (Some step) is = is.0
 
-pub halt_is_0 : (fails : Fails) (batch : List ℕ) (percentage : Option ℕ) → IfSome (halt fails batch percentage 1) (λ step. step ≡ 0)
-halt_is_0 fails batch percentage = halts_at_0 fails batch percentage (halt fails batch percentage 1) (least fails batch percentage 1)
+halt_within : (fails : Fails) (batch : List ℕ) (percentage : Option ℕ) (steps : ℕ) → IfSome (halt fails batch percentage steps) (λ step. step < steps)
+halt_within fails batch percentage steps = within_steps fails batch percentage steps (halt fails batch percentage steps) (least fails batch percentage steps)
 
--- who fails at the first step or not at all has failed by the first step, or not at all
-failed_or_not : (b : Bool) → is_failed_by (if b then Some 0 else None) 0 ≡ is_some {T = ℕ} (if b then Some 0 else None)
-failed_or_not true = refl
-failed_or_not false = refl
+-- and is no greater than a number of steps may be
+pub halt_fits : (fails : Fails) (batch : List ℕ) (percentage : Option ℕ) (steps : ℕ) (found : Option ℕ) → found ≡ halt fails batch percentage steps → steps < 2 ^ 64
+    → IfSome found (λ step. step + 1 < 2 ^ 64)
+halt_fits fails batch percentage steps found is fits =
+    by found (subst (λ (f : Option ℕ). IfSome f (λ step. step < steps)) (sym is) (halt_within fails batch percentage steps))
+  where
+    by : (f : Option ℕ) → IfSome f (λ step. step < steps) → IfSome f (λ step. step + 1 < 2 ^ 64)
+    by None within = tt
+    by (Some step) within = omega (arith, within, fits)
 
-all_failed_at_0 : (named batch : List ℕ) (found : Option ℕ) → IfSome found (λ step. step ≡ 0) → failed_count (fail_first named) batch 0 ≡ failed_in (fail_first named) batch found
-all_failed_at_0 named batch None first = count_agree (λ h. is_failed_by (fail_first named h) 0) (λ h. is_some (fail_first named h)) (λ h. failed_or_not (has_number h named)) batch
-all_failed_at_0 named batch (Some step) first = ap (failed_count (fail_first named) batch) (sym first)
+-- a batch that was passed step by step
+pub closed : (fails : Fails) (percentage : Option ℕ) (steps : ℕ) (boundary : Boundary) (batch : List ℕ) (copied statuses : List Status) (found : Option ℕ) (failed size : ℕ) (end : Option End)
+    → batch ≡ next_batch boundary.answer → copied ≡ boundary.statuses.items → found ≡ halt fails batch percentage steps → failed ≡ failed_in fails batch found → size ≡ length batch
+    → end ≡ end_with found failed size → statuses ≡ statuses_after found fails batch copied → IsEndOfBatch fails percentage steps boundary statuses end
+closed fails percentage steps boundary batch copied statuses found failed size end batch_is copied_is found_is failed_is size_is end_is is =
+    let at : Option ℕ = halt_by fails percentage steps boundary in
+    let halted : found ≡ at = found_is ∙ ap (λ b. halt fails b percentage steps) batch_is in
+    record {
+      statuses_are = is ∙ ap (λ h. statuses_after h fails batch copied) halted ∙ ap (λ b. statuses_after at fails b copied) batch_is
+          ∙ ap (statuses_after at fails (next_batch boundary.answer)) copied_is;
+      end_is = end_is ∙ ap (λ n. end_with found n size) failed_is ∙ ap (end_with found (failed_in fails batch found)) size_is ∙ ap (λ h. end_with h (failed_in fails batch h) (length batch)) halted
+          ∙ ap (λ b. end_with at (failed_in fails b at) (length b)) batch_is;
+    }
+
+-- what was written over all of a list
+pub written_over : {X : Type 0} (n : ℕ) (new items : List X) → length new ≡ length items → length items ≤ n → take n (new ++ drop (length new) items) ≡ new
+written_over n new items long within =
+    ap (λ l. take n (new ++ l)) (drop_all (length new) items (omega (arith, long))) ∙ ap (take n) (append-nil new) ∙ take_all n new (omega (arith, long, within))
 
 -- hosts that fail as if just the named ones failed first
 module _ (rules : Rules) (named : List ℕ) (boundary : Boundary) (fails : Fails) (agree : AgreeOn (next_batch boundary.answer) fails (fail_first named)) where
@@ -45,21 +67,22 @@ module _ (rules : Rules) (named : List ℕ) (boundary : Boundary) (fails : Fails
   abbrev its_halt : Option ℕ
   its_halt = halt_of (where_fail rules named) batch
 
-  halts : halt_at_first fails rules.percentage boundary ≡ its_halt
+  halts : halt_by fails rules.percentage 1 boundary ≡ its_halt
   halts = same.halts rules.percentage 1
 
-  counts : failed_count fails batch 0 ≡ failed_in (fail_first named) batch its_halt
-  counts =
-      count_agree_in (λ h. is_failed_by (fails h) 0) (λ h. is_failed_by (fail_first named h) 0) batch (λ h here. ap (λ f. is_failed_by f 0) (agree h here))
-      ∙ all_failed_at_0 named batch its_halt (halt_is_0 (fail_first named) batch rules.percentage)
+  failed_alike : (found : Option ℕ) → failed_in fails batch found ≡ failed_in (fail_first named) batch found
+  failed_alike None = count_agree_in (λ h. is_some (fails h)) (λ h. is_some (fail_first named h)) batch (λ h here. ap is_some (agree h here))
+  failed_alike (Some step) =
+      count_agree_in (λ h. is_failed_by (fails h) step) (λ h. is_failed_by (fail_first named h) step) batch (λ h here. ap (λ f. is_failed_by f step) (agree h here))
 
-  pub statuses_are_behind : statuses_after (halt_at_first fails rules.percentage boundary) fails batch boundary.statuses.items ≡ statuses_behind (where_fail rules named) boundary
+  pub statuses_are_behind : statuses_after (halt_by fails rules.percentage 1 boundary) fails batch boundary.statuses.items ≡ statuses_behind (where_fail rules named) boundary
   statuses_are_behind =
       ap (λ h. statuses_after h fails batch boundary.statuses.items) halts ∙ same.statuses its_halt boundary.statuses.items
 
-  pub end_is_behind : end_with (halt_at_first fails rules.percentage boundary) (failed_count fails batch 0) (length batch) ≡ end_behind (where_fail rules named) boundary
+  pub end_is_behind : end_with (halt_by fails rules.percentage 1 boundary) (failed_in fails batch (halt_by fails rules.percentage 1 boundary)) (length batch)
+      ≡ end_behind (where_fail rules named) boundary
   end_is_behind =
-      ap (λ h. end_with h (failed_count fails batch 0) (length batch)) halts ∙ ap (λ n. end_with its_halt n (length batch)) counts
+      ap (λ h. end_with h (failed_in fails batch h) (length batch)) halts ∙ ap (λ n. end_with its_halt n (length batch)) (failed_alike its_halt)
 
 -- who is named can fail, and nobody else
 pub can_fail_named : (b : Bool) → is_some {T = ℕ} (if b then Some 0 else None) ≡ b

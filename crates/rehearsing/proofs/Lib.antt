@@ -15,3 +15,8 @@ pub mod ReadLemmas
 pub mod ListeningLemmas
 pub mod OpeningLemmas
 pub mod KeepLemmas
+pub mod CourseLemmas
+pub mod CoursesLemmas
+pub mod CourseTextLemmas
+pub mod SameTextLemmas
+pub mod OneCourseLemmas

@@ -16,7 +16,7 @@ use Rattle.play_course.specs.Courses.{IsBoundary, IsPlannedFrom, end_behind, end
 use Rattle.play_course.proofs.OpenedLemmas.{opened_waits}
 use Rattle.rehearsing.specs.declared.stage.Stage.{Stage}
 use Rattle.rehearsing.specs.Stacks.{AreAbove, IsBehind, RehearsalView, Rules, cap_at, fail_first, first_outside, last_batch_of, named_at, pushed, top, top_of, where_fail}
-use Rattle.rehearsing.specs.Advances.{AreFirstSteps, IsEndOfBatch, halt_at_first}
+use Rattle.rehearsing.specs.Advances.{AreFirstSteps, IsEndOfBatch, halt_by}
 use Rattle.rehearsing.specs.Kept.{IsKept}
 use Rattle.rehearsing.proofs.BatchLemmas.{end_is_behind, statuses_are_behind}
 
@@ -129,20 +129,23 @@ kept-pop rehearsal stage kept =
     }
 
 -- the stage that an advance makes, from the statuses behind the batch and the boundary to which they lead
-module _ (rehearsal : RehearsalView) (kept : IsKept rehearsal) (named : List HostId) (failing : List (Option ℕ)) (steps : AreFirstSteps (length rehearsal.rules.fleet.hosts) (host_numbers named) failing) where
+module _ (rehearsal : RehearsalView) (kept : IsKept rehearsal) (named : List HostId) (failing : List (Option ℕ))
+    (steps : AreFirstSteps (length rehearsal.rules.fleet.hosts) (host_numbers named) failing) where
   abbrev below : Stage
   below = top rehearsal
 
   agree : AgreeOn (next_batch below.boundary.answer) (fails_in failing) (fail_first (host_numbers named))
   agree host here = steps.each host (stands_within rehearsal.rules below (kept_stands rehearsal kept) host here)
 
-  pub statuses_all : (boundary : Boundary) (statuses : List Status) (end : Option End) → boundary ≡ below.boundary → IsEndOfBatch (fails_in failing) rehearsal.rules.percentage boundary statuses end
+  pub statuses_all : (boundary : Boundary) (statuses : List Status) (end : Option End) → boundary ≡ below.boundary → IsEndOfBatch (fails_in failing) rehearsal.rules.percentage 1 boundary statuses end
       → length statuses ≡ length rehearsal.rules.fleet.hosts
   statuses_all boundary statuses end same is =
-      ap length is.statuses_are ∙ length-given (λ host. status_after (halt_at_first (fails_in failing) rehearsal.rules.percentage boundary) (fails_in failing host)) (next_batch boundary.answer) boundary.statuses.items
+      ap length is.statuses_are
+      ∙ length-given (λ host. status_after (halt_by (fails_in failing) rehearsal.rules.percentage 1 boundary) (fails_in failing host)) (next_batch boundary.answer) boundary.statuses.items
       ∙ ap (λ (b : Boundary). length b.statuses.items) same ∙ stands_all rehearsal.rules below (kept_stands rehearsal kept)
 
-  pub stage_is_behind : (boundary : Boundary) (statuses : List Status) (ended : Option End) (stage : Stage) → boundary ≡ below.boundary → IsEndOfBatch (fails_in failing) rehearsal.rules.percentage boundary statuses ended
+  pub stage_is_behind : (boundary : Boundary) (statuses : List Status) (ended : Option End) (stage : Stage) → boundary ≡ below.boundary
+      → IsEndOfBatch (fails_in failing) rehearsal.rules.percentage 1 boundary statuses ended
       → IsPlannedFrom rehearsal.rules.fleet rehearsal.rules.mode (cap_at rehearsal.rules.caps (length rehearsal.above + 1)) statuses stage.boundary → stage.end ≡ end_here ended stage.boundary
       → stage.failing.items ≡ named → below.end ≡ None → first_outside (next_batch below.boundary.answer) named ≡ None → IsBehind rehearsal.rules (length rehearsal.above) below stage
   stage_is_behind boundary statuses ended stage same is planned end_is named_are went_on in_batch =
@@ -160,8 +163,8 @@ module _ (rehearsal : RehearsalView) (kept : IsKept rehearsal) (named : List Hos
       numbers : host_numbers named ≡ named_at stage
       numbers = ap host_numbers (sym named_are)
 
-      here : IsEndOfBatch (fails_in failing) rehearsal.rules.percentage below.boundary statuses ended
-      here = subst (λ b. IsEndOfBatch (fails_in failing) rehearsal.rules.percentage b statuses ended) same is
+      here : IsEndOfBatch (fails_in failing) rehearsal.rules.percentage 1 below.boundary statuses ended
+      here = subst (λ b. IsEndOfBatch (fails_in failing) rehearsal.rules.percentage 1 b statuses ended) same is
 
       statuses_are : statuses ≡ statuses_behind (where_fail rehearsal.rules (host_numbers named)) below.boundary
       statuses_are = here.statuses_are ∙ statuses_are_behind rehearsal.rules (host_numbers named) below.boundary (fails_in failing) agree

@@ -1,7 +1,7 @@
 -- What the steps of an advance have to give.
 use Rattle.std.specs.Prelude.{◌≡◌, ℕ, ◌<◌, Option, List, length}
 use Rattle.fleet_states.specs.declared.status.Status.{Status}
-use Rattle.fleet_states.specs.Batches.{Fails, failed_count, fails_in, halt, statuses_after}
+use Rattle.fleet_states.specs.Batches.{Fails, failed_in, fails_in, halt, statuses_after}
 use Rattle.play_course.specs.declared.boundary.Boundary.{Boundary}
 use Rattle.play_course.specs.declared.end.End.{End}
 use Rattle.play_course.specs.Courses.{end_with, next_batch}
@@ -12,11 +12,11 @@ pub record AreFirstSteps (hosts : ℕ) (named : List ℕ) (failing : List (Optio
   pub all : length failing ≡ hosts
   pub each : (host : ℕ) → host < hosts → fails_in failing host ≡ fail_first named host
 
--- the halt of a batch whose hosts fail so, where it has one step
-abbrev pub halt_at_first : Fails → Option ℕ → Boundary → Option ℕ
-halt_at_first fails percentage boundary = halt fails (next_batch boundary.answer) percentage 1
+-- the halt of the boundary's batch whose hosts fail so, where it has so many steps
+abbrev pub halt_by : Fails → Option ℕ → ℕ → Boundary → Option ℕ
+halt_by fails percentage steps boundary = halt fails (next_batch boundary.answer) percentage steps
 
--- the statuses behind the batch, and how it ends the play, if it does, by the hosts that failed at its one step
-pub record IsEndOfBatch (fails : Fails) (percentage : Option ℕ) (boundary : Boundary) (statuses : List Status) (end : Option End) : Type 0 where
-  pub statuses_are : statuses ≡ statuses_after (halt_at_first fails percentage boundary) fails (next_batch boundary.answer) boundary.statuses.items
-  pub end_is : end ≡ end_with (halt_at_first fails percentage boundary) (failed_count fails (next_batch boundary.answer) 0) (length (next_batch boundary.answer))
+-- the statuses behind the batch, and how it ends the play, if it does
+pub record IsEndOfBatch (fails : Fails) (percentage : Option ℕ) (steps : ℕ) (boundary : Boundary) (statuses : List Status) (end : Option End) : Type 0 where
+  pub statuses_are : statuses ≡ statuses_after (halt_by fails percentage steps boundary) fails (next_batch boundary.answer) boundary.statuses.items
+  pub end_is : end ≡ end_with (halt_by fails percentage steps boundary) (failed_in fails (next_batch boundary.answer) (halt_by fails percentage steps boundary)) (length (next_batch boundary.answer))

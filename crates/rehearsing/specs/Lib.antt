@@ -16,3 +16,6 @@ pub mod Openings
 pub mod RehearseTexts
 pub mod Inside
 pub mod Laws
+pub mod CourseTexts
+pub mod CourseSteps
+pub mod CourseLaws

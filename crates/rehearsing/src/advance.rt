@@ -2,6 +2,7 @@
 ghost use Rattle.std.specs.Prelude.{◌≡◌, ℕ, ◌<◌, IfOk, Some, find, if◌then◌else◌, is_some, length, not, true};
 ghost use Rattle.fleet_numbers.specs.NumberLists.{are_below, has_number};
 ghost use Rattle.domains.specs.Ids.{host_numbers};
+ghost use Rattle.fleet_states.specs.Batches as spec;
 ghost use Rattle.fleet_states.specs.Batches.{fails_in};
 ghost use Rattle.rehearsing.specs.Stacks as model;
 ghost use Rattle.rehearsing.specs.Advances.{AreFirstSteps, IsEndOfBatch};
@@ -75,18 +76,32 @@ pub(crate) fn first_outside(
     Ok(first_spared(failing.as_slice(), named))
 }
 
-/// The statuses once the batch is over in which hosts fail so, and how it ends the play, if it does. Only want of memory refuses it.
+/// How many hosts of a batch have failed that halted at a step, or at none.
+fn failed_in(failing: &[Option<usize>], batch: &[HostId], halt: Option<usize>) -> usize
+    ensures { result ≡ spec.failed_in (fails_in failing.now) (host_numbers batch.now) halt }
+{
+    match halt {
+        Some(step) => failed_by(failing, batch, step),
+        None => batch
+            .iter()
+            .filter(|host| can_fail(failing, **host))
+            .count(),
+    }
+}
+
+/// The statuses once the batch of so many steps is over in which hosts fail so, and how it ends the play, if it does. Only want of memory refuses it.
 pub(crate) fn close_batch(
     alloc: Global,
     boundary: &Boundary,
     failing: &[Option<usize>],
     max_fail: Option<Percentage>,
+    steps: usize,
 ) -> Result<(Vec<Status>, Option<End>), AllocError>
-    ensures { IfOk result (λ (statuses, end). IsEndOfBatch (fails_in failing.now) max_fail boundary.now statuses.items end) }
+    ensures { IfOk result (λ (statuses, end). IsEndOfBatch (fails_in failing.now) max_fail steps boundary.now statuses.items end) }
 {
     let batch = boundary.next_batch();
-    let halt = halt(failing, batch, max_fail, 1);
-    let end = end_with(halt, failed_by(failing, batch, 0), batch.len());
+    let halt = halt(failing, batch, max_fail, steps);
+    let end = end_with(halt, failed_in(failing, batch, halt), batch.len());
     let mut statuses = Vec::from_slice(alloc, boundary.statuses.as_slice())?;
     end_batch(statuses.as_mut_slice(), halt, failing, batch);
     Ok((statuses, end))

@@ -1,8 +1,14 @@
-//! What holds of every session.
+//! What holds of every session, and of every course.
+ghost use Rattle.rehearsing.specs.CourseLaws.{OneCourseText};
 ghost use Rattle.rehearsing.specs.Laws.{SessionsRehearse};
 
 /// Whatever lines are answered from the opening of two texts on, the rehearsal is one of the first play. So what holds of every rehearsal of a play,
 /// as that runs go as they were rehearsed, holds wherever a session comes.
 pub fn sessions_rehearse()
     ensures { SessionsRehearse }
+{}
+
+/// What is written of a course is one function of the bytes of the inventory, the playbook and the names of the hosts that fail.
+pub fn one_course_text()
+    ensures { OneCourseText }
 {}

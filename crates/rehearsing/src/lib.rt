@@ -1,4 +1,4 @@
-//! The command `rehearse`: boundaries on a stack, and from bytes and lines to answers.
+//! The command `rehearse`: boundaries on a stack, and from bytes and lines to answers. And `plan --course`: what a run would open to its end.
 #![tactic(auto)]
 
 mod advance;
@@ -6,7 +6,11 @@ mod advance_answer;
 mod advance_fault;
 mod batch;
 mod command;
+mod course;
+mod course_end;
+mod courses;
 mod fault;
+mod following;
 mod hearing;
 mod help;
 mod hosts;
@@ -16,6 +20,7 @@ mod lines;
 mod listening;
 mod names;
 mod opening;
+mod printing;
 mod prompt;
 mod rehearsal;
 mod rehearsal_laws;
@@ -25,10 +30,12 @@ mod stage;
 mod words;
 
 pub use advance_fault::AdvanceFault;
+pub use course_end::CourseEnd;
 pub use fault::RehearseFault;
-pub use laws::sessions_rehearse;
+pub use laws::{one_course_text, sessions_rehearse};
 pub use line::answer;
 pub use lines::MAX_LINE;
+pub use printing::course_text;
 pub use prompt::Prompt;
 pub use rehearsal::Rehearsal;
 pub use rehearsal_laws::{

@@ -26,7 +26,7 @@ pub(crate) struct Opening {
 }
 
 /// How many hosts these are. A fleet has so few that the number fits.
-fn count(fleet: &Fleet, hosts: &[HostId]) -> u32
+pub(crate) fn count(fleet: &Fleet, hosts: &[HostId]) -> u32
     requires { length hosts.now ≤ length fleet.now.hosts }
     ensures { result ≡ length hosts.now }
 {

@@ -135,6 +135,7 @@ impl<'a> Rehearsal<'a> {
             &below.boundary,
             steps.as_slice(),
             self.max_fail,
+            1,
         )?;
         let cap = cap(self.caps, self.advances() + 1);
         let boundary = Boundary::from_statuses(alloc, self.fleet, self.mode, statuses, cap)?;

@@ -1,7 +1,7 @@
 -- What is started is safe, as what is done says what that was.
 use Rattle.std.proofs.Common.{◌≡◌, ◌⊎◌, ℕ, ◌≤◌, List, [], Option, Result, Ok, Err, inl, inr, subst}
 use Rattle.std.specs.Prelude.{drop, is_some}
-use Rattle.command_line.specs.Flags.{plain}
+use Rattle.command_line.specs.Flags.{course, plain}
 use Rattle.command_line.specs.Operands.{Word}
 use Rattle.command_line.specs.StopFiles.{stop_file}
 use Rattle.command_line.specs.Words as words
@@ -57,13 +57,14 @@ module _ (may : Work → Ending → Type 0) where
     rolls_are_safe asks inventory playbook forks result logs (inr on) =
         inputs_are_safe sources inventory playbook forks on.workers on.few input_old input_new out_old out_new result logs on.rolls
 
-    lines_are_safe : (args : List Word) → Gives given args → (asked : Line) → words.Says (plain (drop 1 args)) asked → (asks : Option (List ℕ)) (result : Result Status Fault) (logs : List (List Event))
-        → Does may (is_some asks) sources asked input_old input_new out_old out_new result logs → StartsSafely may given sources input_old input_new logs
-    lines_are_safe args gives (line.Limits inventory) says asks result logs does = inl does.1
-    lines_are_safe args gives (line.Plan inventory playbook) says asks result logs does = inl does.1
-    lines_are_safe args gives (line.Rehearse inventory playbook) says asks result logs does = inl does.1
-    lines_are_safe args gives (line.Print message) says asks result logs does = inl does.2
-    lines_are_safe args gives (line.Run inventory playbook forks) says asks result logs does = by (rolls_are_safe asks inventory playbook forks result logs does)
+    lines_are_safe : (args : List Word) → Gives given args → (asked : Line) → words.Says (plain (drop 1 args)) asked
+        → (asks failing : Option (List ℕ)) (result : Result Status Fault) (logs : List (List Event))
+        → Does may (is_some asks) failing sources asked input_old input_new out_old out_new result logs → StartsSafely may given sources input_old input_new logs
+    lines_are_safe args gives (line.Limits inventory) says asks failing result logs does = inl does.1
+    lines_are_safe args gives (line.Plan inventory playbook) says asks failing result logs does = inl does.1
+    lines_are_safe args gives (line.Rehearse inventory playbook) says asks failing result logs does = inl does.1
+    lines_are_safe args gives (line.Print message) says asks failing result logs does = inl does.2
+    lines_are_safe args gives (line.Run inventory playbook forks) says asks failing result logs does = by (rolls_are_safe asks inventory playbook forks result logs does)
       where
         by : (logs ≡ []) ⊎ AreSafeFrom may sources inventory playbook forks input_old input_new logs → StartsSafely may given sources input_old input_new logs
         by (inl none) = inl none
@@ -76,4 +77,5 @@ module _ (may : Work → Ending → Type 0) where
         by : (behind : List Word) → behind ≡ drop 1 takes.args → Attempts may sources behind input_old input_new out_old out_new result logs → StartsSafely may given sources input_old input_new logs
         by behind are (inr refuses) = inl refuses.none
         by behind are (inl follows) =
-            lines_are_safe takes.args takes.gives follows.line (subst (λ (w : List Word). words.Says (plain w) follows.line) are follows.says) (stop_file behind) result logs follows.does
+            lines_are_safe takes.args takes.gives follows.line (subst (λ (w : List Word). words.Says (plain w) follows.line) are follows.says)
+            (stop_file behind) (course behind) result logs follows.does

@@ -11,6 +11,7 @@ pub mod LimitsText
 pub mod Commands
 pub mod PlanFaults
 pub mod Plans
+pub mod Courses
 pub mod RollFaults
 pub mod Rolls
 pub mod RehearsalFaults

@@ -4,6 +4,8 @@ use Rattle.planning.specs.declared.end.End.{End}
 use Rattle.planning.specs.declared.end.End.TheVariants as ends
 use Rattle.running.specs.declared.end.RunEnd.{RunEnd}
 use Rattle.running.specs.declared.end.RunEnd.TheVariants as run_ends
+use Rattle.rehearsing.specs.declared.course_end.CourseEnd.{CourseEnd}
+use Rattle.rehearsing.specs.declared.course_end.CourseEnd.TheVariants as course_ends
 use Rattle.rollout.specs.declared.status.Status.{Status}
 use Rattle.rollout.specs.declared.status.Status.TheVariants.{Done, Refused, Failed, Blocked, Stopped, Memory}
 
@@ -26,3 +28,10 @@ status_of_run run_ends.Done = Done
 status_of_run run_ends.Failed = Failed
 status_of_run run_ends.Blocked = Blocked
 status_of_run run_ends.Stopped = Stopped
+
+-- a course is told as the run would be
+abbrev pub status_of_course : CourseEnd → Status
+status_of_course course_ends.Done = Done
+status_of_course course_ends.Failed = Failed
+status_of_course course_ends.Blocked = Blocked
+status_of_course course_ends.Stopped = Stopped

@@ -1,11 +1,13 @@
 //! What the program does, one command a file.
 
+mod course;
 mod limits;
 mod plan;
 mod print;
 mod rehearse;
 mod run;
 
+pub use course::course;
 pub use limits::{limits, limits_text};
 pub use plan::plan;
 pub use print::print;

@@ -1,12 +1,14 @@
 //! A run of the program: its words, what they ask for, and the end.
 ghost use Rattle.std.specs.Prelude.{map, string_bytes};
+ghost use Rattle.std.specs.Option.{option_map};
 ghost use Rattle.std.specs.Process.{exit_status};
 ghost use Rattle.roll_run.specs.Histories.{Gains};
+ghost use Rattle.rollout.specs.Courses.{PlansOrForesees};
 ghost use Rattle.rollout.specs.Runs.{Attempts, Does, Performs, Runs, StartsSafely};
 ghost use Rattle.rollout.specs.Systems.{sources_of};
 
 use crate::attendant::Attendant;
-use crate::commands::{limits, plan, print, rehearse, roll};
+use crate::commands::{course, limits, plan, print, rehearse, roll};
 use crate::ending::{conclude, exit_code};
 use crate::fault::Fault;
 use crate::status::Status;
@@ -14,7 +16,7 @@ use crate::system::System;
 use crate::words::{words_fault, words_of};
 use bounded_io::Input;
 use command_line::command::Line;
-use command_line::{Request, request_of};
+use command_line::{Request, Source, request_of};
 use local_programs::Notes;
 use roll_core::{History, Runner, Watch};
 use roll_run::{Attend, Coordinator};
@@ -127,6 +129,7 @@ fn attempt<
                 is_verbose,
                 is_quiet,
                 stop_file,
+                course,
             },
         ) => {
             begin_telling(system, tell, &line, is_verbose, is_quiet);
@@ -142,6 +145,7 @@ fn attempt<
                 runner,
                 tell,
                 line,
+                course,
                 input,
                 out,
                 history,
@@ -166,6 +170,36 @@ fn begin_telling<S: System, T: Tell>(
     }
 }
 
+/// Does what a line of `plan` asks for: the plan, or the course where hosts to fail are given, be it nobody.
+#[allow(clippy::too_many_arguments)]
+fn plan_or_course<S: System, T: Watch, I: Input, O: Write>(
+    system: &S,
+    alloc: Global,
+    watch: &mut T,
+    inventory: Source,
+    playbook: Source,
+    failing: Option<String>,
+    input: &mut I,
+    out: &mut O,
+) -> Result<Status, Fault>
+    ensures { PlansOrForesees (option_map string_bytes failing) (sources_of (S.files system.now) (I.is_reliable input.old)) inventory playbook
+        (I.remaining input.old) (I.remaining input.new) (O.contents out.old) (O.contents out.new) result }
+{
+    match failing {
+        Some(failing) => course(
+            system,
+            alloc,
+            watch,
+            inventory,
+            playbook,
+            failing.as_str(),
+            input,
+            out,
+        ),
+        None => plan(system, alloc, watch, inventory, playbook, input, out),
+    }
+}
+
 #[allow(clippy::too_many_arguments)]
 fn follow<
     S: System,
@@ -181,11 +215,12 @@ fn follow<
     runner: &R,
     watch: &mut T,
     line: Line,
+    failing: Option<String>,
     input: &mut I,
     out: &mut O,
     history: History,
 ) -> (Result<Status, Fault>, History)
-    ensures { Gains history result.1 (Does (R.may runner.now) (A.asks coordinator.now.attend.now) (sources_of (S.files system.now) (I.is_reliable input.old)) line
+    ensures { Gains history result.1 (Does (R.may runner.now) (A.asks coordinator.now.attend.now) (option_map string_bytes failing) (sources_of (S.files system.now) (I.is_reliable input.old)) line
         (I.remaining input.old) (I.remaining input.new) (O.contents out.old) (O.contents out.new) result.0) }
 {
     let alloc = coordinator.alloc;
@@ -195,7 +230,9 @@ fn follow<
             inventory,
             playbook,
         } => (
-            plan(system, alloc, watch, inventory, playbook, input, out),
+            plan_or_course(
+                system, alloc, watch, inventory, playbook, failing, input, out,
+            ),
             history,
         ),
         Line::Run {

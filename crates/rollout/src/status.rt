@@ -3,6 +3,7 @@ ghost use Rattle.std.specs.Prelude.{◌≡◌};
 ghost use Rattle.rollout.specs.Status.{code_of};
 
 use planning::End;
+use rehearsing::CourseEnd;
 use running::RunEnd;
 
 /// The end of the program, as its exit status tells it.
@@ -12,7 +13,7 @@ pub enum Status {
     Done,
     /// The line, an input or a write was refused.
     Refused,
-    /// A run came to its end, and a host has failed.
+    /// A run came to its end, or would, and a host has failed.
     Failed,
     /// Hosts wait in a group that has no room, or a run set hosts aside.
     Blocked,
@@ -63,6 +64,22 @@ impl From<RunEnd> for Status {
             RunEnd::Failed => Status::Failed,
             RunEnd::Blocked => Status::Blocked,
             RunEnd::Stopped => Status::Stopped,
+        }
+    }
+}
+
+impl From<CourseEnd> for Status {
+    ghost use Rattle.std.specs.Prelude.{◌≡◌};
+    ghost use Rattle.rollout.specs.Status.{status_of_course};
+
+    ghost from_gives = { λ end status. status ≡ status_of_course end };
+
+    fn from(end: CourseEnd) -> Status {
+        match end {
+            CourseEnd::Done => Status::Done,
+            CourseEnd::Failed => Status::Failed,
+            CourseEnd::Blocked => Status::Blocked,
+            CourseEnd::Stopped => Status::Stopped,
         }
     }
 }

@@ -1,4 +1,5 @@
-//! What holds of every rehearsal and every run of its play.
+//! What holds of every rehearsal, every course, and every run of its plays.
+ghost use Rattle.run_laws.specs.Courses.{RunsOpenTheirCourses};
 ghost use Rattle.run_laws.specs.Laws.{BrokenRunsGoAsRehearsed, RunsGoAsRehearsed};
 
 use roll_core::Runner;
@@ -9,4 +10,10 @@ use roll_core::Runner;
 pub fn runs_go_as_rehearsed<R: Runner>(runner: &R)
     ensures runs { RunsGoAsRehearsed (R.may runner.now) }
     ensures broken { BrokenRunsGoAsRehearsed (R.may runner.now) }
+{}
+
+/// The runs of a file of plays, with any number of workers, open what its course says in which the same hosts fail at the same steps: the course that `plan --course` prints has
+/// the boundary lines and the ends of their recaps. Of a host whose batch was not behind a run doesn't matter what would have failed on it.
+pub fn runs_open_their_courses<R: Runner>(runner: &R)
+    ensures { RunsOpenTheirCourses (R.may runner.now) }
 {}

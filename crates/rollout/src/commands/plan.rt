@@ -31,13 +31,9 @@ pub fn plan<S: System, T: Watch, I: Input, W: Write>(
     match read_both(system, alloc, inventory, playbook, input) {
         Ok((inventory, playbook)) => {
             let printed = print_plan(alloc, inventory.as_slice(), playbook.as_slice(), out);
-            tell_behind_plan(
-                alloc,
-                watch,
-                printed.is_ok(),
-                inventory.as_slice(),
-                playbook.as_slice(),
-            );
+            if printed.is_ok() {
+                tell_behind(alloc, watch, 1, inventory.as_slice(), playbook.as_slice());
+            }
             printed
         }
         Err(fault) => Err(fault),
@@ -60,28 +56,34 @@ fn print_plan<W: Write>(
     }
 }
 
-/// Behind a plan that was printed, and where somebody is told, tells of the hosts that it leaves out.
-fn tell_behind_plan<T: Watch>(
+/// Behind what was printed, and where somebody is told, tells of the hosts that the first of the plays leave out, so many of them.
+pub(crate) fn tell_behind<T: Watch>(
     alloc: Global,
     watch: &mut T,
-    is_printed: bool,
+    plays: usize,
     inventory: &[u8],
     playbook: &[u8],
 ) {
-    if is_printed && watch.is_told() {
-        tell_left_out(alloc, watch, inventory, playbook);
+    if watch.is_told() {
+        tell_left_out(alloc, watch, plays, inventory, playbook);
     }
 }
 
-/// Tells of the hosts that the first play names and that stay down. The texts are read once more for it.
-fn tell_left_out<T: Watch>(alloc: Global, watch: &mut T, inventory: &[u8], playbook: &[u8]) {
+/// Tells of the hosts that the first of the plays name and that stay down. The texts are read once more for it.
+fn tell_left_out<T: Watch>(
+    alloc: Global,
+    watch: &mut T,
+    count: usize,
+    inventory: &[u8],
+    playbook: &[u8],
+) {
     let Ok(fleet) = read_fleet(alloc, inventory) else {
         return;
     };
     let Ok(plays) = read_known_plays(alloc, &fleet, playbook) else {
         return;
     };
-    let first = &plays.as_slice()[..plays.len().min(1)];
+    let first = &plays.as_slice()[..plays.len().min(count)];
     if let Ok(lines) = left_out_lines(alloc, &fleet, first) {
         watch.note(lines.as_slice());
     }

@@ -1,0 +1,160 @@
+//! From the bytes of an inventory and a playbook to the text of the course, where hosts fail.
+ghost use Rattle.std.specs.Prelude.{◌≡◌, ◌≤◌, ◌<◌, ◌^◌, ◌*◌, ◌+◌, IfErr, IfOk, None, length, map, nat_lt};
+ghost use Rattle.std.specs.List.{find, sum_by};
+ghost use Rattle.bounded_io.specs.Sending.{SendsText};
+ghost use Rattle.bounded_io.specs.Writing.{Writes};
+ghost use Rattle.text_parts.specs.Patterns.{parts_of};
+ghost use Rattle.domains.specs.Patterns.{IsPatternFault, names_nothing};
+ghost use Rattle.rehearsing.specs.CourseSteps.{course_of};
+ghost use Rattle.rehearsing.specs.CourseTexts.{AreCoursesBy, AreRead, IsEndOf, IsTrueCourseFault, WritesCourse, batches_opened, course_lines, courses_lines, courses_text, failing_by, numbered};
+
+use crate::advance::first_steps;
+use crate::course::PlayCourse;
+use crate::course_end::{CourseEnd, end_of};
+use crate::courses::follow_plays;
+use bounded_io::{TextWriter, WriteFault};
+use domains::{Fleet, PatternFault};
+use planning::{PlanFault, read_fleet, read_known_plays};
+use play_model::Play;
+use recap::{Recap, write_field, write_numbered, write_play};
+use std::alloc::Global;
+use std::io::Write;
+
+/// Writes the boundaries and the end of a course as the recap of a run does, of which no host is told.
+fn write_course<W: Write>(
+    text: &mut TextWriter<'_, W>,
+    fleet: &Fleet,
+    several: bool,
+    number: u64,
+    course: &PlayCourse,
+)
+    ensures { Writes W.contents text.old text.new (numbered several number (course_lines fleet.now (course_of course.now))) }
+{
+    let recap = Recap {
+        boundaries: course.boundaries.as_slice(),
+        opened: course.batches(),
+        statuses: &[],
+        counts: &[],
+        end: Some(course.end),
+    };
+    if several {
+        write_numbered(text, fleet, number, &recap);
+    } else {
+        write_play(text, fleet, &recap);
+    }
+}
+
+fn write_courses<W: Write>(
+    text: &mut TextWriter<'_, W>,
+    fleet: &Fleet,
+    several: bool,
+    courses: &[PlayCourse],
+)
+    ensures { Writes W.contents text.old text.new (courses_lines fleet.now several (map course_of courses.now)) }
+{
+    for place in 0..courses.len() {
+        write_course(text, fleet, several, place as u64 + 1, &courses[place]);
+    }
+}
+
+/// How many batches the courses open.
+fn count_batches(courses: &[PlayCourse]) -> u64
+    requires few { sum_by batches_opened (map course_of courses.now) < 2 ^ 64 }
+    ensures { result ≡ sum_by batches_opened (map course_of courses.now) }
+{
+    let mut batches = 0u64;
+    for course in courses {
+        batches += course.batches() as u64;
+    }
+    batches
+}
+
+#[tactic(auto, using(bounded_io::proofs::Pieces::pieces_of_text))]
+fn write_all<W: Write>(
+    text: &mut TextWriter<'_, W>,
+    fleet: &Fleet,
+    several: bool,
+    courses: &[PlayCourse],
+)
+    requires few { sum_by batches_opened (map course_of courses.now) < 2 ^ 64 }
+    ensures { Writes W.contents text.old text.new (courses_text fleet.now several (map course_of courses.now)) }
+{
+    write_courses(text, fleet, several, courses);
+    write_field(text, "batches=", count_batches(courses));
+    text.write_str("\n");
+}
+
+/// Sends the text of the courses. It takes no memory.
+fn send_courses<W: Write>(
+    fleet: &Fleet,
+    several: bool,
+    courses: &[PlayCourse],
+    out: &mut W,
+) -> Result<(), WriteFault>
+    requires few { sum_by batches_opened (map course_of courses.now) < 2 ^ 64 }
+    ensures { SendsText (W.contents out.old) (W.contents out.new) (courses_text fleet.now several (map course_of courses.now)) result }
+{
+    let mut text = TextWriter::new(out);
+    write_all(&mut text, fleet, several, courses);
+    text.finish()
+}
+
+/// How the last of the courses ends.
+fn last_end(courses: &[PlayCourse]) -> CourseEnd
+    requires some { 0 < length courses.now }
+    ensures { IsEndOf (map course_of courses.now) result }
+{
+    let last = &courses[courses.len() - 1];
+    end_of(last.end, last.last_statuses())
+}
+
+/// The courses of these plays, where just the hosts that the text names fail, at their first step. The first part of the text that names neither a host nor a group
+/// refuses it; otherwise only want of memory does.
+fn foresee(
+    alloc: Global,
+    fleet: &Fleet,
+    plays: &[Play],
+    failing: &str,
+) -> Result<Vec<PlayCourse>, PatternFault>
+    requires some { 0 < length plays.now }
+    ensures are { IfOk result (λ courses. AreCoursesBy fleet.now (failing_by fleet.now failing.now) plays.now (map course_of courses.items)) }
+    ensures few { IfOk result (λ courses. sum_by batches_opened (map course_of courses.items) ≤ length plays.now * length fleet.now.hosts) }
+    ensures known { IfOk result (λ courses. find (names_nothing fleet.now) (parts_of failing.now) ≡ None) }
+    ensures err { IfErr result (IsPatternFault fleet.now (parts_of failing.now)) }
+{
+    let named = fleet.target(alloc, failing)?;
+    let steps = first_steps(alloc, fleet.hosts(), named.as_slice())?;
+    Ok(follow_plays(alloc, fleet, plays, steps.as_slice())?)
+}
+
+/// Writes what a run of the plays of a playbook on the fleet of an inventory would open to its end, each given as the bytes of its text, where just the hosts that
+/// `failing` names fail, at their first step: as a pattern does, by their names or by those of groups. Nothing goes out before all was accepted: first the
+/// inventory's faults are told, then the playbook's, then the first part of a pattern, of any play, that names nothing, then the first such part of `failing`.
+/// Where a write fails, exactly the first bytes of the text went out, as many as the fault says. Writing takes no memory.
+pub fn course_text<W: Write>(
+    alloc: Global,
+    inventory: &[u8],
+    playbook: &[u8],
+    failing: &str,
+    out: &mut W,
+) -> Result<CourseEnd, PlanFault>
+    ensures ok { IfOk result (WritesCourse inventory.now playbook.now failing.now (W.contents out.old) (W.contents out.new)) }
+    ensures err { IfErr result (IsTrueCourseFault inventory.now playbook.now failing.now (W.contents out.old) (W.contents out.new)) }
+{
+    let fleet = match read_fleet(alloc, inventory) {
+        Ok(fleet) => fleet,
+        Err(fault) => return Err(fault),
+    };
+    let plays = match read_known_plays(alloc, &fleet, playbook) {
+        Ok(plays) => plays,
+        Err(fault) => return Err(fault),
+    };
+    let courses = match foresee(alloc, &fleet, plays.as_slice(), failing) {
+        Ok(courses) => courses,
+        Err(fault) => return Err(PlanFault::Pattern(fault)),
+    };
+    match send_courses(&fleet, plays.len() > 1, courses.as_slice(), out) {
+        Ok(()) => Ok(last_end(courses.as_slice())),
+        Err(fault) => Err(PlanFault::Write(fault)),
+    }
+}
