@@ -177,38 +177,4 @@ if [ -w /dev/full ]; then
     : >"$work/out"
     check 'an output that takes nothing' 1 '' "rollout: 904 Write written=0$newline"
 fi
-# A course takes what its batches take: of four times as many on one fleet it takes some four times as long, and not sixteen times.
-cat >"$work/times.py" <<'PYTHON'
-"""times.py PROGRAM: the processor time of a course of 1,024 batches beside that of 256 on the same 2,048 hosts, the least of several runs."""
-import json
-import os
-import subprocess
-import sys
-
-groups = {f"g{number}": {"vars": {"max_down": 60}, "hosts": {f"h{number}-{host}": {} for host in range(64)}} for number in range(32)}
-with open("great.json", "w") as file:
-    json.dump({"all": {"children": groups}}, file)
-
-
-def seconds(size):
-    """The least processor time of a course whose batches have so many hosts."""
-    with open("great-play.json", "w") as file:
-        json.dump([{"hosts": "all", "serial": size, "tasks": [{"command": "true"}]}], file)
-    least = float("inf")
-    for _ in range(5):
-        running = subprocess.Popen([sys.argv[1], "plan", "great.json", "great-play.json", "--course"], stdout=subprocess.DEVNULL)
-        _, status, usage = os.wait4(running.pid, 0)
-        running.returncode = os.waitstatus_to_exitcode(status)
-        if running.returncode:
-            sys.exit(f"status {running.returncode}")
-        least = min(least, usage.ru_utime + usage.ru_stime)
-    return least
-
-
-times = seconds(2) / seconds(8)
-sys.exit(f"{times:.1f} times as long for four times as many batches" if times > 7 else 0)
-PYTHON
-if proved 'what a course of many batches takes'; then
-    if (cd "$work" && python3 times.py "$rollout") 2>"$work/said"; then pass; else fail "a course of many batches: $(cat "$work/said")"; fi
-fi
 finish
