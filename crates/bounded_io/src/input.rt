@@ -10,7 +10,7 @@ use std::alloc::Global;
 pub const MAX_INPUT: usize = 16_777_216;
 
 /// How much a single read asks for.
-const CHUNK: usize = 65_536;
+const CHUNK: usize = 8_192;
 
 /// Reads to the end of the reader. It never asks the reader for more than one byte past the bound, and takes no memory
 /// for that byte. A fault `File` comes only where a read failed. An interrupted read is a failed one, and is not tried

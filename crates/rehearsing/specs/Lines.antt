@@ -39,7 +39,7 @@ without_return line = if bytes_eq (drop (length line - 1) line) (codes "\r") the
 
 -- the most bytes of a single read
 abbrev pub max_read : ℕ
-max_read = 65536
+max_read = 8192
 
 -- what stands behind the last line feed, as a line of its own; no bytes are no line
 abbrev pub last_line : List ℕ → List (List ℕ)

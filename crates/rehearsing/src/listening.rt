@@ -15,7 +15,7 @@ use std::io::Write;
 use std::ops::ControlFlow;
 
 /// How much a single read asks for.
-const CHUNK: usize = 65_536;
+const CHUNK: usize = 8_192;
 
 /// Answers what stands behind the last line feed, where anything does.
 fn answer_last<W: Write>(
