@@ -1,0 +1,4 @@
+pub mod GreatestLemmas
+pub mod WalkLemmas
+pub mod CellLemmas
+pub mod BlockLemmas

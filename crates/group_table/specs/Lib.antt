@@ -1,0 +1,3 @@
+pub mod Columns
+pub mod TableText
+pub mod Laws

@@ -1,0 +1,17 @@
+//! The table of limited groups: how many hosts of each are down before the first batch, and while each batch runs.
+#![tactic(auto)]
+
+mod blocks;
+mod counts;
+mod grid;
+mod laws;
+mod padding;
+mod settling;
+mod table;
+mod widths;
+mod writing;
+
+pub use blocks::write_table;
+pub use grid::Grid;
+pub use laws::{plans_are_within_limits, what_fits_is_within_limits};
+pub use table::{GroupTable, tabulate_plan};
