@@ -25,12 +25,8 @@ fn is_full(fleet: &Fleet, statuses: &[Status], group: GroupId) -> bool
     is_none_left(room(fleet, statuses, group))
 }
 
-/// Of each group whether it has no room. The members of each are counted once.
-pub(crate) fn list_full(
-    alloc: Global,
-    fleet: &Fleet,
-    statuses: &[Status],
-) -> Result<Vec<bool>, AllocError>
+/// Of each group whether it has no room. The members of each are counted once. Only want of memory refuses it.
+pub fn list_full(alloc: Global, fleet: &Fleet, statuses: &[Status]) -> Result<Vec<bool>, AllocError>
     ensures { IfOk result (λ full. (group : ℕ) → slice_index_or full.items group false ≡ spec.is_full fleet.now statuses.now group) }
 {
     let mut full = Vec::with_capacity(alloc, fleet.groups())?;
@@ -57,7 +53,7 @@ fn first_of(full: &[bool], chain: &[GroupId]) -> Option<GroupId>
 }
 
 /// The outermost of the host's groups that has no room.
-pub(crate) fn first_full(fleet: &Fleet, full: &[bool], host: HostId) -> Option<GroupId>
+pub fn first_full(fleet: &Fleet, full: &[bool], host: HostId) -> Option<GroupId>
     requires { host.index < length fleet.now.hosts }
     ensures { option_map (λ group. group.index) result ≡ spec.first_by (λ group. slice_index_or full.now group false) fleet.now host.index }
 {

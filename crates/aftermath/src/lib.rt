@@ -10,6 +10,7 @@ mod rows;
 mod waits;
 mod why;
 
+pub use full::{first_full, list_full};
 pub use notes::left_out_lines;
 pub use rows::Played;
 pub use why::{has_why, why_lines};

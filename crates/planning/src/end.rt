@@ -16,7 +16,7 @@ pub enum End {
 }
 
 /// How planning ends with this answer, once these hosts were set aside.
-pub(crate) fn end_of(answer: &Answer, held: &[HostId]) -> End
+pub fn end_of(answer: &Answer, held: &[HostId]) -> End
     ensures { result ≡ model.end_of answer.now (host_numbers held.now) }
 {
     match answer {

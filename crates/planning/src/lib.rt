@@ -8,7 +8,7 @@ mod laws;
 mod plays;
 mod printing;
 
-pub use end::End;
+pub use end::{End, end_of};
 pub use fault::PlanFault;
 pub use fleet::read_fleet;
 pub use laws::{one_inventory, one_plan_text};

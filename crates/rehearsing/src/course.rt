@@ -9,21 +9,21 @@ use play_course::{Boundary, End};
 
 /// What a play comes to from boundary to boundary, and how it ends at the last of them.
 #[derive(Debug, Drop)]
-pub(crate) struct PlayCourse {
-    pub(crate) boundaries: Vec<Boundary>,
-    pub(crate) end: End,
+pub struct PlayCourse {
+    pub boundaries: Vec<Boundary>,
+    pub end: End,
 }
 
 impl PlayCourse {
     /// How many batches it opens: one at each boundary but the last.
-    pub(crate) fn batches(&self) -> usize
+    pub fn batches(&self) -> usize
         ensures { result ≡ batches_opened (course_of self.now) }
     {
         self.boundaries.len().saturating_sub(1)
     }
 
     /// The statuses with which it ends.
-    pub(crate) fn last_statuses(&self) -> &[Status]
+    pub fn last_statuses(&self) -> &[Status]
         ensures { result.now ≡ files.last_statuses [] self.now.boundaries.items }
     {
         match self.boundaries.last() {

@@ -30,12 +30,13 @@ mod stage;
 mod words;
 
 pub use advance_fault::AdvanceFault;
+pub use course::PlayCourse;
 pub use course_end::CourseEnd;
 pub use fault::RehearseFault;
 pub use laws::{one_course_text, sessions_rehearse};
 pub use line::answer;
 pub use lines::MAX_LINE;
-pub use printing::course_text;
+pub use printing::{count_batches, course_text, foresee, last_end, write_course};
 pub use prompt::Prompt;
 pub use rehearsal::Rehearsal;
 pub use rehearsal_laws::{

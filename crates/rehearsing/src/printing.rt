@@ -20,8 +20,8 @@ use recap::{Recap, write_field, write_numbered, write_play};
 use std::alloc::Global;
 use std::io::Write;
 
-/// Writes the boundaries and the end of a course as the recap of a run does, of which no host is told.
-fn write_course<W: Write>(
+/// Goes on with the boundaries and the end of a course as the recap of a run does, of which no host is told; of several plays under its number. It takes no memory.
+pub fn write_course<W: Write>(
     text: &mut TextWriter<'_, W>,
     fleet: &Fleet,
     several: bool,
@@ -58,7 +58,7 @@ fn write_courses<W: Write>(
 }
 
 /// How many batches the courses open.
-fn count_batches(courses: &[PlayCourse]) -> u64
+pub fn count_batches(courses: &[PlayCourse]) -> u64
     requires few { sum_by batches_opened (map course_of courses.now) < 2 ^ 64 }
     ensures { result ≡ sum_by batches_opened (map course_of courses.now) }
 {
@@ -100,7 +100,7 @@ fn send_courses<W: Write>(
 }
 
 /// How the last of the courses ends.
-fn last_end(courses: &[PlayCourse]) -> CourseEnd
+pub fn last_end(courses: &[PlayCourse]) -> CourseEnd
     requires some { 0 < length courses.now }
     ensures { IsEndOf (map course_of courses.now) result }
 {
@@ -110,7 +110,7 @@ fn last_end(courses: &[PlayCourse]) -> CourseEnd
 
 /// The courses of these plays, where just the hosts that the text names fail, at their first step. The first part of the text that names neither a host nor a group
 /// refuses it; otherwise only want of memory does.
-fn foresee(
+pub fn foresee(
     alloc: Global,
     fleet: &Fleet,
     plays: &[Play],

@@ -1,0 +1,4 @@
+pub mod WalkLemmas
+pub mod LimitLemmas
+pub mod SurveyLemmas
+pub mod TextLemmas

@@ -1,0 +1,17 @@
+use Rattle.std.proofs.Common.{ℕ, List, refl, subst}
+use Rattle.bounded_io.specs.Writing.{Writes}
+use Rattle.bounded_io.proofs.WritingLemmas.{writes_two}
+use Rattle.rehearsing.specs.CourseSteps.{course_of}
+use Rattle.rehearsing.specs.CourseTexts.{course_lines, numbered}
+use Rattle.plan_groups.specs.Surveys.{course_outlook, survey_text}
+use Rattle.plan_groups.proofs.SurveyLemmas.{written_is}
+use Rattle.plan_groups.proofs.course.write_one.Goals as goal
+
+pub returns : goal.returns
+returns g c =
+    let fleet = c.args.fleet.now in
+    let course = course_of c.args.course.now in
+    let told = subst (λ (l : List ℕ). Writes g.W.Write.contents c.write_course.new.text c.write_survey.new.text l)
+    (written_is fleet (course_outlook course) c.args.survey.now c.requires.told) c.write_survey.ensures in
+    writes_two _ c.args.text.now c.write_course.new.text c.write_survey.new.text (numbered c.args.several c.args.number (course_lines fleet course)) (survey_text fleet (course_outlook course)) _
+    c.write_course.ensures told refl

@@ -1,0 +1,24 @@
+-- What holds of every table that is told.
+use Rattle.std.specs.Prelude.{ℕ, List, All}
+use Rattle.domains.specs.FleetViews.{FleetView}
+use Rattle.fleet_states.specs.Batches.{Fails}
+use Rattle.play_model.specs.declared.play.Play.{Play}
+use Rattle.play_course.specs.Files.{Course}
+use Rattle.play_course.specs.PlayPlans.{IsPlanOf, first_statuses}
+use Rattle.batch_plan.specs.declared.answers.Answer.{Answer}
+use Rattle.domains.specs.FleetViews.{IsSound}
+use Rattle.rehearsing.specs.CourseTexts.{AreCoursesBy}
+use Rattle.group_table.specs.Columns.{AreWithinLimits}
+use Rattle.plan_groups.specs.Surveys.{columns_of, course_outlook, plan_outlook}
+
+-- in no column of a plan's table is a group over its limit
+abbrev pub PlansStayWithin : Type 0
+PlansStayWithin =
+    (fleet : FleetView) (play : Play) (answer : Answer) (held : List ℕ) → IsSound fleet → IsPlanOf fleet play answer held
+    → AreWithinLimits fleet (columns_of (plan_outlook (first_statuses fleet play) answer held))
+
+-- nor in one of a course's tables, whoever fails in it
+abbrev pub CoursesStayWithin : Type 0
+CoursesStayWithin =
+    (fleet : FleetView) (fails : Fails) (plays : List Play) (courses : List Course) → IsSound fleet → AreCoursesBy fleet fails plays courses
+    → All (λ course. AreWithinLimits fleet (columns_of (course_outlook course))) courses

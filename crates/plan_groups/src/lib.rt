@@ -1,0 +1,15 @@
+//! The command `plan --groups`: below a plan, or each play of a course, how full each limited group is while each batch runs.
+#![tactic(auto)]
+
+mod course;
+mod down;
+mod held;
+mod laws;
+mod marks;
+mod plan;
+mod survey;
+mod writing;
+
+pub use course::surveyed_course;
+pub use laws::{courses_stay_within_limits, plans_stay_within_limits};
+pub use plan::surveyed_plan;
