@@ -60,7 +60,7 @@ _rollout() {
     command=${words[1]}
     case $command in
     limits) most=1 options=(-h --help) ;;
-    plan) most=2 options=(--course --failing -v --verbose -h --help) ;;
+    plan) most=2 options=(--course --failing --groups -v --verbose -h --help) ;;
     run) most=2 options=(--forks -v --verbose --quiet --stop-file -h --help) ;;
     rehearse) most=2 options=(-h --help) ;;
     help)

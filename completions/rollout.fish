@@ -49,6 +49,7 @@ complete -c rollout -n '__rollout_lacks 1 limits' -k -a '(__fish_complete_suffix
 
 complete -c rollout -n '__rollout_of plan' -l course -d 'Prints what a run would open to its end, play by play, where no program fails'
 complete -c rollout -n '__rollout_of plan' -l failing -x -d 'Beside --course these hosts and groups, parted by commas, fail at their first step'
+complete -c rollout -n '__rollout_of plan' -l groups -d 'Prints below it how many hosts of each limited group are down while each batch runs'
 complete -c rollout -n '__rollout_of plan' -s v -l verbose -d 'Tells on standard error which hosts of the play are down already, and left out'
 complete -c rollout -n '__rollout_of plan' -s h -l help -d 'Print help'
 

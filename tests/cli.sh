@@ -531,6 +531,7 @@ Arguments:
 Options:
       --course           Prints what a run would open to its end, play by play, where no program fails
       --failing <HOSTS>  Beside --course these hosts and groups, parted by commas, fail at their first step
+      --groups           Prints below it how many hosts of each limited group are down while each batch runs
   -v, --verbose          Tells on standard error which hosts of the play are down already, and left out
   -h, --help             Print help
 '

@@ -14,7 +14,7 @@ from draw_programs import RunStyle
 from draw_steps import AnyStyle, name_tasks
 from faults import Fault
 from inventory import read_inventory
-from json_draw import write
+from json_draw import Members, write
 from mutate import mutate
 from planning import start
 from programs import Unmodelled
@@ -115,6 +115,43 @@ def draw_foreseen(seed, number):
     value = draw_right_playbook(random, names_in(inventory), RunStyle([]), random.choice([1, 1, 2, 3]))
     playbook = write(mutate(value, random) if random.random() < 0.03 else value, random)
     return Case(("plan", INVENTORY, PLAYBOOK, "--course", *_failing(random, hosts_in(inventory), names_in(inventory))), inventory, playbook)
+
+
+def draw_grouped(seed, number):
+    """The plan or course of this number that is asked for its groups: one in five of so many batches that the table goes on in a second block, or in several."""
+    random = Random(f"{seed}/grouped/{number}")
+    are_many = random.random() < 0.2
+    inventory, value = _many(random) if are_many else _few(random)
+    inventory = write(inventory, random)
+    failing = [] if are_many and random.random() < 0.7 else _failing(random, hosts_in(inventory), names_in(inventory))
+    words = ["--course", *failing] if random.random() < 0.6 else []
+    words.insert(random.choice([0, len(words)]), "--groups")
+    return Case(("plan", INVENTORY, PLAYBOOK, *words), inventory, write(value, random))
+
+
+def _few(random):
+    """An inventory and a playbook as values, as other courses have them."""
+    inventory = draw_right_inventory(random, crossing=0.02, down=random.choice([0, 0.1, 0.3]), limited=random.choice([0, 0.3, 0.7, 0.9]))
+    return inventory, draw_right_playbook(random, names_in(write(inventory, random)), RunStyle([]), random.choice([1, 1, 2, 3]))
+
+
+def _many(random):
+    """An inventory of more hosts, and a playbook of small batches."""
+    racks = {}
+    for rack in range(random.randint(1, 4)):
+        name = random.choice(["r", "rack", "a-long-name-of-a-rack." * random.choice([1, 1, 5])]) + str(rack)
+        hosts = {f"{chr(97 + rack)}{number}": {"down": True} if random.random() < 0.02 else {} for number in range(random.randint(5, 25))}
+        racks[name] = {"hosts": hosts, "vars": {"max_down": random.choice([1, 2, 2, 3, 100, "50%"])} if random.random() < 0.8 else {}}
+    play = {"hosts": "all", "serial": random.choice([1, 1, 2, [1, 2, "10%"]]), "on_blocked": random.choice(["stop", "hold"]), "tasks": [{"command": "true"}]}
+    inventory = {"all": {"vars": {"max_down": random.choice([5, 10, 1000])}, "children": racks}}
+    return _members(inventory), [_members(play)] * random.choice([1, 1, 2])
+
+
+def _members(value):
+    """The same value, as it is written."""
+    if isinstance(value, dict):
+        return Members((name, _members(inner)) for name, inner in value.items())
+    return [_members(inner) for inner in value] if isinstance(value, list) else value
 
 
 def _failing(random, hosts, names):

@@ -15,8 +15,9 @@ from rehearsal import Rehearsal
 from rehearsal import rehearse as answers
 from rules import turned
 from sizes import cap
+from surveyed import groups_lines, sight_of_plan
 from telling import told
-from texts import limits_text, plan_text
+from texts import as_text, limits_text, plan_text
 
 
 @dataclass(frozen=True)
@@ -33,9 +34,9 @@ def command(words, files, typed):
     if not words or words[0] == "limits":
         return limits(*files)
     if words[0] == "plan" and "--course" in words:
-        return course(*files, names_to_fail(words))
+        return course(*files, names_to_fail(words), "--groups" in words)
     if words[0] == "plan":
-        return plan(*files)
+        return plan(*files, "--groups" in words)
     if words[0] == "run":
         return run(*files, is_verbose="-v" in words)
     if words[0] == "rehearse":
@@ -51,8 +52,8 @@ def limits(inventory):
         return refused(fault)
 
 
-def plan(inventory, playbook):
-    """The plan of the first play, once all plays were accepted."""
+def plan(inventory, playbook, is_grouped=False):
+    """The plan of the first play, once all plays were accepted; below it its groups, where they are asked for."""
     try:
         fleet, plays, targets = accepted(inventory, playbook)
     except Fault as fault:
@@ -60,7 +61,8 @@ def plan(inventory, playbook):
     state = start(fleet, targets[0])
     boundary = next_boundary(fleet, plays[0], state, cap(plays[0].sizes, targeted(fleet, targets[0]), 0))
     left_out = boundary.aside and not turned("held-hosts-make-status-three")
-    return Said(plan_text(boundary.answer, boundary.aside), "", 3 if isinstance(boundary.answer, Blocked) or left_out else 0)
+    groups = as_text(groups_lines(fleet, sight_of_plan(state, boundary.answer, boundary.aside))) if is_grouped else ""
+    return Said(plan_text(boundary.answer, boundary.aside) + groups, "", 3 if isinstance(boundary.answer, Blocked) or left_out else 0)
 
 
 def names_to_fail(words):
@@ -70,8 +72,8 @@ def names_to_fail(words):
     return [name for value in apart + attached for name in parts_of(value)]
 
 
-def course(inventory, playbook, names):
-    """What a run would open to its end, where just the hosts of these names fail."""
+def course(inventory, playbook, names, is_grouped=False):
+    """What a run would open to its end, where just the hosts of these names fail; below each play its groups, where they are asked for."""
     try:
         if turned("course-names-last"):
             Fleet(read_inventory(inventory)).target(names)
@@ -82,7 +84,7 @@ def course(inventory, playbook, names):
     except Fault as fault:
         return refused(fault)
     courses = foresee(fleet, plays, targets, lambda target: targeted(fleet, target), failing)
-    return Said(foreseen_text(courses, len(plays) > 1), "", status_of(courses))
+    return Said(foreseen_text(fleet, courses, len(plays) > 1, is_grouped), "", status_of(courses))
 
 
 def run(inventory, playbook, is_verbose=False):

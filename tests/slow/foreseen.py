@@ -7,6 +7,7 @@ from planning import start
 from plays import end_line, restart
 from rules import turned
 from sizes import cap
+from surveyed import Sight, groups_lines
 from texts import as_text, first_line, listed
 
 
@@ -17,6 +18,8 @@ class Foreseen:
     boundaries: list[Boundary]
     end: tuple
     state: dict
+    # The state at each boundary, once hosts were set aside.
+    states: list[dict]
 
 
 def foresee(fleet, plays, targets, counted, failing):
@@ -39,15 +42,16 @@ def _again(before, target, failing):
 
 def _course(fleet, play, state, targeted, failing):
     """One play from a state; `targeted` is the number of which sizes in percent are taken."""
-    boundaries, end = [], None
+    boundaries, states, end = [], [], None
     step = 2 if turned("course-hosts-fail-at-the-first-step") else 1
     while True:
         opened = 0 if turned("course-takes-later-sizes") else len(boundaries)
         boundary = next_boundary(fleet, play, state, cap(play.sizes, targeted, opened), end)
         boundaries.append(boundary)
+        states.append(dict(state))
         end = end or end_at(state, boundary.answer)
         if end:
-            return Foreseen(boundaries, end, state)
+            return Foreseen(boundaries, end, state, states)
         batch = boundary.opened = boundary.answer.batches[0]
         steps = {host: step if host in failing else None for host in batch}
         end = close(state, batch, steps, halting(steps, play), play.most_failed)
@@ -55,8 +59,8 @@ def _course(fleet, play, state, targeted, failing):
             state.update({host: "updated" for host in batch if state[host] == "failed"})
 
 
-def foreseen_text(courses, several):
-    """The boundaries and the end of each play as a recap has them, behind its number where there are several, and how many batches that are."""
+def foreseen_text(fleet, courses, several, is_grouped=False):
+    """The boundaries and the end of each play as a recap has them, behind its number where there are several, with its groups where they are asked for; and how many batches that are."""
     lines = []
     for number, course in enumerate(courses, 1):
         lines += [f"play {number}"] if several else []
@@ -65,6 +69,14 @@ def foreseen_text(courses, several):
             lines += [listed("held:", boundary.aside)] if boundary.aside else []
             lines += [listed("open:", boundary.opened)] if boundary.opened is not None else []
         lines.append(end_line(course.end))
+        lines += groups_lines(fleet, _sight(course)) if is_grouped else []
     counted = courses[-1:] if turned("course-counts-all-plays") else courses
     lines.append(f"batches={sum(boundary.opened is not None for course in counted for boundary in course.boundaries)}")
     return as_text(lines)
+
+
+def _sight(course):
+    """What is told of a course: each boundary but the last opened its batch."""
+    batches = [(state, boundary.opened) for state, boundary in zip(course.states, course.boundaries) if boundary.opened is not None]
+    asides = [(state, boundary.aside) for state, boundary in zip(course.states, course.boundaries)]
+    return Sight(course.states[0], batches, course.boundaries[0].answer, asides)

@@ -18,4 +18,5 @@ RULES = {
     **runs.TELLING,
     **runs.REHEARSALS,
     **runs.COURSES,
+    **runs.GROUPS,
 }

@@ -150,6 +150,16 @@ REHEARSALS = {
     "unknown-before-over": "An unknown name is told before that all is over.",
 }
 
+GROUPS = {
+    "groups-batches-come-up": "Behind a batch of a plan its hosts are up again.",
+    "groups-count-who-was-down": "While a batch runs those count too who were down before.",
+    "groups-failed-hosts-are-listed": "Hosts that failed in an earlier play are told as down.",
+    "groups-forcing-is-marked": "The group that the first plan names is marked.",
+    "groups-later-asides": "Who is set aside at a later boundary is told too.",
+    "groups-lines-of-100": "No line has more than 100 characters where one column fits.",
+    "groups-outermost-holder": "Of a host's groups without room the outermost is told.",
+}
+
 COURSES = {
     "course-counts-all-plays": "The batches of all plays are counted.",
     "course-failed-hosts-are-down": "A host that fails in a course is down behind its batch.",

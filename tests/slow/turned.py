@@ -1,28 +1,28 @@
 """Shows that the drawn cases of the gate tell each rule from its turned one, and with which case.
 
 For each rule the slow program says with that rule turned what it says of the cases, one after the other, until it says something else than with
-all rules right. Rules of what a run tells are held against the runs that tell of themselves, those of courses against courses. `python3 turned.py [SEED [CASES [NAME..]]]` prints a line a rule; its last line counts them.
+all rules right. Rules of what a run tells are held against the runs that tell of themselves, those of courses against courses, those of groups against plans and courses that are asked for them. `python3 turned.py [SEED [CASES [NAME..]]]` prints a line a rule; its last line counts them.
 """
 
 import os
 import sys
 from multiprocessing import Pool
 
-from cases import draw_case, draw_foreseen, draw_told
-from gate import CASES, FORESEEN, SEED, TOLD
+from cases import draw_case, draw_foreseen, draw_grouped, draw_told
+from gate import CASES, FORESEEN, GROUPED, SEED, TOLD
 from programs import Unmodelled
 from rule_list import RULES
 from rules import turn, turn_none
-from rules_of_runs import COURSES, TELLING
+from rules_of_runs import COURSES, GROUPS, TELLING
 
-# By what the cases are of: a command, a run that tells of itself, or a course. The cases, and what is right of each.
-_cases = {"": [], "told": [], "course": []}
-_right = {"": [], "told": [], "course": []}
+# By what the cases are of: a command, a run that tells of itself, a course, or groups. The cases, and what is right of each.
+_cases = {"": [], "told": [], "course": [], "groups": []}
+_right = {"": [], "told": [], "course": [], "groups": []}
 
 
 def main(seed, count, names):
     # Cases are drawn with all rules right, before the first is turned; the workers take them over.
-    for kind, draw, drawn in (("", draw_case, count), ("told", draw_told, min(count, TOLD)), ("course", draw_foreseen, min(count, FORESEEN))):
+    for kind, draw, drawn in (("", draw_case, count), ("told", draw_told, min(count, TOLD)), ("course", draw_foreseen, min(count, FORESEEN)), ("groups", draw_grouped, min(count, GROUPED))):
         for number in range(drawn if any(_kind(name) == kind for name in names) else 0):
             _cases[kind].append(draw(seed, number))
             _right[kind].append(_cases[kind][-1].said())
@@ -39,7 +39,7 @@ def main(seed, count, names):
 
 def _kind(name):
     """What the cases are of that are to tell a rule from its turned one."""
-    return "told" if name in TELLING else "course" if name in COURSES else ""
+    return "told" if name in TELLING else "course" if name in COURSES else "groups" if name in GROUPS else ""
 
 
 def _first(name):

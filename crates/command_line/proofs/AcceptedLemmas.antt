@@ -127,7 +127,7 @@ value_of_operand (a ∷ b ∷ rest) h = value_long a b rest (no_dash (eqb a 45) 
 plan_alone : (first second : Word) → IsValue first → IsValue second → ReadsBoth (codes "plan") (codes "plan" ∷ first ∷ second ∷ []) (first, second)
 unfolding clap_on_literals
 plan_alone first second p q = record {
-  taken = simp (p.no_end, p.no_long, p.no_short, q.no_end, q.no_long, q.no_short);
+  taken = rw (p.no_end, p.no_long, p.no_short, q.no_end, q.no_long, q.no_short) refl;
   inventory = simp (p.no_end, p.no_long, p.no_short, q.no_end, q.no_long, q.no_short);
   playbook = simp (p.no_end, p.no_long, p.no_short, q.no_end, q.no_long, q.no_short);
 }
@@ -136,16 +136,16 @@ plan_before : (first second : Word) → IsValue first → IsValue second → Rea
 unfolding clap_on_literals
 plan_before first second p q = record {
   taken = rw (p.no_end, p.no_long, p.no_short, q.no_end, q.no_long, q.no_short) refl;
-  inventory = simp (p.no_end, p.no_long, p.no_short, q.no_end, q.no_long, q.no_short);
-  playbook = simp (p.no_end, p.no_long, p.no_short, q.no_end, q.no_long, q.no_short);
+  inventory = rw (p.no_end, p.no_long, p.no_short, q.no_end, q.no_long, q.no_short) refl;
+  playbook = rw (p.no_end, p.no_long, p.no_short, q.no_end, q.no_long, q.no_short) refl;
 }
 
 plan_between : (first second : Word) → IsValue first → ReadsBoth (codes "plan") (codes "plan" ∷ first ∷ codes "--" ∷ second ∷ []) (first, second)
 unfolding clap_on_literals
 plan_between first second p = record {
   taken = rw (p.no_end, p.no_long, p.no_short) refl;
-  inventory = simp (p.no_end, p.no_long, p.no_short);
-  playbook = simp (p.no_end, p.no_long, p.no_short);
+  inventory = rw (p.no_end, p.no_long, p.no_short) refl;
+  playbook = rw (p.no_end, p.no_long, p.no_short) refl;
 }
 
 plan_behind : (first second : Word) → ReadsBoth (codes "plan") (codes "plan" ∷ codes "--" ∷ first ∷ second ∷ []) (first, second)

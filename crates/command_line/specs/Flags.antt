@@ -1,8 +1,8 @@
--- The flags that ask a command to tell of itself, or to be quiet, or a plan for its course.
+-- The flags that ask a command to tell of itself, or to be quiet, or a plan for its course or its groups.
 use Rattle.std.specs.Prelude.{Bool, false, ◌&&◌, ◌||◌, if◌then◌else◌, List, [], ◌∷◌, Option, Some, None, codes}
 use Rattle.std.specs.Str.{bytes_eq}
 use Rattle.command_line.specs.declared.flags.Flags.{Flags}
-use Rattle.command_line.specs.declared.flags.Flags.TheVariants.{Course, Either, Planning, Quiet, Verbose}
+use Rattle.command_line.specs.declared.flags.Flags.TheVariants.{Course, Either, Groups, Planning, Quiet, Verbose}
 use Rattle.command_line.specs.Operands.{Word, dashes}
 use Rattle.command_line.specs.Failing.{failing_names, without_failing}
 use Rattle.command_line.specs.StopFiles.{without_stops}
@@ -16,12 +16,16 @@ is_quiet_flag word = bytes_eq word (codes "--quiet")
 abbrev pub is_course_flag : Word → Bool
 is_course_flag word = bytes_eq word (codes "--course")
 
+abbrev pub is_groups_flag : Word → Bool
+is_groups_flag word = bytes_eq word (codes "--groups")
+
 abbrev pub has_flag : Flags → Word → Bool
 has_flag Verbose word = is_verbose_flag word
 has_flag Quiet word = is_quiet_flag word
 has_flag Either word = is_verbose_flag word || is_quiet_flag word
 has_flag Course word = is_course_flag word
-has_flag Planning word = is_verbose_flag word || is_course_flag word
+has_flag Groups word = is_groups_flag word
+has_flag Planning word = (is_verbose_flag word || is_course_flag word) || is_groups_flag word
 
 -- one of the words is such a flag; behind the word that ends options none is
 abbrev pub asks : Flags → List Word → Bool
@@ -56,6 +60,11 @@ is_verbose (command ∷ words) =
 abbrev pub is_quiet : List Word → Bool
 is_quiet [] = false
 is_quiet (command ∷ words) = bytes_eq command (codes "run") && asks Quiet (without_stops words)
+
+-- the words ask a plan for its groups
+abbrev pub is_grouped : List Word → Bool
+is_grouped [] = false
+is_grouped (command ∷ words) = bytes_eq command (codes "plan") && asks Groups (without_names words)
 
 -- the names of the hosts that are to fail in the course for which the words ask, if they ask a plan for it
 abbrev pub course : List Word → Option Word

@@ -36,6 +36,10 @@ course_argument = record (new_rule (codes "course")) { long = Some (codes "cours
 abbrev pub failing_argument : Rule
 failing_argument = record (new_rule (codes "failing")) { long = Some (codes "failing"); value_names = 1 }
 
+-- the flag that asks a plan for its groups
+abbrev pub groups_argument : Rule
+groups_argument = record (new_rule (codes "groups")) { long = Some (codes "groups"); action = Some SetTrue }
+
 -- the flag that asks a run to tell nothing unasked
 abbrev pub quiet_argument : Rule
 quiet_argument = record (new_rule (codes "quiet")) { long = Some (codes "quiet"); action = Some SetTrue }
@@ -50,7 +54,9 @@ limits_command = with_rule (new_app (codes "limits")) inventory_argument
 abbrev pub plan_command : App
 plan_command =
     with_rule
+    (with_rule
     (with_rule (with_rule (with_rule (with_rule (new_app (codes "plan")) inventory_argument) playbook_argument) course_argument) failing_argument)
+    groups_argument)
     verbose_argument
 
 abbrev pub run_command : App

@@ -1,4 +1,4 @@
-//! The flags that ask a command to tell of itself, or to be quiet, or a plan for its course.
+//! The flags that ask a command to tell of itself, or to be quiet, or a plan for its course or its groups.
 ghost use Rattle.std.specs.Prelude.{◌≡◌, ◌&&◌, ◌∷◌, ◌++◌, [], IfOk, OnOk, if◌then◌else◌, map, string_bytes};
 ghost use Rattle.command_line.specs.Flags as spec;
 
@@ -14,7 +14,8 @@ pub(crate) enum Flags {
     /// Either of them.
     Either,
     Course,
-    /// Those of a plan: `Verbose` and `Course`.
+    Groups,
+    /// Those of a plan: `Verbose`, `Course` and `Groups`.
     Planning,
 }
 
@@ -27,7 +28,10 @@ impl Flags {
             Flags::Quiet => is_word(word, "--quiet"),
             Flags::Either => is_verbose(word) || is_word(word, "--quiet"),
             Flags::Course => is_word(word, "--course"),
-            Flags::Planning => is_verbose(word) || is_word(word, "--course"),
+            Flags::Groups => is_word(word, "--groups"),
+            Flags::Planning => {
+                is_verbose(word) || is_word(word, "--course") || is_word(word, "--groups")
+            }
         }
     }
 }

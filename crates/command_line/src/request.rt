@@ -6,7 +6,7 @@ ghost use Rattle.command_line.specs.Failing as failing;
 ghost use Rattle.command_line.specs.Flags as spec;
 ghost use Rattle.command_line.specs.StopFiles as stops;
 ghost use Rattle.command_line.specs.Words.{Refuses, Says};
-ghost use Rattle.command_line.specs.declared.flags.Flags.TheVariants.{Course, Either, Planning, Quiet, Verbose};
+ghost use Rattle.command_line.specs.declared.flags.Flags.TheVariants.{Course, Either, Groups, Planning, Quiet, Verbose};
 
 use crate::command::Line;
 use crate::failing::without_failing;
@@ -29,6 +29,8 @@ pub struct Request {
     pub stop_file: Option<String>,
     /// Where a plan is asked for its course, the names of the hosts that are to fail in it, a comma behind each.
     pub course: Option<String>,
+    /// Whether a plan, or its course, tells how full its groups are.
+    pub is_grouped: bool,
 }
 
 /// What the words ask for, the program's name left out. The stop files and the flags of a run, and the flags of a plan and the names of hosts that are to fail in
@@ -40,6 +42,7 @@ pub fn request_of(alloc: Global, words: &[String]) -> Result<Request, LineFault>
     ensures quiet { IfOk result (λ asked. asked.is_quiet ≡ spec.is_quiet (map string_bytes words.now)) }
     ensures stop_file { IfOk result (λ asked. option_map string_bytes asked.stop_file ≡ stops.stop_file (map string_bytes words.now)) }
     ensures course { IfOk result (λ asked. option_map string_bytes asked.course ≡ spec.course (map string_bytes words.now)) }
+    ensures groups { IfOk result (λ asked. asked.is_grouped ≡ spec.is_grouped (map string_bytes words.now)) }
     ensures err { IfErr result (Refuses (spec.plain (map string_bytes words.now))) }
 {
     match words {
@@ -52,6 +55,7 @@ pub fn request_of(alloc: Global, words: &[String]) -> Result<Request, LineFault>
                 is_quiet: false,
                 stop_file: None,
                 course: None,
+                is_grouped: false,
             }),
             Err(fault) => Err(fault),
         },
@@ -66,6 +70,7 @@ fn plan_request(alloc: Global, command: &String, words: &[String]) -> Result<Req
     ensures stop_file { IfOk result (λ asked. asked.stop_file ≡ None) }
     ensures course { IfOk result (λ asked. option_map string_bytes asked.course
         ≡ (if spec.asks Course (failing.without_failing (map string_bytes words.now)) then Some (failing.failing_names (map string_bytes words.now)) else None)) }
+    ensures groups { IfOk result (λ asked. asked.is_grouped ≡ spec.asks Groups (spec.without_names (map string_bytes words.now))) }
     ensures err { IfErr result (Refuses (string_bytes command.now ∷ spec.without_flags Planning (spec.without_names (map string_bytes words.now)))) }
 {
     let Ok((others, names)) = without_failing(alloc, words) else {
@@ -90,6 +95,7 @@ fn flagged_plan(
     ensures quiet { IfOk result (λ asked. asked.is_quiet ≡ false) }
     ensures stop_file { IfOk result (λ asked. asked.stop_file ≡ None) }
     ensures course { IfOk result (λ asked. asked.course ≡ course) }
+    ensures groups { IfOk result (λ asked. asked.is_grouped ≡ spec.asks Groups (map string_bytes words.now)) }
     ensures err { IfErr result (Refuses (string_bytes command.now ∷ spec.without_flags Planning (map string_bytes words.now))) }
 {
     let Ok(plain) = without_flags(alloc, Flags::Planning, command, words) else {
@@ -102,6 +108,7 @@ fn flagged_plan(
             is_quiet: false,
             stop_file: None,
             course,
+            is_grouped: asks(Flags::Groups, words),
         }),
         Err(fault) => Err(fault),
     }
@@ -114,6 +121,7 @@ fn run_request(alloc: Global, command: &String, words: &[String]) -> Result<Requ
     ensures quiet { IfOk result (λ asked. asked.is_quiet ≡ spec.asks Quiet (stops.without_stops (map string_bytes words.now))) }
     ensures stop_file { IfOk result (λ asked. option_map string_bytes asked.stop_file ≡ last_or None (stops.stop_files (map string_bytes words.now))) }
     ensures course { IfOk result (λ asked. asked.course ≡ None) }
+    ensures groups { IfOk result (λ asked. asked.is_grouped ≡ false) }
     ensures err { IfErr result (Refuses (string_bytes command.now ∷ spec.without_flags Either (stops.without_stops (map string_bytes words.now)))) }
 {
     let Ok((others, file)) = without_stops(alloc, words) else {
@@ -134,6 +142,7 @@ fn flagged_request(
     ensures quiet { IfOk result (λ asked. asked.is_quiet ≡ spec.asks Quiet (map string_bytes words.now)) }
     ensures stop_file { IfOk result (λ asked. asked.stop_file ≡ stop_file) }
     ensures course { IfOk result (λ asked. asked.course ≡ None) }
+    ensures groups { IfOk result (λ asked. asked.is_grouped ≡ false) }
     ensures err { IfErr result (Refuses (string_bytes command.now ∷ spec.without_flags Either (map string_bytes words.now))) }
 {
     let Ok(plain) = without_flags(alloc, Flags::Either, command, words) else {
@@ -146,6 +155,7 @@ fn flagged_request(
             is_quiet: asks(Flags::Quiet, words),
             stop_file,
             course: None,
+            is_grouped: false,
         }),
         Err(fault) => Err(fault),
     }

@@ -26,6 +26,8 @@ const COURSE: &str = "course";
 
 const FAILING: &str = "failing";
 
+const GROUPS: &str = "groups";
+
 const INVENTORY_HELP: &str =
     "The inventory: a file of JSON that lists groups with their hosts, children and variables";
 
@@ -39,6 +41,9 @@ const COURSE_HELP: &str =
 
 const FAILING_HELP: &str =
     "Beside --course these hosts and groups, parted by commas, fail at their first step";
+
+const GROUPS_HELP: &str =
+    "Prints below it how many hosts of each limited group are down while each batch runs";
 
 const PLAN_VERBOSE_HELP: &str =
     "Tells on standard error which hosts of the play are down already, and left out";
@@ -109,6 +114,7 @@ fn plan<'a>(alloc: Global) -> Result<Command<'a>, AllocError>
         .arg(playbook(alloc))?
         .arg(course(alloc))?
         .arg(failing(alloc))?
+        .arg(groups(alloc))?
         .arg(verbose(alloc, PLAN_VERBOSE_HELP))
 }
 
@@ -199,6 +205,17 @@ fn failing<'a>(alloc: Global) -> Arg<'a>
         .long(FAILING)
         .value_name("HOSTS")
         .help(FAILING_HELP)
+}
+
+/// It stands in the help. The words that clap reads are without it.
+fn groups<'a>(alloc: Global) -> Arg<'a>
+    ensures rule { rule_of result ≡ spec.groups_argument }
+    ensures local { result.global ≡ false }
+{
+    Arg::new(alloc, GROUPS)
+        .long(GROUPS)
+        .action(ArgAction::SetTrue)
+        .help(GROUPS_HELP)
 }
 
 /// It stands in the help. The words that clap reads are without it.

@@ -89,12 +89,8 @@ fn append_opened(
     ensures ok { OnOk result (counts_of table.new ≡ counts_of table.old ++ map (counts_in fleet.now) (map opened boundaries.now)) }
 {
     for boundary in boundaries {
-        table.add(
-            alloc,
-            fleet,
-            boundary.statuses.as_slice(),
-            boundary.next_batch(),
-        )?;
+        let before = boundary.statuses.as_slice();
+        table.add(alloc, fleet, before, boundary.next_batch())?;
     }
     Ok(())
 }

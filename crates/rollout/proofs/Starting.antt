@@ -1,7 +1,7 @@
 -- What is started is safe, as what is done says what that was.
 use Rattle.std.proofs.Common.{◌≡◌, ◌⊎◌, ℕ, ◌≤◌, List, [], Option, Result, Ok, Err, inl, inr, subst}
 use Rattle.std.specs.Prelude.{drop, is_some}
-use Rattle.command_line.specs.Flags.{course, plain}
+use Rattle.command_line.specs.Flags.{course, is_grouped, plain}
 use Rattle.command_line.specs.Operands.{Word}
 use Rattle.command_line.specs.StopFiles.{stop_file}
 use Rattle.command_line.specs.Words as words
@@ -15,6 +15,7 @@ use Rattle.running.specs.RunTexts.{AreSafeIn, IsTrueFault}
 use Rattle.running.specs.declared.fault.RunTextFault.{RunTextFault}
 use Rattle.running.specs.declared.fault.RunTextFault.TheVariants as running
 use Rattle.running.proofs.SafeRecaps.{broken_recaps_are_of_safe_rolls, recaps_are_of_safe_rolls}
+use Rattle.rollout.specs.Groups.{PlanWish}
 use Rattle.rollout.specs.Rolls.{AreSafeFrom, Rolls, RollsInputs}
 use Rattle.rollout.specs.Runs.{Attempts, Does, Performs, StartsSafely}
 use Rattle.rollout.specs.Systems.{Gives, Known, Sources}
@@ -58,13 +59,13 @@ module _ (may : Work → Ending → Type 0) where
         inputs_are_safe sources inventory playbook forks on.workers on.few input_old input_new out_old out_new result logs on.rolls
 
     lines_are_safe : (args : List Word) → Gives given args → (asked : Line) → words.Says (plain (drop 1 args)) asked
-        → (asks failing : Option (List ℕ)) (result : Result Status Fault) (logs : List (List Event))
-        → Does may (is_some asks) failing sources asked input_old input_new out_old out_new result logs → StartsSafely may given sources input_old input_new logs
-    lines_are_safe args gives (line.Limits inventory) says asks failing result logs does = inl does.1
-    lines_are_safe args gives (line.Plan inventory playbook) says asks failing result logs does = inl does.1
-    lines_are_safe args gives (line.Rehearse inventory playbook) says asks failing result logs does = inl does.1
-    lines_are_safe args gives (line.Print message) says asks failing result logs does = inl does.2
-    lines_are_safe args gives (line.Run inventory playbook forks) says asks failing result logs does = by (rolls_are_safe asks inventory playbook forks result logs does)
+        → (asks : Option (List ℕ)) (wish : PlanWish) (result : Result Status Fault) (logs : List (List Event))
+        → Does may (is_some asks) wish sources asked input_old input_new out_old out_new result logs → StartsSafely may given sources input_old input_new logs
+    lines_are_safe args gives (line.Limits inventory) says asks wish result logs does = inl does.1
+    lines_are_safe args gives (line.Plan inventory playbook) says asks wish result logs does = inl does.1
+    lines_are_safe args gives (line.Rehearse inventory playbook) says asks wish result logs does = inl does.1
+    lines_are_safe args gives (line.Print message) says asks wish result logs does = inl does.2
+    lines_are_safe args gives (line.Run inventory playbook forks) says asks wish result logs does = by (rolls_are_safe asks inventory playbook forks result logs does)
       where
         by : (logs ≡ []) ⊎ AreSafeFrom may sources inventory playbook forks input_old input_new logs → StartsSafely may given sources input_old input_new logs
         by (inl none) = inl none
@@ -78,4 +79,4 @@ module _ (may : Work → Ending → Type 0) where
         by behind are (inr refuses) = inl refuses.none
         by behind are (inl follows) =
             lines_are_safe takes.args takes.gives follows.line (subst (λ (w : List Word). words.Says (plain w) follows.line) are follows.says)
-            (stop_file behind) (course behind) result logs follows.does
+            (stop_file behind) (record { course = course behind; groups = is_grouped behind }) result logs follows.does

@@ -12,6 +12,7 @@ pub mod Commands
 pub mod PlanFaults
 pub mod Plans
 pub mod Courses
+pub mod Groups
 pub mod RollFaults
 pub mod Rolls
 pub mod RehearsalFaults

@@ -6,7 +6,7 @@ use Rattle.std.specs.Io.KnownBytes.{Keeps}
 use Rattle.command_line.specs.Messages as messages
 use Rattle.command_line.specs.Operands.{Word}
 use Rattle.command_line.specs.StopFiles.{stop_file}
-use Rattle.command_line.specs.Flags.{course, plain}
+use Rattle.command_line.specs.Flags.{course, is_grouped, plain}
 use Rattle.command_line.specs.Words as words
 use Rattle.command_line.specs.declared.command.Line as declared_line
 use Rattle.command_line.specs.declared.command.Source.{Source}
@@ -18,7 +18,7 @@ use Rattle.event_log.specs.Events.{Event}
 use Rattle.event_log.specs.Told.{Work}
 use Rattle.rollout.specs.Commands.{TabulatesLimits, Prints}
 use Rattle.rollout.specs.Endings.{Reports, status_of}
-use Rattle.rollout.specs.Courses.{PlansOrForesees}
+use Rattle.rollout.specs.Groups.{PlanWish, PlansBy}
 use Rattle.rollout.specs.Rehearsals.{RehearsesInputs}
 use Rattle.rollout.specs.Rolls.{AreSafeFrom, Rolls}
 use Rattle.rollout.specs.Status.{code_of}
@@ -28,25 +28,25 @@ use Rattle.rollout.specs.declared.fault.Fault.TheVariants.{Line, Memory}
 use Rattle.rollout.specs.declared.status.Status.{Status}
 
 -- what a line asks for was done, or its fault is true; and these are the logs of all that was started: `run` alone starts anything. A plan may be asked for its course, in which
--- named hosts fail
-abbrev pub Does : (Work → Ending → Type 0) → Bool → Option Word → Sources → declared_line.Line → Option (List ℕ) → Option (List ℕ) → Option (List ℕ) → Option (List ℕ) → Result Status Fault → List (List Event) → Type 0
-Does may asks failing sources (Limits inventory) input_old input_new out_old out_new result logs =
+-- named hosts fail, and for its groups
+abbrev pub Does : (Work → Ending → Type 0) → Bool → PlanWish → Sources → declared_line.Line → Option (List ℕ) → Option (List ℕ) → Option (List ℕ) → Option (List ℕ) → Result Status Fault → List (List Event) → Type 0
+Does may asks wish sources (Limits inventory) input_old input_new out_old out_new result logs =
     TabulatesLimits sources inventory input_old input_new out_old out_new result × (logs ≡ [])
-Does may asks failing sources (Plan inventory playbook) input_old input_new out_old out_new result logs =
-    PlansOrForesees failing sources inventory playbook input_old input_new out_old out_new result × (logs ≡ [])
-Does may asks failing sources (Run inventory playbook forks) input_old input_new out_old out_new result logs =
+Does may asks wish sources (Plan inventory playbook) input_old input_new out_old out_new result logs =
+    PlansBy wish.groups wish.course sources inventory playbook input_old input_new out_old out_new result × (logs ≡ [])
+Does may asks wish sources (Run inventory playbook forks) input_old input_new out_old out_new result logs =
     Rolls may asks sources inventory playbook forks input_old input_new out_old out_new result logs
-Does may asks failing sources (Rehearse inventory playbook) input_old input_new out_old out_new result logs =
+Does may asks wish sources (Rehearse inventory playbook) input_old input_new out_old out_new result logs =
     RehearsesInputs sources inventory playbook input_old input_new out_old out_new result × (logs ≡ [])
-Does may asks failing sources (Print message) input_old input_new out_old out_new result logs =
+Does may asks wish sources (Print message) input_old input_new out_old out_new result logs =
     Keeps input_old input_new × Prints (messages.text_of message) out_old out_new result × (logs ≡ [])
 
 -- the words, but for the flags and the stop file of a run and those of a plan, are a line, and what it asks for was done: whether a run tells of itself while it goes on makes no
--- difference, it may be stopped where they name a file for that, and a plan prints its course where they ask for it
+-- difference, it may be stopped where they name a file for that, and a plan prints its course and its groups where they ask for them
 pub record FollowsLine (may : Work → Ending → Type 0) (sources : Sources) (words_given : List Word) (input_old input_new out_old out_new : Option (List ℕ)) (result : Result Status Fault) (logs : List (List Event)) : Type 0 where
   pub line : declared_line.Line
   pub says : words.Says (plain words_given) line
-  pub does : Does may (is_some (stop_file words_given)) (course words_given) sources line input_old input_new out_old out_new result logs
+  pub does : Does may (is_some (stop_file words_given)) (record { course = course words_given; groups = is_grouped words_given }) sources line input_old input_new out_old out_new result logs
 
 -- the words are no line, and nothing was read or written
 pub record RefusesWords (words_given : List Word) (input_old input_new out_old out_new : Option (List ℕ)) (result : Result Status Fault) (logs : List (List Event)) : Type 0 where

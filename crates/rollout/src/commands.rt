@@ -1,6 +1,7 @@
 //! What the program does, one command a file.
 
 mod course;
+mod groups;
 mod limits;
 mod plan;
 mod print;
@@ -8,6 +9,7 @@ mod rehearse;
 mod run;
 
 pub use course::course;
+pub use groups::groups;
 pub use limits::{limits, limits_text};
 pub use plan::plan;
 pub use print::print;

@@ -4,11 +4,12 @@ ghost use Rattle.std.specs.Option.{option_map};
 ghost use Rattle.std.specs.Process.{exit_status};
 ghost use Rattle.roll_run.specs.Histories.{Gains};
 ghost use Rattle.rollout.specs.Courses.{PlansOrForesees};
+ghost use Rattle.rollout.specs.Groups.{PlansBy};
 ghost use Rattle.rollout.specs.Runs.{Attempts, Does, Performs, Runs, StartsSafely};
 ghost use Rattle.rollout.specs.Systems.{sources_of};
 
 use crate::attendant::Attendant;
-use crate::commands::{course, limits, plan, print, rehearse, roll};
+use crate::commands::{course, groups, limits, plan, print, rehearse, roll};
 use crate::ending::{conclude, exit_code};
 use crate::fault::Fault;
 use crate::status::Status;
@@ -130,6 +131,7 @@ fn attempt<
                 is_quiet,
                 stop_file,
                 course,
+                is_grouped,
             },
         ) => {
             begin_telling(system, tell, &line, is_verbose, is_quiet);
@@ -145,7 +147,7 @@ fn attempt<
                 runner,
                 tell,
                 line,
-                course,
+                PlanWish { course, is_grouped },
                 input,
                 out,
                 history,
@@ -200,6 +202,40 @@ fn plan_or_course<S: System, T: Watch, I: Input, O: Write>(
     }
 }
 
+/// What a line of `plan` is asked for.
+#[derive(Drop)]
+struct PlanWish {
+    course: Option<String>,
+    is_grouped: bool,
+}
+
+/// Does what a line of `plan` asks for: with the groups, where it is asked for them.
+#[allow(clippy::too_many_arguments)]
+fn plan_by<S: System, T: Watch, I: Input, O: Write>(
+    system: &S,
+    alloc: Global,
+    watch: &mut T,
+    inventory: Source,
+    playbook: Source,
+    wish: PlanWish,
+    input: &mut I,
+    out: &mut O,
+) -> Result<Status, Fault>
+    ensures { PlansBy wish.is_grouped (option_map string_bytes wish.course) (sources_of (S.files system.now) (I.is_reliable input.old)) inventory playbook
+        (I.remaining input.old) (I.remaining input.new) (O.contents out.old) (O.contents out.new) result }
+{
+    let PlanWish { course, is_grouped } = wish;
+    if is_grouped {
+        groups(
+            system, alloc, watch, inventory, playbook, course, input, out,
+        )
+    } else {
+        plan_or_course(
+            system, alloc, watch, inventory, playbook, course, input, out,
+        )
+    }
+}
+
 #[allow(clippy::too_many_arguments)]
 fn follow<
     S: System,
@@ -215,12 +251,12 @@ fn follow<
     runner: &R,
     watch: &mut T,
     line: Line,
-    failing: Option<String>,
+    wish: PlanWish,
     input: &mut I,
     out: &mut O,
     history: History,
 ) -> (Result<Status, Fault>, History)
-    ensures { Gains history result.1 (Does (R.may runner.now) (A.asks coordinator.now.attend.now) (option_map string_bytes failing) (sources_of (S.files system.now) (I.is_reliable input.old)) line
+    ensures { Gains history result.1 (Does (R.may runner.now) (A.asks coordinator.now.attend.now) (record { course = option_map string_bytes wish.course; groups = wish.is_grouped }) (sources_of (S.files system.now) (I.is_reliable input.old)) line
         (I.remaining input.old) (I.remaining input.new) (O.contents out.old) (O.contents out.new) result.0) }
 {
     let alloc = coordinator.alloc;
@@ -230,9 +266,7 @@ fn follow<
             inventory,
             playbook,
         } => (
-            plan_or_course(
-                system, alloc, watch, inventory, playbook, failing, input, out,
-            ),
+            plan_by(system, alloc, watch, inventory, playbook, wish, input, out),
             history,
         ),
         Line::Run {

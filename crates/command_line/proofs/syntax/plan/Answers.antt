@@ -16,7 +16,8 @@ returns-clause-app c =
     let second = c.in_ok-arg-2.ensures.shape c.playbook.ensures.local ∙ ap₂ with_rule first c.playbook.ensures.rule in
     let third = c.in_ok-arg-3.ensures.shape c.course.ensures.local ∙ ap₂ with_rule second c.course.ensures.rule in
     let fourth = c.in_ok-arg-4.ensures.shape c.failing.ensures.local ∙ ap₂ with_rule third c.failing.ensures.rule in
-    IfOk-weaker c.arg-5.result _ _ (λ r h. h.shape c.verbose.ensures.local ∙ ap₂ with_rule fourth c.verbose.ensures.rule) c.arg-5.ensures
+    let fifth = c.in_ok-arg-5.ensures.shape c.groups.ensures.local ∙ ap₂ with_rule fourth c.groups.ensures.rule in
+    IfOk-weaker c.arg-6.result _ _ (λ r h. h.shape c.verbose.ensures.local ∙ ap₂ with_rule fifth c.verbose.ensures.rule) c.arg-6.ensures
 
 pub returns-clause-local : goal.returns-clause-local
 returns-clause-local c =
@@ -25,4 +26,5 @@ returns-clause-local c =
     let second = c.in_ok-arg-2.ensures.globals ∙ ap₂ (λ (a b : Bool). a || b) first c.playbook.ensures.local in
     let third = c.in_ok-arg-3.ensures.globals ∙ ap₂ (λ (a b : Bool). a || b) second c.course.ensures.local in
     let fourth = c.in_ok-arg-4.ensures.globals ∙ ap₂ (λ (a b : Bool). a || b) third c.failing.ensures.local in
-    IfOk-weaker c.arg-5.result _ _ (λ r h. h.globals ∙ ap₂ (λ (a b : Bool). a || b) fourth c.verbose.ensures.local) c.arg-5.ensures
+    let fifth = c.in_ok-arg-5.ensures.globals ∙ ap₂ (λ (a b : Bool). a || b) fourth c.groups.ensures.local in
+    IfOk-weaker c.arg-6.result _ _ (λ r h. h.globals ∙ ap₂ (λ (a b : Bool). a || b) fifth c.verbose.ensures.local) c.arg-6.ensures
