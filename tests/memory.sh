@@ -151,6 +151,7 @@ begins_so() {
 each_refused limits "$top/examples/two-regions.json"
 each_refused limits "$top/examples/crossing-racks.json"
 each_refused plan "$top/examples/two-racks.json" "$top/examples/restart-web.json"
+each_refused plan "$top/examples/two-racks.json" "$top/examples/restart-web.json" --groups
 each_refused plan "$top/examples/two-regions.json" "$top/examples/everywhere.json"
 # variables, a host that is down, and a group beside `all`
 printf '{"web":{"vars":{"max_down":1,"tier":"front"},"hosts":{"a":{"down":true},"b":null}},"all":{"children":{"db":null}}}' >"$work/web.json"
@@ -159,6 +160,7 @@ each_refused limits "$work/web.json"
 printf '{"all":{"children":{"eu":{"vars":{"max_down":3},"children":{"r1":{"vars":{"max_down":1},"hosts":{"a":{"down":true},"b":{"v":[1]}}},"r2":{"vars":{"max_down":2},"hosts":{"d":null,"e":null}}}}}}}' >"$work/racks.json"
 printf '[{"hosts":["eu","r1:d"],"serial":[1,"50%%"],"on_blocked":"hold","tasks":[{"name":"t","command":"echo {{ v }}","when":"v is defined","notify":"h"}],"handlers":[{"name":"h","command":"true"}]}]' >"$work/held.json"
 each_refused plan "$work/racks.json" "$work/held.json"
+each_refused plan "$work/racks.json" "$work/held.json" --course --groups --failing d
 # each key of a play and of a step, and faults that are told late
 while IFS= read -r playbook; do
     printf '%s' "$playbook" >"$work/playbook.json"
