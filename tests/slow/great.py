@@ -70,6 +70,9 @@ SAME = [
     ("a session and a line of one byte too many", inputs.long_session_in_a_long_line()),
     ("512 batches advanced and undone", inputs.many_advances(512)),
     ("a course of 512 batches", inputs.long_course(512)),
+    ("groups in nine levels, with their table", inputs.with_groups(inputs.nine_levels(1_024))),
+    ("1,024 groups and 64 batches, with their table", inputs.with_groups(inputs.many_racks(1_023))),
+    ("a course of 512 batches, with its groups", inputs.with_groups(inputs.long_course(512))),
 ]
 
 

@@ -113,3 +113,14 @@ def long_course(count):
     """A course of so many batches."""
     case = one_by_one(count)
     return Case((*case.words, "--course"), case.inventory, case.playbook)
+
+
+def with_groups(case):
+    """The same plan or course, with its groups."""
+    return Case((*case.words, "--groups"), case.inventory, case.playbook)
+
+
+def many_racks(count):
+    """So many racks of four hosts, each limited, in batches of 64."""
+    racks = {f"r{rack}": {"vars": {"max_down": 1}, "hosts": {f"r{rack}-{host}": None for host in "abcd"}} for rack in range(count)}
+    return plan({"all": {"vars": {"max_down": 2_000}, "children": racks}}, play(serial=64))
