@@ -2,3 +2,4 @@ pub mod WalkLemmas
 pub mod LimitLemmas
 pub mod SurveyLemmas
 pub mod TextLemmas
+pub mod OneTextLemmas

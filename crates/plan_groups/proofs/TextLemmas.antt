@@ -28,8 +28,8 @@ use Rattle.plan_groups.specs.Surveys.{plan_outlook}
 use Rattle.plan_groups.specs.declared.plan.SurveyedPlan.{SurveyedPlan}
 use Rattle.plan_groups.proofs.SurveyLemmas.{written_is}
 
-pub refused_beside : (inventory playbook : List ℕ) (old new : Option (List ℕ)) (fleet : FleetView) → IsFleetIn inventory fleet → (fault : PlanFault) → Keeps old new → IsPlaybookFault fleet playbook fault
-    → IsTrueFaultBeside inventory playbook old new fault
+pub refused_beside : (inventory playbook : List ℕ) (old new : Option (List ℕ)) (fleet : FleetView) → IsFleetIn inventory fleet → (fault : PlanFault) → Keeps old new
+    → IsPlaybookFault fleet playbook fault → IsTrueFaultBeside inventory playbook old new fault
 refused_beside inventory playbook old new fleet built (Playbook fault) keeps refused = refused_is_true inventory playbook old new fleet built (Playbook fault) keeps refused
 refused_beside inventory playbook old new fleet built (Pattern fault) keeps refused = refused_is_true inventory playbook old new fleet built (Pattern fault) keeps refused
 refused_beside inventory playbook old new fleet built (Read fault) keeps refused = absurd refused

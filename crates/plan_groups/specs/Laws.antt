@@ -1,14 +1,17 @@
--- What holds of every table that is told.
-use Rattle.std.specs.Prelude.{ℕ, List, All}
-use Rattle.domains.specs.FleetViews.{FleetView}
+-- What holds of every table that is told, and of the texts that tell it.
+use Rattle.std.specs.Prelude.{◌≡◌, ℕ, List, All}
+use Rattle.domains.specs.FleetViews.{FleetView, IsSound}
 use Rattle.fleet_states.specs.Batches.{Fails}
 use Rattle.play_model.specs.declared.play.Play.{Play}
 use Rattle.play_course.specs.Files.{Course}
 use Rattle.play_course.specs.PlayPlans.{IsPlanOf, first_statuses}
 use Rattle.batch_plan.specs.declared.answers.Answer.{Answer}
-use Rattle.domains.specs.FleetViews.{IsSound}
+use Rattle.planning.specs.declared.end.End.{End}
 use Rattle.rehearsing.specs.CourseTexts.{AreCoursesBy}
+use Rattle.rehearsing.specs.declared.course_end.CourseEnd.{CourseEnd}
 use Rattle.group_table.specs.Columns.{AreWithinLimits}
+use Rattle.plan_groups.specs.CourseSurveys.{IsSurveyedCourse}
+use Rattle.plan_groups.specs.PlanSurveys.{IsSurveyedPlan}
 use Rattle.plan_groups.specs.Surveys.{columns_of, course_outlook, plan_outlook}
 
 -- in no column of a plan's table is a group over its limit
@@ -22,3 +25,15 @@ abbrev pub CoursesStayWithin : Type 0
 CoursesStayWithin =
     (fleet : FleetView) (fails : Fails) (plays : List Play) (courses : List Course) → IsSound fleet → AreCoursesBy fleet fails plays courses
     → All (λ course. AreWithinLimits fleet (columns_of (course_outlook course))) courses
+
+-- an inventory's text and a playbook's have one text of a plan with its groups at most, and one end
+abbrev pub OneSurveyedPlan : Type 0
+OneSurveyedPlan =
+    (inventory playbook text other : List ℕ) (end otherwise : End) → IsSurveyedPlan inventory playbook text end → IsSurveyedPlan inventory playbook other otherwise
+    → (text ≡ other) × (end ≡ otherwise)
+
+-- and with the names of failing hosts one text of a course with its groups
+abbrev pub OneSurveyedCourse : Type 0
+OneSurveyedCourse =
+    (inventory playbook failing text other : List ℕ) (end otherwise : CourseEnd) → IsSurveyedCourse inventory playbook failing text end
+    → IsSurveyedCourse inventory playbook failing other otherwise → (text ≡ other) × (end ≡ otherwise)

@@ -1,5 +1,5 @@
-//! What holds of every table that is told.
-ghost use Rattle.plan_groups.specs.Laws.{CoursesStayWithin, PlansStayWithin};
+//! What holds of every table that is told, and of the texts that tell it.
+ghost use Rattle.plan_groups.specs.Laws.{CoursesStayWithin, OneSurveyedCourse, OneSurveyedPlan, PlansStayWithin};
 
 /// In no column of a plan's table is a group over its limit.
 pub fn plans_stay_within_limits()
@@ -9,4 +9,14 @@ pub fn plans_stay_within_limits()
 /// Nor in one of a course's tables, whoever fails in it.
 pub fn courses_stay_within_limits()
     ensures { CoursesStayWithin }
+{}
+
+/// What is written of a plan with its groups is one function of the bytes of the inventory and the playbook.
+pub fn one_surveyed_plan()
+    ensures { OneSurveyedPlan }
+{}
+
+/// What is written of a course with its groups is one function of those bytes and of the names of failing hosts.
+pub fn one_surveyed_course()
+    ensures { OneSurveyedCourse }
 {}

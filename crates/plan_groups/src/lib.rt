@@ -11,5 +11,7 @@ mod survey;
 mod writing;
 
 pub use course::surveyed_course;
-pub use laws::{courses_stay_within_limits, plans_stay_within_limits};
+pub use laws::{
+    courses_stay_within_limits, one_surveyed_course, one_surveyed_plan, plans_stay_within_limits,
+};
 pub use plan::surveyed_plan;

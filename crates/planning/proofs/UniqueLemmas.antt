@@ -26,7 +26,7 @@ pub one_inventory : OneInventory
 one_inventory text inventory other first second =
     first.says ∙ ap inventory_of (same_Some first.document second.document (sym first.reads ∙ second.reads)) ∙ sym second.says
 
-one_fleet_in : (text : List ℕ) (fleet other : FleetView) → IsFleetIn text fleet → IsFleetIn text other → fleet ≡ other
+pub one_fleet_in : (text : List ℕ) (fleet other : FleetView) → IsFleetIn text fleet → IsFleetIn text other → fleet ≡ other
 one_fleet_in text fleet other first second =
     let same : first.inventory ≡ second.inventory = one_inventory text first.inventory second.inventory first.reads second.reads in
     one_fleet first.inventory fleet other first.built (subst (λ (i : Inventory). IsFleetOf i other) (sym same) second.built)
@@ -45,7 +45,7 @@ first_written most text plays others first reads are =
     AllZip-right playbooks.IsPlay (plays_of reads.document) (first ∷ others) (subst (AllZip playbooks.IsPlay (plays_of reads.document)) are reads.says) 0
 
 -- the first plays of a playbook are written alike
-first_alike : (most : ℕ) (text : List ℕ) (plays more later rest : List Play) (play other : Play) → playbooks.IsReadAs most text plays → playbooks.IsReadAs most text more
+pub first_alike : (most : ℕ) (text : List ℕ) (plays more later rest : List Play) (play other : Play) → playbooks.IsReadAs most text plays → playbooks.IsReadAs most text more
     → plays ≡ play ∷ later → more ≡ other ∷ rest → AreAlike play other
 first_alike most text plays more later rest play other first second are also =
     let document : first.document ≡ second.document = same_Some first.document second.document (sym first.reads ∙ second.reads) in
@@ -53,7 +53,7 @@ first_alike most text plays more later rest play other first second are also =
     written_alike (slice_get (plays_of first.document) 0) play other (first_written most text plays later play first are) begins
 
 -- the same answers are written alike
-same_lines : (fleet : FleetView) (answer other : Answer) → IsSameAnswer answer other → (answer_line fleet answer ≡ answer_line fleet other) × (answer_lines fleet answer ≡ answer_lines fleet other)
+pub same_lines : (fleet : FleetView) (answer other : Answer) → IsSameAnswer answer other → (answer_line fleet answer ≡ answer_line fleet other) × (answer_lines fleet answer ≡ answer_lines fleet other)
 same_lines fleet (Planned plan) (Planned other) same =
     (ap (λ (batches : List (List ℕ)). planned_line fleet (length batches) plan.bound) same.0 ∙ ap (planned_line fleet (length other.batches)) same.1, ap (batch_lines fleet) same.0)
 same_lines fleet (Planned plan) (Blocked group waiting) same = absurd same
@@ -61,7 +61,7 @@ same_lines fleet (Blocked group waiting) (Planned plan) same = absurd same
 same_lines fleet (Blocked group waiting) (Blocked other number) same =
     (ap (λ (g : GroupId). blocked_line fleet g.index waiting) same.0 ∙ ap (blocked_line fleet other.index) same.1, refl)
 
-same_end : (answer other : Answer) (held : List ℕ) → IsSameAnswer answer other → end_of answer held ≡ end_of other held
+pub same_end : (answer other : Answer) (held : List ℕ) → IsSameAnswer answer other → end_of answer held ≡ end_of other held
 same_end (Planned plan) (Planned other) [] same = refl
 same_end (Planned plan) (Planned other) (host ∷ hosts) same = refl
 same_end (Planned plan) (Blocked group waiting) held same = absurd same

@@ -5,10 +5,7 @@ use Rattle.std.proofs.lemmas.Slice.Zip.{AllZip-long}
 use Rattle.std.specs.List.{AllZip}
 use Rattle.std.specs.Prelude.{nat_lt}
 use Rattle.text_parts.specs.Patterns.{parts_of}
-use Rattle.group_tree.specs.Places.{Inventory}
-use Rattle.domains.proofs.UniqueLemmas.{one_fleet}
 use Rattle.domains.specs.FleetViews.{FleetView}
-use Rattle.domains.specs.Fleets.{IsFleetOf}
 use Rattle.domains.specs.Patterns.{named_hosts}
 use Rattle.fleet_states.specs.Batches.{Fails}
 use Rattle.fleet_states.specs.Starts.{start_statuses}
@@ -26,17 +23,11 @@ use Rattle.play_course.specs.declared.boundary.Boundary.{Boundary}
 use Rattle.play_read.specs.Readings.{IsStep}
 use Rattle.play_read.specs.Reads.{IsPlay}
 use Rattle.play_rules.specs.Plays.{WrittenPlay, plays_of}
-use Rattle.planning.proofs.UniqueLemmas.{one_inventory}
-use Rattle.planning.specs.PlanTexts.{IsFleetIn}
+use Rattle.planning.proofs.UniqueLemmas.{one_fleet_in}
 use Rattle.rehearsing.proofs.SameTextLemmas.{same_text}
 use Rattle.rehearsing.specs.CourseLaws.{OneCourseText}
-use Rattle.rehearsing.specs.CourseTexts.{AreCoursesBy, IsEndOf, courses_text, end_of, failing_by, play_by, setting_by}
+use Rattle.rehearsing.specs.CourseTexts.{AreCoursesBy, AreRead, IsEndOf, courses_text, end_of, failing_by, play_by, setting_by}
 use Rattle.rehearsing.specs.declared.course_end.CourseEnd.{CourseEnd}
-
-one_fleet_in : (text : List ℕ) (fleet other : FleetView) → IsFleetIn text fleet → IsFleetIn text other → fleet ≡ other
-one_fleet_in text fleet other first second =
-    let same : first.inventory ≡ second.inventory = one_inventory text first.inventory second.inventory first.reads second.reads in
-    one_fleet first.inventory fleet other first.built (subst (λ (i : Inventory). IsFleetOf i other) (sym same) second.built)
 
 -- plays that are written alike
 module _ (fleet : FleetView) (fails : Fails) where
@@ -103,26 +94,32 @@ same_last (b ∷ []) [] last other same = absurd same.2
 same_last (b ∷ c ∷ bs) [] last other same = absurd same.2
 same_last (b ∷ bs) (c ∷ cs) last other same = same_last bs cs last other same.2
 
-same_ends : (courses others : List Course) (end otherwise : CourseEnd) → AreSameCourses courses others → IsEndOf courses end → IsEndOf others otherwise → end ≡ otherwise
+pub same_ends : (courses others : List Course) (end otherwise : CourseEnd) → AreSameCourses courses others → IsEndOf courses end → IsEndOf others otherwise → end ≡ otherwise
 same_ends courses others end otherwise same is also =
     let told = subst (λ (l : List Course). AreSameCourses l others) is.are same in
     let both = subst (λ (l : List Course). AreSameCourses (is.before ++ is.last ∷ []) l) also.are told in
     let last = same_last is.before also.before is.last also.last both in
     is.ends ∙ ap (λ e. end_of e (last_statuses [] is.last.boundaries)) last.1 ∙ ap (end_of also.last.end) (last_same [] is.last.boundaries also.last.boundaries last.0) ∙ sym also.ends
 
+-- two readings of the same texts have one fleet, as many plays and the same courses
+pub same_readings : (inventory playbook failing : List ℕ) (fleet other : FleetView) (plays others : List Play) (courses more : List Course) → AreRead inventory playbook fleet plays
+    → AreRead inventory playbook other others → AreCoursesBy fleet (failing_by fleet failing) plays courses → AreCoursesBy other (failing_by other failing) others more
+    → (fleet ≡ other) × (length plays ≡ length others) × AreSameCourses courses more
+same_readings inventory playbook failing fleet other plays others courses more first second are also =
+    let same : fleet ≡ other = one_fleet_in inventory fleet other first.built second.built in
+    let one = first.says.reads in
+    let two = second.says.reads in
+    let document : one.document ≡ two.document = same_Some one.document two.document (sym one.reads ∙ two.reads) in
+    let says = subst (λ d. AllZip IsPlay (plays_of d) others) (sym document) two.says in
+    let their = subst (λ (f : FleetView). AreCoursesBy f (failing_by f failing) others more) (sym same) also in
+    let long = AllZip-long IsPlay (plays_of one.document) plays one.says ∙ sym (AllZip-long IsPlay (plays_of one.document) others says) in
+    (same, long, same_courses fleet (failing_by fleet failing) (plays_of one.document) plays others courses more one.says says are their)
+
 pub one_course_text : OneCourseText
 one_course_text inventory playbook failing text other end otherwise first second =
-    let fleet : FleetView = first.fleet in
-    let same : fleet ≡ second.fleet = one_fleet_in inventory fleet second.fleet first.read.built second.read.built in
-    let one = first.read.says.reads in
-    let two = second.read.says.reads in
-    let document : one.document ≡ two.document = same_Some one.document two.document (sym one.reads ∙ two.reads) in
-    let says = subst (λ d. AllZip IsPlay (plays_of d) second.plays) (sym document) two.says in
-    let their = subst (λ (f : FleetView). AreCoursesBy f (failing_by f failing) second.plays second.courses) (sym same) second.courses_are in
-    let alike = same_courses fleet (failing_by fleet failing) (plays_of one.document) first.plays second.plays first.courses second.courses one.says says first.courses_are their in
-    let long = AllZip-long IsPlay (plays_of one.document) first.plays one.says ∙ sym (AllZip-long IsPlay (plays_of one.document) second.plays says) in
+    let one = same_readings inventory playbook failing first.fleet second.fleet first.plays second.plays first.courses second.courses first.read second.read first.courses_are second.courses_are in
     let several = nat_lt 1 (length first.plays) in (
-      first.text_is ∙ same_text fleet several first.courses second.courses alike ∙ ap (λ n. courses_text fleet (nat_lt 1 n) second.courses) long
-          ∙ ap (λ (f : FleetView). courses_text f (nat_lt 1 (length second.plays)) second.courses) same ∙ sym second.text_is,
-      same_ends first.courses second.courses end otherwise alike first.ends second.ends,
+      first.text_is ∙ same_text first.fleet several first.courses second.courses one.2 ∙ ap (λ n. courses_text first.fleet (nat_lt 1 n) second.courses) one.1
+          ∙ ap (λ (f : FleetView). courses_text f (nat_lt 1 (length second.plays)) second.courses) one.0 ∙ sym second.text_is,
+      same_ends first.courses second.courses end otherwise one.2 first.ends second.ends,
     )

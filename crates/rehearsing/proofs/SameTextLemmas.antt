@@ -26,13 +26,13 @@ same_line fleet (Blocked group waiting) (Planned plan) same = absurd same
 same_line fleet (Blocked group waiting) (Blocked other number) same =
     ap (λ (g : GroupId). blocked_line fleet g.index waiting) same.0 ∙ ap (blocked_line fleet other.index) same.1
 
-same_batches : (answer other : Answer) → IsSameAnswer answer other → batches_of answer ≡ batches_of other
+pub same_batches : (answer other : Answer) → IsSameAnswer answer other → batches_of answer ≡ batches_of other
 same_batches (Planned plan) (Planned other) same = same.0
 same_batches (Planned plan) (Blocked group waiting) same = absurd same
 same_batches (Blocked group waiting) (Planned plan) same = absurd same
 same_batches (Blocked group waiting) (Blocked other number) same = refl
 
-same_many : (boundaries others : List Boundary) → AreSameBoundaries boundaries others → length boundaries ≡ length others
+pub same_many : (boundaries others : List Boundary) → AreSameBoundaries boundaries others → length boundaries ≡ length others
 same_many [] [] same = refl
 same_many [] (c ∷ cs) same = absurd same
 same_many (b ∷ bs) [] same = absurd same
@@ -59,7 +59,7 @@ module _ (fleet : FleetView) where
   same_from opened place (b ∷ bs) [] same = absurd same
   same_from opened place (b ∷ bs) (c ∷ cs) same = ap₂ ◌++◌ (same_boundary (place + 1) b c (nat_lt place opened) same.0) (same_from opened (place + 1) bs cs same.1)
 
-  same_course : (course other : Course) → AreSameBoundaries course.boundaries other.boundaries → course.end ≡ other.end → course_lines fleet course ≡ course_lines fleet other
+  pub same_course : (course other : Course) → AreSameBoundaries course.boundaries other.boundaries → course.end ≡ other.end → course_lines fleet course ≡ course_lines fleet other
   same_course course other same end =
       let lines = same_from (batches_opened course) 0 course.boundaries other.boundaries same
       ∙ ap (λ n. boundary_lines fleet (n - 1) other.boundaries) (same_many course.boundaries other.boundaries same) in
@@ -74,7 +74,7 @@ module _ (fleet : FleetView) where
   same_lines several place (b ∷ bs) (c ∷ cs) same =
       ap₂ ◌++◌ (ap (numbered several (place + 1)) (same_course b c same.0 same.1)) (same_lines several (place + 1) bs cs same.2)
 
-  same_sum : (courses others : List Course) → AreSameCourses courses others → sum_by batches_opened courses ≡ sum_by batches_opened others
+  pub same_sum : (courses others : List Course) → AreSameCourses courses others → sum_by batches_opened courses ≡ sum_by batches_opened others
   same_sum [] [] same = refl
   same_sum [] (c ∷ cs) same = absurd same
   same_sum (b ∷ bs) [] same = absurd same

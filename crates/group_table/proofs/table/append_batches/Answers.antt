@@ -26,8 +26,9 @@ loop-place-preserved g c =
     let is_due : column ≡ due = ap (λ (l : List Status). record { before = l; batch = batch }) invariant.statuses in
     let counted = c.in_ok-column.ensures.counted ∙ ap (λ (f : FleetView). counts_in f column) invariant.fleet ∙ ap (counts_in fleet) is_due in
     let one = c.in_ok-column.column in
-    let items = ap (λ (l : List (Vec ℕ Global)). map (λ column. column.items) l) c.in_ok-push.ensures.items ∙ map-append (λ (column : Vec ℕ Global). column.items) c.loop-place.columns.items (one ∷ []) in
-    let old = map (λ (column : Vec ℕ Global). column.items) c.args.columns.now.items in
+    let counts : Vec ℕ Global → List ℕ = λ column. column.items in
+    let items = ap (map counts) c.in_ok-push.ensures.items ∙ map-append counts c.loop-place.columns.items (one ∷ []) in
+    let old = map counts c.args.columns.now.items in
     let so_far = map (counts_in fleet) (planned start (take i batches)) in
     let last = map-append (counts_in fleet) (planned start (take i batches)) (due ∷ []) in
     let all = ap (λ (l : List (List ℕ)). map (counts_in fleet) (planned start l)) more ∙ ap (map (counts_in fleet)) (planned_push start (take i batches) batch) ∙ last in
@@ -36,6 +37,6 @@ loop-place-preserved g c =
           ∙ ap (changed (λ _. Updated) batch) invariant.statuses ∙ sym (behind_push start (take i batches) batch) ∙ sym (ap (behind start) more);
       counts = c.settle.ensures.counts;
       fleet = c.settle.ensures.fleet ∙ c.in_ok-column.ensures.fleet ∙ invariant.fleet;
-      columns = items ∙ ap (λ (l : List ℕ). map (λ (column : Vec ℕ Global). column.items) c.loop-place.columns.items ++ l ∷ []) counted
+      columns = items ∙ ap (λ (l : List ℕ). map counts c.loop-place.columns.items ++ l ∷ []) counted
           ∙ ap (λ (l : List (List ℕ)). l ++ counts_in fleet due ∷ []) invariant.columns ∙ append_assoc old so_far (counts_in fleet due ∷ []) ∙ ap (λ (l : List (List ℕ)). old ++ l) (sym all);
     }

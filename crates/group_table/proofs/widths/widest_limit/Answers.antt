@@ -1,4 +1,4 @@
-use Rattle.std.proofs.Common.{◌≡◌, length, ap, ◌∙◌, arith}
+use Rattle.std.proofs.Common.{◌≡◌, ℕ, length, ap, ◌∙◌, arith}
 use Rattle.std.specs.Prelude.{decimal}
 use Rattle.group_table.specs.TableText.{greatest, grid_of, limit_at}
 use Rattle.group_table.proofs.GreatestLemmas.{greatest_next}
@@ -6,7 +6,9 @@ use Rattle.group_table.proofs.widths.widest_limit.Goals as goal
 
 pub loop-row-preserved : goal.loop-row-preserved
 loop-row-preserved c =
-    greatest_next (λ row. length (decimal (limit_at (grid_of c.args.grid.now) row))) c.loop-row.row c.loop-row.widest c.digits.result c.max-widest.result c.loop-row.invariant (c.digits.ensures.digits ∙ ap (λ n. length (decimal n)) c.limit.ensures) c.max-widest.ensures
+    let digits = c.digits.ensures.digits ∙ ap (λ n. length (decimal n)) c.limit.ensures in
+    let taken : ℕ → ℕ = λ row. length (decimal (limit_at (grid_of c.args.grid.now) row)) in
+    greatest_next taken c.loop-row.row c.loop-row.widest c.digits.result c.max-widest.result c.loop-row.invariant digits c.max-widest.ensures
 
 pub returns : goal.returns
 returns c =

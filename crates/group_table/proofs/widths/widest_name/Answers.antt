@@ -1,11 +1,12 @@
-use Rattle.std.proofs.Common.{◌≡◌, length, ap, ◌∙◌, arith}
+use Rattle.std.proofs.Common.{◌≡◌, ℕ, length, ap, ◌∙◌, arith}
 use Rattle.group_table.specs.TableText.{greatest, grid_of, name_text}
 use Rattle.group_table.proofs.GreatestLemmas.{greatest_next}
 use Rattle.group_table.proofs.widths.widest_name.Goals as goal
 
 pub loop-row-preserved : goal.loop-row-preserved
 loop-row-preserved c =
-    greatest_next (λ row. length (name_text (grid_of c.args.grid.now) row)) c.loop-row.row c.loop-row.widest c.name_length.result c.max-widest.result c.loop-row.invariant (c.name_length.ensures) c.max-widest.ensures
+    let taken : ℕ → ℕ = λ row. length (name_text (grid_of c.args.grid.now) row) in
+    greatest_next taken c.loop-row.row c.loop-row.widest c.name_length.result c.max-widest.result c.loop-row.invariant c.name_length.ensures c.max-widest.ensures
 
 pub returns : goal.returns
 returns c =

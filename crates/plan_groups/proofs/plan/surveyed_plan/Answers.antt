@@ -13,7 +13,9 @@ use Rattle.plan_groups.proofs.plan.surveyed_plan.Goals as goal
 
 pub returns-in-Err-read_known_plays-clause-err : goal.returns-in-Err-read_known_plays-clause-err
 returns-in-Err-read_known_plays-clause-err g c =
-    refused_beside c.args.inventory.now c.args.playbook.now _ _ c.in-Ok.fleet c.in-Ok.ensures.ok c.in-Err-read_known_plays.fault (Keeps-refl (g.W.Write.contents c.args.out.now)) c.in-Err-read_known_plays.ensures.err
+    let keeps = Keeps-refl (g.W.Write.contents c.args.out.now) in
+    let fault = c.in-Err-read_known_plays.fault in
+    refused_beside c.args.inventory.now c.args.playbook.now _ _ c.in-Ok.fleet c.in-Ok.ensures.ok fault keeps c.in-Err-read_known_plays.ensures.err
 
 pub index-requires : goal.index-requires
 index-requires g c =
@@ -28,7 +30,9 @@ returns-in-Ok-send_plan-clause-ok g c =
     let plan = c.in-Ok-survey_play.plan in
     let some = has_play 16 c.args.playbook.now plays c.in-Ok-read_known_plays.ensures.ok.reads in
     let ends = c.end_of.ensures ∙ ap (λ (l : List HostId). end_of plan.planned.answer (host_numbers l)) c.as_slice.ensures.value in
-    let is = is_surveyed c.args.inventory.now c.args.playbook.now fleet plays c.index.result.now plan c.in-Ok.ensures.ok c.in-Ok-read_known_plays.ensures.ok some c.index.ensures c.in-Ok-survey_play.ensures in
+    let play = c.index.result.now in
+    let read = c.in-Ok-read_known_plays.ensures.ok in
+    let is = is_surveyed c.args.inventory.now c.args.playbook.now fleet plays play plan c.in-Ok.ensures.ok read some c.index.ensures c.in-Ok-survey_play.ensures in
     record {
       text = planned_text fleet plan;
       is = subst (λ (end : End). IsSurveyedPlan c.args.inventory.now c.args.playbook.now (planned_text fleet plan) end) (sym ends) is;
@@ -41,10 +45,11 @@ returns-clause-err g c =
     let plays : List Play = c.in-Ok-read_known_plays.plays.items in
     let plan = c.in-Ok-survey_play.plan in
     let some = has_play 16 c.args.playbook.now plays c.in-Ok-read_known_plays.ensures.ok.reads in
+    let play = c.index.result.now in
+    let read = c.in-Ok-read_known_plays.ensures.ok in
     record {
       text = planned_text fleet plan;
       end = end_of plan.planned.answer (host_numbers plan.planned.held.items);
-      is = is_surveyed c.args.inventory.now c.args.playbook.now fleet plays c.index.result.now plan c.in-Ok.ensures.ok c.in-Ok-read_known_plays.ensures.ok some c.index.ensures
-          c.in-Ok-survey_play.ensures;
+      is = is_surveyed c.args.inventory.now c.args.playbook.now fleet plays play plan c.in-Ok.ensures.ok read some c.index.ensures c.in-Ok-survey_play.ensures;
       written = c.in-Err-send_plan.ensures;
     }
