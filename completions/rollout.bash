@@ -53,7 +53,7 @@ _rollout() {
     if [[ ${#words[@]} -le 2 ]]; then
         case $current in
         -*) _rollout_offer -h --help -V --version ;;
-        *) _rollout_offer limits plan run rehearse help ;;
+        *) _rollout_offer limits plan run rehearse state help ;;
         esac
         return
     fi
@@ -61,10 +61,11 @@ _rollout() {
     case $command in
     limits) most=1 options=(-h --help) ;;
     plan) most=2 options=(--course --failing --groups -v --verbose -h --help) ;;
-    run) most=2 options=(--forks -v --verbose --quiet --stop-file -h --help) ;;
+    run) most=2 options=(--forks -v --verbose --quiet --stop-file --journal -h --help) ;;
     rehearse) most=2 options=(-h --help) ;;
+    state) most=2 options=(-h --help) ;;
     help)
-        [[ ${#words[@]} -gt 3 ]] || _rollout_offer limits plan run rehearse help
+        [[ ${#words[@]} -gt 3 ]] || _rollout_offer limits plan run rehearse state help
         return
         ;;
     *) return ;;
@@ -77,12 +78,12 @@ _rollout() {
             files=$((files + 1))
         elif [[ ${words[i]} == -- ]]; then
             ends=yes
-        elif [[ $command == run && ${words[i]} == --@(forks|stop-file) || $command == plan && ${words[i]} == --@(failing) ]]; then
+        elif [[ $command == run && ${words[i]} == --@(forks|stop-file|journal) || $command == plan && ${words[i]} == --@(failing) ]]; then
             wants=${words[i]}
         fi
     done
     # The value may stand in the word of its option.
-    if [[ -z $ends$wants ]] && [[ $command == run && $current == --@(forks|stop-file)=* || $command == plan && $current == --@(failing)=* ]]; then
+    if [[ -z $ends$wants ]] && [[ $command == run && $current == --@(forks|stop-file|journal)=* || $command == plan && $current == --@(failing)=* ]]; then
         wants=${current%%=*}
         option=$wants=
         current=${current#*=}
@@ -92,7 +93,7 @@ _rollout() {
         compopt -o nosort 2>/dev/null
         _rollout_offer {1..64}
         ;;
-    --stop-file) _rollout_files ;;
+    --stop-file | --journal) _rollout_files ;;
     --failing) ;;
     *)
         if [[ -z $ends && $current == -* ]]; then

@@ -26,7 +26,7 @@ function __rollout_lacks
             set files (math $files + 1)
         else if test $word = --
             set ends 1
-        else if test $words[2] = run; and contains -- $word --forks --stop-file
+        else if test $words[2] = run; and contains -- $word --forks --stop-file --journal
             set wants 1
         else if test $words[2] = plan; and test $word = --failing
             set wants 1
@@ -42,6 +42,7 @@ complete -c rollout -n __rollout_of -a limits -d 'Prints each limited group: its
 complete -c rollout -n __rollout_of -a plan -d 'Prints the fewest batches that update the hosts of a play, and what forces their number'
 complete -c rollout -n __rollout_of -a run -d 'Updates the hosts of each play batch by batch, and prints what came of them'
 complete -c rollout -n __rollout_of -a rehearse -d 'Answers what a run of a play would come to if these hosts failed, command by command'
+complete -c rollout -n __rollout_of -a state -d "Prints how each host stands by a run's journal, and whether the run has ended"
 complete -c rollout -n __rollout_of -a help -d 'Prints the help of the program, or that of a command'
 
 complete -c rollout -n '__rollout_of limits' -s h -l help -d 'Print help'
@@ -57,9 +58,12 @@ complete -c rollout -n '__rollout_of run' -l forks -x -k -a '1 2 3 4 5 6 7 8 9 1
 complete -c rollout -n '__rollout_of run' -s v -l verbose -d 'Tells on standard error of each batch, and of each step of each host'
 complete -c rollout -n '__rollout_of run' -l quiet -d 'Tells nothing unasked, also at a terminal; beside -v it changes nothing'
 complete -c rollout -n '__rollout_of run' -l stop-file -r -F -d 'Ends the run before the next batch once this file is there'
+complete -c rollout -n '__rollout_of run' -l journal -r -F -d 'Keeps in this new file what becomes of each host, before and behind each batch'
 complete -c rollout -n '__rollout_of run' -s h -l help -d 'Print help'
 
 complete -c rollout -n '__rollout_of rehearse' -s h -l help -d 'Print help'
 
-complete -c rollout -n '__rollout_lacks 2 plan run rehearse' -k -a '(__fish_complete_suffix .json)'
-complete -c rollout -n '__rollout_lacks 1 help' -a 'limits plan run rehearse help'
+complete -c rollout -n '__rollout_of state' -s h -l help -d 'Print help'
+
+complete -c rollout -n '__rollout_lacks 2 plan run rehearse state' -k -a '(__fish_complete_suffix .json)'
+complete -c rollout -n '__rollout_lacks 1 help' -a 'limits plan run rehearse state help'

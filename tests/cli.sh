@@ -483,6 +483,7 @@ Commands:
   plan      Prints the fewest batches that update the hosts of a play, and what forces their number
   run       Updates the hosts of each play batch by batch, and prints what came of them
   rehearse  Answers what a run of a play would come to if these hosts failed, command by command
+  state     Prints how each host stands by a run'\''s journal, and whether the run has ended
   help      Print this message or the help of the given subcommand(s)
 
 Options:
@@ -500,6 +501,7 @@ Exit status:
   3  hosts wait in a group that has no room
   4  a batch ended the run: too many of its hosts have failed, or all
   5  want of memory
+  6  by its journal a run was broken off
 '
 for word in --help -h help; do
     run $word
@@ -553,6 +555,7 @@ Options:
   -v, --verbose           Tells on standard error of each batch, and of each step of each host
       --quiet             Tells nothing unasked, also at a terminal; beside -v it changes nothing
       --stop-file <FILE>  Ends the run before the next batch once this file is there
+      --journal <FILE>    Keeps in this new file what becomes of each host, before and behind each batch
   -h, --help              Print help
 '
 for words in 'run --help' 'run -h' 'help run'; do
@@ -580,6 +583,22 @@ Standard input has a command a line, about the first play of PLAY. Nothing is ru
 for words in 'rehearse --help' 'rehearse -h' 'help rehearse'; do
     run $words
     check "the help by $words" 0 "$rehearse_help" ''
+done
+
+state_help="Prints how each host stands by a run's journal, and whether the run has ended
+
+Usage: rollout state <INV> <JOURNAL>
+
+Arguments:
+  <INV>      The inventory: a file of JSON that lists groups with their hosts, children and variables
+  <JOURNAL>  The journal: what a run has written of itself
+
+Options:
+  -h, --help  Print help
+"
+for words in 'state --help' 'state -h' 'help state'; do
+    run $words
+    check "the help by $words" 0 "$state_help" ''
 done
 
 # bad WORDS USAGE EXPLANATION: the words are no line
@@ -612,12 +631,22 @@ error: a value is required for '--stop-file <FILE>' but none was supplied
 
 For more information, try '--help'.
 "
+run run a b --journal
+check 'a journal without its file' 1 '' "rollout: 901 BadLine
+error: a value is required for '--journal <FILE>' but none was supplied
+
+For more information, try '--help'.
+"
+bad 'run -- a b --journal c' 'rollout run [OPTIONS] <INV> <PLAY>' "unexpected argument '--journal' found"
 bad 'run -- a b --stop-file c' 'rollout run [OPTIONS] <INV> <PLAY>' "unexpected argument '--stop-file' found"
 bad '-v run a b' 'rollout <COMMAND>' "unexpected argument '-v' found"
 bad rehearse 'rollout rehearse <INV> <PLAY>' "the following required arguments were not provided:$newline  <INV>$newline  <PLAY>"
 bad 'rehearse a b c' 'rollout rehearse <INV> <PLAY>' "unexpected argument 'c' found"
 bad 'rehearse --forks 3 a b' 'rollout rehearse <INV> <PLAY>' "unexpected argument '--forks' found$newline$newline  tip: to pass '--forks' as a value, use '-- --forks'"
 bad 'rehears a b' 'rollout <COMMAND>' "unrecognized subcommand 'rehears'$newline$newline  tip: a similar subcommand exists: 'rehearse'"
+bad state 'rollout state <INV> <JOURNAL>' "the following required arguments were not provided:$newline  <INV>$newline  <JOURNAL>"
+bad 'state a' 'rollout state <INV> <JOURNAL>' "the following required arguments were not provided:$newline  <JOURNAL>"
+bad 'state a b c' 'rollout state <INV> <JOURNAL>' "unexpected argument 'c' found"
 bad '--forks 3' 'rollout <COMMAND>' "unexpected argument '--forks' found"
 run "$(printf '\377')"
 check 'a word that is no text' 1 '' "rollout: 901 BadLine$newline"

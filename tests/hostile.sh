@@ -86,11 +86,11 @@ sized() {
         printf '%s' "$text"
     }
 }
-count=150000
-[ -z "${UNPROVED:-}" ] || count=70000
+count=20000
+[ -z "${UNPROVED:-}" ] || count=10000
 sized $count a b >"$work/before.json"
 sized $count a b c >"$work/after.json"
-blocks=$(((count + 65535) / 65536))
+blocks=$(((count + 8191) / 8192))
 
 # changing AT SCRIPT WORD..: the program, where this happens before that read of the first file
 changing() {
@@ -122,7 +122,7 @@ for at in $(seq 1 $((blocks + 1))); do
         changed 'rewritten' "$at" 'cat after.json >changing.json' 0 "$two" ''
     fi
 done
-changed 'cut' 2 'truncate -s 65537 changing.json' 1 '' "$no_json"
+changed 'cut' 2 'truncate -s 8193 changing.json' 1 '' "$no_json"
 if proved 'a file that grows as it is read'; then
     changed 'made longer' 0 'head -c 1000000 /dev/zero >>changing.json' 1 '' "rollout: 903 InputTooLarge$newline"
 fi

@@ -135,7 +135,7 @@ while [ -e "$work/command.$number" ]; do
     same "the example $number of the manual page"
     number=$((number + 1))
 done
-for command in limits plan run rehearse; do
+for command in limits plan run rehearse state; do
     holds "the manual page has an example of $command" grep -q "rollout $command" "$work"/command.*
 done
 
@@ -216,7 +216,7 @@ listed() {
     echo "rollout re>rehearse"
     echo "rollout help re>rehearse"
     echo "rollout ->$(listed '' Options)"
-    for command in limits plan run rehearse; do
+    for command in limits plan run rehearse state; do
         echo "rollout $command ->$(listed $command Options)"
     done
     echo "rollout run --forks >$(seq -s / 64)"
@@ -231,6 +231,8 @@ listed() {
     echo 'rollout run --forks 6 -v inv.json p>play.json'
     echo 'rollout run --stop-file n>notes.txt'
     echo 'rollout run --stop-file -- inv.json p>play.json'
+    echo 'rollout run --journal n>notes.txt'
+    echo 'rollout run --journal -- inv.json p>play.json'
     echo 'rollout run -- ->'
     echo 'rollout run inv.json play.json i>'
     echo 'rollout limits inv.json p>'

@@ -1,7 +1,8 @@
 #!/bin/sh
 # Refuses each allocation in turn, of the built program: what it answers is what it answers with all memory, or want of memory and nothing else; of a run
 # the recap of what it came to goes out beside that. The opening of a file is refused for want of memory too, as a system does that has none left, and the start of a
-# thread. Each recap of a run that broke off is held against what the programs wrote down of their begins and ends (tests/programs/kept.py).
+# thread. Each recap of a run that broke off is held against what the programs wrote down of their begins and ends (tests/programs/kept.py), and the journal of one that is kept
+# against its recap.
 # Those of the tests too that hold whatever one allocation is refused. It needs a C compiler, Python 3, crates/rollout/out/rollout, and
 # what rt ci (or rt test) leaves in the out/ of each crate named below. Those that left nothing are passed over, but where ALL_BUILT is set.
 . "$(dirname "$0")/common.sh"
@@ -126,20 +127,46 @@ run_refused() {
     mv "$work/out" "$work/out.answered"
     mv "$work/errors" "$work/errors.answered"
     number=1
-    while rm -f notes && refusing "$number" "$rollout" run "$@"; do
+    while rm -f notes kept && refusing "$number" "$rollout" run "$@"; do
         cp out "compared/$number.out"
         [ ! -e notes ] || mv notes "compared/$number.notes"
-        if [ "$status" -eq 5 ] && [ "$(cat "$work/errors")" = 'rollout: memory' ]; then
-            [ ! -s "$work/out" ] || { begins_so && [ "$(tail -n 1 "$work/out")" = 'end fault' ]; }
+        if broken_off; then
+            [ ! -s "$work/out" ] || { begins_so && [ "$(tail -n 1 "$work/out")" = 'end fault' ]; } || last_unkept
         else
             [ "$status" -eq "$answered" ] && cmp -s "$work/out" "$work/out.answered" && cmp -s "$work/errors" "$work/errors.answered"
         fi && pass || fail "allocation $number of 'run $*' refused: status $status, $(cat "$work/errors")"
+        [ ! -e kept ] || kept_so "$1"
         number=$((number + 1))
     done
     [ "$number" -gt 100 ] || fail "'run $*' asks for little memory"
     counting python3 "$helpers/kept.py" "$1" "$2" "$work/compared"
     cd "$top" || exit 1
     echo "run $*: $((number - 1)) allocations refused in turn"
+}
+
+# Whether want of memory is what the run tells: of one that is kept, that a line of its journal was not taken for it.
+broken_off() {
+    case $status,$(cat "$work/errors") in
+    '5,rollout: memory') true ;;
+    "1,rollout: 911 JournalWrite") [ -e kept ] ;;
+    *) false ;;
+    esac
+}
+
+# Whether only the journal's last line was not taken: the run had ended by then.
+last_unkept() {
+    [ "$status" -eq 1 ] && cmp -s "$work/out" "$work/out.answered"
+}
+
+# kept_so INVENTORY: of a run of one play, whom the journal tells to have been in a closed batch ended as the recap has it, and whom the recap tells to have been in one is told so, or runs.
+kept_so() {
+    "$rollout" state "$1" kept >states 2>/dev/null
+    sed -nE 's/^([^ ]+) .*state=(updated|failed|halted)$/\1 state=\2/p' out | sort >ended
+    grep -E 'state=(updated|failed|halted)$' states | sort >told
+    grep 'state=running$' states | sed 's/running$//' >running
+    comm -13 ended told >invented
+    comm -23 ended told | grep -vFf running >lost
+    [ ! -s invented ] && [ ! -s lost ] && pass || fail "allocation $number: the journal tells $(cat invented), and not $(cat lost)"
 }
 
 # Whether the boundaries that a broken off run tells of are the first of those that it tells of with all memory.
@@ -150,6 +177,7 @@ begins_so() {
 
 each_refused limits "$top/examples/two-regions.json"
 each_refused limits "$top/examples/crossing-racks.json"
+each_refused state "$top/examples/two-racks.json" "$top/examples/killed.journal"
 each_refused plan "$top/examples/two-racks.json" "$top/examples/restart-web.json"
 each_refused plan "$top/examples/two-racks.json" "$top/examples/restart-web.json" --groups
 each_refused plan "$top/examples/two-regions.json" "$top/examples/everywhere.json"
@@ -191,6 +219,7 @@ printf '{"all":{"vars":{"v":1},"hosts":{"a":{"down":true},"b":null},"children":{
 run_refused "$work/few.json" "$work/twice.json" --forks 1
 printf '[{"hosts":"all","on_blocked":"hold","tasks":[{"command":{"argv":["sh","-c","echo + $0 0 1 >>notes; test $0 = d; code=$?; echo - $0 0 1 $code >>notes; exit $code","{{ inventory_hostname }}"]}}]}]' >"$work/holding.json"
 run_refused "$work/racks.json" "$work/holding.json" --forks 2
+run_refused "$work/racks.json" "$work/holding.json" --forks 2 --journal kept
 printf '[{"hosts":"a","tasks":[{"command":"/no/such/program"}]}]' >"$work/absent.json"
 run_refused "$work/few.json" "$work/absent.json"
 

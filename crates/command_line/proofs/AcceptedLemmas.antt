@@ -7,7 +7,7 @@ use Rattle.std.proofs.lemmas.Slice.Eq.{bytes_eq-Decides}
 use Rattle.clap.proofs.OnLiterals.{clap_on_literals}
 use Rattle.command_line.specs.Syntax.{rollout, file_in}
 use Rattle.command_line.specs.Operands.{Word, dashes, is_operand, lone_operand, two_words, two_operands}
-use Rattle.command_line.specs.Words.{limits_file, plan_files, rehearse_files}
+use Rattle.command_line.specs.Words.{limits_file, plan_files, rehearse_files, state_files}
 
 -- clap takes the words, and reads the file
 pub record Reads (words : List Word) (file : Word) : Type 0 where
@@ -19,6 +19,12 @@ pub record ReadsBoth (name : Word) (words : List Word) (files : Word × Word) : 
   pub taken : takes rollout words ≡ true
   pub inventory : file_in name (codes "INV") (subcommand_of rollout words) ≡ Some files.0
   pub playbook : file_in name (codes "PLAY") (subcommand_of rollout words) ≡ Some files.1
+
+-- clap takes the words of a line of `state`, and reads both files
+pub record ReadsState (words : List Word) (files : Word × Word) : Type 0 where
+  pub taken : takes rollout words ≡ true
+  pub inventory : file_in (codes "state") (codes "INV") (subcommand_of rollout words) ≡ Some files.0
+  pub journal : file_in (codes "state") (codes "JOURNAL") (subcommand_of rollout words) ≡ Some files.1
 
 reads_empty : Reads (codes "limits" ∷ [] ∷ []) []
 unfolding clap_on_literals
@@ -180,6 +186,34 @@ rehearse_behind : (first second : Word) → ReadsBoth (codes "rehearse") (codes 
 unfolding clap_on_literals
 rehearse_behind first second = record { taken = refl; inventory = refl; playbook = refl }
 
+state_alone : (first second : Word) → IsValue first → IsValue second → ReadsState (codes "state" ∷ first ∷ second ∷ []) (first, second)
+unfolding clap_on_literals
+state_alone first second p q = record {
+  taken = simp (p.no_end, p.no_long, p.no_short, q.no_end, q.no_long, q.no_short);
+  inventory = simp (p.no_end, p.no_long, p.no_short, q.no_end, q.no_long, q.no_short);
+  journal = simp (p.no_end, p.no_long, p.no_short, q.no_end, q.no_long, q.no_short);
+}
+
+state_before : (first second : Word) → IsValue first → IsValue second → ReadsState (codes "state" ∷ first ∷ second ∷ codes "--" ∷ []) (first, second)
+unfolding clap_on_literals
+state_before first second p q = record {
+  taken = simp (p.no_end, p.no_long, p.no_short, q.no_end, q.no_long, q.no_short);
+  inventory = simp (p.no_end, p.no_long, p.no_short, q.no_end, q.no_long, q.no_short);
+  journal = simp (p.no_end, p.no_long, p.no_short, q.no_end, q.no_long, q.no_short);
+}
+
+state_between : (first second : Word) → IsValue first → ReadsState (codes "state" ∷ first ∷ codes "--" ∷ second ∷ []) (first, second)
+unfolding clap_on_literals
+state_between first second p = record {
+  taken = simp (p.no_end, p.no_long, p.no_short);
+  inventory = simp (p.no_end, p.no_long, p.no_short);
+  journal = simp (p.no_end, p.no_long, p.no_short);
+}
+
+state_behind : (first second : Word) → ReadsState (codes "state" ∷ codes "--" ∷ first ∷ second ∷ []) (first, second)
+unfolding clap_on_literals
+state_behind first second = record { taken = refl; inventory = refl; journal = refl }
+
 -- what holds of two operands, wherever the word that ends options stands
 module _ (P : List Word → Word × Word → Type 0) (alone : (first second : Word) → IsValue first → IsValue second → P (first ∷ second ∷ []) (first, second))
     (behind : (first second : Word) → P (dashes ∷ first ∷ second ∷ []) (first, second)) (between : (first second : Word) → IsValue first → P (first ∷ dashes ∷ second ∷ []) (first, second))
@@ -243,3 +277,17 @@ pub accepted_rehearsal : (words : List Word) (files : Word × Word) → rehearse
 accepted_rehearsal [] files wanted = cc
 accepted_rehearsal (command ∷ operands) files wanted =
     both_of_command (codes "rehearse") rehearse_of_operands command operands files (bytes_eq command (codes "rehearse")) refl wanted
+
+state_of_operands : (operands : List Word) (files : Word × Word) → two_operands operands ≡ Some files → ReadsState (codes "state" ∷ operands) files
+state_of_operands = of_two_operands (λ given. ReadsState (codes "state" ∷ given)) state_alone state_behind state_between state_before
+
+-- and so of a line of `state`
+pub accepted_state : (words : List Word) (files : Word × Word) → state_files words ≡ Some files → ReadsState words files
+accepted_state [] files wanted = cc
+accepted_state (command ∷ operands) files wanted = by_name (bytes_eq command (codes "state")) refl wanted
+  where
+    by_name : (named : Bool) → bytes_eq command (codes "state") ≡ named → cond named (two_operands operands) None ≡ Some files → ReadsState (command ∷ operands) files
+    by_name true same wanted =
+        let is : command ≡ codes "state" = (bytes_eq-Decides command (codes "state")).0 same in
+        subst (λ w. ReadsState (w ∷ operands) files) (sym is) (state_of_operands operands files wanted)
+    by_name false same wanted = cc

@@ -7,7 +7,7 @@ use Rattle.clap.specs.declared.error.kind.ErrorKind.TheVariants.{DisplayHelp, Di
 use Rattle.clap.proofs.OnLiterals.{clap_on_literals}
 use Rattle.std.specs.Prelude.{Result, Ok, Err, IfOk, IfErr}
 use Rattle.command_line.specs.declared.command.Line.{Line}
-use Rattle.command_line.specs.declared.command.Line.TheVariants.{Limits, Plan, Run, Rehearse, Print}
+use Rattle.command_line.specs.declared.command.Line.TheVariants.{Limits, Plan, Run, Rehearse, State, Print}
 use Rattle.command_line.specs.declared.fault.LineFault.{LineFault}
 use Rattle.command_line.specs.declared.fault.LineFault.TheVariants.{BadLine, Unexplained, Memory}
 use Rattle.command_line.specs.Answers.{AnswersFor, Disagrees, FindsOthers}
@@ -17,8 +17,8 @@ use Rattle.command_line.specs.declared.message.Message.{Message}
 use Rattle.command_line.specs.Syntax.{rollout}
 use Rattle.command_line.specs.Operands.{Word}
 use Rattle.command_line.specs.Runs.{run_request}
-use Rattle.command_line.specs.Words.{is_empty, is_command, limits_file, plan_files, rehearse_files, IsNoneOf, requests, IsTextFor, Explains, Refuses, Says}
-use Rattle.command_line.proofs.AcceptedLemmas.{accepted, accepted_plan, accepted_rehearsal}
+use Rattle.command_line.specs.Words.{is_empty, is_command, limits_file, plan_files, rehearse_files, state_files, IsNoneOf, requests, IsTextFor, Explains, Refuses, Says}
+use Rattle.command_line.proofs.AcceptedLemmas.{accepted, accepted_plan, accepted_rehearsal, accepted_state}
 use Rattle.command_line.proofs.RunLemmas.{accepted_run}
 
 -- clap answers a request with its text
@@ -70,28 +70,37 @@ answers_rehearse_short_help : fault_of rollout (codes "rehearse" ∷ codes "-h" 
 unfolding clap_on_literals
 answers_rehearse_short_help = refl
 
+answers_state_help : fault_of rollout (codes "state" ∷ codes "--help" ∷ []) ≡ DisplayHelp ∷ []
+unfolding clap_on_literals
+answers_state_help = refl
+
+answers_state_short_help : fault_of rollout (codes "state" ∷ codes "-h" ∷ []) ≡ DisplayHelp ∷ []
+unfolding clap_on_literals
+answers_state_short_help = refl
+
 -- the words are no request, where they are none of those that get one kind of answer
 no_request : (words : List Word) → ((request : List Word) (kind : ErrorKind) → fault_of rollout request ≡ kind ∷ [] → (kind ≡ DisplayHelp) ⊎ (kind ≡ DisplayVersion) → words ≢ request)
     → IsNoneOf words requests
-no_request words other = (other _ _ answers_help (inl refl), (other _ _ answers_short_help (inl refl), (other _ _ answers_version (inr refl), (other _ _ answers_short_version (inr refl), (other _ _ answers_limits_help (inl refl), (other _ _ answers_limits_short_help (inl refl), (other _ _ answers_plan_help (inl refl), (other _ _ answers_plan_short_help (inl refl), (other _ _ answers_run_help (inl refl), (other _ _ answers_run_short_help (inl refl), (other _ _ answers_rehearse_help (inl refl), (other _ _ answers_rehearse_short_help (inl refl), tt))))))))))))
+no_request words other = (other _ _ answers_help (inl refl), (other _ _ answers_short_help (inl refl), (other _ _ answers_version (inr refl), (other _ _ answers_short_version (inr refl), (other _ _ answers_limits_help (inl refl), (other _ _ answers_limits_short_help (inl refl), (other _ _ answers_plan_help (inl refl), (other _ _ answers_plan_short_help (inl refl), (other _ _ answers_run_help (inl refl), (other _ _ answers_run_short_help (inl refl), (other _ _ answers_rehearse_help (inl refl), (other _ _ answers_rehearse_short_help (inl refl), (other _ _ answers_state_help (inl refl), (other _ _ answers_state_short_help (inl refl), tt))))))))))))))
 
 -- the words say no command that clap would have to take
 abbrev SayNothing : List Word → Type 0
 SayNothing words =
     ((file : Word) → limits_file words ≢ Some file) × ((files : Word × Word) → plan_files words ≢ Some files)
-    × ((files : Word × Word) → rehearse_files words ≢ Some files) × ((run : Word × Word × ℕ) → run_request words ≢ Some run)
+    × ((files : Word × Word) → rehearse_files words ≢ Some files) × ((files : Word × Word) → state_files words ≢ Some files) × ((run : Word × Word × ℕ) → run_request words ≢ Some run)
 
-no_line_by : (words : List Word) (file : Option Word) (files rehearsed : Option (Word × Word)) (run : Option (Word × Word × ℕ)) → limits_file words ≡ file → plan_files words ≡ files
-    → rehearse_files words ≡ rehearsed → run_request words ≡ run → is_empty words ≡ false → SayNothing words → is_command words ≡ false
-no_line_by words None None None None no_limits no_plan no_rehearsal no_run some nothing = rw (some, no_limits, no_plan, no_rehearsal, no_run) refl
-no_line_by words None None None (Some run) no_limits no_plan no_rehearsal wanted some nothing = absurd (nothing.3 run wanted)
-no_line_by words None None (Some files) run no_limits no_plan wanted is some nothing = absurd (nothing.2 files wanted)
-no_line_by words None (Some files) rehearsed run no_limits wanted rehearsal is some nothing = absurd (nothing.1 files wanted)
-no_line_by words (Some file) files rehearsed run wanted plan rehearsal is some nothing = absurd (nothing.0 file wanted)
+no_line_by : (words : List Word) (file : Option Word) (files rehearsed told : Option (Word × Word)) (run : Option (Word × Word × ℕ)) → limits_file words ≡ file → plan_files words ≡ files
+    → rehearse_files words ≡ rehearsed → state_files words ≡ told → run_request words ≡ run → is_empty words ≡ false → SayNothing words → is_command words ≡ false
+no_line_by words None None None None None no_limits no_plan no_rehearsal no_state no_run some nothing = rw (some, no_limits, no_plan, no_rehearsal, no_state, no_run) refl
+no_line_by words None None None None (Some run) no_limits no_plan no_rehearsal no_state wanted some nothing = absurd (nothing.4 run wanted)
+no_line_by words None None None (Some files) run no_limits no_plan no_rehearsal wanted is some nothing = absurd (nothing.3 files wanted)
+no_line_by words None None (Some files) told run no_limits no_plan wanted state is some nothing = absurd (nothing.2 files wanted)
+no_line_by words None (Some files) rehearsed told run no_limits wanted rehearsal state is some nothing = absurd (nothing.1 files wanted)
+no_line_by words (Some file) files rehearsed told run wanted plan rehearsal state is some nothing = absurd (nothing.0 file wanted)
 
 no_line : (words : List Word) → is_empty words ≡ false → SayNothing words → is_command words ≡ false
 no_line words some nothing =
-    no_line_by words (limits_file words) (plan_files words) (rehearse_files words) (run_request words) refl refl refl refl some nothing
+    no_line_by words (limits_file words) (plan_files words) (rehearse_files words) (state_files words) (run_request words) refl refl refl refl refl some nothing
 
 -- words that clap does not take say no command
 untaken : (words : List Word) → (takes rollout words ≡ true → ⊥) → SayNothing words
@@ -99,6 +108,7 @@ untaken words never = (
   λ file wanted. never (accepted words file wanted).taken,
   λ files wanted. never (accepted_plan words files wanted).taken,
   λ files wanted. never (accepted_rehearsal words files wanted).taken,
+  λ files wanted. never (accepted_state words files wanted).taken,
   λ run wanted. never (accepted_run words run wanted).taken,
 )
 
@@ -156,6 +166,7 @@ requested words e (Ok (Limits inventory)) some taken has answers = absurd answer
 requested words e (Ok (Plan inventory playbook)) some taken has answers = absurd answers
 requested words e (Ok (Run inventory playbook forks)) some taken has answers = absurd answers
 requested words e (Ok (Rehearse inventory playbook)) some taken has answers = absurd answers
+requested words e (Ok (State inventory journal)) some taken has answers = absurd answers
 requested words e (Ok (Print message)) some taken has answers = (
   no_line words some (untaken words (λ takes. is_no_memory e answers.1 (taken takes))),
   subst IsAskedFor (sym answers.0) answers.1,
@@ -163,17 +174,19 @@ requested words e (Ok (Print message)) some taken has answers = (
 )
 
 -- clap finds the files that the words say, so where it finds others the words are no command
-others_by : (words : List Word) (file : Option Word) (files rehearsed : Option (Word × Word)) (run : Option (Word × Word × ℕ)) → limits_file words ≡ file → plan_files words ≡ files
-    → rehearse_files words ≡ rehearsed → run_request words ≡ run → is_empty words ≡ false → FindsOthers file files rehearsed run (subcommand_of rollout words)
+others_by : (words : List Word) (file : Option Word) (files rehearsed told : Option (Word × Word)) (run : Option (Word × Word × ℕ)) → limits_file words ≡ file → plan_files words ≡ files
+    → rehearse_files words ≡ rehearsed → state_files words ≡ told → run_request words ≡ run → is_empty words ≡ false → FindsOthers file files rehearsed told run (subcommand_of rollout words)
     → is_command words ≡ false
-others_by words (Some file) files rehearsed run wanted plan rehearsal is some others = absurd (others (accepted words file wanted).read)
-others_by words None (Some files) rehearsed run limits wanted rehearsal is some others =
+others_by words (Some file) files rehearsed told run wanted plan rehearsal state is some others = absurd (others (accepted words file wanted).read)
+others_by words None (Some files) rehearsed told run limits wanted rehearsal state is some others =
     let read = accepted_plan words files wanted in absurd (others (read.inventory, read.playbook))
-others_by words None None (Some files) run limits plan wanted is some others =
+others_by words None None (Some files) told run limits plan wanted state is some others =
     let read = accepted_rehearsal words files wanted in absurd (others (read.inventory, read.playbook))
-others_by words None None None (Some run) limits plan rehearsal wanted some others =
+others_by words None None None (Some files) run limits plan rehearsal wanted is some others =
+    let read = accepted_state words files wanted in absurd (others (read.inventory, read.journal))
+others_by words None None None None (Some run) limits plan rehearsal state wanted some others =
     let read = accepted_run words run wanted in absurd (others ((read.inventory, read.playbook), read.forks))
-others_by words None None None None limits plan rehearsal is some others = rw (some, limits, plan, rehearsal, is) refl
+others_by words None None None None None limits plan rehearsal state is some others = rw (some, limits, plan, rehearsal, state, is) refl
 
 -- words that clap took
 pub mismatched : (words : List Word) (fault : LineFault) → is_empty words ≡ false → fault_of rollout words ≡ []
@@ -181,7 +194,7 @@ pub mismatched : (words : List Word) (fault : LineFault) → is_empty words ≡ 
 mismatched words Memory some taken disagrees = some
 mismatched words (BadLine message) some taken disagrees = absurd disagrees
 mismatched words Unexplained some taken disagrees = (
-  others_by words (limits_file words) (plan_files words) (rehearse_files words) (run_request words) refl refl refl refl some disagrees,
+  others_by words (limits_file words) (plan_files words) (rehearse_files words) (state_files words) (run_request words) refl refl refl refl refl some disagrees,
   no_request words (λ request kind faults which is. let none : [] ≡ kind ∷ [] = sym taken ∙ ap (fault_of rollout) is ∙ faults in cc),
   taken,
 )

@@ -5,7 +5,7 @@ use Rattle.command_line.specs.declared.flags.Flags.{Flags}
 use Rattle.command_line.specs.declared.flags.Flags.TheVariants.{Course, Either, Groups, Planning, Quiet, Verbose}
 use Rattle.command_line.specs.Operands.{Word, dashes}
 use Rattle.command_line.specs.Failing.{failing_names, without_failing}
-use Rattle.command_line.specs.StopFiles.{without_stops}
+use Rattle.command_line.specs.RunFiles.{without_files}
 
 abbrev pub is_verbose_flag : Word → Bool
 is_verbose_flag word = bytes_eq word (codes "-v") || bytes_eq word (codes "--verbose")
@@ -42,24 +42,25 @@ without_flags flags (word ∷ words) =
 abbrev pub without_names : List Word → List Word
 without_names words = if asks Course (without_failing words) then without_failing words else words
 
--- the words of a line without the stop files and the flags of a run, and without the names of failing hosts and the flags of a plan; neither a stop file nor such names are a flag
+-- the words of a line without the files and the flags of a run that clap doesn't read, and without the names of failing hosts and the flags of a plan; neither such a file nor such names
+-- are a flag
 abbrev pub plain : List Word → List Word
 plain [] = []
 plain (command ∷ words) =
-    if bytes_eq command (codes "run") then command ∷ without_flags Either (without_stops words)
+    if bytes_eq command (codes "run") then command ∷ without_flags Either (without_files words)
     else (if bytes_eq command (codes "plan") then command ∷ without_flags Planning (without_names words) else command ∷ words)
 
 -- the words ask a run to tell of itself, or a plan
 abbrev pub is_verbose : List Word → Bool
 is_verbose [] = false
 is_verbose (command ∷ words) =
-    if bytes_eq command (codes "run") then asks Verbose (without_stops words)
+    if bytes_eq command (codes "run") then asks Verbose (without_files words)
     else (bytes_eq command (codes "plan") && asks Verbose (without_names words))
 
 -- the words ask a run to tell nothing unasked
 abbrev pub is_quiet : List Word → Bool
 is_quiet [] = false
-is_quiet (command ∷ words) = bytes_eq command (codes "run") && asks Quiet (without_stops words)
+is_quiet (command ∷ words) = bytes_eq command (codes "run") && asks Quiet (without_files words)
 
 -- the words ask a plan for its groups
 abbrev pub is_grouped : List Word → Bool

@@ -7,7 +7,7 @@ pub mod Messages
 pub mod Operands
 pub mod OptionValues
 pub mod Options
+pub mod RunFiles
 pub mod Runs
-pub mod StopFiles
 pub mod Syntax
 pub mod Words

@@ -48,6 +48,10 @@ quiet_argument = record (new_rule (codes "quiet")) { long = Some (codes "quiet")
 abbrev pub stop_file_argument : Rule
 stop_file_argument = record (new_rule (codes "stop-file")) { long = Some (codes "stop-file"); value_names = 1 }
 
+-- the option that names the file in which a run is kept
+abbrev pub new_journal_argument : Rule
+new_journal_argument = record (new_rule (codes "journal")) { long = Some (codes "journal"); value_names = 1 }
+
 abbrev pub limits_command : App
 limits_command = with_rule (new_app (codes "limits")) inventory_argument
 
@@ -63,20 +67,30 @@ abbrev pub run_command : App
 run_command =
     with_rule
     (with_rule
+    (with_rule
     (with_rule (with_rule (with_rule (with_rule (new_app (codes "run")) inventory_argument) playbook_argument) forks_argument) verbose_argument)
     quiet_argument)
-    stop_file_argument
+    stop_file_argument)
+    new_journal_argument
 
 abbrev pub rehearse_command : App
 rehearse_command = with_rule (with_rule (new_app (codes "rehearse")) inventory_argument) playbook_argument
+
+-- the argument for the journal's file
+abbrev pub journal_argument : Rule
+journal_argument = record (new_rule (codes "JOURNAL")) { required = true }
+
+abbrev pub state_command : App
+state_command = with_rule (with_rule (new_app (codes "state")) inventory_argument) journal_argument
 
 abbrev settings : Shape → Shape
 settings shape = record shape { has_version = true; no_binary_name = true; subcommand_required = true }
 
 abbrev pub rollout : App
 rollout = with_subcommand
-    (with_subcommand (with_subcommand (with_subcommand (on_top settings (new_app (codes "rollout"))) limits_command.top) plan_command.top) run_command.top)
-    rehearse_command.top
+    (with_subcommand (with_subcommand (with_subcommand (with_subcommand (on_top settings (new_app (codes "rollout"))) limits_command.top) plan_command.top) run_command.top)
+    rehearse_command.top)
+    state_command.top
 
 -- the file that a parse found for an argument of a command
 abbrev pub file_in : Text → Text → Option (Text × List Row) → Option Text

@@ -7,7 +7,7 @@ use Rattle.command_line.specs.Messages as messages
 use Rattle.command_line.specs.Messages.{IsAskedFor}
 use Rattle.command_line.specs.Syntax.{rollout}
 use Rattle.command_line.specs.declared.command.Line.{Line}
-use Rattle.command_line.specs.declared.command.Line.TheVariants.{Limits, Plan, Run, Rehearse, Print}
+use Rattle.command_line.specs.declared.command.Line.TheVariants.{Limits, Plan, Run, Rehearse, State, Print}
 use Rattle.command_line.specs.declared.fault.LineFault.{LineFault}
 use Rattle.command_line.specs.declared.message.Message.{Message}
 use Rattle.command_line.specs.declared.fault.LineFault.TheVariants.{BadLine, Unexplained, Memory}
@@ -34,9 +34,14 @@ abbrev pub rehearse_files : List Word → Option (Word × Word)
 rehearse_files [] = None
 rehearse_files (command ∷ words) = if bytes_eq command (codes "rehearse") then two_operands words else None
 
+-- the inventory's and the journal's file of which the words ask where a run stands
+abbrev pub state_files : List Word → Option (Word × Word)
+state_files [] = None
+state_files (command ∷ words) = if bytes_eq command (codes "state") then two_operands words else None
+
 -- the words are a command: none of them, or a command's name with its files, and the forks of a run
 abbrev pub is_command : List Word → Bool
-is_command words = is_empty words || (is_some (limits_file words) || (is_some (plan_files words) || (is_some (rehearse_files words) || is_some (run_request words))))
+is_command words = is_empty words || (is_some (limits_file words) || (is_some (plan_files words) || (is_some (rehearse_files words) || (is_some (state_files words) || is_some (run_request words)))))
 
 -- the text is one that clap has for the words, by the program's syntax
 abbrev pub IsTextFor : List Word → Message → Type 0
@@ -55,6 +60,9 @@ Says words (Run StandardInput playbook forks) = ⊥
 Says words (Rehearse (File inventory) (File playbook)) = rehearse_files words ≡ Some (string_bytes inventory, string_bytes playbook)
 Says words (Rehearse (File inventory) StandardInput) = ⊥
 Says words (Rehearse StandardInput playbook) = ⊥
+Says words (State (File inventory) (File journal)) = state_files words ≡ Some (string_bytes inventory, string_bytes journal)
+Says words (State (File inventory) StandardInput) = ⊥
+Says words (State StandardInput journal) = ⊥
 Says words (Print message) = (is_command words ≡ false) × IsAskedFor (messages.kind_of message) × IsTextFor words message
 
 -- lines that ask for the help or the version
@@ -64,7 +72,8 @@ requests =
     ∷ (codes "limits" ∷ codes "--help" ∷ []) ∷ (codes "limits" ∷ codes "-h" ∷ [])
     ∷ (codes "plan" ∷ codes "--help" ∷ []) ∷ (codes "plan" ∷ codes "-h" ∷ [])
     ∷ (codes "run" ∷ codes "--help" ∷ []) ∷ (codes "run" ∷ codes "-h" ∷ [])
-    ∷ (codes "rehearse" ∷ codes "--help" ∷ []) ∷ (codes "rehearse" ∷ codes "-h" ∷ []) ∷ []
+    ∷ (codes "rehearse" ∷ codes "--help" ∷ []) ∷ (codes "rehearse" ∷ codes "-h" ∷ [])
+    ∷ (codes "state" ∷ codes "--help" ∷ []) ∷ (codes "state" ∷ codes "-h" ∷ []) ∷ []
 
 -- the words are none of these lines
 abbrev pub IsNoneOf : List Word → List (List Word) → Type 0

@@ -26,6 +26,11 @@ pub enum Line {
         inventory: Source,
         playbook: Source,
     },
+    /// Prints where a run stands, by its journal.
+    State {
+        inventory: Source,
+        journal: Source,
+    },
     /// Prints this text: the help or the version.
     Print(Message),
 }

@@ -11,8 +11,8 @@ mod option_values;
 mod option_words;
 mod reading;
 mod request;
+mod run_files;
 mod run_words;
-mod stop_file;
 mod syntax;
 mod words;
 

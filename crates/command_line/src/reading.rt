@@ -2,7 +2,7 @@
 ghost use Rattle.std.specs.Prelude.{◌≡◌, ◌↔◌, Some, IsTrue, IfOk, IfErr, map, string_bytes};
 ghost use Rattle.std.specs.Option.{option_map};
 ghost use Rattle.clap.specs.Words.{kind_of, subcommand_rows_of};
-ghost use Rattle.command_line.specs.Answers.{AnswersFor, AreFiles, Disagrees, IsFile, IsFound, IsLimits, IsPlan, IsRehearse, IsRun, IsUnmade};
+ghost use Rattle.command_line.specs.Answers.{AnswersFor, AreFiles, Disagrees, IsFile, IsFound, IsLimits, IsPlan, IsRehearse, IsRun, IsState, IsUnmade};
 ghost use Rattle.command_line.specs.Words.{Refuses, Says};
 
 use crate::command::{Line, Source};
@@ -11,7 +11,7 @@ use crate::forks::Forks;
 use crate::message::Message;
 use crate::run_words::run_request;
 use crate::syntax;
-use crate::words::{limits_file, plan_files, rehearse_files};
+use crate::words::{limits_file, plan_files, rehearse_files, state_files};
 use clap::error::ErrorKind;
 use clap::{ArgMatches, Error};
 use std::alloc::{AllocError, Global};
@@ -68,6 +68,13 @@ fn taken(alloc: Global, words: &[String], matches: &ArgMatches<'_>) -> Result<Li
             syntax::rehearse_playbook(matches),
         );
         return rehearse_line(alloc, files, found);
+    }
+    if let Some(files) = state_files(words) {
+        let found = (
+            syntax::state_inventory(matches),
+            syntax::state_journal(matches),
+        );
+        return state_line(alloc, files, found);
     }
     match run_request(words) {
         Some((inventory, playbook, forks)) => {
@@ -135,6 +142,22 @@ fn rehearse_line(
             inventory,
             playbook,
         }),
+        Err(fault) => Err(fault),
+    }
+}
+
+/// The line of the command `state`, where clap found the same two files.
+fn state_line(
+    alloc: Global,
+    files: (&str, &str),
+    found: (Option<&str>, Option<&str>),
+) -> Result<Line, LineFault>
+    ensures ok { IfOk result (IsState (files.entry.0.now, files.entry.1.now)) }
+    ensures err { IfErr result (IsUnmade
+        (IsFound (files.entry.0.now, files.entry.1.now) (option_map (λ s. s.now) found.entry.0) (option_map (λ s. s.now) found.entry.1))) }
+{
+    match both_files(alloc, files, found) {
+        Ok((inventory, journal)) => Ok(Line::State { inventory, journal }),
         Err(fault) => Err(fault),
     }
 }

@@ -4,7 +4,7 @@ ghost use Rattle.std.specs.List.{last_or};
 ghost use Rattle.std.specs.Option.{option_map};
 ghost use Rattle.command_line.specs.Failing as failing;
 ghost use Rattle.command_line.specs.Flags as spec;
-ghost use Rattle.command_line.specs.StopFiles as stops;
+ghost use Rattle.command_line.specs.RunFiles as files;
 ghost use Rattle.command_line.specs.Words.{Refuses, Says};
 ghost use Rattle.command_line.specs.declared.flags.Flags.TheVariants.{Course, Either, Groups, Planning, Quiet, Verbose};
 
@@ -13,7 +13,7 @@ use crate::failing::without_failing;
 use crate::fault::LineFault;
 use crate::flags::{Flags, asks, without_flags};
 use crate::reading::line;
-use crate::stop_file::without_stops;
+use crate::run_files::{RunFiles, without_files};
 use crate::words::is_word;
 use std::alloc::Global;
 
@@ -27,20 +27,23 @@ pub struct Request {
     pub is_quiet: bool,
     /// The file that ends the run before its next batch, once it is there.
     pub stop_file: Option<String>,
+    /// The file in which a run is kept.
+    pub journal: Option<String>,
     /// Where a plan is asked for its course, the names of the hosts that are to fail in it, a comma behind each.
     pub course: Option<String>,
     /// Whether a plan, or its course, tells how full its groups are.
     pub is_grouped: bool,
 }
 
-/// What the words ask for, the program's name left out. The stop files and the flags of a run, and the flags of a plan and the names of hosts that are to fail in
+/// What the words ask for, the program's name left out. The files that a run is given by options, its flags, and the flags of a plan and the names of hosts that are to fail in
 /// its course, may stand anywhere before the word that ends options, and more than once. They are taken out before clap reads the words: what clap makes of the
 /// others is the same wherever they stood. Names of failing hosts stay where no course is asked for, so that the words are no line.
 pub fn request_of(alloc: Global, words: &[String]) -> Result<Request, LineFault>
     ensures ok { IfOk result (λ asked. Says (spec.plain (map string_bytes words.now)) asked.line) }
     ensures verbose { IfOk result (λ asked. asked.is_verbose ≡ spec.is_verbose (map string_bytes words.now)) }
     ensures quiet { IfOk result (λ asked. asked.is_quiet ≡ spec.is_quiet (map string_bytes words.now)) }
-    ensures stop_file { IfOk result (λ asked. option_map string_bytes asked.stop_file ≡ stops.stop_file (map string_bytes words.now)) }
+    ensures stop_file { IfOk result (λ asked. option_map string_bytes asked.stop_file ≡ files.stop_file (map string_bytes words.now)) }
+    ensures journal { IfOk result (λ asked. option_map string_bytes asked.journal ≡ files.journal (map string_bytes words.now)) }
     ensures course { IfOk result (λ asked. option_map string_bytes asked.course ≡ spec.course (map string_bytes words.now)) }
     ensures groups { IfOk result (λ asked. asked.is_grouped ≡ spec.is_grouped (map string_bytes words.now)) }
     ensures err { IfErr result (Refuses (spec.plain (map string_bytes words.now))) }
@@ -54,6 +57,7 @@ pub fn request_of(alloc: Global, words: &[String]) -> Result<Request, LineFault>
                 is_verbose: false,
                 is_quiet: false,
                 stop_file: None,
+                journal: None,
                 course: None,
                 is_grouped: false,
             }),
@@ -68,6 +72,7 @@ fn plan_request(alloc: Global, command: &String, words: &[String]) -> Result<Req
     ensures verbose { IfOk result (λ asked. asked.is_verbose ≡ spec.asks Verbose (spec.without_names (map string_bytes words.now))) }
     ensures quiet { IfOk result (λ asked. asked.is_quiet ≡ false) }
     ensures stop_file { IfOk result (λ asked. asked.stop_file ≡ None) }
+    ensures journal { IfOk result (λ asked. asked.journal ≡ None) }
     ensures course { IfOk result (λ asked. option_map string_bytes asked.course
         ≡ (if spec.asks Course (failing.without_failing (map string_bytes words.now)) then Some (failing.failing_names (map string_bytes words.now)) else None)) }
     ensures groups { IfOk result (λ asked. asked.is_grouped ≡ spec.asks Groups (spec.without_names (map string_bytes words.now))) }
@@ -94,6 +99,7 @@ fn flagged_plan(
     ensures verbose { IfOk result (λ asked. asked.is_verbose ≡ spec.asks Verbose (map string_bytes words.now)) }
     ensures quiet { IfOk result (λ asked. asked.is_quiet ≡ false) }
     ensures stop_file { IfOk result (λ asked. asked.stop_file ≡ None) }
+    ensures journal { IfOk result (λ asked. asked.journal ≡ None) }
     ensures course { IfOk result (λ asked. asked.course ≡ course) }
     ensures groups { IfOk result (λ asked. asked.is_grouped ≡ spec.asks Groups (map string_bytes words.now)) }
     ensures err { IfErr result (Refuses (string_bytes command.now ∷ spec.without_flags Planning (map string_bytes words.now))) }
@@ -107,6 +113,7 @@ fn flagged_plan(
             is_verbose: asks(Flags::Verbose, words),
             is_quiet: false,
             stop_file: None,
+            journal: None,
             course,
             is_grouped: asks(Flags::Groups, words),
         }),
@@ -116,31 +123,33 @@ fn flagged_plan(
 
 /// What the words of a run ask for.
 fn run_request(alloc: Global, command: &String, words: &[String]) -> Result<Request, LineFault>
-    ensures ok { IfOk result (λ asked. Says (string_bytes command.now ∷ spec.without_flags Either (stops.without_stops (map string_bytes words.now))) asked.line) }
-    ensures verbose { IfOk result (λ asked. asked.is_verbose ≡ spec.asks Verbose (stops.without_stops (map string_bytes words.now))) }
-    ensures quiet { IfOk result (λ asked. asked.is_quiet ≡ spec.asks Quiet (stops.without_stops (map string_bytes words.now))) }
-    ensures stop_file { IfOk result (λ asked. option_map string_bytes asked.stop_file ≡ last_or None (stops.stop_files (map string_bytes words.now))) }
+    ensures ok { IfOk result (λ asked. Says (string_bytes command.now ∷ spec.without_flags Either (files.without_files (map string_bytes words.now))) asked.line) }
+    ensures verbose { IfOk result (λ asked. asked.is_verbose ≡ spec.asks Verbose (files.without_files (map string_bytes words.now))) }
+    ensures quiet { IfOk result (λ asked. asked.is_quiet ≡ spec.asks Quiet (files.without_files (map string_bytes words.now))) }
+    ensures stop_file { IfOk result (λ asked. option_map string_bytes asked.stop_file ≡ last_or None (files.stop_files (map string_bytes words.now))) }
+    ensures journal { IfOk result (λ asked. option_map string_bytes asked.journal ≡ last_or None (files.journals (files.without_stops (map string_bytes words.now)))) }
     ensures course { IfOk result (λ asked. asked.course ≡ None) }
     ensures groups { IfOk result (λ asked. asked.is_grouped ≡ false) }
-    ensures err { IfErr result (Refuses (string_bytes command.now ∷ spec.without_flags Either (stops.without_stops (map string_bytes words.now)))) }
+    ensures err { IfErr result (Refuses (string_bytes command.now ∷ spec.without_flags Either (files.without_files (map string_bytes words.now)))) }
 {
-    let Ok((others, file)) = without_stops(alloc, words) else {
+    let Ok((others, given)) = without_files(alloc, words) else {
         return Err(LineFault::Memory);
     };
-    flagged_request(alloc, command, others.as_slice(), file)
+    flagged_request(alloc, command, others.as_slice(), given)
 }
 
-/// What the words of a run without their stop files ask for, with the last of these.
+/// What the words of a run without the options that name its files ask for, with these files.
 fn flagged_request(
     alloc: Global,
     command: &String,
     words: &[String],
-    stop_file: Option<String>,
+    given: RunFiles,
 ) -> Result<Request, LineFault>
     ensures ok { IfOk result (λ asked. Says (string_bytes command.now ∷ spec.without_flags Either (map string_bytes words.now)) asked.line) }
     ensures verbose { IfOk result (λ asked. asked.is_verbose ≡ spec.asks Verbose (map string_bytes words.now)) }
     ensures quiet { IfOk result (λ asked. asked.is_quiet ≡ spec.asks Quiet (map string_bytes words.now)) }
-    ensures stop_file { IfOk result (λ asked. asked.stop_file ≡ stop_file) }
+    ensures stop_file { IfOk result (λ asked. asked.stop_file ≡ given.stop) }
+    ensures journal { IfOk result (λ asked. asked.journal ≡ given.journal) }
     ensures course { IfOk result (λ asked. asked.course ≡ None) }
     ensures groups { IfOk result (λ asked. asked.is_grouped ≡ false) }
     ensures err { IfErr result (Refuses (string_bytes command.now ∷ spec.without_flags Either (map string_bytes words.now))) }
@@ -153,7 +162,8 @@ fn flagged_request(
             line,
             is_verbose: asks(Flags::Verbose, words),
             is_quiet: asks(Flags::Quiet, words),
-            stop_file,
+            stop_file: given.stop,
+            journal: given.journal,
             course: None,
             is_grouped: false,
         }),

@@ -14,6 +14,8 @@ const INVENTORY: &str = "INV";
 
 const PLAYBOOK: &str = "PLAY";
 
+const JOURNAL: &str = "JOURNAL";
+
 const FORKS: &str = "forks";
 
 const VERBOSE: &str = "verbose";
@@ -21,6 +23,8 @@ const VERBOSE: &str = "verbose";
 const QUIET: &str = "quiet";
 
 const STOP_FILE: &str = "stop-file";
+
+const NEW_JOURNAL: &str = "journal";
 
 const COURSE: &str = "course";
 
@@ -33,6 +37,8 @@ const INVENTORY_HELP: &str =
 
 const PLAYBOOK_HELP: &str =
     "The playbook: a file of JSON that lists plays with their hosts and tasks";
+
+const JOURNAL_HELP: &str = "The journal: what a run has written of itself";
 
 const FORKS_HELP: &str = "How many hosts are worked on at once, 1 to 64";
 
@@ -55,6 +61,9 @@ const QUIET_HELP: &str = "Tells nothing unasked, also at a terminal; beside -v i
 
 const STOP_FILE_HELP: &str = "Ends the run before the next batch once this file is there";
 
+const NEW_JOURNAL_HELP: &str =
+    "Keeps in this new file what becomes of each host, before and behind each batch";
+
 const NOTES: &str = "\
 INV is the inventory: a file of JSON that lists groups with their hosts, children and variables.
 PLAY is the playbook: a file of JSON that lists plays with their hosts and tasks.
@@ -66,7 +75,8 @@ Exit status:
   2  a run finished, and a host has failed
   3  hosts wait in a group that has no room
   4  a batch ended the run: too many of its hosts have failed, or all
-  5  want of memory";
+  5  want of memory
+  6  by its journal a run was broken off";
 
 const COMMANDS: &str = "\
 Standard input has a command a line, about the first play of PLAY. Nothing is run.
@@ -90,7 +100,8 @@ fn rollout<'a>(alloc: Global) -> Result<Command<'a>, AllocError>
         .subcommand(limits(alloc)?)?
         .subcommand(plan(alloc)?)?
         .subcommand(run(alloc)?)?
-        .subcommand(rehearse(alloc)?)
+        .subcommand(rehearse(alloc)?)?
+        .subcommand(state(alloc)?)
 }
 
 fn limits<'a>(alloc: Global) -> Result<Command<'a>, AllocError>
@@ -129,7 +140,8 @@ fn run<'a>(alloc: Global) -> Result<Command<'a>, AllocError>
         .arg(forks(alloc))?
         .arg(verbose(alloc, RUN_VERBOSE_HELP))?
         .arg(quiet(alloc))?
-        .arg(stop_file(alloc))
+        .arg(stop_file(alloc))?
+        .arg(new_journal(alloc))
 }
 
 fn rehearse<'a>(alloc: Global) -> Result<Command<'a>, AllocError>
@@ -143,6 +155,16 @@ fn rehearse<'a>(alloc: Global) -> Result<Command<'a>, AllocError>
         .after_help(COMMANDS)
         .arg(inventory(alloc))?
         .arg(playbook(alloc))
+}
+
+fn state<'a>(alloc: Global) -> Result<Command<'a>, AllocError>
+    ensures app { IfOk result (λ c. app_of c ≡ spec.state_command) }
+    ensures local { IfOk result (λ c. (fields_of c).has_globals ≡ false) }
+{
+    Command::new(alloc, "state")
+        .about("Prints how each host stands by a run's journal, and whether the run has ended")
+        .arg(inventory(alloc))?
+        .arg(journal(alloc))
 }
 
 fn inventory<'a>(alloc: Global) -> Arg<'a>
@@ -159,6 +181,13 @@ fn playbook<'a>(alloc: Global) -> Arg<'a>
     ensures local { result.global ≡ false }
 {
     Arg::new(alloc, PLAYBOOK).required(true).help(PLAYBOOK_HELP)
+}
+
+fn journal<'a>(alloc: Global) -> Arg<'a>
+    ensures rule { rule_of result ≡ spec.journal_argument }
+    ensures local { result.global ≡ false }
+{
+    Arg::new(alloc, JOURNAL).required(true).help(JOURNAL_HELP)
 }
 
 fn forks<'a>(alloc: Global) -> Arg<'a>
@@ -240,6 +269,17 @@ fn stop_file<'a>(alloc: Global) -> Arg<'a>
         .help(STOP_FILE_HELP)
 }
 
+/// It stands in the help, and clap says what is wrong where its file is wanting. The words that clap reads are without any that has one.
+fn new_journal<'a>(alloc: Global) -> Arg<'a>
+    ensures rule { rule_of result ≡ spec.new_journal_argument }
+    ensures local { result.global ≡ false }
+{
+    Arg::new(alloc, NEW_JOURNAL)
+        .long(NEW_JOURNAL)
+        .value_name("FILE")
+        .help(NEW_JOURNAL_HELP)
+}
+
 /// What clap reads of the words.
 pub(crate) fn matches<'a>(alloc: Global, words: &'a [String]) -> Result<ArgMatches<'a>, Error>
     ensures ok { IfOk result (λ m.
@@ -284,6 +324,20 @@ pub(crate) fn rehearse_playbook<'a>(matches: &ArgMatches<'a>) -> Option<&'a str>
     ensures { option_map (λ s. s.now) result ≡ spec.file_in (codes "rehearse") (codes "PLAY") (subcommand_rows_of matches.now) }
 {
     matches.subcommand_matches("rehearse")?.get_str(PLAYBOOK)
+}
+
+/// The inventory's file, where the command is `state`.
+pub(crate) fn state_inventory<'a>(matches: &ArgMatches<'a>) -> Option<&'a str>
+    ensures { option_map (λ s. s.now) result ≡ spec.file_in (codes "state") (codes "INV") (subcommand_rows_of matches.now) }
+{
+    matches.subcommand_matches("state")?.get_str(INVENTORY)
+}
+
+/// The journal's file, where the command is `state`.
+pub(crate) fn state_journal<'a>(matches: &ArgMatches<'a>) -> Option<&'a str>
+    ensures { option_map (λ s. s.now) result ≡ spec.file_in (codes "state") (codes "JOURNAL") (subcommand_rows_of matches.now) }
+{
+    matches.subcommand_matches("state")?.get_str(JOURNAL)
 }
 
 /// The inventory's file, where the command is `run`.

@@ -35,6 +35,16 @@ pub(crate) fn rehearse_files(words: &[String]) -> Option<(&str, &str)>
     }
 }
 
+/// The inventory's and the journal's file of which the words ask where a run stands.
+pub(crate) fn state_files(words: &[String]) -> Option<(&str, &str)>
+    ensures { option_map (λ files. (files.0.now, files.1.now)) result ≡ spec.state_files (map string_bytes words.now) }
+{
+    match words {
+        [command, operands @ ..] if is_word(command, "state") => two_operands(operands),
+        _ => None,
+    }
+}
+
 /// The two operands of the words, where there are just two.
 pub(crate) fn two_operands(words: &[String]) -> Option<(&str, &str)>
     ensures { option_map (λ pair. (pair.0.now, pair.1.now)) result ≡ operands.two_operands (map string_bytes words.now) }

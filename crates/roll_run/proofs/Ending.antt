@@ -32,10 +32,10 @@ use Rattle.fork_pool.specs.declared.fault.StepFault.{StepFault}
 use Rattle.roll_run.specs.Runs.{AreCounted, IsAskedAt, IsBrokenOff, IsLastOpened, IsRun, TookItsCourse, WasOnCourse, aside_at, batches_in, boundary_events, events_at_each, setting_aside}
 use Rattle.roll_run.specs.declared.run.Run.{Run}
 use Rattle.roll_run.specs.declared.fault.Break.{Break}
-use Rattle.roll_run.specs.declared.fault.Break.TheVariants.{Asked, Fault}
+use Rattle.roll_run.specs.declared.fault.Break.TheVariants.{Asked, Fault, Unkept}
 use Rattle.roll_run.specs.declared.fault.RunFault.{RunFault}
 use Rattle.roll_run.specs.Inside.{HasBroken, HasComeTo, IsBroken, IsAt, IsBetween, IsEnded, IsOnCourse, aside_in, grown, opens, setting_by}
-use Rattle.roll_run.proofs.Behind.{aside_is_at, aside_opens_none, batches_by_events, events-append, events_at_each-push, opened_are}
+use Rattle.roll_run.proofs.Behind.{aside_is_at, aside_opens_none, batches_by_events, events-append, events_at_each-push, inside_is_at_none, opened_are}
 
 -- the play ends at its last boundary
 pub ends_here : (kernel : KernelView) (behind boundaries : List Boundary) (boundary : Boundary) (before : Option End) (end : End) → IsAt kernel behind boundary before → boundaries ≡ behind ++ boundary ∷ [] → end_here before boundary ≡ Some end → IsEnded kernel boundaries end
@@ -115,12 +115,20 @@ opened_at kernel behind boundary before more at one =
     events-append kernel.log more ∙ ap₂ ◌++◌ at.events one ∙ append_assoc (events_at_each behind) (aside_at boundary) (opened (next_batch boundary.answer) ∷ [])
     ∙ sym (append-nil (events_at_each (behind ++ boundary ∷ [])) ∙ events_at_each-push behind boundary)
 
+-- at a boundary nothing was done, or the batch was opened
+opens_one : {R : Type 0} (batch : List ℕ) (old new : BoardView R) (broken : HasBroken batch old new) → (broken.more ≡ []) ⊎ (boundary_events broken.more ≡ opened batch ∷ [])
+opens_one batch old new broken = by broken.opens_it
+  where
+    by : (broken.more ≡ []) ⊎ (broken.more ≡ opened batch ∷ broken.within) → (broken.more ≡ []) ⊎ (boundary_events broken.more ≡ opened batch ∷ [])
+    by (inl none) = inl none
+    by (inr one) = inr (ap boundary_events one ∙ ap (λ rest. opened batch ∷ rest) (inside_is_at_none broken.within broken.inside))
+
 -- it is broken off as it opens the batch of a boundary, or within it
 pub broken_at : {R : Type 0} (old new : BoardView R) (behind boundaries : List Boundary) (boundary : Boundary) (before : Option End)
     → IsAt old.kernel behind boundary before → boundaries ≡ behind ++ boundary ∷ [] → end_here before boundary ≡ None
     → HasBroken (next_batch boundary.answer) old new → IsOnCourse new.kernel boundaries
 broken_at old new behind boundaries boundary before at are goes_on broken =
-    subst (λ (k : KernelView). IsOnCourse k boundaries) (sym broken.kernel) (subst (IsOnCourse (grown old.kernel broken.more)) (sym are) (on broken.opens_it))
+    subst (λ (k : KernelView). IsOnCourse k boundaries) (sym broken.kernel) (subst (IsOnCourse (grown old.kernel broken.more)) (sym are) (on (opens_one (next_batch boundary.answer) old new broken)))
   where
     course : (columns : Columns) → Tells columns (roll_of old.kernel) (grown old.kernel broken.more).log → IsCourse (setting_by columns old.kernel) old.kernel.start (behind ++ boundary ∷ []) None
     course columns tells =
@@ -164,7 +172,7 @@ broken_at old new behind boundaries boundary before at are goes_on broken =
 pub last_opened : {R : Type 0} (old new : BoardView R) (behind boundaries : List Boundary) (boundary : Boundary) (before : Option End)
     → IsAt old.kernel behind boundary before → boundaries ≡ behind ++ boundary ∷ [] → HasBroken (next_batch boundary.answer) old new → IsLastOpened (state_of new.kernel) boundaries new.kernel.log
 last_opened old new behind boundaries boundary before at are broken =
-    subst (λ (k : KernelView). IsLastOpened (state_of k) boundaries k.log) (sym broken.kernel) (by broken.opens_it)
+    subst (λ (k : KernelView). IsLastOpened (state_of k) boundaries k.log) (sym broken.kernel) (by (opens_one (next_batch boundary.answer) old new broken))
   where
     by : (broken.more ≡ []) ⊎ (boundary_events broken.more ≡ opened (next_batch boundary.answer) ∷ []) → IsLastOpened (state_of (grown old.kernel broken.more)) boundaries (grown old.kernel broken.more).log
     by (inl none) =
@@ -173,16 +181,23 @@ last_opened old new behind boundaries boundary before at are broken =
         let batches = batches_by_events (grown old.kernel broken.more).log (behind ++ boundary ∷ []) [] (opened_at old.kernel behind boundary before broken.more at one) refl in
         inr (ap length are ∙ sym (ap length batches ∙ length-map (behind ++ boundary ∷ []) (λ (b : Boundary). next_batch b.answer)))
 
--- it was asked to end at the boundary
+-- it was asked to end at the boundary, or its keeper refused the batch
 pub asked_at : {R : Type 0} (old new : BoardView R) (behind boundaries : List Boundary) (boundary : Boundary) (before : Option End) (why : Break)
-    → IsAt old.kernel behind boundary before → boundaries ≡ behind ++ boundary ∷ [] → (why ≡ Asked → new ≡ old) → IsAskedAt boundaries new.kernel.log why
-asked_at {R} old new behind boundaries boundary before (Fault why) at are still = tt
-asked_at {R} old new behind boundaries boundary before Asked at are still =
-    let same : new.kernel.log ≡ old.kernel.log = ap (λ (b : BoardView R). b.kernel.log) (still refl) in
-    let batches = batches_by_events old.kernel.log behind (aside_at boundary) at.events (aside_opens_none (host_numbers boundary.held.items)) in
-    let many : length (batches_in old.kernel.log) ≡ length behind = ap length batches ∙ length-map behind (λ (b : Boundary). next_batch b.answer) in
-    let all : length boundaries ≡ length behind + 1 = ap length are ∙ length-append behind (boundary ∷ []) in
-    subst (λ log. length boundaries ≡ length (batches_in log) + 1) (sym same) (omega (arith, many, all))
+    → IsAt old.kernel behind boundary before → boundaries ≡ behind ++ boundary ∷ [] → (why ≡ Asked → new ≡ old) → (why ≡ Unkept → new ≡ old) → IsAskedAt boundaries new.kernel.log why
+asked_at {R} old new behind boundaries boundary before why at are still unkept = by why still unkept
+  where
+    one_more : new ≡ old → length boundaries ≡ length (batches_in new.kernel.log) + 1
+    one_more is =
+        let same : new.kernel.log ≡ old.kernel.log = ap (λ (b : BoardView R). b.kernel.log) is in
+        let batches = batches_by_events old.kernel.log behind (aside_at boundary) at.events (aside_opens_none (host_numbers boundary.held.items)) in
+        let many : length (batches_in old.kernel.log) ≡ length behind = ap length batches ∙ length-map behind (λ (b : Boundary). next_batch b.answer) in
+        let all : length boundaries ≡ length behind + 1 = ap length are ∙ length-append behind (boundary ∷ []) in
+        subst (λ log. length boundaries ≡ length (batches_in log) + 1) (sym same) (omega (arith, many, all))
+
+    by : (why : Break) → (why ≡ Asked → new ≡ old) → (why ≡ Unkept → new ≡ old) → IsAskedAt boundaries new.kernel.log why
+    by (Fault why) still unkept = tt
+    by Asked still unkept = one_more (still refl)
+    by Unkept still unkept = one_more (unkept refl)
 
 -- what the board hands out
 module _ (may : Work → Ending → Type 0) (kernel : KernelView) where

@@ -28,7 +28,7 @@ use Rattle.fork_pool.specs.declared.fault.StepFault.{StepFault}
 use Rattle.fork_pool.specs.declared.fault.StepFault.TheVariants.{Mem, WorkerMem, Mixed}
 use Rattle.roll_run.specs.declared.run.Run.{Run}
 use Rattle.roll_run.specs.declared.fault.Break.{Break}
-use Rattle.roll_run.specs.declared.fault.Break.TheVariants.{Asked, Fault}
+use Rattle.roll_run.specs.declared.fault.Break.TheVariants.{Asked, Fault, Unkept}
 use Rattle.roll_run.specs.Runs.{IsBreakIn, IsFaultIn, IsRun, roll_by, setting_of}
 use Rattle.roll_run.specs.Plays.{AreRunsAfter, AreSameHosts, IsRollAfter}
 use Rattle.roll_run.specs.Files.{TellLater, TellTheirs, course_of, roll_after, settings_after}
@@ -127,6 +127,7 @@ no_worker may fleet roll fault log is at = either fault.why is.why
     by (WorkerMem at) so = absurd (omega (arith, so.1, ap length none))
     by Mixed so = absurd (omega (arith, so, ap length none))
 
-    either : (why : Break) → IsBreakIn roll.forks (end_state roll log) why → (why ≡ Asked) ⊎ (why ≡ Fault Mem)
-    either (Fault why) so = inr (ap (λ (w : StepFault). Fault w) (by why so))
+    either : (why : Break) → IsBreakIn roll.forks (end_state roll log) why → (why ≡ Asked) ⊎ ((why ≡ Unkept) ⊎ (why ≡ Fault Mem))
+    either (Fault why) so = inr (inr (ap (λ (w : StepFault). Fault w) (by why so)))
     either Asked so = inl refl
+    either Unkept so = inr (inl refl)

@@ -188,6 +188,10 @@ pub on_ok : {V E A B : Type 0} (result : Result V E) → (A → B) → OnOk resu
 on_ok (Ok value) then is = then is
 on_ok (Err fault) then is = tt
 
+pub if_ok : {V E : Type 0} (result : Result V E) {P Q : V → Type 0} → ((value : V) → P value → Q value) → IfOk result P → IfOk result Q
+if_ok (Ok value) then is = then value is
+if_ok (Err fault) then is = tt
+
 pub if_err : {V E : Type 0} (result : Result V E) {P Q : E → Type 0} → ((fault : E) → P fault → Q fault) → IfErr result P → IfErr result Q
 if_err (Ok value) then is = tt
 if_err (Err fault) then is = then fault is

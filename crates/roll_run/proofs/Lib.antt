@@ -5,6 +5,7 @@ pub mod Counting
 pub mod Ending
 pub mod FileCourses
 pub mod Following
+pub mod Keeping
 pub mod Lengths
 pub mod Passing
 pub mod SafeRolls

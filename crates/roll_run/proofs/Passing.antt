@@ -21,7 +21,7 @@ use Rattle.std.specs.Prelude.{Result, Ok, Err, IfErr, IfOk}
 use Rattle.fork_pool.specs.Steps.{Continues}
 use Rattle.roll_run.specs.Inside.{GoesTo, HasBroken, HasPassedStep, HasRun, HasSetAside, HasSetOut, HasWorked, IsWorkedOff, aside_in, grown}
 use Rattle.roll_run.specs.Runs.{setting_aside}
-use Rattle.roll_run.proofs.Behind.{inside_is_at_none, some_aside}
+use Rattle.roll_run.proofs.Behind.{some_aside}
 
 work_is_inside : (more : List Event) → list_all is_work more ≡ true → list_all is_inside more ≡ true
 work_is_inside [] all = refl
@@ -120,7 +120,9 @@ module _ {R : Type 0} where
   pub breaks : (old begun new : BoardView R) (batch : List ℕ) → begun ≡ with_event old (opened batch) → HasWorked begun new → HasBroken batch old new
   breaks old begun new batch opens is = record {
     more = opened batch ∷ is.more;
-    opens_it = inr (ap (λ rest. opened batch ∷ rest) (inside_is_at_none is.more is.inside));
+    within = is.more;
+    inside = is.inside;
+    opens_it = inr refl;
     kernel = is.kernel ∙ ap (λ (b : BoardView R). grown b.kernel is.more) opens ∙ ap (λ (log : List Event). record old.kernel { log = log }) (append_assoc old.kernel.log (opened batch ∷ []) is.more);
     context = is.context ∙ ap (λ (b : BoardView R). b.context) opens;
   }
@@ -129,6 +131,8 @@ module _ {R : Type 0} where
   pub breaks_at_once : (old new : BoardView R) (batch : List ℕ) → new ≡ old → HasBroken batch old new
   breaks_at_once old new batch same = record {
     more = [];
+    within = [];
+    inside = refl;
     opens_it = inl refl;
     kernel = ap (λ (b : BoardView R). b.kernel) same ∙ ap (λ (log : List Event). record old.kernel { log = log }) (sym (append-nil old.kernel.log));
     context = ap (λ (b : BoardView R). b.context) same;

@@ -26,6 +26,7 @@ use Rattle.roll_core.specs.Views.{KernelView, roll_of, state_of}
 use Rattle.roll_core.specs.Boards.{BoardView}
 use Rattle.roll_run.specs.Runs.{IsAskedAt, IsBreakIn, IsLastOpened, MayBreak, TookItsCourse, WasOnCourse, aside_at, boundary_events, events_at_each, rows_behind, setting_aside, setting_of}
 use Rattle.roll_run.specs.Plays.{AreBrokenAfter, AreRunsAfter}
+use Rattle.roll_run.specs.Journals.{HasKept, IsAhead, JournalEntry, entries}
 use Rattle.roll_run.specs.declared.run.Run.{Run}
 use Rattle.roll_run.specs.declared.fault.Break.{Break}
 use Rattle.roll_run.specs.declared.fault.RunFault.{RunFault}
@@ -108,10 +109,12 @@ pub record HasRun {R : Type 0} (batch : List ℕ) (old new : BoardView R) : Type
   pub over : is_over (state_of new.kernel).phase ≡ true
   pub tallies : new.tallies ≡ 0
 
--- the batch was opened, no other one was, and nobody was set aside; or nothing was done
+-- the batch was opened and worked on; or nothing was done
 pub record HasBroken {R : Type 0} (batch : List ℕ) (old new : BoardView R) : Type 0 where
   pub more : List Event
-  pub opens_it : (more ≡ []) ⊎ (boundary_events more ≡ opened batch ∷ [])
+  pub within : List Event
+  pub inside : list_all is_inside within ≡ true
+  pub opens_it : (more ≡ []) ⊎ (more ≡ opened batch ∷ within)
   pub kernel : new.kernel ≡ grown old.kernel more
   pub context : new.context ≡ old.context
 
@@ -179,11 +182,29 @@ HasTurned boundaries counted board (Behind before) = IsBehind boundaries counted
 HasTurned boundaries counted board (Ended end) = IsEnded board.kernel boundaries end
 HasTurned boundaries counted board (Broken why) = IsOnCourse board.kernel boundaries × IsBroken boundaries board.kernel why
 
--- who asks for the end may ask
-abbrev pub MayTurn : Bool → Turn → Type 0
-MayTurn asks (Behind before) = Unit {0}
-MayTurn asks (Ended end) = Unit {0}
-MayTurn asks (Broken why) = MayBreak asks why
+-- who asks for the end may ask, and who refuses a batch may refuse
+abbrev pub MayTurn : Bool → Bool → Turn → Type 0
+MayTurn asks refuses (Behind before) = Unit {0}
+MayTurn asks refuses (Ended end) = Unit {0}
+MayTurn asks refuses (Broken why) = MayBreak asks refuses why
+
+-- the log has grown, and the keeper kept what there is to keep of that, and nothing else
+pub record KeepsUp {K : Type 0} (keeps : K → K → FleetView → JournalEntry → Type 0) (old new : KernelView) (before after : K) : Type 0 where
+  pub more : List Event
+  pub kernel : new ≡ grown old more
+  pub kept : HasKept keeps old.fleet before after (entries (roll_of old) (state_of old) more)
+
+-- and at most one entry more
+pub record KeepsAhead {K : Type 0} (keeps : K → K → FleetView → JournalEntry → Type 0) (old new : KernelView) (before after : K) : Type 0 where
+  pub mid : K
+  pub up : KeepsUp keeps old new before mid
+  pub ahead : IsAhead keeps old.fleet mid after
+
+-- so it is behind a turn: only where the play was broken off may there be an entry more
+abbrev pub KeepsTurn : {K : Type 0} → (K → K → FleetView → JournalEntry → Type 0) → KernelView → KernelView → K → K → Turn → Type 0
+KeepsTurn keeps old new before after (Behind end) = KeepsUp keeps old new before after
+KeepsTurn keeps old new before after (Ended end) = KeepsUp keeps old new before after
+KeepsTurn keeps old new before after (Broken why) = KeepsAhead keeps old new before after
 
 -- what all turns came to
 abbrev pub HasGone : List Boundary → KernelView → Result End Break → Type 0

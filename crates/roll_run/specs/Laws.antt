@@ -13,7 +13,7 @@ use Rattle.event_log.specs.Rolls.{Roll}
 use Rattle.event_log.specs.States.{between}
 use Rattle.event_log.specs.Told.{Work}
 use Rattle.fork_pool.specs.declared.fault.StepFault.TheVariants.{Mem}
-use Rattle.roll_run.specs.declared.fault.Break.TheVariants.{Asked, Fault}
+use Rattle.roll_run.specs.declared.fault.Break.TheVariants.{Asked, Fault, Unkept}
 use Rattle.roll_run.specs.declared.fault.RunFault.{RunFault}
 use Rattle.roll_run.specs.declared.run.Run.{Run}
 use Rattle.roll_run.specs.Runs.{IsBrokenOff, roll_by, setting_of}
@@ -27,10 +27,10 @@ RunsAreCourses may =
     → AreRuns may fleet forks (first ∷ later) statuses vars (run ∷ rest) logs → TellTheirs columns fleet forks (first ∷ later) statuses vars (run ∷ rest) logs
     → AreCourses (setting_of fleet (roll_by fleet first forks statuses vars) (columns 0)) (settings_after columns fleet forks 1 later run rest) statuses (map course_of (run ∷ rest))
 
--- a run that was broken off while no batch was open was asked to end, or the coordinator's memory was wanting
+-- a run that was broken off while no batch was open was asked to end, or its keeper refused a batch, or the coordinator's memory was wanting
 abbrev pub NoWorkerAtBoundaries : (Work → Ending → Type 0) → Type 0
 NoWorkerAtBoundaries may =
-    (fleet : FleetView) (roll : Roll) (fault : RunFault) (log : List Event) → IsBrokenOff may fleet roll fault log → (end_state roll log).phase ≡ between → (fault.why ≡ Asked) ⊎ (fault.why ≡ Fault Mem)
+    (fleet : FleetView) (roll : Roll) (fault : RunFault) (log : List Event) → IsBrokenOff may fleet roll fault log → (end_state roll log).phase ≡ between → (fault.why ≡ Asked) ⊎ ((fault.why ≡ Unkept) ⊎ (fault.why ≡ Fault Mem))
 
 -- the logs of runs that came to their ends are those of safe rolls, one a play, each behind the one before it
 abbrev pub RunsAreSafe : (Work → Ending → Type 0) → Type 0

@@ -4,3 +4,4 @@ pub mod Files
 pub mod Laws
 pub mod Inside
 pub mod Histories
+pub mod Journals

@@ -29,7 +29,7 @@ use Rattle.fork_pool.specs.declared.fault.StepFault.{StepFault}
 use Rattle.fork_pool.specs.declared.fault.StepFault.TheVariants.{Mem, WorkerMem, Mixed}
 use Rattle.roll_run.specs.declared.run.Run.{Run}
 use Rattle.roll_run.specs.declared.fault.Break.{Break}
-use Rattle.roll_run.specs.declared.fault.Break.TheVariants.{Asked, Fault}
+use Rattle.roll_run.specs.declared.fault.Break.TheVariants.{Asked, Fault, Unkept}
 use Rattle.roll_run.specs.declared.fault.RunFault.{RunFault}
 
 -- the roll of a play over a fleet, with so many workers, from these statuses and variables
@@ -163,20 +163,23 @@ IsFaultIn forks state Mem = Unit {0}
 IsFaultIn forks state (WorkerMem at) = (at < forks) × (0 < length state.out)
 IsFaultIn forks state Mixed = 0 < length state.out
 
--- what is told of a run that was broken off is so in the state: where it was asked to end, no batch is open
+-- what is told of a run that was broken off is so in the state: where it was asked to end, or its keeper refused a batch, none is open
 abbrev pub IsBreakIn : ℕ → State → Break → Type 0
 IsBreakIn forks state (Fault why) = IsFaultIn forks state why
 IsBreakIn forks state Asked = state.phase ≡ between
+IsBreakIn forks state Unkept = state.phase ≡ between
 
--- where it was asked to end, it stands at its last boundary, whose batch was not opened
+-- where it was asked to end, or its keeper refused a batch, it stands at its last boundary, whose batch was not opened
 abbrev pub IsAskedAt : List Boundary → List Event → Break → Type 0
 IsAskedAt boundaries log (Fault why) = Unit {0}
 IsAskedAt boundaries log Asked = length boundaries ≡ length (batches_in log) + 1
+IsAskedAt boundaries log Unkept = length boundaries ≡ length (batches_in log) + 1
 
--- a run is asked to end only by one who may ask
-abbrev pub MayBreak : Bool → Break → Type 0
-MayBreak asks (Fault why) = Unit {0}
-MayBreak asks Asked = asks ≡ true
+-- a run is asked to end only by one who may ask, and a batch is refused only by a keeper that may refuse
+abbrev pub MayBreak : Bool → Bool → Break → Type 0
+MayBreak asks refuses (Fault why) = Unit {0}
+MayBreak asks refuses Asked = asks ≡ true
+MayBreak asks refuses Unkept = refuses ≡ true
 
 -- where a batch is open, each boundary has opened its batch: none was noted behind it
 abbrev pub IsLastOpened : State → List Boundary → List Event → Type 0

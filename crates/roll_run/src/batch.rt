@@ -3,14 +3,15 @@ ghost use Rattle.std.specs.Prelude.{◌≡◌, ◌<◌, ◌∷◌, [], IfErr, If
 ghost use Rattle.domains.specs.Ids.{host_numbers};
 ghost use Rattle.roll_core.specs.Barriers.{is_working};
 ghost use Rattle.roll_core.specs.Views.{state_of};
-ghost use Rattle.roll_run.specs.Inside.{HasBroken, HasPassedStep, HasRun, HasWorked, IsWorkedOff};
+ghost use Rattle.roll_run.specs.Inside.{HasBroken, HasPassedStep, HasRun, HasWorked, IsWorkedOff, KeepsAhead, KeepsUp};
 ghost use Rattle.event_log.specs.States.{between};
 ghost use Rattle.roll_run.specs.Runs.{IsBreakIn, IsFaultIn, MayBreak};
-ghost use Rattle.roll_run.specs.declared.fault.Break.TheVariants.{Asked};
+ghost use Rattle.roll_run.specs.declared.fault.Break.TheVariants.{Asked, Unkept};
 
 use crate::attend::Attend;
 use crate::coordinator::Coordinator;
 use crate::fault::Break;
+use crate::keep::Keep;
 use fork_pool::{Front, StepFault};
 use group_tree::HostId;
 use roll_core::{Board, Next, Runner, Watch};
@@ -72,10 +73,11 @@ where
     unreachable!()
 }
 
-/// Opens a batch, and works on it until it is over. Where it isn't opened, nothing has changed.
-fn work_off<'f, 'b, R: Runner, L: Ledger, H: Wait, W: Watch>(
+/// Opens a batch that the keeper holds, and works on it until it is over. Where it isn't opened, nothing has changed.
+fn work_off<'f, 'b, R: Runner, L: Ledger, H: Wait, W: Watch, K: Keep>(
     rt: &H,
     alloc: Global,
+    _keeper: &K,
     front: &mut Front<'f, R>,
     mut board: Board<'b, R, L, W>,
     batch: &[HostId],
@@ -85,6 +87,7 @@ where
     requires forks { front.old.forks ≡ board.kernel.forks }
     requires tallies { board.tallies ≡ 0 }
     requires some { 0 < length batch.now }
+    requires held { K.holds _keeper.now board.kernel.fleet (host_numbers batch.now) }
     ensures ok { IfOk result (HasRun (host_numbers batch.now) board.entry) }
     ensures err { IfErr result (λ refused. HasBroken (host_numbers batch.now) board.entry refused.1) }
     ensures why { IfErr result (λ refused. IsFaultIn front.old.forks (state_of refused.1.kernel) refused.0) }
@@ -96,9 +99,11 @@ where
     }
 }
 
-/// Opens a batch where whoever attends the run lets it go on, and works on it until it is over. Where it isn't opened, nothing has changed.
-pub(crate) fn run_batch<'f, 'b, R: Runner, L: Ledger, H: Wait, A: Attend, W: Watch>(
+/// Opens a batch where whoever attends the run lets it go on and the keeper holds it, and works on it until it is over. Where it isn't opened, nothing has
+/// changed but what is kept.
+pub(crate) fn run_batch<'f, 'b, R: Runner, L: Ledger, H: Wait, A: Attend, W: Watch, K: Keep>(
     coordinator: &Coordinator<'_, H, A>,
+    keeper: &mut K,
     front: &mut Front<'f, R>,
     board: Board<'b, R, L, W>,
     batch: &[HostId],
@@ -112,14 +117,27 @@ where
     ensures ok { IfOk result (HasRun (host_numbers batch.now) board.entry) }
     ensures err { IfErr result (λ refused. HasBroken (host_numbers batch.now) board.entry refused.1) }
     ensures why { IfErr result (λ refused. IsBreakIn front.old.forks (state_of refused.1.kernel) refused.0) }
-    ensures asked { IfErr result (λ refused. MayBreak (A.asks coordinator.now.attend.now) refused.0) }
+    ensures asked { IfErr result (λ refused. MayBreak (A.asks coordinator.now.attend.now) K.refuses refused.0) }
     ensures unopened { IfErr result (λ refused. refused.0 ≡ Asked → refused.1 ≡ board.entry) }
+    ensures unkept { IfErr result (λ refused. refused.0 ≡ Unkept → refused.1 ≡ board.entry) }
+    ensures kept { IfOk result (λ ran. KeepsUp K.keeps board.entry.kernel ran.kernel keeper.old keeper.new) }
+    ensures ahead { IfErr result (λ refused. KeepsAhead K.keeps board.entry.kernel refused.1.kernel keeper.old keeper.new) }
     ensures forks { front.new.forks ≡ front.old.forks }
 {
     if !coordinator.attend.goes_on(coordinator.rt) {
         return Err((Break::Asked, board));
     }
-    match work_off(coordinator.rt, coordinator.alloc, front, board, batch) {
+    if !keeper.opens(board.fleet(), batch) {
+        return Err((Break::Unkept, board));
+    }
+    match work_off(
+        coordinator.rt,
+        coordinator.alloc,
+        keeper,
+        front,
+        board,
+        batch,
+    ) {
         Ok(board) => Ok(board),
         Err((why, board)) => Err((Break::Fault(why), board)),
     }

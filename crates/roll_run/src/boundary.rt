@@ -8,8 +8,9 @@ ghost use Rattle.batch_plan.specs.Places as places;
 ghost use Rattle.play_course.specs.declared.end.End.{End};
 ghost use Rattle.play_course.specs.PlayPlans.{aside_by, targets};
 ghost use Rattle.roll_core.specs.Views.{state_of};
-ghost use Rattle.roll_run.specs.Inside.{HasSetAside, HasSetOut, IsBetween, IsNoted};
+ghost use Rattle.roll_run.specs.Inside.{HasSetAside, HasSetOut, IsBetween, IsNoted, KeepsUp};
 
+use crate::keep::Keep;
 use batch_plan::{Domains, place_of};
 use fleet_states::{Status, status_of};
 use group_tree::HostId;
@@ -44,9 +45,10 @@ pub(crate) fn tell<A: Allocator>(
     }
 }
 
-/// Sets these hosts aside, and counts them so. Want of memory leaves everything as it was.
-fn hold<A: Allocator, R: Runner, L: Ledger, W: Watch>(
+/// Sets these hosts aside, counts them so, and has that kept. Want of memory leaves everything as it was.
+fn hold<A: Allocator, R: Runner, L: Ledger, W: Watch, K: Keep>(
     alloc: Global,
+    keeper: &mut K,
     board: &mut Board<'_, R, L, W>,
     domains: &mut Domains<'_, A>,
     held: &[HostId],
@@ -57,10 +59,12 @@ fn hold<A: Allocator, R: Runner, L: Ledger, W: Watch>(
     ensures counts { AreCountsOf (state_of board.new.kernel).statuses domains.new }
     ensures fleet { domains.new.fleet ≡ domains.old.fleet }
     ensures unchanged { OnErr result (board.new ≡ board.old) }
+    ensures kept { KeepsUp K.keeps board.old.kernel board.new.kernel keeper.old keeper.new }
 {
     match board.hold(alloc, held) {
         Ok(()) => {
             tell(domains, board.statuses(), held);
+            keeper.sets_aside(board.fleet(), held);
             Ok(())
         }
         Err(_refused) => Err(AllocError),
@@ -68,8 +72,9 @@ fn hold<A: Allocator, R: Runner, L: Ledger, W: Watch>(
 }
 
 /// The same, where any are to be set aside.
-fn set_aside<A: Allocator, R: Runner, L: Ledger, W: Watch>(
+fn set_aside<A: Allocator, R: Runner, L: Ledger, W: Watch, K: Keep>(
     alloc: Global,
+    keeper: &mut K,
     board: &mut Board<'_, R, L, W>,
     domains: &mut Domains<'_, A>,
     held: &[HostId],
@@ -79,10 +84,11 @@ fn set_aside<A: Allocator, R: Runner, L: Ledger, W: Watch>(
     ensures counts { AreCountsOf (state_of board.new.kernel).statuses domains.new }
     ensures fleet { domains.new.fleet ≡ domains.old.fleet }
     ensures unchanged { OnErr result (board.new ≡ board.old) }
+    ensures kept { KeepsUp K.keeps board.old.kernel board.new.kernel keeper.old keeper.new }
 {
     match held {
         [] => Ok(()),
-        [_, ..] => hold(alloc, board, domains, held),
+        [_, ..] => hold(alloc, keeper, board, domains, held),
     }
 }
 
@@ -94,9 +100,10 @@ fn count(boundaries: &[Boundary]) -> u32
 }
 
 /// Comes to the next boundary: hosts are set aside where they are not to stop the play, and the rest is planned anew over the counts
-/// that stand. Want of memory adds no boundary.
-pub(crate) fn come_to_boundary<A: Allocator, R: Runner, L: Ledger, W: Watch>(
+/// that stand. Who was set aside is kept. Want of memory adds no boundary.
+pub(crate) fn come_to_boundary<A: Allocator, R: Runner, L: Ledger, W: Watch, K: Keep>(
     alloc: Global,
+    keeper: &mut K,
     board: &mut Board<'_, R, L, W>,
     domains: &mut Domains<'_, A>,
     boundaries: &mut Vec<Boundary>,
@@ -110,10 +117,11 @@ pub(crate) fn come_to_boundary<A: Allocator, R: Runner, L: Ledger, W: Watch>(
     ensures counts { AreCountsOf (state_of board.new.kernel).statuses domains.new }
     ensures fleet { domains.new.fleet ≡ domains.old.fleet }
     ensures err { OnErr result (boundaries.new.items ≡ boundaries.old.items) }
+    ensures kept { KeepsUp K.keeps board.old.kernel board.new.kernel keeper.old keeper.new }
 {
     let play = board.play();
     let held = list_aside_over(alloc, domains, board.statuses(), play.on_blocked())?;
-    set_aside(alloc, board, domains, held.as_slice())?;
+    set_aside(alloc, keeper, board, domains, held.as_slice())?;
     let cap = play.cap(targeted, count(boundaries.as_slice()));
     let boundary = Boundary::planned(alloc, domains, held, board.statuses(), cap)?;
     boundaries.push(boundary)?;

@@ -10,8 +10,10 @@ ghost use Rattle.roll_core.specs.Barriers.{is_over};
 ghost use Rattle.roll_core.specs.Views.{roll_of, state_of};
 ghost use Rattle.roll_core.specs.Boards.{with_event};
 ghost use Rattle.roll_core.specs.Tellings.{halt_in};
+ghost use Rattle.roll_run.specs.Journals.{closing};
 
 use crate::boundary::tell;
+use crate::keep::Keep;
 use batch_plan::Domains;
 use group_tree::HostId;
 use play_course::{End, end_with};
@@ -19,8 +21,9 @@ use roll_core::{Board, Runner, Watch, halt_of};
 use std::alloc::Allocator;
 use std::sync::ledger::Ledger;
 
-/// Closes a batch that is over, counts its hosts as they are now, and tells whether it ended the play, and how.
-pub(crate) fn close_batch<A: Allocator, R: Runner, L: Ledger, W: Watch>(
+/// Closes a batch that is over, counts its hosts as they are now, has that kept, and tells whether it ended the play, and how.
+pub(crate) fn close_batch<A: Allocator, R: Runner, L: Ledger, W: Watch, K: Keep>(
+    keeper: &mut K,
     board: &mut Board<'_, R, L, W>,
     domains: &mut Domains<'_, A>,
     batch: &[HostId],
@@ -31,11 +34,13 @@ pub(crate) fn close_batch<A: Allocator, R: Runner, L: Ledger, W: Watch>(
     ensures all { length (state_of board.new.kernel).statuses ≡ length board.new.kernel.fleet.hosts }
     ensures legal { IsLegal (roll_of board.new.kernel) (start_state (roll_of board.new.kernel)) board.new.kernel.log }
     ensures counts { domains.new ≡ told_places (host_numbers batch.now) (state_of board.new.kernel).statuses domains.old }
+    ensures kept { K.keeps keeper.old keeper.new board.old.kernel.fleet (closing (host_numbers batch.now) (state_of board.new.kernel).statuses) }
     ensures end { result ≡ end_with (halt_in (state_of board.old.kernel).phase) (failures (state_of board.old.kernel)) (length batch.now) }
 {
     let halt = halt_of(board.stage());
     let failed = board.failures();
     board.close();
     tell(domains, board.statuses(), batch);
+    keeper.closes(board.fleet(), batch, board.statuses());
     end_with(halt, failed, batch.len())
 }

@@ -16,6 +16,8 @@ pub enum Break {
     Fault(StepFault),
     /// Whoever attends the run had it end at a boundary.
     Asked,
+    /// The keeper refused the next batch, which was not opened.
+    Unkept,
 }
 
 /// A run that was broken off: why; its boundaries, of which the first `opened` ones opened a batch; of each host its status, and how its rows were

@@ -9,7 +9,7 @@ pub fn runs_are_courses<R: Runner>(runner: &R)
     ensures { RunsAreCourses (R.may runner.now) }
 {}
 
-/// A run that is broken off while no batch is open was asked to end, or memory was wanting, and no worker's.
+/// A run that is broken off while no batch is open was asked to end, or its keeper refused a batch, or memory was wanting, and no worker's.
 pub fn no_worker_fails_at_boundaries<R: Runner>(runner: &R)
     ensures { NoWorkerAtBoundaries (R.may runner.now) }
 {}

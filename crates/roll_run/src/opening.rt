@@ -1,16 +1,18 @@
 //! A run begins, and what it leaves.
-ghost use Rattle.std.specs.Prelude.{◌≡◌, ◌++◌, ◌∷◌, [], Err, IfErr, IfOk, None, count_by, find, length};
+ghost use Rattle.std.specs.Prelude.{◌≡◌, ◌++◌, ◌∷◌, [], Err, IfErr, IfOk, None, Ok, OnErr, count_by, find, length};
 ghost use Rattle.domains.specs.Patterns.{names_nothing};
 ghost use Rattle.play_course.specs.PlayPlans.{parts_of_play, targets};
 ghost use Rattle.roll_core.specs.Views.{event_of, roll_of};
 ghost use Rattle.roll_run.specs.Inside.{HasGone, opens};
 ghost use Rattle.roll_run.specs.Histories.{Gains};
+ghost use Rattle.roll_run.specs.Journals.{AreKept, AreKeptAhead, ended};
 ghost use Rattle.roll_run.specs.Plays.{IsOneBrokenOff, IsRunOf, MayStart};
 ghost use Rattle.roll_run.specs.Runs.{IsBrokenOff, IsRun, MayBreak, roll_by};
 
 use crate::attend::Attend;
 use crate::coordinator::Coordinator;
 use crate::fault::{Break, RunFault};
+use crate::keep::Keep;
 use crate::run::Run;
 use crate::setup::Setup;
 use crate::start::Start;
@@ -48,6 +50,7 @@ fn leave<R: Runner, L: Ledger, W: Watch>(
     requires { HasGone boundaries.items board.kernel gone }
     ensures ok { IfOk result.0 (λ run. IsRun (R.may board.entry.context.runner) board.entry.kernel.fleet (roll_of board.entry.kernel) run board.entry.kernel.log) }
     ensures err { IfErr result.0 (λ fault. IsBrokenOff (R.may board.entry.context.runner) board.entry.kernel.fleet (roll_of board.entry.kernel) fault board.entry.kernel.log) }
+    ensures end { IfOk result.0 (λ run. gone ≡ Ok run.end) }
     ensures why { IfErr result.0 (λ fault. gone ≡ Err fault.why) }
     ensures history { result.1 ≡ board.entry.context.earlier ++ board.entry.kernel.log ∷ [] }
 {
@@ -88,12 +91,24 @@ fn count_targets(alloc: Global, fleet: &Fleet, play: &Play) -> Result<u32, Alloc
     }
 }
 
-/// A run of the play with the workers of a pool. The counts of the fleet stay in an arena of the coordinator's own. Where memory is wanting before there
+/// Has the end of the play kept, where it has one.
+fn keep_end<K: Keep>(keeper: &mut K, fleet: &Fleet, gone: &Result<End, Break>)
+    ensures ok { IfOk gone.now (λ end. K.keeps keeper.old keeper.new fleet.now (ended end)) }
+    ensures err { OnErr gone.now (keeper.new ≡ keeper.old) }
+{
+    match gone {
+        Ok(end) => keeper.ends(fleet, *end),
+        Err(_why) => {}
+    }
+}
+
+/// A run of the play with the workers of a pool, from its beginning on kept. The counts of the fleet stay in an arena of the coordinator's own. Where memory is wanting before there
 /// is a board, the history comes back as it was.
 #[allow(clippy::too_many_arguments)]
-pub(crate) fn run_on<'f, 'b, 'w, R: Runner, L: Ledger, H: Wait, A: Attend, W: Watch>(
+pub(crate) fn run_on<'f, 'b, 'w, R: Runner, L: Ledger, H: Wait, A: Attend, W: Watch, K: Keep>(
     coordinator: &Coordinator<'_, H, A>,
     watch: &'w mut W,
+    keeper: &mut K,
     front: &mut Front<'f, R>,
     setup: &Setup<'f, R>,
     play: &'b Play,
@@ -111,8 +126,11 @@ where
     requires many { blank.parts ≡ 129 }
     ensures ok { IfOk result (λ (run, after). IfOk run (λ run. Gains history after (IsRunOf (R.may setup.now.runner.now) setup.now.fleet.now (roll_by setup.now.fleet.now play.now setup.now.forks start.now.statuses.items start.now.vars.items) run))) }
     ensures err { IfOk result (λ (run, after). IfErr run (λ fault. Gains history after (IsOneBrokenOff (R.may setup.now.runner.now) setup.now.fleet.now (roll_by setup.now.fleet.now play.now setup.now.forks start.now.statuses.items start.now.vars.items) fault))) }
-    ensures asked { IfOk result (λ (run, _). IfErr run (λ fault. MayBreak (A.asks coordinator.now.attend.now) fault.why)) }
+    ensures asked { IfOk result (λ (run, _). IfErr run (λ fault. MayBreak (A.asks coordinator.now.attend.now) K.refuses fault.why)) }
+    ensures kept { IfOk result (λ (run, after). IfOk run (λ _. Gains history after (AreKept K.keeps setup.now.fleet.now keeper.old keeper.new))) }
+    ensures ahead { IfOk result (λ (run, after). IfErr run (λ _. Gains history after (AreKeptAhead K.keeps setup.now.fleet.now keeper.old keeper.new))) }
     ensures none { IfErr result (λ back. back ≡ history) }
+    ensures unkept { OnErr result (keeper.new ≡ keeper.old) }
     ensures forks { front.new.forks ≡ front.old.forks }
 {
     let alloc = coordinator.alloc;
@@ -140,14 +158,17 @@ where
         Ok(board) => board,
         Err(history) => return Err(history),
     };
+    keeper.begins(fleet, statuses);
     let mut boundaries = Vec::new(alloc);
     let (gone, board) = go_on(
         coordinator,
+        keeper,
         front,
         board,
         &mut domains,
         &mut boundaries,
         targeted,
     );
+    keep_end(keeper, fleet, &gone);
     Ok(leave(board, boundaries, gone))
 }

@@ -3,12 +3,14 @@ ghost use Rattle.std.specs.Prelude.{◌≡◌, ◌<◌, ◌≤◌, IfErr, IfOk, 
 ghost use Rattle.domains.specs.Patterns.{names_nothing};
 ghost use Rattle.play_course.specs.PlayPlans.{parts_of_play};
 ghost use Rattle.roll_run.specs.Histories.{Gains};
+ghost use Rattle.roll_run.specs.Journals.{AreKept, AreKeptAhead};
 ghost use Rattle.roll_run.specs.Plays.{IsBrokenOrNotBegun, IsRunOf, MayStart};
 ghost use Rattle.roll_run.specs.Runs.{MayBreak, roll_by};
 
 use crate::attend::Attend;
 use crate::coordinator::Coordinator;
 use crate::fault::RunFault;
+use crate::keep::Keep;
 use crate::pool::run_plays;
 use crate::run::Run;
 use crate::setup::Setup;
@@ -31,23 +33,27 @@ pub fn run_play<
     H: Threads + Wait + Processes<Started = SystemProcess> + Sync,
     A: Attend,
     W: Watch,
+    K: Keep,
 >(
     coordinator: &Coordinator<'_, H, A>,
     watch: &mut W,
+    keeper: K,
     fleet: &Fleet,
     play: &Play,
     runner: &R,
     forks: usize,
     start: Start,
     history: History,
-) -> (Result<Run, RunFault>, History)
+) -> (Result<Run, RunFault>, History, K)
     requires starts { MayStart fleet.now start }
     requires some { 0 < forks }
     requires few { forks ≤ 64 }
     requires known { find (names_nothing fleet.now) (parts_of_play play.now) ≡ None }
     ensures ok { IfOk result.0 (λ run. Gains history result.1 (IsRunOf (R.may runner.now) fleet.now (roll_by fleet.now play.now forks start.statuses.items start.vars.items) run)) }
     ensures err { IfErr result.0 (λ fault. Gains history result.1 (IsBrokenOrNotBegun (R.may runner.now) fleet.now (roll_by fleet.now play.now forks start.statuses.items start.vars.items) fault)) }
-    ensures asked { IfErr result.0 (λ fault. MayBreak (A.asks coordinator.now.attend.now) fault.why) }
+    ensures asked { IfErr result.0 (λ fault. MayBreak (A.asks coordinator.now.attend.now) K.refuses fault.why) }
+    ensures kept { IfOk result.0 (λ _. Gains history result.1 (AreKept K.keeps fleet.now keeper result.2)) }
+    ensures ahead { IfErr result.0 (λ _. Gains history result.1 (AreKeptAhead K.keeps fleet.now keeper result.2)) }
 {
     let setup = Setup {
         fleet,
@@ -55,12 +61,12 @@ pub fn run_play<
         runner,
         forks,
     };
-    let (ran, history) = run_plays(coordinator, watch, &setup, start, history);
+    let (ran, history, keeper) = run_plays(coordinator, watch, keeper, &setup, start, history);
     match ran {
         Ok(mut runs) => match runs.pop() {
-            Some(run) => (Ok(run), history),
+            Some(run) => (Ok(run), history, keeper),
             None => unreachable!(),
         },
-        Err(fault) => (Err(fault.last), history),
+        Err(fault) => (Err(fault.last), history, keeper),
     }
 }

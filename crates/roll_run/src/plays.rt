@@ -4,12 +4,14 @@ ghost use Rattle.domains.specs.Patterns.{names_nothing};
 ghost use Rattle.play_course.specs.PlayPlans.{parts_of_play};
 ghost use Rattle.roll_run.specs.Histories.{Gains};
 ghost use Rattle.roll_run.specs.Inside.{HasBrokenAfter, HasRunAfter, IsReadyRun, is_finished};
+ghost use Rattle.roll_run.specs.Journals.{AreKept, AreKeptAhead};
 ghost use Rattle.roll_run.specs.Plays.{AreBroken, AreRuns, IsBrokenOrNotBegun, IsRunOf, MayStart};
 ghost use Rattle.roll_run.specs.Runs.{MayBreak, roll_by};
 
 use crate::attend::Attend;
 use crate::coordinator::Coordinator;
 use crate::fault::{RunFault, RunsFault};
+use crate::keep::Keep;
 use crate::next::{begin_after, copy_into, keep};
 use crate::opening::run_on;
 use crate::run::Run;
@@ -26,9 +28,11 @@ use std::sync::Wait;
 use std::sync::ledger::Blank;
 
 /// A run of a play on the workers of a pool, whose log is put into the history; where memory was wanting before it had one, none is.
-fn run_one<'f, R: Runner, H: Wait, A: Attend, W: Watch>(
+#[allow(clippy::too_many_arguments)]
+fn run_one<'f, R: Runner, H: Wait, A: Attend, W: Watch, K: Keep>(
     coordinator: &Coordinator<'_, H, A>,
     watch: &mut W,
+    keeper: &mut K,
     front: &mut Front<'f, R>,
     setup: &Setup<'f, R>,
     play: &Play,
@@ -40,13 +44,16 @@ fn run_one<'f, R: Runner, H: Wait, A: Attend, W: Watch>(
     requires workers { front.old.forks ≡ setup.now.forks }
     ensures ok { IfOk result.0 (λ run. Gains history result.1 (IsRunOf (R.may setup.now.runner.now) setup.now.fleet.now (roll_by setup.now.fleet.now play.now setup.now.forks start.statuses.items start.vars.items) run)) }
     ensures err { IfErr result.0 (λ fault. Gains history result.1 (IsBrokenOrNotBegun (R.may setup.now.runner.now) setup.now.fleet.now (roll_by setup.now.fleet.now play.now setup.now.forks start.statuses.items start.vars.items) fault)) }
-    ensures asked { IfErr result.0 (λ fault. MayBreak (A.asks coordinator.now.attend.now) fault.why) }
+    ensures asked { IfErr result.0 (λ fault. MayBreak (A.asks coordinator.now.attend.now) K.refuses fault.why) }
+    ensures kept { IfOk result.0 (λ _. Gains history result.1 (AreKept K.keeps setup.now.fleet.now keeper.old keeper.new)) }
+    ensures ahead { IfErr result.0 (λ _. Gains history result.1 (AreKeptAhead K.keeps setup.now.fleet.now keeper.old keeper.new)) }
     ensures forks { front.new.forks ≡ front.old.forks }
 {
     watch.play_begins();
-    let answer = run_on::<R, Brand, H, A, W>(
+    let answer = run_on::<R, Brand, H, A, W, K>(
         coordinator,
         watch,
+        keeper,
         front,
         setup,
         play,
@@ -73,9 +80,10 @@ fn is_finished(end: End) -> bool
 /// Runs the plays after a run, each where the one before it ended, until one ends otherwise than finished, and puts that run and theirs with those that are done.
 /// `room` is for as many statuses as there are hosts, for a play that can't begin. The history has their logs then.
 #[allow(clippy::too_many_arguments)]
-fn run_later<'f, R: Runner, H: Wait, A: Attend, W: Watch>(
+fn run_later<'f, R: Runner, H: Wait, A: Attend, W: Watch, K: Keep>(
     coordinator: &Coordinator<'_, H, A>,
     watch: &mut W,
+    keeper: &mut K,
     front: &mut Front<'f, R>,
     setup: &Setup<'f, R>,
     before: Run,
@@ -90,7 +98,9 @@ fn run_later<'f, R: Runner, H: Wait, A: Attend, W: Watch>(
     requires room { length setup.now.fleet.now.hosts ≤ vec_capacity room }
     ensures ok { OnOk result.0 (Gains history result.1 (HasRunAfter (R.may setup.now.runner.now) setup.now.fleet.now setup.now.forks setup.now.plays.now before done.old.items done.new.items)) }
     ensures err { IfErr result.0 (λ fault. Gains history result.1 (HasBrokenAfter (R.may setup.now.runner.now) setup.now.fleet.now setup.now.forks setup.now.plays.now before done.old.items done.new.items fault)) }
-    ensures asked { IfErr result.0 (λ fault. MayBreak (A.asks coordinator.now.attend.now) fault.why) }
+    ensures asked { IfErr result.0 (λ fault. MayBreak (A.asks coordinator.now.attend.now) K.refuses fault.why) }
+    ensures kept { IfOk result.0 (λ _. Gains history result.1 (AreKept K.keeps setup.now.fleet.now keeper.old keeper.new)) }
+    ensures ahead { IfErr result.0 (λ _. Gains history result.1 (AreKeptAhead K.keeps setup.now.fleet.now keeper.old keeper.new)) }
     ensures forks { front.new.forks ≡ front.old.forks }
 {
     let [play, rest @ ..] = setup.plays else {
@@ -104,7 +114,16 @@ fn run_later<'f, R: Runner, H: Wait, A: Attend, W: Watch>(
     match begin_after(coordinator.alloc, setup.fleet, play, &before) {
         Ok(start) => {
             keep(done, before);
-            let (run, history) = run_one(coordinator, watch, front, setup, play, start, history);
+            let (run, history) = run_one(
+                coordinator,
+                watch,
+                keeper,
+                front,
+                setup,
+                play,
+                start,
+                history,
+            );
             match run {
                 Ok(run) => {
                     let later = Setup {
@@ -113,7 +132,17 @@ fn run_later<'f, R: Runner, H: Wait, A: Attend, W: Watch>(
                         runner: setup.runner,
                         forks: setup.forks,
                     };
-                    run_later(coordinator, watch, front, &later, run, done, room, history)
+                    run_later(
+                        coordinator,
+                        watch,
+                        keeper,
+                        front,
+                        &later,
+                        run,
+                        done,
+                        room,
+                        history,
+                    )
                 }
                 Err(fault) => (Err(fault), history),
             }
@@ -138,9 +167,10 @@ fn places(alloc: Global, runs: usize, hosts: usize) -> Result<(Vec<Run>, Vec<Sta
 }
 
 /// Runs the plays, one after the other, on the workers of a pool. The history has their logs then.
-pub(crate) fn run_each<'f, R: Runner, H: Wait, A: Attend, W: Watch>(
+pub(crate) fn run_each<'f, R: Runner, H: Wait, A: Attend, W: Watch, K: Keep>(
     coordinator: &Coordinator<'_, H, A>,
     watch: &mut W,
+    keeper: &mut K,
     front: &mut Front<'f, R>,
     setup: &Setup<'f, R>,
     start: Start,
@@ -151,7 +181,9 @@ pub(crate) fn run_each<'f, R: Runner, H: Wait, A: Attend, W: Watch>(
     requires workers { front.old.forks ≡ setup.now.forks }
     ensures ok { IfOk result.0 (λ runs. Gains history result.1 (AreRuns (R.may setup.now.runner.now) setup.now.fleet.now setup.now.forks setup.now.plays.now start.statuses.items start.vars.items runs.items)) }
     ensures err { IfErr result.0 (λ fault. Gains history result.1 (AreBroken (R.may setup.now.runner.now) setup.now.fleet.now setup.now.forks setup.now.plays.now start.statuses.items start.vars.items fault.done.items fault.last)) }
-    ensures asked { IfErr result.0 (λ fault. MayBreak (A.asks coordinator.now.attend.now) fault.last.why) }
+    ensures asked { IfErr result.0 (λ fault. MayBreak (A.asks coordinator.now.attend.now) K.refuses fault.last.why) }
+    ensures kept { IfOk result.0 (λ _. Gains history result.1 (AreKept K.keeps setup.now.fleet.now keeper.old keeper.new)) }
+    ensures ahead { IfErr result.0 (λ _. Gains history result.1 (AreKeptAhead K.keeps setup.now.fleet.now keeper.old keeper.new)) }
 {
     let [first, rest @ ..] = setup.plays else {
         unreachable!()
@@ -160,7 +192,16 @@ pub(crate) fn run_each<'f, R: Runner, H: Wait, A: Attend, W: Watch>(
     let Ok((mut done, room)) = places(alloc, setup.plays.len(), setup.fleet.hosts()) else {
         return (Err(RunsFault::before_a_log(alloc, start.statuses)), history);
     };
-    let (run, history) = run_one(coordinator, watch, front, setup, first, start, history);
+    let (run, history) = run_one(
+        coordinator,
+        watch,
+        keeper,
+        front,
+        setup,
+        first,
+        start,
+        history,
+    );
     match run {
         Ok(run) => {
             let later = Setup {
@@ -172,6 +213,7 @@ pub(crate) fn run_each<'f, R: Runner, H: Wait, A: Attend, W: Watch>(
             let (ended, history) = run_later(
                 coordinator,
                 watch,
+                keeper,
                 front,
                 &later,
                 run,

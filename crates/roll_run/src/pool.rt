@@ -1,12 +1,14 @@
 //! The plays of a file on a pool of their own.
 ghost use Rattle.std.specs.Prelude.{◌≡◌, ◌<◌, IfErr, IfOk, length};
 ghost use Rattle.roll_run.specs.Histories.{Gains};
+ghost use Rattle.roll_run.specs.Journals.{AreKept, AreKeptAhead};
 ghost use Rattle.roll_run.specs.Plays.{AreBroken, AreRuns, MayStart};
 ghost use Rattle.roll_run.specs.Runs.{MayBreak};
 
 use crate::attend::Attend;
 use crate::coordinator::Coordinator;
 use crate::fault::{RunFault, RunsFault};
+use crate::keep::Keep;
 use crate::plays::run_each;
 use crate::run::Run;
 use crate::setup::Setup;
@@ -19,9 +21,11 @@ use std::thread;
 use std::thread::Threads;
 
 /// Runs the plays, unless a worker is missing.
-fn run_with_all<'f, R: Runner, H: Wait, A: Attend, W: Watch>(
+#[allow(clippy::too_many_arguments)]
+fn run_with_all<'f, R: Runner, H: Wait, A: Attend, W: Watch, K: Keep>(
     coordinator: &Coordinator<'_, H, A>,
     watch: &mut W,
+    keeper: &mut K,
     missing: bool,
     front: &mut Front<'f, R>,
     setup: &Setup<'f, R>,
@@ -33,16 +37,19 @@ fn run_with_all<'f, R: Runner, H: Wait, A: Attend, W: Watch>(
     requires workers { front.old.forks ≡ setup.now.forks }
     ensures ok { IfOk result.0 (λ runs. Gains history result.1 (AreRuns (R.may setup.now.runner.now) setup.now.fleet.now setup.now.forks setup.now.plays.now start.statuses.items start.vars.items runs.items)) }
     ensures err { IfErr result.0 (λ fault. Gains history result.1 (AreBroken (R.may setup.now.runner.now) setup.now.fleet.now setup.now.forks setup.now.plays.now start.statuses.items start.vars.items fault.done.items fault.last)) }
-    ensures asked { IfErr result.0 (λ fault. MayBreak (A.asks coordinator.now.attend.now) fault.last.why) }
+    ensures asked { IfErr result.0 (λ fault. MayBreak (A.asks coordinator.now.attend.now) K.refuses fault.last.why) }
+    ensures kept { IfOk result.0 (λ _. Gains history result.1 (AreKept K.keeps setup.now.fleet.now keeper.old keeper.new)) }
+    ensures ahead { IfErr result.0 (λ _. Gains history result.1 (AreKeptAhead K.keeps setup.now.fleet.now keeper.old keeper.new)) }
 {
     if missing {
         let fault = RunsFault::before_a_log(coordinator.alloc, start.statuses);
         return (Err(fault), history);
     }
-    run_each(coordinator, watch, front, setup, start, history)
+    run_each(coordinator, watch, keeper, front, setup, start, history)
 }
 
 /// Starts a worker for each of these ends, and runs the plays. Where one can't be started, nothing is opened.
+#[allow(clippy::too_many_arguments)]
 fn with_workers<
     'f,
     'w,
@@ -50,21 +57,25 @@ fn with_workers<
     H: Threads + Wait + Processes<Started = SystemProcess> + Sync,
     A: Attend,
     W: Watch,
+    K: Keep,
 >(
     coordinator: &Coordinator<'f, H, A>,
     watch: &'w mut W,
+    keeper: K,
     front: Front<'f, R>,
     ends: Vec<WorkerEnd<'f, R>>,
     setup: &Setup<'f, R>,
     start: Start,
     history: History,
-) -> (Result<Vec<Run>, RunsFault>, History)
+) -> (Result<Vec<Run>, RunsFault>, History, K)
     requires play { 0 < length setup.now.plays.now }
     requires starts { MayStart setup.now.fleet.now start }
     requires workers { front.forks ≡ setup.now.forks }
     ensures ok { IfOk result.0 (λ runs. Gains history result.1 (AreRuns (R.may setup.now.runner.now) setup.now.fleet.now setup.now.forks setup.now.plays.now start.statuses.items start.vars.items runs.items)) }
     ensures err { IfErr result.0 (λ fault. Gains history result.1 (AreBroken (R.may setup.now.runner.now) setup.now.fleet.now setup.now.forks setup.now.plays.now start.statuses.items start.vars.items fault.done.items fault.last)) }
-    ensures asked { IfErr result.0 (λ fault. MayBreak (A.asks coordinator.now.attend.now) fault.last.why) }
+    ensures asked { IfErr result.0 (λ fault. MayBreak (A.asks coordinator.now.attend.now) K.refuses fault.last.why) }
+    ensures kept { IfOk result.0 (λ _. Gains history result.1 (AreKept K.keeps setup.now.fleet.now keeper result.2)) }
+    ensures ahead { IfErr result.0 (λ _. Gains history result.1 (AreKeptAhead K.keeps setup.now.fleet.now keeper result.2)) }
 {
     let rt = coordinator.rt;
     let alloc = coordinator.alloc;
@@ -72,13 +83,15 @@ fn with_workers<
     thread::scope(
         thread::scope_env(),
         rt,
-        move |scope| -> (Result<Vec<Run>, RunsFault>, History)
+        move |scope| -> (Result<Vec<Run>, RunsFault>, History, K)
             requires play { 0 < length setup.now.plays.now }
             requires starts { MayStart setup.now.fleet.now start }
             requires workers { front.forks ≡ setup.now.forks }
             ensures ok { IfOk result.0 (λ runs. Gains history result.1 (AreRuns (R.may setup.entry.now.runner.now) setup.entry.now.fleet.now setup.entry.now.forks setup.entry.now.plays.now start.statuses.items start.vars.items runs.items)) }
             ensures err { IfErr result.0 (λ fault. Gains history result.1 (AreBroken (R.may setup.entry.now.runner.now) setup.entry.now.fleet.now setup.entry.now.forks setup.entry.now.plays.now start.statuses.items start.vars.items fault.done.items fault.last)) }
-            ensures asked { IfErr result.0 (λ fault. MayBreak (A.asks coordinator.entry.now.attend.now) fault.last.why) }
+            ensures asked { IfErr result.0 (λ fault. MayBreak (A.asks coordinator.entry.now.attend.now) K.refuses fault.last.why) }
+            ensures kept { IfOk result.0 (λ _. Gains history result.1 (AreKept K.keeps setup.entry.now.fleet.now keeper result.2)) }
+            ensures ahead { IfErr result.0 (λ _. Gains history result.1 (AreKeptAhead K.keeps setup.entry.now.fleet.now keeper result.2)) }
         {
             let mut front = front;
             let mut missing = false;
@@ -86,46 +99,63 @@ fn with_workers<
                 let started = scope.spawn(move || serve(rt, alloc, end, runner));
                 missing |= started.is_err();
             }
-            run_with_all(
+            let mut keeper = keeper;
+            let (ran, history) = run_with_all(
                 coordinator,
                 watch,
+                &mut keeper,
                 missing,
                 &mut front,
                 setup,
                 start,
                 history,
-            )
+            );
+            (ran, history, keeper)
         },
     )
 }
 
 /// Runs the plays of a setup one after the other, with its workers, who stand throughout: each play as `run_play` does, the first one from this start, each next one where the one before it ended and with the results that were registered before. A play that ends otherwise than finished is the last.
 /// Want of memory breaks the run off, and so does `attend` before a batch: the runs before it come back, with what the last one came to; where a worker
-/// can't be started, nothing is opened. `watch` is told of each play. The history comes back with the log of each play that had a board behind those that
+/// can't be started, nothing is opened. `watch` is told of each play, and `keeper` given what there is to keep of each: the entries of
+/// the logs, and where the run was broken off at most that one batch more was to open. The history comes back with the log of each play that had a board behind those that
 /// it had, in their order, however the runs ended: just these were started.
 pub fn run_plays<
     R: Runner,
     H: Threads + Wait + Processes<Started = SystemProcess> + Sync,
     A: Attend,
     W: Watch,
+    K: Keep,
 >(
     coordinator: &Coordinator<'_, H, A>,
     watch: &mut W,
+    keeper: K,
     setup: &Setup<'_, R>,
     start: Start,
     history: History,
-) -> (Result<Vec<Run>, RunsFault>, History)
+) -> (Result<Vec<Run>, RunsFault>, History, K)
     requires play { 0 < length setup.now.plays.now }
     requires starts { MayStart setup.now.fleet.now start }
     ensures ok { IfOk result.0 (λ runs. Gains history result.1 (AreRuns (R.may setup.now.runner.now) setup.now.fleet.now setup.now.forks setup.now.plays.now start.statuses.items start.vars.items runs.items)) }
     ensures err { IfErr result.0 (λ fault. Gains history result.1 (AreBroken (R.may setup.now.runner.now) setup.now.fleet.now setup.now.forks setup.now.plays.now start.statuses.items start.vars.items fault.done.items fault.last)) }
-    ensures asked { IfErr result.0 (λ fault. MayBreak (A.asks coordinator.now.attend.now) fault.last.why) }
+    ensures asked { IfErr result.0 (λ fault. MayBreak (A.asks coordinator.now.attend.now) K.refuses fault.last.why) }
+    ensures kept { IfOk result.0 (λ _. Gains history result.1 (AreKept K.keeps setup.now.fleet.now keeper result.2)) }
+    ensures ahead { IfErr result.0 (λ _. Gains history result.1 (AreKeptAhead K.keeps setup.now.fleet.now keeper result.2)) }
 {
     match pool(coordinator.alloc, setup.forks) {
-        Ok((front, ends)) => with_workers(coordinator, watch, front, ends, setup, start, history),
+        Ok((front, ends)) => with_workers(
+            coordinator,
+            watch,
+            keeper,
+            front,
+            ends,
+            setup,
+            start,
+            history,
+        ),
         Err(_refused) => {
             let fault = RunsFault::before_a_log(coordinator.alloc, start.statuses);
-            (Err(fault), history)
+            (Err(fault), history, keeper)
         }
     }
 }

@@ -1,10 +1,10 @@
 //! From boundary to boundary.
-ghost use Rattle.std.specs.Prelude.{◌≡◌, IfErr, None, length};
+ghost use Rattle.std.specs.Prelude.{◌≡◌, IfErr, IfOk, None, length};
 ghost use Rattle.batch_plan.specs.Places.{AreCountsOf};
 ghost use Rattle.play_course.specs.Courses as courses;
 ghost use Rattle.play_course.specs.PlayPlans.{targets};
 ghost use Rattle.roll_core.specs.Views.{state_of};
-ghost use Rattle.roll_run.specs.Inside.{HasGone, HasTurned, IsBetween, IsNoted, IsSameRoll, MayTurn};
+ghost use Rattle.roll_run.specs.Inside.{HasGone, HasTurned, IsBetween, IsNoted, IsSameRoll, KeepsAhead, KeepsTurn, KeepsUp, MayTurn};
 ghost use Rattle.roll_run.specs.Runs.{MayBreak};
 
 use crate::attend::Attend;
@@ -13,6 +13,7 @@ use crate::boundary::come_to_boundary;
 use crate::close::close_batch;
 use crate::coordinator::Coordinator;
 use crate::fault::Break;
+use crate::keep::Keep;
 use batch_plan::{Answer, Domains};
 use fork_pool::{Front, StepFault};
 use play_course::{Boundary, End};
@@ -53,8 +54,9 @@ fn ahead(answer: &Answer) -> usize
 }
 
 /// Ends the play at the last boundary, or runs its batch.
-fn pass<'f, 'b, A: Allocator, R: Runner, L: Ledger, H: Wait, E: Attend, W: Watch>(
+fn pass<'f, 'b, A: Allocator, R: Runner, L: Ledger, H: Wait, E: Attend, W: Watch, K: Keep>(
     coordinator: &Coordinator<'_, H, E>,
+    keeper: &mut K,
     front: &mut Front<'f, R>,
     board: Board<'b, R, L, W>,
     domains: &mut Domains<'_, A>,
@@ -68,7 +70,8 @@ where
     requires counts { AreCountsOf (state_of board.kernel).statuses domains.old }
     requires noted { IsNoted board.kernel boundaries.now before }
     ensures turned { HasTurned boundaries.now domains.new result.1 result.0 }
-    ensures asked { MayTurn (E.asks coordinator.now.attend.now) result.0 }
+    ensures asked { MayTurn (E.asks coordinator.now.attend.now) K.refuses result.0 }
+    ensures kept { KeepsTurn K.keeps board.entry.kernel result.1.kernel keeper.old keeper.new result.0 }
     ensures same { IsSameRoll board.entry result.1 }
     ensures fleet { domains.new.fleet ≡ domains.old.fleet }
     ensures forks { front.new.forks ≡ front.old.forks }
@@ -80,9 +83,9 @@ where
             coordinator
                 .attend
                 .plans(coordinator.rt, ahead(&boundary.answer));
-            match run_batch(coordinator, front, board, boundary.next_batch()) {
+            match run_batch(coordinator, keeper, front, board, boundary.next_batch()) {
                 Ok(mut board) => {
-                    let end = close_batch(&mut board, domains, boundary.next_batch());
+                    let end = close_batch(keeper, &mut board, domains, boundary.next_batch());
                     (Turn::Behind(end), board)
                 }
                 Err((why, board)) => (Turn::Broken(why), board),
@@ -92,8 +95,10 @@ where
 }
 
 /// Comes to the next boundary, and ends the play there or runs its batch.
-fn move_on<'f, 'b, A: Allocator, R: Runner, L: Ledger, H: Wait, E: Attend, W: Watch>(
+#[allow(clippy::too_many_arguments)]
+fn move_on<'f, 'b, A: Allocator, R: Runner, L: Ledger, H: Wait, E: Attend, W: Watch, K: Keep>(
     coordinator: &Coordinator<'_, H, E>,
+    keeper: &mut K,
     front: &mut Front<'f, R>,
     mut board: Board<'b, R, L, W>,
     domains: &mut Domains<'_, A>,
@@ -110,14 +115,23 @@ where
     requires targeted { targeted ≡ length (targets board.kernel.fleet board.kernel.play) }
     requires between { IsBetween board.kernel boundaries.old.items before }
     ensures turned { HasTurned boundaries.new.items domains.new result.1 result.0 }
-    ensures asked { MayTurn (E.asks coordinator.now.attend.now) result.0 }
+    ensures asked { MayTurn (E.asks coordinator.now.attend.now) K.refuses result.0 }
+    ensures kept { KeepsTurn K.keeps board.entry.kernel result.1.kernel keeper.old keeper.new result.0 }
     ensures same { IsSameRoll board.entry result.1 }
     ensures fleet { domains.new.fleet ≡ domains.old.fleet }
     ensures forks { front.new.forks ≡ front.old.forks }
 {
-    match come_to_boundary(coordinator.alloc, &mut board, domains, boundaries, targeted) {
+    match come_to_boundary(
+        coordinator.alloc,
+        keeper,
+        &mut board,
+        domains,
+        boundaries,
+        targeted,
+    ) {
         Ok(()) => pass(
             coordinator,
+            keeper,
             front,
             board,
             domains,
@@ -129,8 +143,19 @@ where
 }
 
 /// From the present boundary to the end of the play, or until it is broken off.
-pub(crate) fn go_on<'f, 'b, A: Allocator, R: Runner, L: Ledger, H: Wait, E: Attend, W: Watch>(
+pub(crate) fn go_on<
+    'f,
+    'b,
+    A: Allocator,
+    R: Runner,
+    L: Ledger,
+    H: Wait,
+    E: Attend,
+    W: Watch,
+    K: Keep,
+>(
     coordinator: &Coordinator<'_, H, E>,
+    keeper: &mut K,
     front: &mut Front<'f, R>,
     mut board: Board<'b, R, L, W>,
     domains: &mut Domains<'_, A>,
@@ -146,7 +171,9 @@ where
     requires targeted { targeted ≡ length (targets board.kernel.fleet board.kernel.play) }
     requires between { IsBetween board.kernel boundaries.old.items None }
     ensures gone { HasGone boundaries.new.items result.1.kernel result.0 }
-    ensures asked { IfErr result.0 (MayBreak (E.asks coordinator.now.attend.now)) }
+    ensures asked { IfErr result.0 (MayBreak (E.asks coordinator.now.attend.now) K.refuses) }
+    ensures kept { IfOk result.0 (λ _. KeepsUp K.keeps board.entry.kernel result.1.kernel keeper.old keeper.new) }
+    ensures ahead { IfErr result.0 (λ _. KeepsAhead K.keeps board.entry.kernel result.1.kernel keeper.old keeper.new) }
     ensures same { IsSameRoll board.entry result.1 }
     ensures forks { front.new.forks ≡ front.old.forks }
 {
@@ -154,6 +181,7 @@ where
     for _ in coordinator.rt.forever() {
         let (turn, back) = move_on(
             coordinator,
+            keeper,
             front,
             board,
             domains,

@@ -3,3 +3,5 @@ pub mod Rehearsing
 pub mod Rolling
 pub mod Tables
 mod Starting
+pub mod States
+pub mod PlainNames

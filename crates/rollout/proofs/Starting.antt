@@ -3,7 +3,7 @@ use Rattle.std.proofs.Common.{◌≡◌, ◌⊎◌, ℕ, ◌≤◌, List, [], Op
 use Rattle.std.specs.Prelude.{drop, is_some}
 use Rattle.command_line.specs.Flags.{course, is_grouped, plain}
 use Rattle.command_line.specs.Operands.{Word}
-use Rattle.command_line.specs.StopFiles.{stop_file}
+use Rattle.command_line.specs.RunFiles.{stop_file}
 use Rattle.command_line.specs.Words as words
 use Rattle.command_line.specs.declared.command.Line.{Line}
 use Rattle.command_line.specs.declared.command.Line.TheVariants as line
@@ -16,7 +16,7 @@ use Rattle.running.specs.declared.fault.RunTextFault.{RunTextFault}
 use Rattle.running.specs.declared.fault.RunTextFault.TheVariants as running
 use Rattle.running.proofs.SafeRecaps.{broken_recaps_are_of_safe_rolls, recaps_are_of_safe_rolls}
 use Rattle.rollout.specs.Groups.{PlanWish}
-use Rattle.rollout.specs.Rolls.{AreSafeFrom, Rolls, RollsInputs}
+use Rattle.rollout.specs.Rolls.{AreSafeFrom, BreaksOff, Rolls, RollsInputs}
 use Rattle.rollout.specs.Runs.{Attempts, Does, Performs, StartsSafely}
 use Rattle.rollout.specs.Systems.{Gives, Known, Sources}
 use Rattle.rollout.specs.declared.fault.Fault.{Fault}
@@ -32,6 +32,11 @@ module _ (may : Work → Ending → Type 0) where
   faults_are_safe inventory playbook forks old new (running.Write fault) logs (inl is) = inr (recaps_are_of_safe_rolls may inventory playbook is.text forks is.runs logs is.is)
   faults_are_safe inventory playbook forks old new (running.Write fault) logs (inr is) = inr (broken_recaps_are_of_safe_rolls may inventory playbook is.text forks is.done is.last logs is.is)
 
+  breaks_are_safe : (inventory playbook : List ℕ) (forks : ℕ) (old new : Option (List ℕ)) (fault : Fault) (logs : List (List Event)) → BreaksOff may inventory playbook forks old new fault logs → (logs ≡ []) ⊎ AreSafeIn may inventory playbook forks logs
+  breaks_are_safe inventory playbook forks old new fault logs (inl is) = faults_are_safe inventory playbook forks old new is.cause logs is.is_true
+  breaks_are_safe inventory playbook forks old new fault logs (inr is) =
+      inr (recaps_are_of_safe_rolls may inventory playbook is.prints.recap.text forks is.prints.recap.runs logs is.prints.recap.is)
+
   module _ (sources : Sources) (inventory playbook : Source) (forks workers : ℕ) (few : workers ≤ forks) (input_old input_new out_old out_new : Option (List ℕ)) where
     inputs_are_safe : (result : Result Status Fault) (logs : List (List Event)) → RollsInputs may sources inventory playbook workers input_old input_new out_old out_new result logs
         → (logs ≡ []) ⊎ AreSafeFrom may sources inventory playbook forks input_old input_new logs
@@ -45,7 +50,7 @@ module _ (may : Work → Ending → Type 0) where
           rolls = recaps_are_of_safe_rolls may is.first is.second is.prints.recap.text workers is.prints.recap.runs logs is.prints.recap.is;
         })
     inputs_are_safe (Err fault) logs (inl lacks) = inl lacks.2
-    inputs_are_safe (Err fault) logs (inr is) = by (faults_are_safe is.first is.second workers out_old out_new is.breaks.cause logs is.breaks.is_true)
+    inputs_are_safe (Err fault) logs (inr is) = by (breaks_are_safe is.first is.second workers out_old out_new fault logs is.breaks)
       where
         by : (logs ≡ []) ⊎ AreSafeIn may is.first is.second workers logs → (logs ≡ []) ⊎ AreSafeFrom may sources inventory playbook forks input_old input_new logs
         by (inl none) = inl none
@@ -64,6 +69,7 @@ module _ (may : Work → Ending → Type 0) where
     lines_are_safe args gives (line.Limits inventory) says asks wish result logs does = inl does.1
     lines_are_safe args gives (line.Plan inventory playbook) says asks wish result logs does = inl does.1
     lines_are_safe args gives (line.Rehearse inventory playbook) says asks wish result logs does = inl does.1
+    lines_are_safe args gives (line.State inventory journal) says asks wish result logs does = inl does.1
     lines_are_safe args gives (line.Print message) says asks wish result logs does = inl does.2
     lines_are_safe args gives (line.Run inventory playbook forks) says asks wish result logs does = by (rolls_are_safe asks inventory playbook forks result logs does)
       where

@@ -26,7 +26,7 @@ use Rattle.play_rules.specs.declared.key.ConditionKey.{ConditionKey}
 use Rattle.recap.specs.Printable.{printed}
 use Rattle.rollout.specs.FaultLines.{Row, ShownDetail}
 use Rattle.rollout.specs.declared.fault.Fault.{Fault}
-use Rattle.rollout.specs.declared.fault.Fault.TheVariants.{Line, Input, Read, Fleet, Playbook, Pattern, Mixed, LongLine, ChildrenIgnored, Stopped, Write, Memory}
+use Rattle.rollout.specs.declared.fault.Fault.TheVariants.{Line, Input, Read, Fleet, Playbook, Pattern, Mixed, LongLine, JournalThere, JournalWrite, ChildrenIgnored, Stopped, Locked, BadJournal, OtherInputs, Write, Memory}
 
 abbrev row : List ℕ → List ShownDetail → Row
 row name details = record { name = name; details = details }
@@ -128,7 +128,12 @@ number_of (Pattern fault) = pattern_number fault
 number_of Mixed = Some 822
 number_of LongLine = Some 906
 number_of ChildrenIgnored = Some 916
+number_of JournalThere = Some 910
+number_of JournalWrite = Some 911
 number_of Stopped = Some 917
+number_of Locked = Some 918
+number_of (BadJournal line) = Some 912
+number_of OtherInputs = Some 913
 number_of (Write fault) = Some 904
 number_of Memory = None
 
@@ -142,6 +147,11 @@ row_of (Pattern fault) = pattern_row fault
 row_of Mixed = row (codes "Mixed") []
 row_of LongLine = row (codes "LongLine") []
 row_of ChildrenIgnored = row (codes "ChildrenIgnored") []
+row_of JournalThere = row (codes "JournalThere") []
+row_of JournalWrite = row (codes "JournalWrite") []
 row_of Stopped = row (codes "Stopped") []
+row_of Locked = row (codes "Locked") []
+row_of (BadJournal line) = row (codes "BadJournal") (number (codes "line") line ∷ [])
+row_of OtherInputs = row (codes "OtherInputs") []
 row_of (Write fault) = row (codes "Write") (number (codes "written") fault.written ∷ [])
 row_of Memory = no_row

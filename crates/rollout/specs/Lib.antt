@@ -17,4 +17,5 @@ pub mod RollFaults
 pub mod Rolls
 pub mod RehearsalFaults
 pub mod Rehearsals
+pub mod StateTexts
 pub mod Runs

@@ -13,7 +13,7 @@ use Rattle.domains.specs.FleetViews.{FleetView}
 use Rattle.domains.specs.Fleets.{IsFleetOf}
 use Rattle.recap.specs.LimitsTable.{limits_table}
 use Rattle.rollout.specs.declared.fault.Fault.{Fault}
-use Rattle.rollout.specs.declared.fault.Fault.TheVariants.{Line, Input, Read, Fleet, Playbook, Pattern, Mixed, LongLine, ChildrenIgnored, Stopped, Write, Memory}
+use Rattle.rollout.specs.declared.fault.Fault.TheVariants.{Line, Input, Read, Fleet, Playbook, Pattern, Mixed, LongLine, JournalThere, JournalWrite, ChildrenIgnored, Stopped, Locked, BadJournal, OtherInputs, Write, Memory}
 
 -- the text says this inventory, which has no more hosts than a fleet may have; its limited groups lie inside each other
 -- wherever they share a host, and none has more hosts down than its limit when a run starts
@@ -52,7 +52,12 @@ IsTrueFault text old new (Pattern fault) = ⊥
 IsTrueFault text old new Mixed = ⊥
 IsTrueFault text old new LongLine = ⊥
 IsTrueFault text old new ChildrenIgnored = ⊥
+IsTrueFault text old new JournalThere = ⊥
+IsTrueFault text old new JournalWrite = ⊥
 IsTrueFault text old new Stopped = ⊥
+IsTrueFault text old new Locked = ⊥
+IsTrueFault text old new (BadJournal line) = ⊥
+IsTrueFault text old new OtherInputs = ⊥
 IsTrueFault text old new (Line fault) = ⊥
 IsTrueFault text old new (Input source fault) = ⊥
 
@@ -73,6 +78,11 @@ IsUnread text (Pattern fault) = ⊥
 IsUnread text Mixed = ⊥
 IsUnread text LongLine = ⊥
 IsUnread text ChildrenIgnored = ⊥
+IsUnread text JournalThere = ⊥
+IsUnread text JournalWrite = ⊥
 IsUnread text Stopped = ⊥
+IsUnread text Locked = ⊥
+IsUnread text (BadJournal line) = ⊥
+IsUnread text OtherInputs = ⊥
 IsUnread text (Line fault) = ⊥
 IsUnread text (Input source fault) = ⊥

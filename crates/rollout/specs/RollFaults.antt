@@ -7,7 +7,7 @@ use Rattle.running.specs.declared.fault.RunTextFault.{RunTextFault}
 use Rattle.running.specs.declared.fault.RunTextFault.TheVariants as running
 use Rattle.rollout.specs.PlanFaults as planning
 use Rattle.rollout.specs.declared.fault.Fault.{Fault}
-use Rattle.rollout.specs.declared.fault.Fault.TheVariants.{Mixed, Stopped, Write, Memory}
+use Rattle.rollout.specs.declared.fault.Fault.TheVariants.{Mixed, JournalWrite, Stopped, Write, Memory}
 
 -- want of memory of a worker is that of the program
 abbrev pub fault_of_step : StepFault → Fault
@@ -18,6 +18,7 @@ fault_of_step step.Mixed = Mixed
 abbrev pub fault_of_break : Break → Fault
 fault_of_break (break.Fault why) = fault_of_step why
 fault_of_break break.Asked = Stopped
+fault_of_break break.Unkept = JournalWrite
 
 abbrev pub fault_of : RunTextFault → Fault
 fault_of (running.Refused fault) = planning.fault_of fault

@@ -14,7 +14,7 @@ use Rattle.rollout.specs.RollFaults.{fault_of}
 use Rattle.rollout.specs.Status.{status_of_run}
 use Rattle.rollout.specs.Systems.{Files, Sources}
 use Rattle.rollout.specs.declared.fault.Fault.{Fault}
-use Rattle.rollout.specs.declared.fault.Fault.TheVariants.{ChildrenIgnored, Memory, Stopped}
+use Rattle.rollout.specs.declared.fault.Fault.TheVariants.{ChildrenIgnored, JournalThere, JournalWrite, Locked, Memory, Stopped}
 use Rattle.rollout.specs.declared.status.Status.{Status}
 
 -- the plays of both texts were run with so many workers, their recap went out, and the status tells of their end
@@ -24,10 +24,20 @@ pub record PrintsRecap (may : Work → Ending → Type 0) (inventory playbook : 
   pub tells : status ≡ status_of_run end
 
 -- the fault is true of both texts, of a run of their plays, or of where its recap broke off
-pub record BreaksOff (may : Work → Ending → Type 0) (inventory playbook : List ℕ) (forks : ℕ) (old new : Option (List ℕ)) (fault : Fault) (logs : List (List Event)) : Type 0 where
+pub record FailsBy (may : Work → Ending → Type 0) (inventory playbook : List ℕ) (forks : ℕ) (old new : Option (List ℕ)) (fault : Fault) (logs : List (List Event)) : Type 0 where
   pub cause : RunTextFault
   pub is : fault ≡ fault_of cause
   pub is_true : IsTrueFault may inventory playbook forks old new cause logs
+
+-- the plays were run and their recap went out, and the journal of the run did not take its end
+pub record LosesEnd (may : Work → Ending → Type 0) (inventory playbook : List ℕ) (forks : ℕ) (old new : Option (List ℕ)) (fault : Fault) (logs : List (List Event)) : Type 0 where
+  pub status : Status
+  pub prints : PrintsRecap may inventory playbook forks old new status logs
+  pub is : fault ≡ JournalWrite
+
+abbrev pub BreaksOff : (Work → Ending → Type 0) → List ℕ → List ℕ → ℕ → Option (List ℕ) → Option (List ℕ) → Fault → List (List Event) → Type 0
+BreaksOff may inventory playbook forks old new fault logs =
+    FailsBy may inventory playbook forks old new fault logs ⊎ LosesEnd may inventory playbook forks old new fault logs
 
 -- both inputs were read, and the plays of their texts were run
 pub record ShowsRecap (may : Work → Ending → Type 0) (sources : Sources) (inventory playbook : Source) (forks : ℕ) (input_old input_new out_old out_new : Option (List ℕ)) (status : Status) (logs : List (List Event)) : Type 0 where
@@ -53,10 +63,12 @@ RollsInputs may sources inventory playbook forks input_old input_new out_old out
     (LacksInput sources inventory playbook input_old input_new fault × Keeps out_old out_new × (logs ≡ []))
     ⊎ BreaksRun may sources inventory playbook forks input_old input_new out_old out_new fault logs
 
--- why a run is refused before anything is read: the ends of children are ignored, or memory was wanting to look
+-- why a run is refused before anything is read: the ends of children are ignored, or memory was wanting to look; or its journal is there already, or another run holds the inventory
 abbrev pub IsRefusedBy : Files → Fault → Type 0
 IsRefusedBy files ChildrenIgnored = IsAnswerOf files true
 IsRefusedBy files Memory = Unit {0}
+IsRefusedBy files JournalThere = Unit {0}
+IsRefusedBy files Locked = Unit {0}
 IsRefusedBy files fault = ⊥
 
 -- a run is refused: nothing was read, run or written

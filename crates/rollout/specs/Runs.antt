@@ -5,12 +5,12 @@ use Rattle.std.specs.declared.io.ErrorKind.TheVariants.{OutOfMemory}
 use Rattle.std.specs.Io.KnownBytes.{Keeps}
 use Rattle.command_line.specs.Messages as messages
 use Rattle.command_line.specs.Operands.{Word}
-use Rattle.command_line.specs.StopFiles.{stop_file}
+use Rattle.command_line.specs.RunFiles.{stop_file}
 use Rattle.command_line.specs.Flags.{course, is_grouped, plain}
 use Rattle.command_line.specs.Words as words
 use Rattle.command_line.specs.declared.command.Line as declared_line
 use Rattle.command_line.specs.declared.command.Source.{Source}
-use Rattle.command_line.specs.declared.command.Line.TheVariants.{Limits, Plan, Run, Rehearse, Print}
+use Rattle.command_line.specs.declared.command.Line.TheVariants.{Limits, Plan, Run, Rehearse, State, Print}
 use Rattle.command_line.specs.declared.fault.LineFault.{LineFault}
 use Rattle.command_line.specs.declared.fault.LineFault.TheVariants as line_fault
 use Rattle.host_track.specs.Endings.{Ending}
@@ -21,6 +21,7 @@ use Rattle.rollout.specs.Endings.{Reports, status_of}
 use Rattle.rollout.specs.Groups.{PlanWish, PlansBy}
 use Rattle.rollout.specs.Rehearsals.{RehearsesInputs}
 use Rattle.rollout.specs.Rolls.{AreSafeFrom, Rolls}
+use Rattle.rollout.specs.StateTexts.{TellsState}
 use Rattle.rollout.specs.Status.{code_of}
 use Rattle.rollout.specs.Systems.{Fails, Sources, Gives, Known}
 use Rattle.rollout.specs.declared.fault.Fault.{Fault}
@@ -38,6 +39,8 @@ Does may asks wish sources (Run inventory playbook forks) input_old input_new ou
     Rolls may asks sources inventory playbook forks input_old input_new out_old out_new result logs
 Does may asks wish sources (Rehearse inventory playbook) input_old input_new out_old out_new result logs =
     RehearsesInputs sources inventory playbook input_old input_new out_old out_new result × (logs ≡ [])
+Does may asks wish sources (State inventory journal) input_old input_new out_old out_new result logs =
+    TellsState sources inventory journal input_old input_new out_old out_new result × (logs ≡ [])
 Does may asks wish sources (Print message) input_old input_new out_old out_new result logs =
     Keeps input_old input_new × Prints (messages.text_of message) out_old out_new result × (logs ≡ [])
 

@@ -7,7 +7,7 @@ use Rattle.running.specs.declared.end.RunEnd.TheVariants as run_ends
 use Rattle.rehearsing.specs.declared.course_end.CourseEnd.{CourseEnd}
 use Rattle.rehearsing.specs.declared.course_end.CourseEnd.TheVariants as course_ends
 use Rattle.rollout.specs.declared.status.Status.{Status}
-use Rattle.rollout.specs.declared.status.Status.TheVariants.{Done, Refused, Failed, Blocked, Stopped, Memory}
+use Rattle.rollout.specs.declared.status.Status.TheVariants.{Done, Refused, Failed, Blocked, Stopped, Memory, BrokenOff}
 
 abbrev pub code_of : Status → ℕ
 code_of Done = 0
@@ -16,6 +16,7 @@ code_of Failed = 2
 code_of Blocked = 3
 code_of Stopped = 4
 code_of Memory = 5
+code_of BrokenOff = 6
 
 -- a plan that leaves hosts out is told by a status of its own
 abbrev pub status_of_end : End → Status

@@ -7,11 +7,14 @@ mod plan;
 mod print;
 mod rehearse;
 mod run;
+mod state;
 
 pub use course::course;
 pub use groups::groups;
+pub(crate) use limits::read_fleet;
 pub use limits::{limits, limits_text};
 pub use plan::plan;
 pub use print::print;
 pub use rehearse::rehearse;
 pub use run::roll;
+pub use state::state;

@@ -8,6 +8,7 @@ use command_line::{LineFault, Source};
 use domains::{FleetFault, PatternFault};
 use fork_pool::StepFault;
 use inventory_read::ReadFault;
+use journal::JournalFault;
 use planning::PlanFault;
 use play_rules::PlayFault;
 use rehearsing::RehearseFault;
@@ -34,10 +35,20 @@ pub enum Fault {
     Mixed,
     /// A command of a rehearsal is longer than a line may be.
     LongLine,
+    /// A file of the name of a run's journal is there.
+    JournalThere,
+    /// A run's journal could not be written: it opened no batch any more.
+    JournalWrite,
     /// This process ignores the ends of its children, so that no program's end could be had.
     ChildrenIgnored,
     /// A run ended at a boundary, since the file was there that ends it.
     Stopped,
+    /// A text is no journal of a run: this line, counted from 1, is none of it.
+    BadJournal { line: u64 },
+    /// A journal is of a run with another inventory.
+    OtherInputs,
+    /// Another run that is kept goes on with the same inventory.
+    Locked,
     /// An output broke off.
     Write(WriteFault),
     Memory,
@@ -57,8 +68,13 @@ impl Fault {
             Fault::Pattern(fault) => fault.number(),
             Fault::Mixed => Some(822),
             Fault::LongLine => Some(906),
+            Fault::JournalThere => Some(910),
+            Fault::JournalWrite => Some(911),
             Fault::ChildrenIgnored => Some(916),
             Fault::Stopped => Some(917),
+            Fault::Locked => Some(918),
+            Fault::BadJournal { line: _ } => Some(912),
+            Fault::OtherInputs => Some(913),
             Fault::Write(fault) => Some(fault.number()),
             Fault::Memory => None,
         }
@@ -140,6 +156,7 @@ impl From<Break> for Fault {
         match why {
             Break::Fault(fault) => Fault::from(fault),
             Break::Asked => Fault::Stopped,
+            Break::Unkept => Fault::JournalWrite,
         }
     }
 }
@@ -156,6 +173,20 @@ impl From<RunTextFault> for Fault {
             RunTextFault::Memory => Fault::Memory,
             RunTextFault::Broken(why) => Fault::from(why),
             RunTextFault::Write(fault) => Fault::Write(fault),
+        }
+    }
+}
+
+impl From<JournalFault> for Fault {
+    ghost use Rattle.std.specs.Prelude.{◌≡◌};
+    ghost use Rattle.rollout.specs.StateTexts.{fault_of};
+
+    ghost from_gives = { λ cause fault. fault ≡ fault_of cause };
+
+    fn from(fault: JournalFault) -> Fault {
+        match fault {
+            JournalFault::Bad { line } => Fault::BadJournal { line },
+            JournalFault::Memory => Fault::Memory,
         }
     }
 }

@@ -57,7 +57,12 @@ fn write_row<W: Write>(text: &mut TextWriter<'_, W>, fault: &Fault)
         Fault::Mixed => row(text, "Mixed", &[]),
         Fault::LongLine => row(text, "LongLine", &[]),
         Fault::ChildrenIgnored => row(text, "ChildrenIgnored", &[]),
+        Fault::JournalThere => row(text, "JournalThere", &[]),
+        Fault::JournalWrite => row(text, "JournalWrite", &[]),
         Fault::Stopped => row(text, "Stopped", &[]),
+        Fault::Locked => row(text, "Locked", &[]),
+        Fault::BadJournal { line } => row(text, "BadJournal", &[Number("line", *line)]),
+        Fault::OtherInputs => row(text, "OtherInputs", &[]),
         Fault::Write(fault) => row(text, "Write", &[Number("written", fault.written)]),
         Fault::Memory => {}
     }

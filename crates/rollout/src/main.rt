@@ -10,6 +10,7 @@ mod ending;
 mod explanation;
 mod fault;
 mod fault_line;
+mod folder;
 mod inputs;
 mod program;
 mod source;

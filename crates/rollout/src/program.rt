@@ -9,7 +9,7 @@ ghost use Rattle.rollout.specs.Runs.{Attempts, Does, Performs, Runs, StartsSafel
 ghost use Rattle.rollout.specs.Systems.{sources_of};
 
 use crate::attendant::Attendant;
-use crate::commands::{course, groups, limits, plan, print, rehearse, roll};
+use crate::commands::{course, groups, limits, plan, print, rehearse, roll, state};
 use crate::ending::{conclude, exit_code};
 use crate::fault::Fault;
 use crate::status::Status;
@@ -130,6 +130,7 @@ fn attempt<
                 is_verbose,
                 is_quiet,
                 stop_file,
+                journal,
                 course,
                 is_grouped,
             },
@@ -148,6 +149,7 @@ fn attempt<
                 tell,
                 line,
                 PlanWish { course, is_grouped },
+                journal,
                 input,
                 out,
                 history,
@@ -168,7 +170,7 @@ fn begin_telling<S: System, T: Tell>(
     match line {
         Line::Run { .. } => tell.run_begins(system.seen(is_verbose, is_quiet, true)),
         Line::Plan { .. } => tell.run_begins(system.seen(is_verbose, is_quiet, false)),
-        Line::Limits { .. } | Line::Rehearse { .. } | Line::Print(_) => {}
+        Line::Limits { .. } | Line::Rehearse { .. } | Line::State { .. } | Line::Print(_) => {}
     }
 }
 
@@ -252,6 +254,7 @@ fn follow<
     watch: &mut T,
     line: Line,
     wish: PlanWish,
+    journal: Option<String>,
     input: &mut I,
     out: &mut O,
     history: History,
@@ -281,6 +284,7 @@ fn follow<
             inventory,
             playbook,
             forks,
+            journal,
             input,
             out,
             history,
@@ -290,6 +294,10 @@ fn follow<
             playbook,
         } => (
             rehearse(system, alloc, inventory, playbook, input, out),
+            history,
+        ),
+        Line::State { inventory, journal } => (
+            state(system, alloc, inventory, journal, input, out),
             history,
         ),
         Line::Print(message) => (print(message.as_str(), out), history),

@@ -21,6 +21,8 @@ pub enum Status {
     Stopped,
     /// Memory was wanting.
     Memory,
+    /// By its journal a run was broken off.
+    BrokenOff,
 }
 
 impl Status {
@@ -34,6 +36,7 @@ impl Status {
             Status::Blocked => 3,
             Status::Stopped => 4,
             Status::Memory => 5,
+            Status::BrokenOff => 6,
         }
     }
 }

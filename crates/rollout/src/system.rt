@@ -3,17 +3,21 @@ ghost use Rattle.std.specs.Prelude.{List, ℕ, Option, None, IfOk, IfErr, map, s
 ghost use Rattle.std.specs.IoError.{error_kind};
 ghost use Rattle.rollout.specs.Systems.{Fails, Files, Gives, Known, Opens};
 
+use crate::folder::folder_of;
 use bounded_io::{Fallible, Input};
+use keeping::{Disk, Shelf};
 use rehearsing::Prompt;
 use std::env::Env;
+use std::fs::OpenFile;
 use std::io::{IsTerminal, Stderr, Write};
+use std::os::unix::fs::OpenOptionsExt;
 use std::process::{Processes, SystemProcess};
 use std::{env, fs, io};
 use telling::{Seen, width};
 
 /// A system, by the words and the files that it gives. What holds of each system that says what it gives holds of the real
 /// one, of which nothing is known beforehand.
-pub trait System: Prompt {
+pub trait System: Prompt + Shelf {
     type File: Input + Drop;
 
     ghost words: { Self → Known (List (List ℕ)) } = { λ _. None };
@@ -28,6 +32,12 @@ pub trait System: Prompt {
     fn open(&self, name: &str) -> io::Result<Self::File>
         ensures ok { IfOk result (λ file. Opens (files self.now name.now) (Self.File.remaining file) (Self.File.is_reliable file)) }
         ensures err { IfErr result (λ error. Fails (files self.now name.now) (error_kind error)) };
+
+    /// Holds the lock of a file for as long as it is there.
+    type Lock: Drop;
+
+    /// The lock of the file of this name; none where another holds it, and an error where the file has no lock.
+    fn lock(&self, name: &str) -> io::Result<Option<Self::Lock>>;
 
     /// Whether there is a file of this name now, of whatever kind.
     fn is_there(&self, name: &str) -> bool;
@@ -65,8 +75,48 @@ impl<R> Prompt for Host<'_, R> {
     }
 }
 
-impl<R: Env + fs::Files + AllocGlobal + Processes<Started = SystemProcess>> System for Host<'_, R> {
+/// A file of the system.
+#[derive(Drop)]
+pub struct OnDisk<F>(F);
+
+impl<F: Write> Write for OnDisk<F> {
+    ghost contents = { λ file. F.contents file.0 };
+
+    fn write(&mut self, bytes: &[u8]) -> io::Result<usize> {
+        self.0.write(bytes)
+    }
+
+    fn flush(&mut self) -> io::Result<()> {
+        self.0.flush()
+    }
+}
+
+impl<F: Write + OpenFile + Drop> Disk for OnDisk<F> {
+    ghost is_on_disk = { λ _. Unit {0} };
+
+    fn sync(&self) -> io::Result<()> {
+        self.0.sync_data()
+    }
+}
+
+impl<R: fs::Files> Shelf for Host<'_, R> {
+    type Journal = OnDisk<R::File>;
+
+    /// Its folder is on the disk too, so that the file is found there.
+    fn create(&self, name: &str) -> io::Result<OnDisk<R::File>> {
+        let mut how = fs::OpenOptions::new();
+        how.write(true).create_new(true).mode(0o600);
+        let file = how.open(self.rt, name)?;
+        fs::open(self.rt, folder_of(name))?.sync_all()?;
+        Ok(OnDisk(file))
+    }
+}
+
+impl<R: Env + fs::Files<File = fs::File> + AllocGlobal + Processes<Started = SystemProcess>> System
+    for Host<'_, R> {
     type File = Fallible<R::File>;
+
+    type Lock = fs::File;
 
     fn args(&self) -> io::Result<Vec<String>> {
         Ok(env::args(self.rt)?.collect(self.rt.alloc())?)
@@ -74,6 +124,19 @@ impl<R: Env + fs::Files + AllocGlobal + Processes<Started = SystemProcess>> Syst
 
     fn open(&self, name: &str) -> io::Result<Fallible<R::File>> {
         Ok(Fallible(fs::open(self.rt, name)?))
+    }
+
+    /// A pipe isn't opened for it, since it could be read once alone.
+    fn lock(&self, name: &str) -> io::Result<Option<fs::File>> {
+        if !fs::metadata(self.rt, name)?.is_file() {
+            return Err(io::ErrorKind::Unsupported.into());
+        }
+        let file = fs::open(self.rt, name)?;
+        match file.try_lock() {
+            Ok(()) => Ok(Some(file)),
+            Err(fs::TryLockError::WouldBlock) => Ok(None),
+            Err(fs::TryLockError::Error(error)) => Err(error),
+        }
     }
 
     fn is_there(&self, name: &str) -> bool {

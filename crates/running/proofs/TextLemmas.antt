@@ -16,10 +16,14 @@ use Rattle.event_log.specs.Told.{Work}
 use Rattle.roll_run.specs.declared.run.Run.{Run}
 use Rattle.roll_run.specs.declared.fault.RunFault.{RunFault}
 use Rattle.roll_run.specs.Histories.{Gains}
+use Rattle.roll_run.specs.Journals.{AreKept, AreKeptAhead, JournalEntry, heading}
+use Rattle.roll_run.specs.Runs.{MayBreak}
+use Rattle.roll_run.proofs.Following.{gains_as}
 use Rattle.roll_run.specs.Plays.{AreBroken, AreRuns}
 use Rattle.running.specs.Inputs.{AreHostsIn, AreInputs, IsNoInventory, RefusesTexts}
+use Rattle.running.specs.Keepings.{KeepsBroken, KeepsRuns}
 use Rattle.running.specs.Recaps.{are_several, broken_text, runs_text}
-use Rattle.running.specs.RunTexts.{IsBrokenRecap, IsRecap, IsTrueFault, TellsBroken, TellsRuns, WritesRecap}
+use Rattle.running.specs.RunTexts.{IsBrokenRecap, IsRecap, IsTrueFault, MayBreakText, TellsBroken, TellsRuns, WritesRecap}
 use Rattle.running.specs.declared.end.RunEnd.{RunEnd}
 use Rattle.running.specs.declared.fault.RunTextFault.{RunTextFault}
 use Rattle.running.specs.declared.fault.RunTextFault.TheVariants.{Refused, Memory, Broken, Write}
@@ -102,3 +106,42 @@ pub gains_err : {V E : Type 0} {Is : List (List Event) → Type 0} (Does : E →
     → IfErr result (λ fault. Does fault gained.logs) → IfErr result (λ fault. Gains before after (Does fault))
 gains_err Does (Ok value) before after gained does = tt
 gains_err Does (Err fault) before after gained does = record { logs = gained.logs; grown = gained.grown; are = does }
+
+-- what holds whatever the answer is
+pub all_ok : {V E A : Type 0} (result : Result V E) → A → IfOk result (λ (value : V). A)
+all_ok (Ok value) is = is
+all_ok (Err fault) is = tt
+
+pub all_err : {V E A : Type 0} (result : Result V E) → A → IfErr result (λ (fault : E). A)
+all_err (Ok value) is = tt
+all_err (Err fault) is = is
+
+-- what was kept of the runs of the plays that the texts say
+module _ {K : Type 0} (keeps : K → K → FleetView → JournalEntry → Type 0) (inventory playbook : List ℕ) (before begun after : K) (fleet : FleetView) (vars : List Vars) (plays listed : List Play) (statuses : List Status) (old new : List (List Event))
+    (inputs : AreInputs inventory playbook fleet vars plays statuses) (lent : listed ≡ plays) (begins : keeps before begun fleet (heading (length listed))) where
+  headed_by : keeps before begun fleet (heading (length plays))
+  headed_by = subst (λ (l : List Play). keeps before begun fleet (heading (length l))) lent begins
+
+  exactly : (logs : List (List Event)) → AreKept keeps fleet begun after logs → KeepsRuns keeps inventory playbook before after logs
+  exactly logs is =
+      record { fleet = fleet; vars = vars; plays = plays; statuses = statuses; inputs = inputs; begun = begun; begins = headed_by; kept = is }
+
+  far : (logs : List (List Event)) → AreKeptAhead keeps fleet begun after logs → KeepsBroken keeps inventory playbook before after logs
+  far logs is =
+      inr (record { fleet = fleet; vars = vars; plays = plays; statuses = statuses; inputs = inputs; begun = begun; begins = headed_by; ahead = is })
+
+  pub keeps_runs : Gains old new (AreKept keeps fleet begun after) → Gains old new (KeepsRuns keeps inventory playbook before after)
+  keeps_runs kept = gains_as old new exactly kept
+
+  pub keeps_broken : Gains old new (AreKeptAhead keeps fleet begun after) → Gains old new (KeepsBroken keeps inventory playbook before after)
+  keeps_broken kept = gains_as old new far kept
+
+  pub keeps_not_ahead : Gains old new (AreKept keeps fleet begun after) → Gains old new (KeepsBroken keeps inventory playbook before after)
+  keeps_not_ahead kept = gains_as old new (λ logs is. far logs (record { mid = after; kept = is; ahead = inl refl })) kept
+
+-- what broke a run off may break its text off
+pub may_break : (asks refuses : Bool) (fleet : FleetView) (several : Bool) (done : List Run) (last : RunFault) (old new : Option (List ℕ)) (fault : RunTextFault) → TellsBroken fleet several done last old new fault → MayBreak asks refuses last.why → MayBreakText asks refuses fault
+may_break asks refuses fleet several done last old new (Broken why) told may = subst (MayBreak asks refuses) (sym told.0) may
+may_break asks refuses fleet several done last old new (Write fault) told may = tt
+may_break asks refuses fleet several done last old new (Refused fault) told may = absurd told
+may_break asks refuses fleet several done last old new Memory told may = absurd told

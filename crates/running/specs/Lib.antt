@@ -4,3 +4,4 @@ pub mod Lefts
 pub mod Recaps
 pub mod RunTexts
 pub mod Laws
+pub mod Keepings

@@ -100,12 +100,12 @@ pub record AreSafeIn (may : Work → Ending → Type 0) (inventory playbook : Li
   pub inputs : AreInputs inventory playbook fleet vars plays statuses
   pub rolls : AreSafeRolls may fleet forks plays statuses vars logs
 
--- a run is told to have been asked to end only where it may be
-abbrev pub MayBreakText : Bool → RunTextFault → Type 0
-MayBreakText asks (Refused fault) = Unit {0}
-MayBreakText asks Memory = Unit {0}
-MayBreakText asks (Broken why) = MayBreak asks why
-MayBreakText asks (Write fault) = Unit {0}
+-- a run is told to have been asked to end only where it may be, and that a batch was refused only where one may be
+abbrev pub MayBreakText : Bool → Bool → RunTextFault → Type 0
+MayBreakText asks refuses (Refused fault) = Unit {0}
+MayBreakText asks refuses Memory = Unit {0}
+MayBreakText asks refuses (Broken why) = MayBreak asks refuses why
+MayBreakText asks refuses (Write fault) = Unit {0}
 
 -- the recaps of runs that came to their ends went out, or broke off
 abbrev pub TellsRuns : FleetView → Bool → List Run → Option (List ℕ) → Option (List ℕ) → Result RunEnd RunTextFault → Type 0

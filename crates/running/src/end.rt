@@ -37,7 +37,7 @@ fn any_failed(statuses: &[Status]) -> bool
 }
 
 /// How a playbook ends whose last play ended so, and left these statuses.
-fn end_of(end: End, statuses: &[Status]) -> RunEnd
+pub fn end_of(end: End, statuses: &[Status]) -> RunEnd
     ensures { result ≡ model.end_of end statuses.now }
 {
     match end {

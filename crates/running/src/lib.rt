@@ -12,7 +12,7 @@ mod left;
 mod printing;
 mod recaps;
 
-pub use end::RunEnd;
+pub use end::{RunEnd, end_of};
 pub use fault::RunTextFault;
 pub use laws::{one_recap, one_recap_by_plays, recaps_are_of_safe_rolls};
 pub use printing::run_text;

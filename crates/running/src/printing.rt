@@ -2,6 +2,7 @@
 ghost use Rattle.std.specs.Prelude.{◌≡◌, ◌<◌, ◌≤◌, IfErr, IfOk, length};
 ghost use Rattle.running.specs.Recaps as model;
 ghost use Rattle.roll_run.specs.Histories.{Gains};
+ghost use Rattle.running.specs.Keepings.{KeepsBroken, KeepsRuns};
 ghost use Rattle.running.specs.RunTexts.{IsTrueFault, MayBreakText, TellsBroken, TellsRuns, WritesRecap};
 
 use crate::behind::{tell_behind, tell_left_out};
@@ -13,7 +14,7 @@ use crate::recaps::{send_broken, send_runs};
 use domains::Fleet;
 use play_model::Play;
 use roll_core::{History, Runner, Watch};
-use roll_run::{Attend, Coordinator, Run, RunsFault, Setup, run_plays};
+use roll_run::{Attend, Coordinator, Keep, Run, RunsFault, Setup, run_plays};
 use std::io::Write;
 use std::process::{Processes, SystemProcess};
 use std::sync::Wait;
@@ -63,6 +64,7 @@ fn tell_broken<W: Write>(
 /// pattern, of any play, that names nothing. Where a fault breaks the runs off, the recap of what they came to goes out, and then the answer
 /// is that fault. Where a write fails, exactly the first bytes of the text went out, as many as the fault says. Writing takes no memory.
 /// `watch` is told of the plays, of hosts that they leave out, and behind the recap why hosts are down; `attend` may have the run end before a batch.
+/// `keeper` is given what there is to keep of the runs, and comes back; where it refuses a batch, that breaks the run off.
 /// The history comes back with the logs of the runs that the recap tells of behind those that it had, however they ended: just these were started.
 #[allow(clippy::too_many_arguments)]
 pub fn run_text<
@@ -70,22 +72,26 @@ pub fn run_text<
     H: Threads + Wait + Processes<Started = SystemProcess> + Sync,
     A: Attend,
     T: Watch,
+    K: Keep,
     W: Write,
 >(
     coordinator: &Coordinator<'_, H, A>,
     watch: &mut T,
+    mut keeper: K,
     inventory: &[u8],
     playbook: &[u8],
     forks: usize,
     runner: &R,
     out: &mut W,
     history: History,
-) -> (Result<RunEnd, RunTextFault>, History)
+) -> (Result<RunEnd, RunTextFault>, History, K)
     requires some { 0 < forks }
     requires few { forks ≤ 64 }
     ensures ok { IfOk result.0 (λ end. Gains history result.1 (WritesRecap (R.may runner.now) inventory.now playbook.now forks (W.contents out.old) (W.contents out.new) end)) }
     ensures err { IfErr result.0 (λ fault. Gains history result.1 (IsTrueFault (R.may runner.now) inventory.now playbook.now forks (W.contents out.old) (W.contents out.new) fault)) }
-    ensures asked { IfErr result.0 (MayBreakText (A.asks coordinator.now.attend.now)) }
+    ensures asked { IfErr result.0 (MayBreakText (A.asks coordinator.now.attend.now) K.refuses) }
+    ensures kept { IfOk result.0 (λ _. Gains history result.1 (KeepsRuns K.keeps inventory.now playbook.now keeper result.2)) }
+    ensures ahead { IfErr result.0 (λ _. Gains history result.1 (KeepsBroken K.keeps inventory.now playbook.now keeper result.2)) }
 {
     let alloc = coordinator.alloc;
     let Inputs {
@@ -94,27 +100,28 @@ pub fn run_text<
         start,
     } = match read_inputs(alloc, inventory, playbook) {
         Ok(inputs) => inputs,
-        Err(fault) => return (Err(fault), history),
+        Err(fault) => return (Err(fault), history, keeper),
     };
     let rolls = history.rolls();
     let listed = plays.as_slice();
     let several = are_several(listed);
     tell_left_out(alloc, watch, &fleet, listed);
     watch.plays_begin(listed.len());
+    keeper.plays_begin(&fleet, listed.len());
     let setup = Setup {
         fleet: &fleet,
         plays: listed,
         runner,
         forks,
     };
-    let (ran, history) = run_plays(coordinator, watch, &setup, start, history);
+    let (ran, history, keeper) = run_plays(coordinator, watch, keeper, &setup, start, history);
     match ran {
         Ok(runs) => {
             watch.plays_end();
             let told = tell_runs(&fleet, several, runs.as_slice(), out);
             let left = Left::of_all(runs.as_slice(), &history, rolls);
             tell_behind(alloc, watch, &fleet, listed, &left, told.is_ok());
-            (told, history)
+            (told, history, keeper)
         }
         Err(fault) => {
             watch.plays_end();
@@ -122,7 +129,7 @@ pub fn run_text<
             let is_whole = !matches!(told, RunTextFault::Write(_));
             let left = Left::of_broken(&fault, &history, rolls);
             tell_behind(alloc, watch, &fleet, listed, &left, is_whole);
-            (Err(told), history)
+            (Err(told), history, keeper)
         }
     }
 }

@@ -33,7 +33,7 @@ pub fn limits<S: System, I: Input, W: Write>(
 }
 
 /// The fleet of an inventory. The inventory's tree lives in an arena that is given up here: the fleet owns its names.
-fn read_fleet(alloc: Global, inventory: &[u8]) -> Result<Fleet, Fault>
+pub(crate) fn read_fleet(alloc: Global, inventory: &[u8]) -> Result<Fleet, Fault>
     ensures ok { IfOk result (IsFleetIn inventory.now) }
     ensures err { IfErr result (IsUnread inventory.now) }
 {

@@ -1,9 +1,11 @@
 //! The command `run`: from the files of an inventory and a playbook to the recap of a run.
-ghost use Rattle.std.specs.Prelude.{◌≡◌, ◌<◌, ◌≤◌, Err, IfOk, IfErr, true};
+ghost use Rattle.std.specs.Prelude.{◌≡◌, ◌<◌, ◌≤◌, Err, IfOk, IfErr, Ok, false, true};
 ghost use Rattle.roll_run.specs.Histories.{Gains};
 ghost use Rattle.rollout.specs.Rolls.{BreaksOff, PrintsRecap, Rolls, RollsInputs};
 ghost use Rattle.rollout.specs.Systems.{sources_of};
-ghost use Rattle.rollout.specs.declared.fault.Fault.TheVariants.{Stopped};
+ghost use Rattle.rollout.specs.RollFaults.{fault_of};
+ghost use Rattle.rollout.specs.Status.{status_of_run};
+ghost use Rattle.rollout.specs.declared.fault.Fault.TheVariants.{JournalWrite, Locked, Stopped};
 
 use crate::children::refusal;
 use crate::fault::Fault;
@@ -12,10 +14,11 @@ use crate::status::Status;
 use crate::system::System;
 use bounded_io::Input;
 use command_line::{Forks, Source};
+use keeping::{Holds, Keeper};
 use local_programs::workers;
-use roll_core::{History, Runner, Watch};
+use roll_core::{History, Runner, Unwatched, Watch};
 use roll_run::{Attend, Coordinator};
-use running::run_text;
+use running::{RunEnd, RunTextFault, run_text};
 use std::io::Write;
 use std::process::{Processes, SystemProcess};
 use std::sync::Wait;
@@ -40,6 +43,7 @@ pub fn roll<
     inventory: Source,
     playbook: Source,
     forks: Forks,
+    journal: Option<String>,
     input: &mut I,
     out: &mut W,
     history: History,
@@ -50,6 +54,13 @@ pub fn roll<
     match refusal(system, coordinator.alloc) {
         Some(fault) => (Err(fault), history),
         None => {
+            if is_there(system, &journal) {
+                return (Err(Fault::JournalThere), history);
+            }
+            let _lock = match lock_inventory(system, &inventory, &journal) {
+                Ok(lock) => lock,
+                Err(fault) => return (Err(fault), history),
+            };
             let forks = workers(coordinator.rt, forks.number());
             roll_inputs(
                 system,
@@ -59,11 +70,39 @@ pub fn roll<
                 inventory,
                 playbook,
                 forks,
+                journal,
                 input,
                 out,
                 history,
             )
         }
+    }
+}
+
+/// The lock of the inventory's file, where the run is kept in a journal and the file has a lock: two runs that know nothing of each other would together take more hosts down than a group
+/// may lose.
+fn lock_inventory<S: System>(
+    system: &S,
+    inventory: &Source,
+    journal: &Option<String>,
+) -> Result<Option<S::Lock>, Fault>
+    ensures { IfErr result (λ fault. fault ≡ Locked) }
+{
+    let (Source::File(name), Some(_journal)) = (inventory, journal) else {
+        return Ok(None);
+    };
+    match system.lock(name.as_str()) {
+        Ok(Some(lock)) => Ok(Some(lock)),
+        Ok(None) => Err(Fault::Locked),
+        Err(_error) => Ok(None),
+    }
+}
+
+/// Whether a file of the journal's name is there.
+fn is_there<S: System>(system: &S, journal: &Option<String>) -> bool {
+    match journal {
+        Some(name) => system.is_there(name.as_str()),
+        None => false,
     }
 }
 
@@ -85,6 +124,7 @@ fn roll_inputs<
     inventory: Source,
     playbook: Source,
     forks: usize,
+    journal: Option<String>,
     input: &mut I,
     out: &mut W,
     history: History,
@@ -100,12 +140,14 @@ fn roll_inputs<
             let inventory = inventory.as_slice();
             let playbook = playbook.as_slice();
             roll_texts(
+                system,
                 coordinator,
                 runner,
                 watch,
                 inventory,
                 playbook,
                 forks,
+                journal,
                 out,
                 history,
             )
@@ -114,18 +156,77 @@ fn roll_inputs<
     }
 }
 
-/// Runs the plays of the two texts, and writes their recap. The status tells how they ended.
+/// Runs the plays of the two texts, and writes their recap. The status tells how they ended. Where a journal is named, the run is kept in it.
 #[allow(clippy::too_many_arguments)]
 fn roll_texts<
+    S: System,
     H: Threads + Wait + Processes<Started = SystemProcess> + Sync,
     R: Runner,
     A: Attend,
     T: Watch,
     W: Write,
 >(
+    system: &S,
     coordinator: &Coordinator<'_, H, A>,
     runner: &R,
     watch: &mut T,
+    inventory: &[u8],
+    playbook: &[u8],
+    forks: usize,
+    journal: Option<String>,
+    out: &mut W,
+    history: History,
+) -> (Result<Status, Fault>, History)
+    requires some { 0 < forks }
+    requires few { forks ≤ 64 }
+    ensures ok { IfOk result.0 (λ status. Gains history result.1 (PrintsRecap (R.may runner.now) inventory.now playbook.now forks (W.contents out.old) (W.contents out.new) status)) }
+    ensures err { IfErr result.0 (λ fault. Gains history result.1 (BreaksOff (R.may runner.now) inventory.now playbook.now forks (W.contents out.old) (W.contents out.new) fault)) }
+    ensures stops { result.0 ≡ Err Stopped → A.asks coordinator.now.attend.now ≡ true }
+{
+    match journal {
+        Some(name) => {
+            let name = name.as_str();
+            let keeper = Keeper::new(coordinator.alloc, system, name, inventory, playbook);
+            roll_with(
+                coordinator,
+                runner,
+                watch,
+                keeper,
+                inventory,
+                playbook,
+                forks,
+                out,
+                history,
+            )
+        }
+        None => roll_with(
+            coordinator,
+            runner,
+            watch,
+            Unwatched,
+            inventory,
+            playbook,
+            forks,
+            out,
+            history,
+        ),
+    }
+}
+
+/// The same with a keeper: where it did not keep all, the status is no success.
+#[allow(clippy::too_many_arguments)]
+fn roll_with<
+    H: Threads + Wait + Processes<Started = SystemProcess> + Sync,
+    R: Runner,
+    A: Attend,
+    T: Watch,
+    K: Holds,
+    W: Write,
+>(
+    coordinator: &Coordinator<'_, H, A>,
+    runner: &R,
+    watch: &mut T,
+    keeper: K,
     inventory: &[u8],
     playbook: &[u8],
     forks: usize,
@@ -138,9 +239,10 @@ fn roll_texts<
     ensures err { IfErr result.0 (λ fault. Gains history result.1 (BreaksOff (R.may runner.now) inventory.now playbook.now forks (W.contents out.old) (W.contents out.new) fault)) }
     ensures stops { result.0 ≡ Err Stopped → A.asks coordinator.now.attend.now ≡ true }
 {
-    let (ran, history) = run_text(
+    let (ran, history, keeper) = run_text(
         coordinator,
         watch,
+        keeper,
         inventory,
         playbook,
         forks,
@@ -148,8 +250,17 @@ fn roll_texts<
         out,
         history,
     );
+    (ended(ran, keeper.is_whole()), history)
+}
+
+/// What a run that ended so is to the program, where it was kept whole or not.
+fn ended(ran: Result<RunEnd, RunTextFault>, is_kept: bool) -> Result<Status, Fault>
+    ensures ok { IfOk ran (λ end. (is_kept ≡ true → result ≡ Ok (status_of_run end)) × (is_kept ≡ false → result ≡ Err JournalWrite)) }
+    ensures err { IfErr ran (λ fault. result ≡ Err (fault_of fault)) }
+{
     match ran {
-        Ok(end) => (Ok(Status::from(end)), history),
-        Err(fault) => (Err(Fault::from(fault)), history),
+        Ok(end) if is_kept => Ok(Status::from(end)),
+        Ok(_end) => Err(Fault::JournalWrite),
+        Err(fault) => Err(Fault::from(fault)),
     }
 }

@@ -28,5 +28,7 @@ returns c =
     let second = c.in_ok-subcommand-2.ensures.shape c.in_ok-plan.ensures.local ∙ ap₂ with_subcommand first beside in
     let running = ap (λ (app : App). app.top) c.in_ok-run.ensures.app in
     let third = c.in_ok-subcommand-3.ensures.shape c.in_ok-run.ensures.local ∙ ap₂ with_subcommand second running in
-    let last = ap (λ (app : App). app.top) c.in_ok-rehearse.ensures.app in
-    IfOk-weaker c.subcommand-4.result _ _ (λ r h. h.shape c.in_ok-rehearse.ensures.local ∙ ap₂ with_subcommand third last) c.subcommand-4.ensures
+    let rehearsing = ap (λ (app : App). app.top) c.in_ok-rehearse.ensures.app in
+    let fourth = c.in_ok-subcommand-4.ensures.shape c.in_ok-rehearse.ensures.local ∙ ap₂ with_subcommand third rehearsing in
+    let last = ap (λ (app : App). app.top) c.in_ok-state.ensures.app in
+    IfOk-weaker c.subcommand-5.result _ _ (λ r h. h.shape c.in_ok-state.ensures.local ∙ ap₂ with_subcommand fourth last) c.subcommand-5.ensures

@@ -17,7 +17,8 @@ returns-clause-app c =
     let third = c.in_ok-arg-3.ensures.shape c.forks.ensures.local ∙ ap₂ with_rule second c.forks.ensures.rule in
     let fourth = c.in_ok-arg-4.ensures.shape c.verbose.ensures.local ∙ ap₂ with_rule third c.verbose.ensures.rule in
     let fifth = c.in_ok-arg-5.ensures.shape c.quiet.ensures.local ∙ ap₂ with_rule fourth c.quiet.ensures.rule in
-    IfOk-weaker c.arg-6.result _ _ (λ r h. h.shape c.stop_file.ensures.local ∙ ap₂ with_rule fifth c.stop_file.ensures.rule) c.arg-6.ensures
+    let sixth = c.in_ok-arg-6.ensures.shape c.stop_file.ensures.local ∙ ap₂ with_rule fifth c.stop_file.ensures.rule in
+    IfOk-weaker c.arg-7.result _ _ (λ r h. h.shape c.new_journal.ensures.local ∙ ap₂ with_rule sixth c.new_journal.ensures.rule) c.arg-7.ensures
 
 pub returns-clause-local : goal.returns-clause-local
 returns-clause-local c =
@@ -27,4 +28,5 @@ returns-clause-local c =
     let third = c.in_ok-arg-3.ensures.globals ∙ ap₂ (λ (a b : Bool). a || b) second c.forks.ensures.local in
     let fourth = c.in_ok-arg-4.ensures.globals ∙ ap₂ (λ (a b : Bool). a || b) third c.verbose.ensures.local in
     let fifth = c.in_ok-arg-5.ensures.globals ∙ ap₂ (λ (a b : Bool). a || b) fourth c.quiet.ensures.local in
-    IfOk-weaker c.arg-6.result _ _ (λ r h. h.globals ∙ ap₂ (λ (a b : Bool). a || b) fifth c.stop_file.ensures.local) c.arg-6.ensures
+    let sixth = c.in_ok-arg-6.ensures.globals ∙ ap₂ (λ (a b : Bool). a || b) fifth c.stop_file.ensures.local in
+    IfOk-weaker c.arg-7.result _ _ (λ r h. h.globals ∙ ap₂ (λ (a b : Bool). a || b) sixth c.new_journal.ensures.local) c.arg-7.ensures

@@ -9,3 +9,6 @@ returns-in-Ok-clause-ok g c =
 pub returns-in-Ok-clause-err : goal.returns-in-Ok-clause-err
 returns-in-Ok-clause-err g c =
     broken_where c.args.board c.open.new.self (host_numbers c.args.batch.now) c.in-Ok.ensures.ok c.pass_steps.result c.pass_steps.ensures.err
+
+pub returns-in-Err-clause-err : goal.returns-in-Err-clause-err
+returns-in-Err-clause-err g c = breaks_at_once c.args.board c.open.new.self (host_numbers c.args.batch.now) c.in-Err.ensures.unchanged

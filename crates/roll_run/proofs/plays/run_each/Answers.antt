@@ -8,6 +8,7 @@ use Rattle.roll_run.specs.declared.run.Run.{Run}
 use Rattle.roll_run.specs.Runs.{roll_by}
 use Rattle.roll_run.specs.Plays.{AreBroken, AreBrokenOff}
 use Rattle.roll_run.proofs.Following.{done_of, err_of, first_broken, first_runs, gains_as, gains_more, gains_none, known_first, known_rest, ok_of, plays_split, ready_run, unbegun_runs}
+use Rattle.roll_run.proofs.Keeping.{gains_ahead, gains_kept}
 use Rattle.roll_run.proofs.plays.run_each.Goals as goal
 
 pub returns-in_default-places-clause-err : goal.returns-in_default-places-clause-err
@@ -68,3 +69,15 @@ returns-in-Err-clause-err g c =
     let Broken : List Run → List (List Event) → Type 0 = λ done logs. AreBrokenOff may c.args.setup.now.fleet.now c.args.setup.now.forks c.first-item.result later c.args.start.statuses.items c.args.start.vars.items done c.in-Err.last logs in
     gains_as c.args.history c.run_one-run.result.1
     (λ (logs : List (List Event)) is. record { first = c.first-item.result; later = later; plays_are = split; broken = subst (λ (l : List Run). Broken l logs) (sym c.in-Ok.ensures.done.0) is }) broke
+
+pub returns-in-Ok-ended-clause-kept : goal.returns-in-Ok-ended-clause-kept
+returns-in-Ok-ended-clause-kept g c =
+    let first = ok_of _ c.run_one-run.result.0 c.in-Ok-run.run' c.in-Ok-run.is c.run_one-run.ensures.kept in
+    let more = ok_of _ c.run_later-ended.result.0 c.in-Ok-ended.field-0 c.in-Ok-ended.is c.run_later-ended.ensures.kept in
+    gains_kept g.K.Keep.keeps c.args.setup.now.fleet.now c.args.keeper.now c.run_one-run.new.keeper c.run_later-ended.new.keeper c.args.history c.run_one-run.result.1 c.run_later-ended.result.1 first more
+
+pub returns-in-Err-ended-clause-ahead : goal.returns-in-Err-ended-clause-ahead
+returns-in-Err-ended-clause-ahead g c =
+    let first = ok_of _ c.run_one-run.result.0 c.in-Ok-run.run' c.in-Ok-run.is c.run_one-run.ensures.kept in
+    let more = err_of _ c.run_later-ended.result.0 c.in-Err-ended.last c.in-Err-ended.is c.run_later-ended.ensures.ahead in
+    gains_ahead g.K.Keep.keeps c.args.setup.now.fleet.now c.args.keeper.now c.run_one-run.new.keeper c.run_later-ended.new.keeper c.args.history c.run_one-run.result.1 c.run_later-ended.result.1 first more

@@ -1,7 +1,7 @@
 use Rattle.std.proofs.Common.{◌≡◌}
 use Rattle.batch_plan.specs.Places.{AreCountsOf}
 use Rattle.roll_core.specs.Views.{state_of}
-use Rattle.roll_run.specs.Inside.{IsBetween, IsSameRoll}
+use Rattle.roll_run.specs.Inside.{IsBetween, IsSameRoll, KeepsUp}
 use Rattle.roll_run.proofs.turns.go_on.Given as goal
 
 abbrev pub invariant-loop : goal.invariant-loop
@@ -12,4 +12,5 @@ invariant-loop g l = record {
   same : IsSameRoll l.initial.board l.board;
   fleet : l.domains.fleet ≡ l.initial.domains.fleet;
   forks : l.front.forks ≡ l.initial.front.forks;
+  kept : KeepsUp g.K.Keep.keeps l.initial.board.kernel l.board.kernel l.initial.keeper l.keeper;
 }

@@ -11,6 +11,8 @@ use Rattle.roll_run.specs.Inside.{HasBroken, HasRun, grown}
 use Rattle.roll_core.specs.Tellings.{halt_in}
 use Rattle.roll_run.proofs.Counting.{told_fleet}
 use Rattle.roll_run.proofs.Ending.{asked_at, broken_at, ends_here, last_opened}
+use Rattle.roll_run.specs.Journals.{closing}
+use Rattle.roll_run.proofs.Keeping.{keeps_batch}
 use Rattle.roll_run.proofs.Turning.{is_behind, last_is, opens_some, same_behind, same_by, still_so}
 use Rattle.roll_run.proofs.turns.pass.Goals as goal
 
@@ -46,6 +48,20 @@ returns-in-Ok-clause-turned g c =
     c.close_batch-end.ensures.event c.close_batch-end.ensures.legal c.args.boundaries.now c.args.domains.now c.close_batch-end.new.domains
     c.close_batch-end.result noted.boundaries_are c.requires.counts told ended
 
+pub returns-in-Ok-clause-kept : goal.returns-in-Ok-clause-kept
+returns-in-Ok-clause-kept g c =
+    let noted = c.requires.noted in
+    let here = c.index-boundaries-boundaries.is ∙ last_is c.args.boundaries.now noted.behind noted.boundary c.index-boundaries-boundaries.result noted.boundaries_are in
+    let batch = c.next_batch.ensures ∙ ap (λ (b : Boundary). next_batch b.answer) here in
+    let again = c.next_batch-in-Ok.ensures ∙ ap (λ (b : Boundary). next_batch b.answer) here in
+    let run = subst (λ hosts. HasRun hosts c.args.board c.in-Ok.board) batch c.in-Ok.ensures.ok in
+    let mid = c.run_batch.new.keeper in
+    let after = c.close_batch-end.new.keeper in
+    let now = (state_of c.close_batch-end.new.board.kernel).statuses in
+    let kept = subst (λ hosts. g.K.Keep.keeps mid after c.in-Ok.board.kernel.fleet (closing hosts now)) again c.close_batch-end.ensures.kept in
+    keeps_batch g.K.Keep.keeps c.args.board c.in-Ok.board c.close_batch-end.new.board (next_batch noted.boundary.answer) c.args.keeper.now mid after run
+    c.close_batch-end.ensures.event c.close_batch-end.ensures.legal c.in-Ok.ensures.kept kept
+
 pub returns-in-Ok-clause-same : goal.returns-in-Ok-clause-same
 returns-in-Ok-clause-same g c =
     let noted = c.requires.noted in
@@ -70,7 +86,7 @@ returns-in-Err-clause-turned g c =
       broken_at c.args.board c.in-Err.board noted.behind c.args.boundaries.now noted.boundary c.args.before noted.at noted.boundaries_are goes_on broken,
       record {
         why_is = still_so c.in-Err.board.kernel.forks c.args.front.now.forks (state_of c.in-Err.board.kernel) c.in-Err.why forks c.in-Err.ensures.why;
-        asked = asked_at c.args.board c.in-Err.board noted.behind c.args.boundaries.now noted.boundary c.args.before c.in-Err.why noted.at noted.boundaries_are c.in-Err.ensures.unopened;
+        asked = asked_at c.args.board c.in-Err.board noted.behind c.args.boundaries.now noted.boundary c.args.before c.in-Err.why noted.at noted.boundaries_are c.in-Err.ensures.unopened c.in-Err.ensures.unkept;
         last = last_opened c.args.board c.in-Err.board noted.behind c.args.boundaries.now noted.boundary c.args.before noted.at noted.boundaries_are broken;
       },
     )

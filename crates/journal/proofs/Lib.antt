@@ -1,0 +1,16 @@
+pub mod ByteLemmas
+pub mod FeedLemmas
+pub mod LineLemmas
+pub mod StateLemmas
+pub mod EachLemmas
+pub mod WordLemmas
+pub mod NameLemmas
+pub mod SayLemmas
+pub mod GuessLemmas
+pub mod ReadLemmas
+pub mod TextLemmas
+pub mod BodyLemmas
+pub mod FrontLemmas
+pub mod ChangeLemmas
+pub mod ChangedLemmas
+pub mod DigestLemmas

@@ -1,0 +1,35 @@
+-- Entries that a run of a fleet may have at some place.
+use Rattle.std.specs.Prelude.{◌≡◌, ◌<◌, ℕ, true, Some, List, All, length}
+use Rattle.domains.specs.FleetViews.{FleetView}
+use Rattle.journal.specs.Entries.{Entry, Outcome, begun, closed, ended, entry_body, held, opened, play}
+use Rattle.journal.specs.States.{JournalState, is_head, is_over, may_end}
+use Rattle.journal.specs.Guesses.{entry_in}
+use Rattle.journal.specs.Names.{HasPlainNames}
+
+abbrev pub AreHosts : FleetView → List ℕ → Type 0
+AreHosts fleet hosts = All (λ host. host < length fleet.hosts) hosts
+
+abbrev pub IsOutcome : FleetView → Outcome → Type 0
+IsOutcome fleet outcome = (outcome.host < length fleet.hosts) × (is_over outcome.status ≡ true)
+
+abbrev pub Fits : FleetView → Entry → Type 0
+Fits fleet (begun head) = is_head head ≡ true
+Fits fleet (play hosts) = AreHosts fleet hosts
+Fits fleet (held hosts) = AreHosts fleet hosts
+Fits fleet (opened hosts) = AreHosts fleet hosts
+Fits fleet (closed outcomes) = All (IsOutcome fleet) outcomes
+Fits fleet (ended end) = may_end fleet end ≡ true
+
+-- there is a status for each host, and the open batch is of hosts
+pub record IsKept (fleet : FleetView) (state : JournalState) : Type 0 where
+  pub all : length state.statuses ≡ length fleet.hosts
+  pub batch : AreHosts fleet state.open_batch
+
+-- no entry of the fleet has this body
+abbrev pub IsNoBody : FleetView → List ℕ → Type 0
+IsNoBody fleet body = HasPlainNames fleet → (entry : Entry) → Fits fleet entry → body ≡ entry_body fleet entry → ⊥
+
+-- the body is that of the entry that it may say
+pub record IsEntryOf (fleet : FleetView) (body : List ℕ) (entry : Entry) : Type 0 where
+  pub says : body ≡ entry_body fleet entry
+  pub found : entry_in fleet body ≡ Some entry

@@ -1,0 +1,14 @@
+pub mod Lines
+pub mod Words
+pub mod Inside
+pub mod Digests
+pub mod Entries
+pub mod States
+pub mod Names
+pub mod Guesses
+pub mod Fits
+pub mod Standing
+pub mod Listings
+pub mod Shown
+pub mod Journals
+pub mod Laws

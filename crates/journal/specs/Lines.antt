@@ -1,0 +1,36 @@
+-- Lines that tell whether they are whole.
+use Rattle.std.specs.Prelude.{◌≡◌, ℕ, ◌+◌, ◌*◌, Bool, ◌==◌, List, [], ◌∷◌, ◌++◌, codes, decimal, length, false}
+use Rattle.std.specs.List.{list_any}
+
+-- the most bytes of a line's body
+abbrev pub max_body : ℕ
+max_body = 16777216
+
+abbrev pub is_feed : ℕ → Bool
+is_feed byte = byte == 10
+
+-- no line feed stands among the bytes
+abbrev pub HasNoFeed : List ℕ → Type 0
+HasNoFeed bytes = list_any is_feed bytes ≡ false
+
+-- the sum of the bytes, each times its place, of which this is the first one's
+abbrev pub weighed : ℕ → List ℕ → ℕ
+weighed place [] = 0
+weighed place (byte ∷ bytes) = place * byte + weighed (place + 1) bytes
+
+-- `N `
+abbrev pub number_word : ℕ → List ℕ
+number_word number = decimal number ++ codes " "
+
+-- `LENGTH SUM BODY`: how many bytes the body has, and their sum, each times its place, counted from 1
+abbrev pub line_of : List ℕ → List ℕ
+line_of body = number_word (length body) ++ (number_word (weighed 1 body) ++ body)
+
+-- the same with its line feed
+abbrev pub line_text : List ℕ → List ℕ
+line_text body = line_of body ++ codes "\n"
+
+-- the bytes are these, the first line feed among them, and those
+pub record IsCut (bytes front behind : List ℕ) : Type 0 where
+  pub feedless : HasNoFeed front
+  pub parts : bytes ≡ front ++ 10 ∷ behind

@@ -1,0 +1,30 @@
+-- What is told of where a run stands.
+use Rattle.std.specs.Prelude.{ℕ, ◌&&◌, Option, Some, None, List, [], ◌++◌, codes, flat_map, length, nat_lt, if◌then◌else◌}
+use Rattle.std.specs.List.{range_with_len}
+use Rattle.domains.specs.FleetViews.{FleetView}
+use Rattle.domains.specs.Numbered.{host_at}
+use Rattle.fleet_states.specs.declared.status.Status.{Status}
+use Rattle.fleet_states.specs.Statuses.{status_at}
+use Rattle.play_course.specs.declared.end.End.{End}
+use Rattle.recap.specs.RecapText.{ended_line, state_word}
+use Rattle.journal.specs.States.{JournalState, is_finished, is_idle, plays_of}
+
+-- how a run has ended: as its last play; it has not where that has no end, or finished and there are plays to come
+abbrev pub run_end : JournalState → Option End
+run_end state = if is_finished state.end && nat_lt state.play (plays_of state.head) then None else state.end
+
+-- `NAME state=S`; an idle host has no line
+abbrev pub state_line : FleetView → ℕ → Status → List ℕ
+state_line fleet host status = if is_idle status then [] else host_at fleet.hosts host ++ (codes " state=" ++ (state_word status ++ codes "\n"))
+
+-- the lines of the hosts, by name
+abbrev pub state_lines : FleetView → List Status → List ℕ
+state_lines fleet statuses = flat_map (λ host. state_line fleet host (status_at statuses host)) (range_with_len 0 (length fleet.hosts))
+
+-- the last line; a run that has not ended was broken off
+abbrev pub standing_end : FleetView → Option End → List ℕ
+standing_end fleet (Some end) = ended_line fleet end
+standing_end fleet None = codes "end broken-off\n"
+
+abbrev pub state_text : FleetView → JournalState → List ℕ
+state_text fleet state = state_lines fleet state.statuses ++ standing_end fleet (run_end state)

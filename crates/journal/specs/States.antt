@@ -1,0 +1,164 @@
+-- Where a run stands behind entries of its journal.
+use Rattle.std.specs.Prelude.{ℕ, suc, Bool, true, false, ◌&&◌, ◌||◌, ◌==◌, nat_le, nat_lt, not}
+use Rattle.std.specs.Prelude.{Option, None, Some, is_none, option_map, option_and_then, List, [], ◌∷◌, length, slice_set, if◌then◌else◌}
+use Rattle.domains.specs.FleetViews.{FleetView}
+use Rattle.fleet_states.specs.declared.status.Status.{Status}
+use Rattle.fleet_states.specs.declared.status.Status.TheVariants.{Idle, Waiting, Running, Updated, Failed, Halted, Off, Held}
+use Rattle.fleet_states.specs.Starts.{start_statuses}
+use Rattle.fleet_states.specs.Statuses.{is_running, is_waiting, status_at}
+use Rattle.batch_plan.specs.Beginnings.{restart_statuses}
+use Rattle.play_course.specs.declared.end.End.{End}
+use Rattle.play_course.specs.declared.end.End.TheVariants as ending
+use Rattle.journal.specs.Entries.{Entry, Head, Outcome, begun, closed, ended, held, is_digest, opened, play}
+
+-- which run it is; which of its plays has begun last, from 1, and none with 0; the statuses of the hosts; the batch that is open, and nobody where none is;
+-- how the play has ended, if it has
+pub record JournalState : Type 0 where
+  pub head : Option Head
+  pub play : ℕ
+  pub statuses : List Status
+  pub open_batch : List ℕ
+  pub end : Option End
+
+-- before the first entry
+abbrev pub start : FleetView → JournalState
+start fleet = record { head = None; play = 0; statuses = start_statuses fleet []; open_batch = []; end = None }
+
+abbrev pub is_idle : Status → Bool
+is_idle Idle = true
+is_idle Waiting = false
+is_idle Running = false
+is_idle Updated = false
+is_idle Failed = false
+is_idle Halted = false
+is_idle Off = false
+is_idle Held = false
+
+-- the status is that of the three from which hosts are moved
+abbrev pub stands : Status → Status → Bool
+stands Idle status = is_idle status
+stands Waiting status = is_waiting status
+stands Running status = is_running status
+stands Updated status = false
+stands Failed status = false
+stands Halted status = false
+stands Off status = false
+stands Held status = false
+
+-- the host is one of these, and has the status
+abbrev pub has_status : Status → List Status → ℕ → Bool
+has_status status statuses host = nat_lt host (length statuses) && stands status (status_at statuses host)
+
+-- the hosts go from a status to another, one behind the other; one that stands twice, or has another status, refuses it
+abbrev pub moved : Status → Status → List ℕ → List Status → Option (List Status)
+moved before after [] statuses = Some statuses
+moved before after (host ∷ hosts) statuses =
+    if has_status before statuses host then moved before after hosts (slice_set statuses host after) else None
+
+-- what may become of a host of a batch
+abbrev pub is_over : Status → Bool
+is_over Idle = false
+is_over Waiting = false
+is_over Running = false
+is_over Updated = true
+is_over Failed = true
+is_over Halted = true
+is_over Off = false
+is_over Held = false
+
+-- the batch is over: these are its hosts, in its order, and what became of them
+abbrev pub settled : List ℕ → List Outcome → List Status → Option (List Status)
+settled [] [] statuses = Some statuses
+settled [] (outcome ∷ outcomes) statuses = None
+settled (host ∷ hosts) [] statuses = None
+settled (host ∷ hosts) (outcome ∷ outcomes) statuses =
+    if (host == outcome.host) && is_over outcome.status then settled hosts outcomes (slice_set statuses host outcome.status) else None
+
+abbrev pub is_finished : Option End → Bool
+is_finished None = false
+is_finished (Some ending.Finished) = true
+is_finished (Some ending.Held) = false
+is_finished (Some (ending.Blocked group)) = false
+is_finished (Some (ending.TooManyFailed step failed size)) = false
+is_finished (Some ending.AllFailed) = false
+
+-- how many plays there are; none where the run isn't known
+abbrev pub plays_of : Option Head → ℕ
+plays_of None = 0
+plays_of (Some head) = head.plays
+
+-- there is one more play, and the one before it has finished
+abbrev pub may_begin : JournalState → Bool
+may_begin state = nat_lt state.play (plays_of state.head) && ((state.play == 0) || is_finished state.end)
+
+-- nobody stands in the list
+abbrev pub is_nobody : List ℕ → Bool
+is_nobody [] = true
+is_nobody (host ∷ hosts) = false
+
+-- a play has begun and has not ended
+abbrev pub is_under_way : JournalState → Bool
+is_under_way state = nat_lt 0 state.play && is_none state.end
+
+-- that, and no batch is open
+abbrev pub is_between : JournalState → Bool
+is_between state = is_under_way state && is_nobody state.open_batch
+
+-- no number of a step, of hosts or of plays is larger
+abbrev pub most_number : ℕ
+most_number = 65535
+
+-- a batch is open
+abbrev pub is_in_batch : JournalState → Bool
+is_in_batch state = is_under_way state && not (is_nobody state.open_batch)
+
+-- a play of this fleet may end so
+abbrev pub may_end : FleetView → End → Bool
+may_end fleet ending.Finished = true
+may_end fleet ending.Held = true
+may_end fleet (ending.Blocked group) = nat_lt group.index (length fleet.groups)
+may_end fleet (ending.TooManyFailed step failed size) = (nat_le step most_number && nat_le failed most_number) && nat_le size most_number
+may_end fleet ending.AllFailed = true
+
+-- a run says first which it is
+abbrev pub is_head : Head → Bool
+is_head head = (is_digest head.inventory && is_digest head.playbook) && nat_le head.plays most_number
+
+abbrev pub begins : JournalState → Head → JournalState
+begins state head = record state { head = Some head }
+
+abbrev pub plays : JournalState → List Status → JournalState
+plays state statuses = record state { play = suc state.play; statuses = statuses; end = None }
+
+abbrev pub holds : JournalState → List Status → JournalState
+holds state statuses = record state { statuses = statuses }
+
+abbrev pub opens : JournalState → List ℕ → List Status → JournalState
+opens state batch statuses = record state { statuses = statuses; open_batch = batch }
+
+abbrev pub closes : JournalState → List Status → JournalState
+closes state statuses = record state { statuses = statuses; open_batch = [] }
+
+abbrev pub ends : JournalState → End → JournalState
+ends state end = record state { end = Some end }
+
+-- where an entry leads, if it may come
+abbrev pub next : FleetView → JournalState → Entry → Option JournalState
+next fleet state (begun head) = if is_none state.head && is_head head then Some (begins state head) else None
+next fleet state (play hosts) =
+    if may_begin state then option_map (plays state) (moved Idle Waiting hosts (restart_statuses state.statuses [])) else None
+next fleet state (held hosts) = if is_between state then option_map (holds state) (moved Waiting Held hosts state.statuses) else None
+next fleet state (opened hosts) =
+    if is_between state && not (is_nobody hosts) then option_map (opens state hosts) (moved Waiting Running hosts state.statuses) else None
+next fleet state (closed outcomes) =
+    if is_in_batch state then option_map (closes state) (settled state.open_batch outcomes state.statuses) else None
+next fleet state (ended end) = if is_between state && may_end fleet end then Some (ends state end) else None
+
+-- where entries lead from there, if they may come so
+abbrev pub follow : FleetView → JournalState → List Entry → Option JournalState
+follow fleet state [] = Some state
+follow fleet state (entry ∷ entries) = option_and_then (λ later. follow fleet later entries) (next fleet state entry)
+
+-- where the entries of a journal lead, if a run can have them
+abbrev pub state_after : FleetView → List Entry → Option JournalState
+state_after fleet entries = follow fleet (start fleet) entries

@@ -1,0 +1,21 @@
+//! Why a text is no journal.
+use std::alloc::AllocError;
+
+/// Why a journal was not read.
+#[derive(Clone, Copy, Debug, PartialEq, Eq)]
+pub enum JournalFault {
+    /// The line, counted from 1, is whole and no entry that may come there; or, with 1, no line is whole.
+    Bad { line: u64 },
+    Memory,
+}
+
+impl From<AllocError> for JournalFault {
+    ghost use Rattle.std.specs.Prelude.{◌≡◌};
+    ghost use Rattle.journal.specs.declared.fault.JournalFault.TheVariants.{Memory};
+
+    ghost from_gives = { λ _ fault. fault ≡ Memory };
+
+    fn from(_refused: AllocError) -> JournalFault {
+        JournalFault::Memory
+    }
+}

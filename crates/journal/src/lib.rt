@@ -1,0 +1,28 @@
+//! The journal of a run: what it says while it goes on, how that is read again, and where it leaves the hosts.
+#![tactic(auto)]
+
+mod checked_line;
+mod digest;
+mod entry;
+mod fault;
+mod fields;
+mod following;
+mod guessing;
+mod laws;
+mod lines;
+mod moving;
+mod reading;
+mod saying;
+mod standing;
+mod state;
+mod writing;
+
+pub use digest::digest_of;
+pub use entry::{Head, Outcome};
+pub use fault::JournalFault;
+pub use laws::{fronts_are_read, no_change_passes};
+pub use lines::first_line;
+pub use reading::read_journal;
+pub use standing::write_state;
+pub use state::Journal;
+pub use writing::{write_closed, write_end, write_head, write_held, write_open, write_play};

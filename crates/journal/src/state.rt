@@ -1,0 +1,47 @@
+//! Where a run stands.
+ghost use Rattle.std.specs.Prelude.{◌≡◌, IfOk};
+ghost use Rattle.domains.specs.FleetViews.{IsSound};
+ghost use Rattle.journal.specs.States.{start};
+ghost use Rattle.journal.specs.Shown.{shown_journal};
+
+use crate::entry::Head;
+use batch_plan::start;
+use domains::Fleet;
+use fleet_states::Status;
+use group_tree::HostId;
+use play_course::End;
+use std::alloc::{AllocError, Global};
+
+/// Where a run stands behind the entries of its journal.
+#[derive(Drop)]
+pub struct Journal<'t> {
+    /// Which run it is, once that was said.
+    pub head: Option<Head<'t>>,
+    /// The play that has begun last, from 1, and 0 before the first.
+    pub play: u16,
+    /// The status of each host.
+    pub statuses: Vec<Status>,
+    /// The batch that is open, and nobody where none is.
+    pub open_batch: Vec<HostId>,
+    /// How the play has ended, if it has.
+    pub end: Option<End>,
+}
+
+impl<'t> Journal<'t> {
+    /// Before the first entry. Only want of memory refuses it.
+    pub(crate) fn new(alloc: Global, fleet: &Fleet) -> Result<Journal<'t>, AllocError>
+        ensures start { IfOk result (λ journal. shown_journal journal ≡ start fleet.now) }
+        ensures sound { IfOk result (λ _. IsSound fleet.now) }
+    {
+        let statuses = start(alloc, fleet, &[])?;
+        let one_each = statuses.len() == fleet.hosts();
+        prove!(one_each);
+        Ok(Journal {
+            head: None,
+            play: 0,
+            statuses,
+            open_batch: Vec::new(alloc),
+            end: None,
+        })
+    }
+}

@@ -1,0 +1,12 @@
+pub mod Takings
+pub mod MoveLemmas
+pub mod StepLemmas
+pub mod BeginLemmas
+pub mod PlayLemmas
+pub mod DigestLemmas
+pub mod RunLemmas
+pub mod DownLemmas
+pub mod LossLemmas
+pub mod TurnLemmas
+pub mod WrittenLemmas
+pub mod EndLemmas

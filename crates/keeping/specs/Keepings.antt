@@ -1,0 +1,72 @@
+-- What a keeper does with what there is to keep of a run.
+use Rattle.std.specs.Prelude.{◌≡◌, ◌⊎◌, ℕ, Bool, true, false, Option, Some, None, List, min}
+use Rattle.std.specs.Io.KnownBytes.{Appends}
+use Rattle.bounded_io.specs.Sending.{SendsFirst}
+use Rattle.domains.specs.FleetViews.{FleetView}
+use Rattle.domains.specs.Ids.{host_numbers}
+use Rattle.journal.specs.Digests.{digest_of}
+use Rattle.journal.specs.Entries.{Entry, entry_text}
+use Rattle.journal.specs.Entries as entries
+use Rattle.journal.specs.Listings.{outcomes_of, waiting_hosts}
+use Rattle.keeping.specs.declared.said.Said.{Said}
+use Rattle.keeping.specs.declared.said.Said.TheVariants.{Head, Play, Held, Open, Closed, End}
+use Rattle.roll_run.specs.Journals.{JournalEntry, aside, beginning, closing, ended, heading, opening}
+
+-- what is said is this entry
+abbrev pub entry_said : Said → Entry
+entry_said (Head inventory playbook plays) = entries.begun (record { inventory = digest_of inventory.now; playbook = digest_of playbook.now; plays = plays })
+entry_said (Play statuses) = entries.play (waiting_hosts statuses.now)
+entry_said (Held hosts) = entries.held (host_numbers hosts.now)
+entry_said (Open batch) = entries.opened (host_numbers batch.now)
+entry_said (Closed batch statuses) = entries.closed (outcomes_of statuses.now (host_numbers batch.now))
+entry_said (End how) = entries.ended how
+
+-- the most plays that a head can tell
+abbrev pub most_plays : ℕ
+most_plays = 65535
+
+-- the entry of the journal of a run of these texts
+abbrev pub entry_of : List ℕ → List ℕ → JournalEntry → Entry
+entry_of inventory playbook (heading plays) =
+    entries.begun (record { inventory = digest_of inventory; playbook = digest_of playbook; plays = min plays most_plays })
+entry_of inventory playbook (beginning statuses) = entries.play (waiting_hosts statuses)
+entry_of inventory playbook (aside hosts) = entries.held hosts
+entry_of inventory playbook (opening batch) = entries.opened batch
+entry_of inventory playbook (closing batch statuses) = entries.closed (outcomes_of statuses batch)
+entry_of inventory playbook (ended end) = entries.ended end
+
+-- what is known of the bytes of a journal; of one that is not made nothing is
+abbrev pub known_of : {F : Type 0} → (F → Option (List ℕ)) → Option F → Option (List ℕ)
+known_of contents None = None
+known_of contents (Some file) = contents file
+
+-- the text was taken; or its first bytes were, or all of them without being on the disk
+abbrev pub Takes : Option (List ℕ) → Option (List ℕ) → List ℕ → Bool → Type 0
+Takes old new text true = Appends old new text
+Takes old new text false = Appends old new text ⊎ ((count : ℕ) × SendsFirst old new text count)
+
+-- a journal that has all that was to be kept takes the text; another is left as it is, and one that is not made takes nothing
+abbrev pub Adds : {F : Type 0} → (F → Option (List ℕ)) → List ℕ → Option F → Bool → Option F → Bool → Type 0
+Adds contents text old false new whole = (new ≡ old) × (whole ≡ false)
+Adds contents text None true new whole = whole ≡ false
+Adds contents text (Some file) true new whole = Takes (contents file) (known_of contents new) text whole
+
+-- a journal is made, and takes the text
+abbrev pub Makes : {F : Type 0} → (F → Option (List ℕ)) → List ℕ → Option F → Bool → Type 0
+Makes contents text new true = (fresh : Option (List ℕ)) × Appends fresh (known_of contents new) text
+Makes contents text new false = Unit {0}
+
+-- what a keeper does with what there is to keep of a run of these texts: it makes the journal with the first, and adds the others to it
+abbrev pub Keeps : {F : Type 0} → (F → Option (List ℕ)) → List ℕ → List ℕ → FleetView → JournalEntry → Option F → Bool → Option F → Bool → Type 0
+Keeps contents inventory playbook fleet (heading plays) old was new whole =
+    Makes contents (entry_text fleet (entry_of inventory playbook (heading plays))) new whole
+Keeps contents inventory playbook fleet (beginning statuses) old was new whole =
+    Adds contents (entry_text fleet (entry_of inventory playbook (beginning statuses))) old was new whole
+Keeps contents inventory playbook fleet (aside hosts) old was new whole =
+    Adds contents (entry_text fleet (entry_of inventory playbook (aside hosts))) old was new whole
+Keeps contents inventory playbook fleet (opening batch) old was new whole =
+    Adds contents (entry_text fleet (entry_of inventory playbook (opening batch))) old was new whole
+Keeps contents inventory playbook fleet (closing batch statuses) old was new whole =
+    Adds contents (entry_text fleet (entry_of inventory playbook (closing batch statuses))) old was new whole
+Keeps contents inventory playbook fleet (ended end) old was new whole =
+    Adds contents (entry_text fleet (entry_of inventory playbook (ended end))) old was new whole

@@ -1,0 +1,6 @@
+pub mod Keepings
+pub mod Laws
+pub mod Losses
+pub mod Turns
+pub mod Written
+pub mod Ends

@@ -1,0 +1,23 @@
+//! Where journals are kept.
+ghost use Rattle.std.specs.Prelude.{IfOk};
+
+use std::io;
+use std::io::Write;
+
+/// A file, what is written to which can be had on the disk.
+pub trait Disk: Write + Drop {
+    /// All that was written is on the disk.
+    ghost is_on_disk: { Self → Type 0 };
+
+    /// All that was written is on the disk then.
+    fn sync(&self) -> io::Result<()>
+        ensures { IfOk result (λ _. is_on_disk self.now) };
+}
+
+/// Makes files.
+pub trait Shelf {
+    type Journal: Disk;
+
+    /// A new file of this name, which nobody but its owner may read; an error where anything of this name is there.
+    fn create(&self, name: &str) -> io::Result<Self::Journal>;
+}

@@ -1,0 +1,136 @@
+//! Whoever keeps a run in a journal.
+ghost use Rattle.std.specs.Prelude.{◌≡◌, IfSome, is_some, min, true};
+ghost use Rattle.journal.specs.Entries.{entry_text};
+ghost use Rattle.keeping.specs.Keepings.{Adds, Makes, entry_said, most_plays};
+
+use crate::disk::{Disk, Shelf};
+use crate::holds::Holds;
+use crate::said::{Said, take};
+use domains::Fleet;
+use fleet_states::Status;
+use group_tree::HostId;
+use play_course::End;
+use roll_run::Keep;
+use std::alloc::Global;
+
+/// Keeps a run in a journal, a file that it makes when the plays begin. That a batch opens is on the disk before any of its programs is started, with all that
+/// was said before it. Where the file can't be made, doesn't take a line whole, or can't be had on the disk, nothing more is kept, and no further batch opens.
+#[derive(Drop)]
+pub struct Keeper<'k, S: Shelf> {
+    alloc: Global,
+    shelf: &'k S,
+    name: &'k str,
+    inventory: &'k [u8],
+    playbook: &'k [u8],
+    /// The journal, once it is made.
+    file: Option<S::Journal>,
+    /// Whether it has all that was to be kept.
+    is_whole: bool,
+}
+
+impl<'k, S: Shelf> Keeper<'k, S> {
+    /// Of a run of these texts, in a file of this name that is still to be made.
+    pub fn new(
+        alloc: Global,
+        shelf: &'k S,
+        name: &'k str,
+        inventory: &'k [u8],
+        playbook: &'k [u8],
+    ) -> Keeper<'k, S>
+        ensures inventory { result.inventory.now ≡ inventory.now }
+        ensures playbook { result.playbook.now ≡ playbook.now }
+        ensures whole { result.is_whole ≡ true }
+    {
+        Keeper {
+            alloc,
+            shelf,
+            name,
+            inventory,
+            playbook,
+            file: None,
+            is_whole: true,
+        }
+    }
+
+    /// Adds what is said to the journal, where that has all that was said before.
+    fn add(&mut self, fleet: &Fleet, said: Said<'_>, syncs: bool)
+        ensures adds { Adds S.Journal.contents (entry_text fleet.now (entry_said said.entry)) self.old.file self.old.is_whole self.new.file self.new.is_whole }
+        ensures synced { syncs ≡ true → self.new.is_whole ≡ true → IfSome self.new.file S.Journal.is_on_disk }
+        ensures made { self.new.is_whole ≡ true → is_some self.new.file ≡ true }
+    {
+        if !self.is_whole {
+            return;
+        }
+        self.is_whole = match &mut self.file {
+            Some(file) => take(self.alloc, file, fleet, said, syncs),
+            None => false,
+        };
+    }
+
+    /// Makes the journal, and has it take what is said.
+    fn make(&mut self, fleet: &Fleet, said: Said<'_>)
+        ensures { Makes S.Journal.contents (entry_text fleet.now (entry_said said.entry)) self.new.file self.new.is_whole }
+    {
+        match self.shelf.create(self.name) {
+            Ok(mut file) => {
+                self.is_whole = take(self.alloc, &mut file, fleet, said, false);
+                self.file = Some(file);
+            }
+            Err(_error) => self.is_whole = false,
+        }
+    }
+}
+
+/// How many plays a head tells.
+fn told_plays(plays: usize) -> u16
+    ensures { result ≡ min plays most_plays }
+{
+    plays.min(65_535) as u16
+}
+
+impl<S: Shelf> Holds for Keeper<'_, S> {
+    ghost use Rattle.std.specs.Prelude.{◌≡◌};
+
+    ghost is_whole_now = { λ keeper. keeper.is_whole };
+
+    fn is_whole(&self) -> bool {
+        self.is_whole
+    }
+}
+
+impl<S: Shelf> Keep for Keeper<'_, S> {
+    ghost use Rattle.std.specs.Prelude.{◌≡◌, IfSome, is_some, true};
+    ghost use Rattle.keeping.specs.Keepings.{Keeps};
+
+    ghost refuses = { true };
+
+    ghost keeps = { λ before after fleet entry. Keeps S.Journal.contents before.inventory.now before.playbook.now fleet entry before.file before.is_whole after.file after.is_whole };
+
+    ghost holds = { λ keeper fleet batch. (is_some keeper.file ≡ true) × IfSome keeper.file S.Journal.is_on_disk };
+
+    fn plays_begin(&mut self, fleet: &Fleet, plays: usize) {
+        let said = Said::Head(self.inventory, self.playbook, told_plays(plays));
+        self.make(fleet, said);
+    }
+
+    fn begins(&mut self, fleet: &Fleet, statuses: &[Status]) {
+        self.add(fleet, Said::Play(statuses), false);
+    }
+
+    fn sets_aside(&mut self, fleet: &Fleet, hosts: &[HostId]) {
+        self.add(fleet, Said::Held(hosts), false);
+    }
+
+    fn opens(&mut self, fleet: &Fleet, batch: &[HostId]) -> bool {
+        self.add(fleet, Said::Open(batch), true);
+        self.is_whole
+    }
+
+    fn closes(&mut self, fleet: &Fleet, batch: &[HostId], statuses: &[Status]) {
+        self.add(fleet, Said::Closed(batch, statuses), false);
+    }
+
+    fn ends(&mut self, fleet: &Fleet, end: End) {
+        self.add(fleet, Said::End(end), true);
+    }
+}

@@ -1,0 +1,52 @@
+//! What the journal of a run says of it, whoever kept it.
+ghost use Rattle.keeping.specs.Ends.{EndsAreSaidTruly};
+ghost use Rattle.keeping.specs.Laws.{PlaysAreSaidTruly, RunsAreSaidTruly};
+ghost use Rattle.keeping.specs.Losses.{CutJournalsLoseNobody, NothingIsLost, OneAheadLosesNobody};
+ghost use Rattle.keeping.specs.Turns.{SafeRollsAreUnderWay};
+ghost use Rattle.keeping.specs.Written.{KeptIsWritten};
+
+use crate::disk::Shelf;
+use crate::keeper::Keeper;
+use roll_core::Runner;
+
+/// At whatever moment of a play, the journal's lines up to there are lines that a reader takes, and tell where the play stands: the hosts of the open batch
+/// run, and every other host has the status that it has in the run; so each host that is down at that moment is down by the journal, and no other is.
+pub fn plays_are_said_truly()
+    ensures { PlaysAreSaidTruly }
+{}
+
+/// The same at whatever moment of a whole run, from the head of its journal on, play behind play.
+pub fn runs_are_said_truly()
+    ensures { RunsAreSaidTruly }
+{}
+
+/// Once its last play is over, the journal of a run with the line of that end says how it ended, and of each host the status that it has.
+pub fn ends_are_said_truly()
+    ensures { EndsAreSaidTruly }
+{}
+
+/// With the lines of a journal that are lost behind its last `open` line nobody is lost: each host that is down in the run is down by what is left.
+pub fn nothing_is_lost()
+    ensures { NothingIsLost }
+{}
+
+/// Nor does one line more lose anybody, that a batch opens or how the play ended, where the journal has it before the run has come to it.
+pub fn one_ahead_loses_nobody()
+    ensures { OneAheadLosesNobody }
+{}
+
+/// Wherever the bytes of a journal are cut off, what is read of them is a beginning of its entries; and if its last `open` line is there still, each host that
+/// is down in the run is down by what is read.
+pub fn cut_journals_lose_nobody()
+    ensures { CutJournalsLoseNobody }
+{}
+
+/// The logs of the runs of a file of plays are those of plays that come one behind the other, as the laws of journals want them.
+pub fn safe_rolls_are_under_way<R: Runner>(runner: &R)
+    ensures { SafeRollsAreUnderWay (R.may runner.now) }
+{}
+
+/// From one state of a keeper to another, where it has kept a head and other entries and tells that all was kept: their lines are the text of its journal.
+pub fn kept_is_written<S: Shelf>(before: &Keeper<'_, S>, after: &Keeper<'_, S>)
+    ensures { KeptIsWritten S.Journal.contents (λ keeper. keeper.inventory.now) (λ keeper. keeper.playbook.now) (λ keeper. keeper.file) (λ keeper. keeper.is_whole) before.now after.now }
+{}

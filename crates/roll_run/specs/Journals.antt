@@ -1,0 +1,63 @@
+-- What a journal holds of a run: a function of its log.
+use Rattle.std.specs.Prelude.{◌≡◌, ◌⊎◌, ℕ, Option, Some, None, List, [], ◌∷◌, ◌++◌}
+use Rattle.domains.specs.FleetViews.{FleetView}
+use Rattle.fleet_states.specs.declared.status.Status.{Status}
+use Rattle.fleet_states.specs.Groups.{groups_of}
+use Rattle.play_course.specs.declared.end.End.{End}
+use Rattle.event_log.specs.Rolls.{Roll}
+use Rattle.event_log.specs.Events.{Event, set_aside, opened, claimed, reported, passed, closed}
+use Rattle.event_log.specs.States.{State, start_state}
+use Rattle.event_log.specs.Logs.{IsLegal, next}
+
+-- of so many plays the first is to begin; a play begins with these statuses; hosts are set aside; a batch of these is to open; the batch is over, with these statuses of all hosts; the play has ended so
+pub data JournalEntry : Type 0 where
+  heading : ℕ → JournalEntry
+  beginning : List Status → JournalEntry
+  aside : List ℕ → JournalEntry
+  opening : List ℕ → JournalEntry
+  closing : List ℕ → List Status → JournalEntry
+  ended : End → JournalEntry
+
+-- what there is to keep of an event
+abbrev pub entries_at : Roll → State → Event → List JournalEntry
+entries_at roll state (set_aside hosts) = aside hosts ∷ []
+entries_at roll state (opened batch) = opening batch ∷ []
+entries_at roll state (claimed host step) = []
+entries_at roll state (reported host step ending) = []
+entries_at roll state (passed step) = []
+entries_at roll state closed = closing state.batch (next roll state closed).statuses ∷ []
+
+-- and of a log that goes on from this state
+abbrev pub entries : Roll → State → List Event → List JournalEntry
+entries roll state [] = []
+entries roll state (event ∷ log) = entries_at roll state event ++ entries roll (next roll state event) log
+
+-- how the play has ended, where it has
+abbrev pub end_entries : Option End → List JournalEntry
+end_entries None = []
+end_entries (Some end) = ended end ∷ []
+
+-- and of a play with this log, which has ended so, or was broken off
+abbrev pub play_entries : Roll → List Event → Option End → List JournalEntry
+play_entries roll log end = beginning roll.start ∷ (entries roll (start_state roll) log ++ end_entries end)
+
+-- from one moment to another a keeper kept these, one after the other, and nothing else
+abbrev pub HasKept : {K : Type 0} → (K → K → FleetView → JournalEntry → Type 0) → FleetView → K → K → List JournalEntry → Type 0
+HasKept keeps fleet before after [] = after ≡ before
+HasKept {K} keeps fleet before after (first ∷ later) = (mid : K) × keeps before mid fleet first × HasKept keeps fleet mid after later
+
+-- at most one entry more: of a batch that was to open, and was not opened
+abbrev pub IsAhead : {K : Type 0} → (K → K → FleetView → JournalEntry → Type 0) → FleetView → K → K → Type 0
+IsAhead keeps fleet before after = (after ≡ before) ⊎ ((batch : List ℕ) × keeps before after fleet (opening batch))
+
+-- of each of these logs the keeper kept the entries, one play behind the other
+abbrev pub AreKept : {K : Type 0} → (K → K → FleetView → JournalEntry → Type 0) → FleetView → K → K → List (List Event) → Type 0
+AreKept keeps fleet before after [] = after ≡ before
+AreKept {K} keeps fleet before after (log ∷ logs) =
+    (roll : Roll) × (end : Option End) × (mid : K) × (roll.groups ≡ groups_of fleet) × IsLegal roll (start_state roll) log × HasKept keeps fleet before mid (play_entries roll log end) × AreKept keeps fleet mid after logs
+
+-- and at most one entry more
+pub record AreKeptAhead {K : Type 0} (keeps : K → K → FleetView → JournalEntry → Type 0) (fleet : FleetView) (before after : K) (logs : List (List Event)) : Type 0 where
+  pub mid : K
+  pub kept : AreKept keeps fleet before mid logs
+  pub ahead : IsAhead keeps fleet mid after

@@ -1,0 +1,20 @@
+use Rattle.rollout.proofs.Rolling.{ended_so, told_err, told_ok, told_stops}
+use Rattle.rollout.proofs.commands.run.roll_with.Goals as goal
+
+pub returns-clause-ok : goal.returns-clause-ok
+returns-clause-ok g c =
+    let ran = c.run_text-ran.result.0 in
+    let so = ended_so ran c.is_whole.result c.ended.result c.ended.ensures.ok c.ended.ensures.err in
+    told_ok (g.R.Runner.may c.args.runner.now) c.args.inventory.now c.args.playbook.now c.args.forks _ _ c.args.history c.run_text-ran.result.1 ran c.is_whole.result c.ended.result so c.run_text-ran.ensures.ok
+
+pub returns-clause-err : goal.returns-clause-err
+returns-clause-err g c =
+    let ran = c.run_text-ran.result.0 in
+    let so = ended_so ran c.is_whole.result c.ended.result c.ended.ensures.ok c.ended.ensures.err in
+    told_err (g.R.Runner.may c.args.runner.now) c.args.inventory.now c.args.playbook.now c.args.forks _ _ c.args.history c.run_text-ran.result.1 ran c.is_whole.result c.ended.result so c.run_text-ran.ensures.ok c.run_text-ran.ensures.err
+
+pub returns-clause-stops : goal.returns-clause-stops
+returns-clause-stops g c same =
+    let ran = c.run_text-ran.result.0 in
+    let so = ended_so ran c.is_whole.result c.ended.result c.ended.ensures.ok c.ended.ensures.err in
+    told_stops (g.A.Attend.asks c.args.coordinator.now.attend.now) g.K.Keep.refuses ran c.is_whole.result c.ended.result so c.run_text-ran.ensures.asked same

@@ -1,0 +1,7 @@
+use Rattle.rollout.proofs.fault_line.write_row.Goals as goal
+
+pub returns-in-BadJournal : goal.returns-in-BadJournal
+returns-in-BadJournal g c = rw c.in-BadJournal.is c.row-in-BadJournal.ensures
+
+pub returns-in-OtherInputs : goal.returns-in-OtherInputs
+returns-in-OtherInputs g c = rw c.in-OtherInputs.is c.row-in-OtherInputs.ensures

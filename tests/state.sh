@@ -1,0 +1,136 @@
+#!/bin/sh
+# What `state` tells of a run by its journal: worked journals in full, every front of one and each of its bytes changed, and drawn ones, beside a reader of journals in Python.
+# It needs crates/rollout/out/rollout and Python.
+. "$(dirname "$0")/common.sh"
+
+reader=$top/tests/slow/journal.py
+printf '%s' "$racks" >"$work/racks.json"
+
+# written BODY ..: the journal of these bodies, each as a whole line; HEAD is the head of a run with two racks, HEAD2 of one of two plays.
+written() {
+    python3 "$reader" lines "$work/racks.json" "$@" >"$work/journal"
+}
+
+# told WHAT STATUS TEXT BODY ..: of the journal of these bodies this is told.
+told() {
+    what=$1
+    ends=$2
+    text=$3
+    shift 3
+    written "$@"
+    run state "$work/racks.json" "$work/journal"
+    check "$what" "$ends" "$text$newline" ''
+}
+
+# bad WHAT LINE BODY ..: this line is none of a journal.
+bad() {
+    what=$1
+    line=$2
+    shift 2
+    written "$@"
+    run state "$work/racks.json" "$work/journal"
+    check "$what" 1 '' "rollout: 912 BadJournal line=$line$newline"
+}
+
+# Worked by hand: a length, and the sum of each byte times its place.
+python3 -c 'import sys
+body = b"end finished"
+assert len(body) == 12
+sys.stdout.write(f"{len(body)} {1*101+2*110+3*100+4*32+5*102+6*105+7*110+8*105+9*115+10*104+11*101+12*100} ")' >"$work/summed"
+written 'end finished'
+cut -d ' ' -f 1,2 "$work/journal" | tr '\n' ' ' >"$work/journal.front"
+if cmp -s "$work/summed" "$work/journal.front"; then pass; else fail 'a line worked by hand'; fi
+
+told 'nothing has begun' 6 'end broken-off' HEAD
+told 'a play began: all wait' 6 'a state=waiting
+b state=waiting
+c state=waiting
+d state=waiting
+e state=waiting
+end broken-off' HEAD 'play: a b c d e'
+told 'killed in a batch: its hosts may be down' 6 'a state=running
+b state=waiting
+d state=running
+end broken-off' HEAD 'play: a b d' 'open: a d'
+told 'killed between batches' 6 'a state=updated
+b state=waiting
+d state=failed
+end broken-off' HEAD 'play: a b d' 'open: a d' 'closed: updated:a failed:d'
+told 'ended well' 0 'a state=updated
+d state=updated
+end finished' HEAD 'play: a d' 'open: a d' 'closed: updated:a updated:d' 'end finished'
+told 'ended, and one has failed' 2 'a state=failed
+d state=updated
+end finished' HEAD 'play: a d' 'open: a d' 'closed: failed:a updated:d' 'end finished'
+told 'hosts were set aside' 3 'a state=failed
+b state=held
+end held' HEAD 'play: a b' 'open: a' 'closed: failed:a' 'held: b' 'end held'
+told 'a group blocked it' 3 'a state=failed
+b state=waiting
+end blocked group=r1' HEAD 'play: a b' 'open: a' 'closed: failed:a' 'end blocked group=r1'
+told 'too many failed' 4 'a state=failed
+b state=halted
+c state=waiting
+end too-many-failed step=1 failed=1 size=2' HEAD 'play: a b c' 'open: a b' 'closed: failed:a halted:b' 'end too-many-failed step=1 failed=1 size=2'
+told 'all failed' 4 'a state=failed
+end all-failed' HEAD 'play: a' 'open: a' 'closed: failed:a' 'end all-failed'
+told 'a play is to come' 6 'a state=updated
+end broken-off' HEAD2 'play: a' 'open: a' 'closed: updated:a' 'end finished'
+told 'in the second play who failed stays so, and who was updated is idle' 6 'a state=failed
+c state=running
+end broken-off' HEAD2 'play: a b' 'open: a b' 'closed: failed:a updated:b' 'end finished' 'play: c' 'open: c'
+told 'both plays have ended' 2 'a state=failed
+c state=updated
+end finished' HEAD2 'play: a b' 'open: a b' 'closed: failed:a updated:b' 'end finished' 'play: c' 'open: c' 'closed: updated:c' 'end finished'
+
+bad 'no head' 1 'play: a'
+bad 'two heads' 2 HEAD HEAD
+bad 'a batch before a play' 2 HEAD 'open: a'
+bad 'a host that nobody is' 2 HEAD 'play: a nobody'
+bad 'a host twice' 2 HEAD 'play: a a'
+bad 'two spaces' 2 HEAD 'play:  a'
+bad 'a space at the end' 2 HEAD 'play: a '
+bad 'a batch of nobody' 3 HEAD 'play: a' 'open:'
+bad 'a batch of one who does not wait' 3 HEAD 'play: a' 'open: b'
+bad 'a batch while one is open' 4 HEAD 'play: a b' 'open: a' 'open: b'
+bad 'an end while a batch is open' 4 HEAD 'play: a b' 'open: a' 'end finished'
+bad 'a play while a batch is open' 4 HEAD2 'play: a b' 'open: a' 'play: b'
+bad 'a batch over that was not open' 3 HEAD 'play: a' 'closed: updated:a'
+bad 'a batch over without one of its hosts' 4 HEAD 'play: a b' 'open: a b' 'closed: updated:a'
+bad 'a batch over in another order' 4 HEAD 'play: a b' 'open: a b' 'closed: updated:b updated:a'
+bad 'a batch over of which a host waits' 4 HEAD 'play: a' 'open: a' 'closed: waiting:a'
+bad 'a play behind the last' 4 HEAD 'play: a' 'end finished' 'play: b'
+bad 'a play behind one that did not finish' 4 HEAD2 'play: a' 'end held' 'play: b'
+bad 'a batch behind the end' 4 HEAD 'play: a' 'end finished' 'open: a'
+bad 'who failed waits again' 6 HEAD2 'play: a' 'open: a' 'closed: failed:a' 'end finished' 'play: a'
+bad 'an end that no run has' 3 HEAD 'play: a' 'end stopped'
+bad 'a group that is not there' 3 HEAD 'play: a' 'end blocked group=r9'
+bad 'a number with a zero in front' 3 HEAD 'play: a' 'end too-many-failed step=01 failed=1 size=1'
+bad 'a word that no journal has' 2 HEAD 'plays: a'
+
+: >"$work/journal"
+run state "$work/racks.json" "$work/journal"
+check 'an empty file' 1 '' "rollout: 912 BadJournal line=1$newline"
+printf 'no line feed' >"$work/journal"
+run state "$work/racks.json" "$work/journal"
+check 'no whole line' 1 '' "rollout: 912 BadJournal line=1$newline"
+
+written HEAD 'play: a b'
+printf '%s\n' "$racks" >"$work/other.json"
+run state "$work/other.json" "$work/journal"
+check 'another inventory, by a line feed' 1 '' "rollout: 913 OtherInputs$newline"
+printf '{"all":{"hosts":{"z":null}}}' >"$work/other.json"
+run state "$work/other.json" "$work/journal"
+check 'another inventory, without the hosts' 1 '' "rollout: 913 OtherInputs$newline"
+printf '{' >"$work/other.json"
+run state "$work/other.json" "$work/journal"
+check 'an inventory that is none' 1 '' "rollout: 201 NotJson$newline"
+run state "$work/racks.json" "$work/nosuch"
+check 'no journal' 1 '' "rollout: 902 File name=$work/nosuch$newline"
+run state "$work/nosuch" "$work/journal"
+check 'no inventory' 1 '' "rollout: 902 File name=$work/nosuch$newline"
+
+written HEAD2 'play: a b d' 'open: a d' 'closed: updated:a failed:d' 'held: b' 'end held'
+counting python3 "$reader" try "$rollout" "$work/racks.json" "$work/journal"
+counting python3 "$reader" draw "$rollout" 1 300
+finish
