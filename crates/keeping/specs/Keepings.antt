@@ -51,22 +51,22 @@ Adds contents text old false new whole = (new ≡ old) × (whole ≡ false)
 Adds contents text None true new whole = whole ≡ false
 Adds contents text (Some file) true new whole = Takes (contents file) (known_of contents new) text whole
 
--- a journal is made, and takes the text
-abbrev pub Makes : {F : Type 0} → (F → Option (List ℕ)) → List ℕ → Option F → Bool → Type 0
-Makes contents text new true = (fresh : Option (List ℕ)) × Appends fresh (known_of contents new) text
-Makes contents text new false = Unit {0}
+-- a journal is made, and takes the text, the first that is written to it
+abbrev pub Makes : {F : Type 0} → (F → Option (List ℕ)) → (F → Type 0) → List ℕ → Option F → Bool → Type 0
+Makes {F} contents is_new text new true = (fresh : F) × is_new fresh × Appends (contents fresh) (known_of contents new) text
+Makes contents is_new text new false = Unit {0}
 
 -- what a keeper does with what there is to keep of a run of these texts: it makes the journal with the first, and adds the others to it
-abbrev pub Keeps : {F : Type 0} → (F → Option (List ℕ)) → List ℕ → List ℕ → FleetView → JournalEntry → Option F → Bool → Option F → Bool → Type 0
-Keeps contents inventory playbook fleet (heading plays) old was new whole =
-    Makes contents (entry_text fleet (entry_of inventory playbook (heading plays))) new whole
-Keeps contents inventory playbook fleet (beginning statuses) old was new whole =
+abbrev pub Keeps : {F : Type 0} → (F → Option (List ℕ)) → (F → Type 0) → List ℕ → List ℕ → FleetView → JournalEntry → Option F → Bool → Option F → Bool → Type 0
+Keeps contents is_new inventory playbook fleet (heading plays) old was new whole =
+    Makes contents is_new (entry_text fleet (entry_of inventory playbook (heading plays))) new whole
+Keeps contents is_new inventory playbook fleet (beginning statuses) old was new whole =
     Adds contents (entry_text fleet (entry_of inventory playbook (beginning statuses))) old was new whole
-Keeps contents inventory playbook fleet (aside hosts) old was new whole =
+Keeps contents is_new inventory playbook fleet (aside hosts) old was new whole =
     Adds contents (entry_text fleet (entry_of inventory playbook (aside hosts))) old was new whole
-Keeps contents inventory playbook fleet (opening batch) old was new whole =
+Keeps contents is_new inventory playbook fleet (opening batch) old was new whole =
     Adds contents (entry_text fleet (entry_of inventory playbook (opening batch))) old was new whole
-Keeps contents inventory playbook fleet (closing batch statuses) old was new whole =
+Keeps contents is_new inventory playbook fleet (closing batch statuses) old was new whole =
     Adds contents (entry_text fleet (entry_of inventory playbook (closing batch statuses))) old was new whole
-Keeps contents inventory playbook fleet (ended end) old was new whole =
+Keeps contents is_new inventory playbook fleet (ended end) old was new whole =
     Adds contents (entry_text fleet (entry_of inventory playbook (ended end))) old was new whole

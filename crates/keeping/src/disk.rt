@@ -18,6 +18,10 @@ pub trait Disk: Write + Drop {
 pub trait Shelf {
     type Journal: Disk;
 
+    /// Nothing has been written to the file yet.
+    ghost is_new: { Self.Journal → Type 0 };
+
     /// A new file of this name, which nobody but its owner may read; an error where anything of this name is there.
-    fn create(&self, name: &str) -> io::Result<Self::Journal>;
+    fn create(&self, name: &str) -> io::Result<Self::Journal>
+        ensures { IfOk result is_new };
 }

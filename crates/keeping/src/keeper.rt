@@ -69,7 +69,7 @@ impl<'k, S: Shelf> Keeper<'k, S> {
 
     /// Makes the journal, and has it take what is said.
     fn make(&mut self, fleet: &Fleet, said: Said<'_>)
-        ensures { Makes S.Journal.contents (entry_text fleet.now (entry_said said.entry)) self.new.file self.new.is_whole }
+        ensures { Makes S.Journal.contents S.is_new (entry_text fleet.now (entry_said said.entry)) self.new.file self.new.is_whole }
     {
         match self.shelf.create(self.name) {
             Ok(mut file) => {
@@ -104,7 +104,7 @@ impl<S: Shelf> Keep for Keeper<'_, S> {
 
     ghost refuses = { true };
 
-    ghost keeps = { λ before after fleet entry. Keeps S.Journal.contents before.inventory.now before.playbook.now fleet entry before.file before.is_whole after.file after.is_whole };
+    ghost keeps = { λ before after fleet entry. Keeps S.Journal.contents S.is_new before.inventory.now before.playbook.now fleet entry before.file before.is_whole after.file after.is_whole };
 
     ghost holds = { λ keeper fleet batch. (is_some keeper.file ≡ true) × IfSome keeper.file S.Journal.is_on_disk };
 
