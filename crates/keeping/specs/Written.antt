@@ -24,8 +24,8 @@ pub record IsWhole {F : Type 0} (contents : F → Option (List ℕ)) (is_new : F
   pub written : Appends (contents fresh) now text
 
 -- a keeper of a run that has kept a head and these entries, and tells that all was kept, has made a journal and written their text to it, and nothing else
-abbrev pub KeptIsWritten : {K F : Type 0} → (F → Option (List ℕ)) → (F → Type 0) → (K → List ℕ) → (K → List ℕ) → (K → Option F) → (K → Bool) → K → K → Type 0
+abbrev pub KeptIsWritten : {K F : Type 0} → (F → Option (List ℕ)) → (K → F → Type 0) → (K → List ℕ) → (K → List ℕ) → (K → Option F) → (K → Bool) → K → K → Type 0
 KeptIsWritten contents is_new inventory playbook file whole before after =
     (fleet : FleetView) (plays : ℕ) (entries : List JournalEntry) → list_all is_later entries ≡ true
-    → HasKept (λ old new fleet entry. Keeps contents is_new (inventory old) (playbook old) fleet entry (file old) (whole old) (file new) (whole new)) fleet before after (heading plays ∷ entries)
-    → whole after ≡ true → IsWhole contents is_new (known_of contents (file after)) (entries_text fleet (told (inventory before) (playbook before) (heading plays ∷ entries)))
+    → HasKept (λ old new fleet entry. Keeps contents (is_new old) (inventory old) (playbook old) fleet entry (file old) (whole old) (file new) (whole new)) fleet before after (heading plays ∷ entries)
+    → whole after ≡ true → IsWhole contents (is_new before) (known_of contents (file after)) (entries_text fleet (told (inventory before) (playbook before) (heading plays ∷ entries)))

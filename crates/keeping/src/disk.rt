@@ -1,5 +1,5 @@
 //! Where journals are kept.
-ghost use Rattle.std.specs.Prelude.{IfOk};
+ghost use Rattle.std.specs.Prelude.{IfOk, List, ℕ};
 
 use std::io;
 use std::io::Write;
@@ -18,10 +18,10 @@ pub trait Disk: Write + Drop {
 pub trait Shelf {
     type Journal: Disk;
 
-    /// Nothing has been written to the file yet.
-    ghost is_new: { Self.Journal → Type 0 };
+    /// The file is made under this name, and nothing has been written to it yet.
+    ghost is_new: { Self.Journal → List ℕ → Type 0 };
 
     /// A new file of this name, which nobody but its owner may read; an error where anything of this name is there.
     fn create(&self, name: &str) -> io::Result<Self::Journal>
-        ensures { IfOk result is_new };
+        ensures { IfOk result (λ file. is_new file name.now) };
 }

@@ -39,6 +39,7 @@ impl<'k, S: Shelf> Keeper<'k, S> {
     ) -> Keeper<'k, S>
         ensures inventory { result.inventory.now ≡ inventory.now }
         ensures playbook { result.playbook.now ≡ playbook.now }
+        ensures name { result.name.now ≡ name.now }
         ensures whole { result.is_whole ≡ true }
     {
         Keeper {
@@ -69,7 +70,7 @@ impl<'k, S: Shelf> Keeper<'k, S> {
 
     /// Makes the journal, and has it take what is said.
     fn make(&mut self, fleet: &Fleet, said: Said<'_>)
-        ensures { Makes S.Journal.contents S.is_new (entry_text fleet.now (entry_said said.entry)) self.new.file self.new.is_whole }
+        ensures { Makes S.Journal.contents (λ file. S.is_new file self.old.name.now) (entry_text fleet.now (entry_said said.entry)) self.new.file self.new.is_whole }
     {
         match self.shelf.create(self.name) {
             Ok(mut file) => {
@@ -104,7 +105,7 @@ impl<S: Shelf> Keep for Keeper<'_, S> {
 
     ghost refuses = { true };
 
-    ghost keeps = { λ before after fleet entry. Keeps S.Journal.contents S.is_new before.inventory.now before.playbook.now fleet entry before.file before.is_whole after.file after.is_whole };
+    ghost keeps = { λ before after fleet entry. Keeps S.Journal.contents (λ file. S.is_new file before.name.now) before.inventory.now before.playbook.now fleet entry before.file before.is_whole after.file after.is_whole };
 
     ghost holds = { λ keeper fleet batch. (is_some keeper.file ≡ true) × IfSome keeper.file S.Journal.is_on_disk };
 

@@ -48,5 +48,5 @@ pub fn safe_rolls_are_under_way<R: Runner>(runner: &R)
 
 /// From one state of a keeper to another, where it has kept a head and other entries and tells that all was kept: their lines are the text of its journal.
 pub fn kept_is_written<S: Shelf>(before: &Keeper<'_, S>, after: &Keeper<'_, S>)
-    ensures { KeptIsWritten S.Journal.contents S.is_new (λ keeper. keeper.inventory.now) (λ keeper. keeper.playbook.now) (λ keeper. keeper.file) (λ keeper. keeper.is_whole) before.now after.now }
+    ensures { KeptIsWritten S.Journal.contents (λ keeper file. S.is_new file keeper.name.now) (λ keeper. keeper.inventory.now) (λ keeper. keeper.playbook.now) (λ keeper. keeper.file) (λ keeper. keeper.is_whole) before.now after.now }
 {}

@@ -102,7 +102,7 @@ impl<F: Write + OpenFile + Drop> Disk for OnDisk<F> {
 impl<R: fs::Files> Shelf for Host<'_, R> {
     type Journal = OnDisk<R::File>;
 
-    ghost is_new = { λ _. Unit {0} };
+    ghost is_new = { λ _ _. Unit {0} };
 
     /// Its folder is on the disk too, so that the file is found there.
     fn create(&self, name: &str) -> io::Result<OnDisk<R::File>> {
