@@ -60,9 +60,9 @@ _rollout() {
     command=${words[1]}
     case $command in
     limits) most=1 options=(-h --help) ;;
-    plan) most=2 options=(--course --failing --groups -v --verbose -h --help) ;;
-    run) most=2 options=(--forks -v --verbose --quiet --stop-file --journal -h --help) ;;
-    rehearse) most=2 options=(-h --help) ;;
+    plan) most=2 options=(--course --failing --groups --picture -v --verbose -h --help) ;;
+    run) most=2 options=(--forks -v --verbose --quiet --stop-file --journal --resume --mended --changed-inputs -h --help) ;;
+    rehearse) most=2 options=(--strict -h --help) ;;
     state) most=2 options=(-h --help) ;;
     help)
         [[ ${#words[@]} -gt 3 ]] || _rollout_offer limits plan run rehearse state help
@@ -78,12 +78,12 @@ _rollout() {
             files=$((files + 1))
         elif [[ ${words[i]} == -- ]]; then
             ends=yes
-        elif [[ $command == run && ${words[i]} == --@(forks|stop-file|journal) || $command == plan && ${words[i]} == --@(failing) ]]; then
+        elif [[ $command == run && ${words[i]} == --@(forks|stop-file|journal|resume|mended) || $command == plan && ${words[i]} == --@(failing|picture) ]]; then
             wants=${words[i]}
         fi
     done
     # The value may stand in the word of its option.
-    if [[ -z $ends$wants ]] && [[ $command == run && $current == --@(forks|stop-file|journal)=* || $command == plan && $current == --@(failing)=* ]]; then
+    if [[ -z $ends$wants ]] && [[ $command == run && $current == --@(forks|stop-file|journal|resume|mended)=* || $command == plan && $current == --@(failing|picture)=* ]]; then
         wants=${current%%=*}
         option=$wants=
         current=${current#*=}
@@ -93,8 +93,9 @@ _rollout() {
         compopt -o nosort 2>/dev/null
         _rollout_offer {1..64}
         ;;
-    --stop-file | --journal) _rollout_files ;;
-    --failing) ;;
+    --stop-file | --journal | --resume) _rollout_files ;;
+    --picture) _rollout_files '*.svg' ;;
+    --failing | --mended) ;;
     *)
         if [[ -z $ends && $current == -* ]]; then
             _rollout_offer "${options[@]}"

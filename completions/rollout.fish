@@ -26,9 +26,9 @@ function __rollout_lacks
             set files (math $files + 1)
         else if test $word = --
             set ends 1
-        else if test $words[2] = run; and contains -- $word --forks --stop-file --journal
+        else if test $words[2] = run; and contains -- $word --forks --stop-file --journal --resume --mended
             set wants 1
-        else if test $words[2] = plan; and test $word = --failing
+        else if test $words[2] = plan; and contains -- $word --failing --picture
             set wants 1
         end
     end
@@ -51,6 +51,7 @@ complete -c rollout -n '__rollout_lacks 1 limits' -k -a '(__fish_complete_suffix
 complete -c rollout -n '__rollout_of plan' -l course -d 'Prints what a run would open to its end, play by play, where no program fails'
 complete -c rollout -n '__rollout_of plan' -l failing -x -d 'Beside --course these hosts and groups, parted by commas, fail at their first step'
 complete -c rollout -n '__rollout_of plan' -l groups -d 'Prints below it how many hosts of each limited group are down while each batch runs'
+complete -c rollout -n '__rollout_of plan' -l picture -r -F -d 'Writes the course as a picture, in SVG, into this file'
 complete -c rollout -n '__rollout_of plan' -s v -l verbose -d 'Tells on standard error which hosts of the play are down already, and left out'
 complete -c rollout -n '__rollout_of plan' -s h -l help -d 'Print help'
 
@@ -59,8 +60,12 @@ complete -c rollout -n '__rollout_of run' -s v -l verbose -d 'Tells on standard 
 complete -c rollout -n '__rollout_of run' -l quiet -d 'Tells nothing unasked, also at a terminal; beside -v it changes nothing'
 complete -c rollout -n '__rollout_of run' -l stop-file -r -F -d 'Ends the run before the next batch once this file is there'
 complete -c rollout -n '__rollout_of run' -l journal -r -F -d 'Keeps in this new file what becomes of each host, before and behind each batch'
+complete -c rollout -n '__rollout_of run' -l resume -r -F -d 'Goes on with the run of this journal, which broke off, and keeps it there'
+complete -c rollout -n '__rollout_of run' -l mended -x -d 'Beside --resume these hosts and groups, parted by commas, are up by now'
+complete -c rollout -n '__rollout_of run' -l changed-inputs -d 'Beside --resume the inputs may be others than those with which the run began'
 complete -c rollout -n '__rollout_of run' -s h -l help -d 'Print help'
 
+complete -c rollout -n '__rollout_of rehearse' -l strict -d 'Ends with status 1 where a command was refused'
 complete -c rollout -n '__rollout_of rehearse' -s h -l help -d 'Print help'
 
 complete -c rollout -n '__rollout_of state' -s h -l help -d 'Print help'

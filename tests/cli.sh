@@ -534,6 +534,7 @@ Options:
       --course           Prints what a run would open to its end, play by play, where no program fails
       --failing <HOSTS>  Beside --course these hosts and groups, parted by commas, fail at their first step
       --groups           Prints below it how many hosts of each limited group are down while each batch runs
+      --picture <FILE>   Writes the course as a picture, in SVG, into this file
   -v, --verbose          Tells on standard error which hosts of the play are down already, and left out
   -h, --help             Print help
 '
@@ -556,6 +557,9 @@ Options:
       --quiet             Tells nothing unasked, also at a terminal; beside -v it changes nothing
       --stop-file <FILE>  Ends the run before the next batch once this file is there
       --journal <FILE>    Keeps in this new file what becomes of each host, before and behind each batch
+      --resume <JOURNAL>  Goes on with the run of this journal, which broke off, and keeps it there
+      --mended <HOSTS>    Beside --resume these hosts and groups, parted by commas, are up by now
+      --changed-inputs    Beside --resume the inputs may be others than those with which the run began
   -h, --help              Print help
 '
 for words in 'run --help' 'run -h' 'help run'; do
@@ -565,14 +569,15 @@ done
 
 rehearse_help='Answers what a run of a play would come to if these hosts failed, command by command
 
-Usage: rollout rehearse <INV> <PLAY>
+Usage: rollout rehearse [OPTIONS] <INV> <PLAY>
 
 Arguments:
   <INV>   The inventory: a file of JSON that lists groups with their hosts, children and variables
   <PLAY>  The playbook: a file of JSON that lists plays with their hosts and tasks
 
 Options:
-  -h, --help  Print help
+      --strict  Ends with status 1 where a command was refused
+  -h, --help    Print help
 
 Standard input has a command a line, about the first play of PLAY. Nothing is run.
   advance [HOST ..]  the next batch is over, and of it just these hosts failed
@@ -637,12 +642,37 @@ error: a value is required for '--journal <FILE>' but none was supplied
 
 For more information, try '--help'.
 "
+run run a b --resume
+check 'a run that goes on without its journal' 1 '' "rollout: 901 BadLine
+error: a value is required for '--resume <JOURNAL>' but none was supplied
+
+For more information, try '--help'.
+"
+run run a b --resume c --mended
+check 'hosts that are up by now without their names' 1 '' "rollout: 901 BadLine
+error: a value is required for '--mended <HOSTS>' but none was supplied
+
+For more information, try '--help'.
+"
+for words in '--mended c' '--changed-inputs' '--resume c --journal d' '--journal d --resume c'; do
+    run run a b $words
+    check "the line 'run a b $words'" 1 '' "rollout: 901 BadLine$newline"
+done
 bad 'run -- a b --journal c' 'rollout run [OPTIONS] <INV> <PLAY>' "unexpected argument '--journal' found"
 bad 'run -- a b --stop-file c' 'rollout run [OPTIONS] <INV> <PLAY>' "unexpected argument '--stop-file' found"
+run plan a b --picture
+check 'a picture without its file' 1 '' "rollout: 901 BadLine
+error: a value is required for '--picture <FILE>' but none was supplied
+
+For more information, try '--help'.
+"
+bad 'plan -- a b --picture c' 'rollout plan [OPTIONS] <INV> <PLAY>' "unexpected argument '--picture' found"
+bad 'rehearse -- a b --strict' 'rollout rehearse [OPTIONS] <INV> <PLAY>' "unexpected argument '--strict' found"
+bad 'limits a --strict' 'rollout limits <INV>' "unexpected argument '--strict' found$newline$newline  tip: to pass '--strict' as a value, use '-- --strict'"
 bad '-v run a b' 'rollout <COMMAND>' "unexpected argument '-v' found"
 bad rehearse 'rollout rehearse <INV> <PLAY>' "the following required arguments were not provided:$newline  <INV>$newline  <PLAY>"
-bad 'rehearse a b c' 'rollout rehearse <INV> <PLAY>' "unexpected argument 'c' found"
-bad 'rehearse --forks 3 a b' 'rollout rehearse <INV> <PLAY>' "unexpected argument '--forks' found$newline$newline  tip: to pass '--forks' as a value, use '-- --forks'"
+bad 'rehearse a b c' 'rollout rehearse [OPTIONS] <INV> <PLAY>' "unexpected argument 'c' found"
+bad 'rehearse --forks 3 a b' 'rollout rehearse [OPTIONS] <INV> <PLAY>' "unexpected argument '--forks' found$newline$newline  tip: to pass '--forks' as a value, use '-- --forks'"
 bad 'rehears a b' 'rollout <COMMAND>' "unrecognized subcommand 'rehears'$newline$newline  tip: a similar subcommand exists: 'rehearse'"
 bad state 'rollout state <INV> <JOURNAL>' "the following required arguments were not provided:$newline  <INV>$newline  <JOURNAL>"
 bad 'state a' 'rollout state <INV> <JOURNAL>' "the following required arguments were not provided:$newline  <JOURNAL>"

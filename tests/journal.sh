@@ -8,6 +8,10 @@ cc -shared -fPIC -O1 -o "$work/disk.so" "$helpers/disk.c" -ldl || exit 1
 mkdir "$work/kept"
 counting python3 "$helpers/kept.py" "$rollout" "$work/kept" "$work/disk.so" "${SEED:-1}" "${DRAWN_JOURNALS:-60}" "${KILLED_JOURNALS:-60}"
 
+# ---- runs that break off and go on
+
+counting python3 "$helpers/resumed.py" "$rollout" "$work/kept" "$work/disk.so" "${SEED:-1}" "${RESUMED_RUNS:-60}"
+
 # ---- files that are there already
 
 printf '%s' "$racks" >"$work/racks.json"

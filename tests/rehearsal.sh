@@ -121,7 +121,10 @@ end none
 ! 1 rollout: 906 LongLine
 LINES
 help='advance NAMES  the next batch is over; these hosts failed in it (no names: none)
-undo           take the last advance back
+next N         the next N batches are over; just the marked hosts failed in them
+finish         the same of all batches, to the end of the play
+fail HOST      mark a host, which then fails as soon as its batch is over
+undo           take the last of these back, whole
 plan           the plan of the hosts that still wait
 show           the state of each host, and the end of the play
 hosts GROUP    the state of each host of a group, and its batch in the plan
@@ -157,6 +160,136 @@ undone
 undone
 d state=waiting batch=1
 e state=waiting batch=2
+! 0
+LINES
+typed 'several batches at once, taken back at once' ended <<'LINES'
+> b"next 2\n"
+advanced: a d
+advanced: b e
+> b"show\nundo\nplan\n"
+a updated
+b updated
+c waiting
+d updated
+e updated
+end none
+undone
+plan batches=3 bound=group r1 waiting=3 room=1
+batch 1: a d
+batch 2: b e
+batch 3: c
+> b"advance\nnext 00065\nnext 1\nundo\nundo\nundo\n"
+advanced: a d
+advanced: b e
+advanced: c
+refused 832 Over
+undone
+undone
+nothing to undo
+! 0
+LINES
+typed 'all batches, to the end' ended <<'LINES'
+> b"advance\nfinish\nshow\n"
+advanced: a d
+advanced: b e
+advanced: c
+a updated
+b updated
+c updated
+d updated
+e updated
+end finished
+> b"finish\nundo\nhosts r1\n"
+refused 832 Over
+undone
+a state=updated batch=-
+b state=waiting batch=1
+c state=waiting batch=2
+! 0
+LINES
+typed 'a host that fails when its batch comes' ended <<'LINES'
+> b"fail b\nshow\n"
+marked: b
+a waiting
+b waiting
+c waiting
+d waiting
+e waiting
+end none
+> b"advance\nfinish\nshow\n"
+advanced: a d
+advanced: b e
+a updated
+b failed
+c waiting
+d updated
+e updated
+end blocked group=r1
+> b"undo\nadvance\nshow\n"
+undone
+advanced: b e
+a updated
+b failed
+c waiting
+d updated
+e updated
+end blocked group=r1
+> b"undo\nundo\nundo\nfinish\n"
+undone
+undone
+undone
+advanced: a d
+advanced: b e
+advanced: c
+! 0
+LINES
+typed 'hosts that are marked beside those that are named' ended <<'LINES'
+> b"fail d\nfail d\nadvance a\nshow\n"
+marked: d
+marked: d
+advanced: a d
+a failed
+b waiting
+c waiting
+d failed
+e waiting
+end all-failed
+> b"undo\nundo\nundo\n"
+undone
+undone
+nothing to undo
+! 0
+LINES
+typed 'hosts that cannot be marked' ended <<'LINES'
+> b"fail x\nfail r1\nfail\nfail a b\n"
+refused 304 NoSuchName name=x
+refused 304 NoSuchName name=r1
+refused 905 BadCommand
+refused 905 BadCommand
+> b"advance\nfail a\nfail x\nadvance b\nfail c\nfail a\nfail x\n"
+advanced: a d
+refused 833 NotWaiting host=a
+refused 304 NoSuchName name=x
+advanced: b e
+refused 832 Over
+refused 832 Over
+refused 304 NoSuchName name=x
+! 0
+LINES
+typed 'numbers of batches that there are not' ended <<'LINES'
+> b"next\nnext 0\nnext x\nnext 65536\nnext 000001\nnext +1\nnext 1 1\nfinish 1\n"
+refused 905 BadCommand
+refused 905 BadCommand
+refused 905 BadCommand
+refused 905 BadCommand
+refused 905 BadCommand
+refused 905 BadCommand
+refused 905 BadCommand
+refused 905 BadCommand
+> b"next 65535\n"
+advanced: a d
+advanced: b e
+advanced: c
 ! 0
 LINES
 typed 'groups that there are not' ended <<'LINES'

@@ -108,6 +108,36 @@ bad 'a group that is not there' 3 HEAD 'play: a' 'end blocked group=r9'
 bad 'a number with a zero in front' 3 HEAD 'play: a' 'end too-many-failed step=01 failed=1 size=1'
 bad 'a word that no journal has' 2 HEAD 'plays: a'
 
+# ---- runs that went on
+told 'resumed: who was at work may be down, and nobody waits' 6 'a state=updated
+b state=halted
+end broken-off' HEAD 'play: a b c' 'open: a' 'closed: updated:a' 'open: b' 'resumed:'
+told 'resumed, and one is up by now' 6 'a state=updated
+c state=failed
+end broken-off' HEAD 'play: a b c' 'open: a c' 'closed: updated:a failed:c' 'open: b' 'resumed: b'
+told 'the play goes on: who was updated stays so' 6 'a state=updated
+b state=running
+c state=waiting
+end broken-off' HEAD 'play: a b c' 'open: a' 'closed: updated:a' 'open: b' 'resumed: b' 'again: b c' 'open: b'
+told 'who was set aside waits again' 6 'a state=failed
+b state=waiting
+end broken-off' HEAD 'play: a b' 'open: a' 'closed: failed:a' 'held: b' 'end held' 'resumed:' 'again: b'
+told 'behind a play that finished the next one comes' 6 'a state=waiting
+c state=failed
+end broken-off' HEAD2 'play: a c' 'open: a c' 'closed: updated:a failed:c' 'end finished' 'resumed:' 'play: a'
+told 'resumed twice' 6 'a state=halted
+b state=halted
+end broken-off' HEAD 'play: a b' 'open: a' 'resumed:' 'again: b' 'open: b' 'resumed:'
+told 'resumed before anything' 0 'a state=updated
+end finished' HEAD 'resumed: d' 'play: a' 'open: a' 'closed: updated:a' 'end finished'
+bad 'resumed without a head' 1 'resumed:'
+bad 'again without a play' 2 HEAD 'again: a'
+bad 'again while a batch is open' 4 HEAD 'play: a b' 'open: a' 'again: b'
+bad 'again with one who was updated' 6 HEAD 'play: a b' 'open: a' 'closed: updated:a' 'resumed:' 'again: a b'
+bad 'again with one who is down' 5 HEAD 'play: a b' 'open: a' 'resumed:' 'again: a b'
+bad 'a play that comes while one goes on' 4 HEAD2 'play: a' 'resumed:' 'play: b'
+bad 'somebody else is up by now' 2 HEAD 'resumed: z'
+
 : >"$work/journal"
 run state "$work/racks.json" "$work/journal"
 check 'an empty file' 1 '' "rollout: 912 BadJournal line=1$newline"

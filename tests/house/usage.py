@@ -293,7 +293,7 @@ def compare_rehearsal(count, program):
     text = tree.read(FORMATS)
     rows = made.rows_of(text[text.index("\n## A rehearsal") :])
     page = {word for cells in rows for word in re.findall(r"`([a-z]+|\?)(?: [A-Z]+)?`", cells[0])}
-    man = {name for section, below, front, _ in man_sections() if section == "COMMANDS" and below == "rehearse" and front for name in re.findall(r"[a-z]+|\?", front)}
+    man = {name for section, below, front, _ in man_sections() if section == "COMMANDS" and below == "rehearse" and front and not front.startswith("-") for name in re.findall(r"[a-z]+|\?", front)}
     listed = man
     if program:
         asked = [program, "rehearse", "examples/two-regions.json", "examples/everywhere.json"]

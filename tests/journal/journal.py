@@ -54,6 +54,11 @@ def states_of(text, hosts):
         if word == "play":
             states = {host: state if state in ("failed", "halted") else "idle" for host, state in states.items()}
             states.update({host: "waiting" for host in names})
+        elif word == "resumed":
+            rested = {"waiting": "idle", "held": "idle", "running": "halted"}
+            states = {host: "idle" if host in names and state in ("running", "failed", "halted") else rested.get(state, state) for host, state in states.items()}
+        elif word == "again":
+            states.update({host: "waiting" for host in names})
         elif word == "held":
             states.update({host: "held" for host in names})
         elif word == "open":

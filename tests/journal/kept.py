@@ -15,7 +15,14 @@ import sys
 import time
 
 sys.path.insert(0, os.path.dirname(os.path.abspath(__file__)))
+import importlib.util
+
 import journal
+
+# The reader of journals that is written beside the pages.
+READER = importlib.util.spec_from_file_location("slow_journal", os.path.join(os.path.dirname(os.path.abspath(__file__)), "../slow/journal.py"))
+slow = importlib.util.module_from_spec(READER)
+READER.loader.exec_module(slow)
 
 PROGRAM, FOLDER, PRELOAD = sys.argv[1:4]
 draw = random.Random(int(sys.argv[4]))
@@ -157,6 +164,13 @@ def wrong_in_told(case, kept, hosts):
     status = {"finished": 2 if "failed" in states.values() else 0, "held": 3, "blocked": 3, "broken-off": 6}.get(end.split()[1], 4)
     text = "".join(f"{host} state={state}\n" for host, state in sorted(states.items()) if state != "idle") + end + "\n"
     return (told.returncode, told.stdout.decode(), told.stderr) != (status, text, b"") and f"state says {told}, not {text!r} with {status}"
+
+
+def wrong_in_standing(case, kept):
+    """What `state` says otherwise than the slow reader of a journal that was gone on with."""
+    told = subprocess.run([PROGRAM, "state", case.paths[0], case.paths[2]], stdin=subprocess.DEVNULL, capture_output=True)
+    wanted = slow.expected(case.inventory, kept)
+    return (told.stdout, told.stderr, told.returncode) != wanted and f"state says {told}, not {wanted}"
 
 
 def forty():

@@ -1,6 +1,7 @@
-"""Drawn lines of a rehearsal: mostly advances that name hosts of the batch at hand, and undos; some that are no command."""
+"""Drawn lines of a rehearsal: mostly advances that name hosts of the batch at hand, several batches at once, marks of hosts, and undos; some that are no command."""
 
-BAD = [b"jump", b"undo x", b"Show", b"plan plan", b"show\v", b"advance\va", b"help me", b"\xff", b"und", b"adv ance", b"hosts", b"hosts all all", b"quit now", b"? ?"]
+BAD = [b"jump", b"undo x", b"Show", b"plan plan", b"show\v", b"advance\va", b"help me", b"\xff", b"und", b"adv ance", b"hosts", b"hosts all all", b"quit now", b"? ?", b"next", b"next x", b"next 1 1", b"next -1", b"next +1", b"next 1.0", b"next \xb2", b"finish 1", b"fail", b"finish\v"]
+COUNTS = [b"1", b"1", b"2", b"2", b"2", b"3", b"3", b"4", b"5", b"00002", b"65535", b"0", b"65536", b"000001", b"99999"]
 STRANGERS = [b"nobody", b"all", b"r1", b"\xff\xfe", b"caf\xc3\xa9", b"a\r"]
 
 
@@ -23,8 +24,14 @@ def draw_lines(random, rehearsal):
 
 def _line(random, rehearsal):
     kind = random.random()
-    if kind < 0.45:
+    if kind < 0.25:
         return _spaced(random, [b"advance", *_names(random, rehearsal)])
+    if kind < 0.33:
+        return _spaced(random, [b"next", random.choice(COUNTS)])
+    if kind < 0.37:
+        return _spaced(random, [b"finish"])
+    if kind < 0.45:
+        return _spaced(random, [b"fail", _host(random, rehearsal)])
     if kind < 0.6:
         return _spaced(random, [b"undo"])
     if kind < 0.72:
@@ -52,6 +59,17 @@ def _names(random, rehearsal):
     if names and random.random() < 0.1:
         names.append(names[0])
     return names
+
+
+def _host(random, rehearsal):
+    """The name of a host, mostly of one that waits; now and then what is no host."""
+    waiting = [host.encode() for host, status in rehearsal.stack[-1][0].items() if status == "waiting"]
+    kind = random.random()
+    if waiting and kind < 0.75:
+        return random.choice(waiting)
+    if kind < 0.9 and rehearsal.fleet.hosts:
+        return random.choice(rehearsal.fleet.hosts).encode()
+    return random.choice(STRANGERS)
 
 
 def _group(random, rehearsal):

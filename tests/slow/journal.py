@@ -86,6 +86,17 @@ class Run:
                     self.state[host] = b"idle"
             self.play, self.end = self.play + 1, None
             return self.move(names, b"idle", b"waiting")
+        if word == b"resumed:":
+            if any(name not in self.state for name in names):
+                return False
+            rested = {b"waiting": b"idle", b"held": b"idle", b"running": b"halted"}
+            for host, state in self.state.items():
+                is_mended = host in names and state in (b"running", b"failed", b"halted", b"off")
+                self.state[host] = b"idle" if is_mended else rested.get(state, state)
+            self.batch = []
+            if not (self.end == b"finished" and self.play < self.plays):
+                self.end = None
+            return True
         if not self.play or self.end is not None:
             return False
         if word == b"closed:":
@@ -97,6 +108,8 @@ class Run:
             return True
         if self.batch:
             return False
+        if word == b"again:":
+            return self.move(names, b"idle", b"waiting")
         if word == b"held:":
             return self.move(names, b"waiting", b"held")
         if word == b"open:":
@@ -184,27 +197,49 @@ def fronts_and_changes(trial, text):
                 print(f"FAILED: byte {place} changed to {other} passes")
 
 
+def drawn_batches(random_, run, waiting, say):
+    """Batches of those that wait, until the run breaks off in one, or between two, or nobody is left; says whether it has broken off."""
+    random_.shuffle(waiting)
+    while waiting:
+        if random_.random() < 0.1:
+            return True
+        batch = [waiting.pop() for _ in range(min(len(waiting), random_.randint(1, 3)))]
+        if random_.random() < 0.15:
+            say(b" ".join([b"held:", *batch]))
+            continue
+        say(b" ".join([b"open:", *batch]))
+        if random_.random() < 0.1:
+            return True
+        say(b" ".join([b"closed:", *(random_.choice([b"updated", b"updated", b"failed", b"halted"]) + b":" + host for host in batch)]))
+    return False
+
+
 def drawn(random_, inventory):
-    """Bodies that a run might have, mostly in an order that it can have."""
+    """Bodies that a run might have, which breaks off now and then and goes on, in an order that it can have."""
     run = Run(inventory)
     plays = random_.randint(1, 3)
-    bodies = [head(inventory, plays)]
-    for play in range(random_.randint(0, plays)):
+    bodies = []
+
+    def say(body):
+        bodies.append(body)
+        run.follow(body)
+
+    say(head(inventory, plays))
+    word = b"play:"
+    for _ in range(random_.randint(0, plays + 3)):
+        if word == b"play:" and (run.play >= plays or (run.play and run.end != b"finished")):
+            break
         up = [host for host in run.hosts if run.state[host] not in (b"failed", b"halted", b"off")]
-        waiting = sorted(random_.sample(up, random_.randint(1, len(up)))) if up else []
-        bodies.append(b" ".join([b"play:", *waiting]))
-        run.state = {host: state if state in (b"failed", b"halted", b"off") else b"idle" for host, state in run.state.items()}
-        random_.shuffle(waiting)
-        while waiting and random_.random() < 0.9:
-            batch = [waiting.pop() for _ in range(min(len(waiting), random_.randint(1, 3)))]
-            if random_.random() < 0.15:
-                bodies.append(b" ".join([b"held:", *batch]))
-                continue
-            bodies.append(b" ".join([b"open:", *batch]))
-            became = [(random_.choice([b"updated", b"updated", b"failed", b"halted"]), host) for host in batch]
-            run.state.update({host: state for state, host in became})
-            bodies.append(b" ".join([b"closed:", *(state + b":" + host for state, host in became)]))
-        bodies.append(random_.choice([b"end finished"] * 4 + [b"end held", b"end all-failed", b"end blocked group=r1", b"end too-many-failed step=1 failed=2 size=3"]))
+        up = [host for host in up if run.state[host] == b"idle"] if word == b"again:" else up
+        waiting = sorted(random_.sample(up, random_.randint(0, len(up))))
+        say(b" ".join([word, *waiting]))
+        word = b"play:"
+        is_broken = drawn_batches(random_, run, waiting, say)
+        if not is_broken:
+            say(random_.choice([b"end finished"] * 4 + [b"end held", b"end all-failed", b"end blocked group=r1", b"end too-many-failed step=1 failed=2 size=3"]))
+        if is_broken or random_.random() < 0.2:
+            say(b" ".join([b"resumed:", *random_.sample(run.hosts, random_.randint(0, 3))]))
+            word = b"again:" if run.play and run.end is None else b"play:"
     return bodies
 
 

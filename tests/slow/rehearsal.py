@@ -10,7 +10,10 @@ from texts import as_text, listed, plan_text
 LONGEST_LINE = 65_536
 MOST_BYTES = 16_777_216
 HELP = """advance NAMES  the next batch is over; these hosts failed in it (no names: none)
-undo           take the last advance back
+next N         the next N batches are over; just the marked hosts failed in them
+finish         the same of all batches, to the end of the play
+fail HOST      mark a host, which then fails as soon as its batch is over
+undo           take the last of these back, whole
 plan           the plan of the hosts that still wait
 show           the state of each host, and the end of the play
 hosts GROUP    the state of each host of a group, and its batch in the plan
@@ -20,11 +23,15 @@ quit           end the session
 
 
 class Rehearsal:
-    """A stack of states, each with the planner's answer and the end, if it has one."""
+    """A stack of states, each with the planner's answer and the end, if it has one; the hosts that are marked to fail; and for each command that can be taken back what
+    stack and marks were before it."""
 
     def __init__(self, fleet, play, state, targeted):
         self.fleet, self.play, self.targeted = fleet, play, targeted
         self.stack = []
+        self.marked = []
+        self.past = []
+        self.refused = False
         self._push(dict(state), None)
 
     def _push(self, state, end):
@@ -35,11 +42,19 @@ class Rehearsal:
 
     def answer(self, line):
         """The lines that answer a line; nothing to one without words."""
-        words = words_of(line)
+        lines = self._answer(words_of(line))
+        self.refused = self.refused or any(isinstance(line, Refused) for line in lines)
+        return lines
+
+    def _answer(self, words):
         if not words:
             return []
         if words[0] == b"advance":
             return [self.advance(words[1:])]
+        if words[0] == b"next" and len(words) == 2 and number_in(words[1]):
+            return self.next(number_in(words[1]))
+        if words[0] == b"fail" and len(words) == 2:
+            return [self.fail(words[1])]
         if words[0] == b"hosts" and len(words) == 2:
             return self.hosts(words[1])
         if words[0] in ALONE and (len(words) == 1 or turned("no-words-behind-a-command")):
@@ -47,8 +62,8 @@ class Rehearsal:
         return [refused(Fault(905, "BadCommand"))]
 
     def advance(self, names):
-        """Opens the plan's first batch and closes it, the named hosts failing at the first step."""
-        state, found, end = self.stack[-1]
+        """Opens the plan's first batch and closes it, the named hosts failing at the first step, and the marked ones."""
+        _, found, end = self.stack[-1]
         tests = [self._unknown, self._over, self._outside]
         if turned("unknown-before-over"):
             tests = [self._over, self._unknown, self._outside]
@@ -58,6 +73,48 @@ class Rehearsal:
             fault = test(names, found, end)
             if fault:
                 return refused(fault)
+        self._remember()
+        return self._pass([*names, *self.marked])
+
+    def next(self, count):
+        """Opens and closes so many batches, or as many as there are, in which just the marked hosts fail; a line for each."""
+        if self.stack[-1][2]:
+            return [refused(Fault(832, "Over"))]
+        self._remember()
+        lines = []
+        while len(lines) < count and not self.stack[-1][2]:
+            if lines and turned("undo-takes-all-of-next-back"):
+                self._remember()
+            lines.append(self._pass([] if turned("marked-hosts-fail-in-next") else self.marked))
+        return lines
+
+    def finish(self):
+        """The same of all batches to the end."""
+        return self.next(1 if turned("finish-comes-to-the-end") else len(self.fleet.hosts))
+
+    def fail(self, name):
+        """Marks a host that waits."""
+        state, _, end = self.stack[-1]
+        host = next((host for host in self.fleet.hosts if host.encode() == name), None)
+        waits = host and (state[host] == "waiting" or turned("marked-hosts-wait"))
+        if not host:
+            return refused(Fault(304, "NoSuchName", name=name))
+        if end and (waits or not turned("over-before-not-waiting")):
+            return refused(Fault(832, "Over"))
+        if not waits:
+            return refused(Fault(833, "NotWaiting", host=name))
+        if name not in self.marked or turned("marked-twice-is-marked-once"):
+            self._remember()
+            self.marked.append(name)
+        return listed("marked:", [host])
+
+    def _remember(self):
+        """What `undo` goes back to."""
+        self.past.append((list(self.stack), list(self.marked)))
+
+    def _pass(self, names):
+        """Opens the plan's first batch and closes it, these hosts of it failing."""
+        state, found, end = self.stack[-1]
         batch = found.batches[0]
         failing = {host: 1 if host.encode() in names else None for host in batch}
         halt = halting(failing, self.play)
@@ -86,10 +143,13 @@ class Rehearsal:
         return Fault(831, "NotInBatch", host=outside[0]) if outside else None
 
     def undo(self):
-        """Takes the last boundary back, with its end."""
-        if len(self.stack) == 1:
+        """Goes back to what was before the last command that led on, with its end."""
+        if not self.past:
             return ["nothing to undo"]
-        state, found, end = self.stack.pop()
+        end = self.stack[-1][2]
+        self.stack, marked = self.past.pop()
+        if not turned("undo-takes-marks-back"):
+            self.marked = marked
         if turned("undo-takes-the-end-back") and end:
             self.stack[-1] = (*self.stack[-1][:2], end)
         return ["undone"]
@@ -127,6 +187,7 @@ class Rehearsal:
 
 # The commands behind which nothing stands.
 ALONE = {
+    b"finish": Rehearsal.finish,
     b"undo": Rehearsal.undo,
     b"plan": Rehearsal.plan,
     b"show": Rehearsal.show,
@@ -141,9 +202,22 @@ def words_of(line):
     return [word for word in line.replace(b"\t", b" ").split(b" ") if word]
 
 
+def number_in(word):
+    """The number from 1 to 65,535 that a word of one to five digits says; else None."""
+    digits = len(word) if turned("counts-have-five-digits") else 5
+    if not 1 <= len(word) <= digits or not all(byte in b"0123456789" for byte in word):
+        return None
+    number = int(word)
+    return number if 1 <= number <= 65_535 else None
+
+
+class Refused(str):
+    """The answer to a line that is refused."""
+
+
 def refused(fault):
     """The answer to a line that is refused."""
-    return f"refused {fault.words()}"
+    return Refused(f"refused {fault.words()}")
 
 
 def rehearse(rehearsal, typed):

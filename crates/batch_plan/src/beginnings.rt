@@ -41,7 +41,7 @@ fn await_turn(status: Status) -> Status
 }
 
 /// Makes these hosts wait where they are idle; a number that no host has is passed over.
-fn target_idle(statuses: &mut Vec<Status>, target: &[HostId])
+pub fn await_turns(statuses: &mut Vec<Status>, target: &[HostId])
     ensures { statuses.new.items ≡ changed awaited (host_numbers target.now) statuses.old.items }
 {
     for host in target {
@@ -70,7 +70,7 @@ pub fn start(alloc: Global, fleet: &Fleet, target: &[HostId]) -> Result<Vec<Stat
     ensures ready { IfOk result (λ statuses. IsReady fleet.now statuses.items) }
 {
     let mut statuses = rest_all_at_start(alloc, fleet)?;
-    target_idle(&mut statuses, target);
+    await_turns(&mut statuses, target);
     Ok(statuses)
 }
 
@@ -99,6 +99,6 @@ pub fn restart(
     ensures ready { IfOk result (λ next. IsReady fleet.now statuses.now → IsReady fleet.now next.items) }
 {
     let mut next = rest_all(alloc, fleet, statuses)?;
-    target_idle(&mut next, target);
+    await_turns(&mut next, target);
     Ok(next)
 }

@@ -24,7 +24,7 @@ mod shape;
 
 pub use answers::{Answer, Bound};
 pub use batches::Batches;
-pub use beginnings::{restart, start};
+pub use beginnings::{await_turns, restart, start};
 pub use checker::check_plan;
 pub use counting::{counted, place_of};
 pub use counts::Domains;

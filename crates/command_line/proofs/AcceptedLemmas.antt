@@ -134,8 +134,8 @@ plan_alone : (first second : Word) → IsValue first → IsValue second → Read
 unfolding clap_on_literals
 plan_alone first second p q = record {
   taken = rw (p.no_end, p.no_long, p.no_short, q.no_end, q.no_long, q.no_short) refl;
-  inventory = simp (p.no_end, p.no_long, p.no_short, q.no_end, q.no_long, q.no_short);
-  playbook = simp (p.no_end, p.no_long, p.no_short, q.no_end, q.no_long, q.no_short);
+  inventory = rw (p.no_end, p.no_long, p.no_short, q.no_end, q.no_long, q.no_short) refl;
+  playbook = rw (p.no_end, p.no_long, p.no_short, q.no_end, q.no_long, q.no_short) refl;
 }
 
 plan_before : (first second : Word) → IsValue first → IsValue second → ReadsBoth (codes "plan") (codes "plan" ∷ first ∷ second ∷ codes "--" ∷ []) (first, second)

@@ -14,7 +14,7 @@ use Rattle.clap.specs.declared.builder.value_parser.ValueParser.TheVariants.{Str
 use Rattle.clap.specs.declared.builder.value_parser.ValueParser.TheVariants as parsers
 use Rattle.clap.proofs.OnLiterals.{clap_on_literals}
 use Rattle.clap.proofs.WalkLemmas.{walk_stopped}
-use Rattle.command_line.specs.Syntax.{file_in, forks_argument, inventory_argument, limits_command, new_journal_argument, plan_command, playbook_argument, quiet_argument, rehearse_command, rollout, state_command, stop_file_argument, text_in, verbose_argument}
+use Rattle.command_line.specs.Syntax.{changed_inputs_argument, file_in, forks_argument, inventory_argument, limits_command, mended_argument, new_journal_argument, plan_command, playbook_argument, quiet_argument, rehearse_command, resume_argument, rollout, state_command, stop_file_argument, text_in, verbose_argument}
 use Rattle.command_line.specs.Operands.{Word}
 
 -- clap takes the words, and reads both files and the text of the forks
@@ -28,8 +28,9 @@ pub record ReadsText (app : App) (words : List Word) (first second text : Word) 
 abbrev pub program : ValueParser → App
 program parser = record rollout {
   subs = limits_command.top ∷ plan_command.top
-      ∷ (with_rule (with_rule (with_rule (with_rule (with_rule (with_rule (with_rule (new_app (codes "run")) inventory_argument) playbook_argument)
-      (record forks_argument { parser = Some parser })) verbose_argument) quiet_argument) stop_file_argument) new_journal_argument).top ∷ rehearse_command.top ∷ state_command.top ∷ [];
+      ∷ (with_rule (with_rule (with_rule (with_rule (with_rule (with_rule (with_rule (with_rule (with_rule (with_rule (new_app (codes "run")) inventory_argument) playbook_argument)
+      (record forks_argument { parser = Some parser })) verbose_argument) quiet_argument) stop_file_argument) new_journal_argument) resume_argument) mended_argument)
+      changed_inputs_argument).top ∷ rehearse_command.top ∷ state_command.top ∷ [];
 }
 
 abbrev with_one_value : Rule → Rule
@@ -53,6 +54,9 @@ level parser = record (new_shape (codes "run")) {
       ∷ (built_flag verbose_argument) ∷ (built_flag quiet_argument)
       ∷ (record (with_one_value stop_file_argument) { parser = Some String })
       ∷ (record (with_one_value new_journal_argument) { parser = Some String })
+      ∷ (record (with_one_value resume_argument) { parser = Some String })
+      ∷ (record (with_one_value mended_argument) { parser = Some String })
+      ∷ (built_flag changed_inputs_argument)
       ∷ (record help_rule { parser = Some String; range = Some none_taken }) ∷ [];
 }
 

@@ -1,5 +1,5 @@
 -- The words without an option that may stand more than once, and its values, word by word.
-use Rattle.std.proofs.Common.{◌≡◌, ◌&&◌, ◌++◌, ◌∷◌, Bool, true, false, not, cond, List, [], Option, Some, None, refl, sym, ap, ap₂, ◌∙◌, option_map, append_assoc, append-nil}
+use Rattle.std.proofs.Common.{◌≡◌, ◌&&◌, ◌++◌, ◌∷◌, Bool, true, false, not, cond, List, [], Option, Some, None, refl, sym, ap, ◌∙◌, option_map, append_assoc}
 use Rattle.std.specs.Str.{bytes_eq}
 use Rattle.command_line.specs.Operands.{Word, dashes}
 use Rattle.command_line.specs.Options.{behind, first_and_rest, leading_value}

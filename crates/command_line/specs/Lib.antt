@@ -7,6 +7,8 @@ pub mod Messages
 pub mod Operands
 pub mod OptionValues
 pub mod Options
+pub mod PlanOptions
+pub mod Requests
 pub mod RunFiles
 pub mod Runs
 pub mod Syntax

@@ -1,5 +1,5 @@
 -- An option with a value that may stand more than once among the words.
-use Rattle.std.specs.Prelude.{if◌then◌else◌, List, [], ◌∷◌}
+use Rattle.std.specs.Prelude.{if◌then◌else◌, List, [], ◌∷◌, ◌++◌, codes, flat_map}
 use Rattle.std.specs.Option.{option_map_or}
 use Rattle.std.specs.Str.{bytes_eq}
 use Rattle.command_line.specs.Operands.{Word, dashes}
@@ -33,3 +33,7 @@ without_values name attached words = (read_values name attached words).0
 
 abbrev pub values_of : Word → Word → List Word → List Word
 values_of name attached words = (read_values name attached words).1
+
+-- values in one text, a comma behind each
+abbrev pub joined : List Word → Word
+joined values = flat_map (λ value. value ++ codes ",") values

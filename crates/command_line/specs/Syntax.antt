@@ -40,6 +40,14 @@ failing_argument = record (new_rule (codes "failing")) { long = Some (codes "fai
 abbrev pub groups_argument : Rule
 groups_argument = record (new_rule (codes "groups")) { long = Some (codes "groups"); action = Some SetTrue }
 
+-- the option that names the file of a plan's picture
+abbrev pub picture_argument : Rule
+picture_argument = record (new_rule (codes "picture")) { long = Some (codes "picture"); value_names = 1 }
+
+-- the flag that asks a rehearsal to be strict
+abbrev pub strict_argument : Rule
+strict_argument = record (new_rule (codes "strict")) { long = Some (codes "strict"); action = Some SetTrue }
+
 -- the flag that asks a run to tell nothing unasked
 abbrev pub quiet_argument : Rule
 quiet_argument = record (new_rule (codes "quiet")) { long = Some (codes "quiet"); action = Some SetTrue }
@@ -52,6 +60,18 @@ stop_file_argument = record (new_rule (codes "stop-file")) { long = Some (codes 
 abbrev pub new_journal_argument : Rule
 new_journal_argument = record (new_rule (codes "journal")) { long = Some (codes "journal"); value_names = 1 }
 
+-- the option that names the journal of the run that is to go on
+abbrev pub resume_argument : Rule
+resume_argument = record (new_rule (codes "resume")) { long = Some (codes "resume"); value_names = 1 }
+
+-- the option that names hosts which are up by now
+abbrev pub mended_argument : Rule
+mended_argument = record (new_rule (codes "mended")) { long = Some (codes "mended"); value_names = 1 }
+
+-- the flag that lets a run go on with other inputs
+abbrev pub changed_inputs_argument : Rule
+changed_inputs_argument = record (new_rule (codes "changed-inputs")) { long = Some (codes "changed-inputs"); action = Some SetTrue }
+
 abbrev pub limits_command : App
 limits_command = with_rule (new_app (codes "limits")) inventory_argument
 
@@ -59,8 +79,10 @@ abbrev pub plan_command : App
 plan_command =
     with_rule
     (with_rule
+    (with_rule
     (with_rule (with_rule (with_rule (with_rule (new_app (codes "plan")) inventory_argument) playbook_argument) course_argument) failing_argument)
     groups_argument)
+    picture_argument)
     verbose_argument
 
 abbrev pub run_command : App
@@ -68,13 +90,19 @@ run_command =
     with_rule
     (with_rule
     (with_rule
+    (with_rule
+    (with_rule
+    (with_rule
     (with_rule (with_rule (with_rule (with_rule (new_app (codes "run")) inventory_argument) playbook_argument) forks_argument) verbose_argument)
     quiet_argument)
     stop_file_argument)
-    new_journal_argument
+    new_journal_argument)
+    resume_argument)
+    mended_argument)
+    changed_inputs_argument
 
 abbrev pub rehearse_command : App
-rehearse_command = with_rule (with_rule (new_app (codes "rehearse")) inventory_argument) playbook_argument
+rehearse_command = with_rule (with_rule (with_rule (new_app (codes "rehearse")) inventory_argument) playbook_argument) strict_argument
 
 -- the argument for the journal's file
 abbrev pub journal_argument : Rule

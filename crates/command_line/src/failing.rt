@@ -18,7 +18,7 @@ pub(crate) fn without_failing(
 }
 
 /// The values one behind the other, a comma behind each.
-fn joined(alloc: Global, values: &[String]) -> Result<String, AllocError>
+pub(crate) fn joined(alloc: Global, values: &[String]) -> Result<String, AllocError>
     ensures { IfOk result (λ text. string_bytes text ≡ flat_map (λ value. string_bytes value ++ codes ",") values.now) }
 {
     let mut text = String::new(alloc);

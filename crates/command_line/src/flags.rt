@@ -1,4 +1,4 @@
-//! The flags that ask a command to tell of itself, or to be quiet, or a plan for its course or its groups.
+//! The flags that ask a command to tell of itself, or to be quiet, a run to go on with other inputs, a plan for its course or its groups, or a rehearsal to be strict.
 ghost use Rattle.std.specs.Prelude.{◌≡◌, ◌&&◌, ◌∷◌, ◌++◌, [], IfOk, OnOk, if◌then◌else◌, map, string_bytes};
 ghost use Rattle.command_line.specs.Flags as spec;
 
@@ -13,10 +13,14 @@ pub(crate) enum Flags {
     Quiet,
     /// Either of them.
     Either,
+    ChangedInputs,
+    /// Those of a run that goes on: `Either` and `ChangedInputs`.
+    Resuming,
     Course,
     Groups,
     /// Those of a plan: `Verbose`, `Course` and `Groups`.
     Planning,
+    Strict,
 }
 
 impl Flags {
@@ -26,12 +30,13 @@ impl Flags {
         match self {
             Flags::Verbose => is_verbose(word),
             Flags::Quiet => is_word(word, "--quiet"),
-            Flags::Either => is_verbose(word) || is_word(word, "--quiet"),
+            Flags::Either => is_of_run(word),
+            Flags::ChangedInputs => is_word(word, "--changed-inputs"),
+            Flags::Resuming => is_of_run(word) || is_word(word, "--changed-inputs"),
             Flags::Course => is_word(word, "--course"),
             Flags::Groups => is_word(word, "--groups"),
-            Flags::Planning => {
-                is_verbose(word) || is_word(word, "--course") || is_word(word, "--groups")
-            }
+            Flags::Planning => is_verbose(word) || is_of_plan(word),
+            Flags::Strict => is_word(word, "--strict"),
         }
     }
 }
@@ -40,6 +45,20 @@ fn is_verbose(word: &String) -> bool
     ensures { result ≡ spec.is_verbose_flag (string_bytes word.now) }
 {
     is_word(word, "-v") || is_word(word, "--verbose")
+}
+
+/// Whether the word is a flag that each run has.
+fn is_of_run(word: &String) -> bool
+    ensures { result ≡ spec.is_run_flag (string_bytes word.now) }
+{
+    is_verbose(word) || is_word(word, "--quiet")
+}
+
+/// Whether the word is a flag that a plan alone has.
+fn is_of_plan(word: &String) -> bool
+    ensures { result ≡ spec.is_plan_flag (string_bytes word.now) }
+{
+    is_word(word, "--course") || is_word(word, "--groups")
 }
 
 /// Whether one of the words before the one that ends options is such a flag.

@@ -9,6 +9,7 @@ mod forks;
 mod message;
 mod option_values;
 mod option_words;
+mod plan_options;
 mod reading;
 mod request;
 mod run_files;

@@ -26,11 +26,21 @@ const STOP_FILE: &str = "stop-file";
 
 const NEW_JOURNAL: &str = "journal";
 
+const RESUME: &str = "resume";
+
+const MENDED: &str = "mended";
+
+const CHANGED_INPUTS: &str = "changed-inputs";
+
 const COURSE: &str = "course";
 
 const FAILING: &str = "failing";
 
 const GROUPS: &str = "groups";
+
+const PICTURE: &str = "picture";
+
+const STRICT: &str = "strict";
 
 const INVENTORY_HELP: &str =
     "The inventory: a file of JSON that lists groups with their hosts, children and variables";
@@ -51,6 +61,10 @@ const FAILING_HELP: &str =
 const GROUPS_HELP: &str =
     "Prints below it how many hosts of each limited group are down while each batch runs";
 
+const PICTURE_HELP: &str = "Writes the course as a picture, in SVG, into this file";
+
+const STRICT_HELP: &str = "Ends with status 1 where a command was refused";
+
 const PLAN_VERBOSE_HELP: &str =
     "Tells on standard error which hosts of the play are down already, and left out";
 
@@ -63,6 +77,14 @@ const STOP_FILE_HELP: &str = "Ends the run before the next batch once this file 
 
 const NEW_JOURNAL_HELP: &str =
     "Keeps in this new file what becomes of each host, before and behind each batch";
+
+const RESUME_HELP: &str =
+    "Goes on with the run of this journal, which broke off, and keeps it there";
+
+const MENDED_HELP: &str = "Beside --resume these hosts and groups, parted by commas, are up by now";
+
+const CHANGED_INPUTS_HELP: &str =
+    "Beside --resume the inputs may be others than those with which the run began";
 
 const NOTES: &str = "\
 INV is the inventory: a file of JSON that lists groups with their hosts, children and variables.
@@ -126,6 +148,7 @@ fn plan<'a>(alloc: Global) -> Result<Command<'a>, AllocError>
         .arg(course(alloc))?
         .arg(failing(alloc))?
         .arg(groups(alloc))?
+        .arg(picture(alloc))?
         .arg(verbose(alloc, PLAN_VERBOSE_HELP))
 }
 
@@ -141,7 +164,10 @@ fn run<'a>(alloc: Global) -> Result<Command<'a>, AllocError>
         .arg(verbose(alloc, RUN_VERBOSE_HELP))?
         .arg(quiet(alloc))?
         .arg(stop_file(alloc))?
-        .arg(new_journal(alloc))
+        .arg(new_journal(alloc))?
+        .arg(resume(alloc))?
+        .arg(mended(alloc))?
+        .arg(changed_inputs(alloc))
 }
 
 fn rehearse<'a>(alloc: Global) -> Result<Command<'a>, AllocError>
@@ -154,7 +180,8 @@ fn rehearse<'a>(alloc: Global) -> Result<Command<'a>, AllocError>
         )
         .after_help(COMMANDS)
         .arg(inventory(alloc))?
-        .arg(playbook(alloc))
+        .arg(playbook(alloc))?
+        .arg(strict(alloc))
 }
 
 fn state<'a>(alloc: Global) -> Result<Command<'a>, AllocError>
@@ -247,6 +274,28 @@ fn groups<'a>(alloc: Global) -> Arg<'a>
         .help(GROUPS_HELP)
 }
 
+/// It stands in the help, and clap says what is wrong where its file is wanting. The words that clap reads are without any that has one.
+fn picture<'a>(alloc: Global) -> Arg<'a>
+    ensures rule { rule_of result ≡ spec.picture_argument }
+    ensures local { result.global ≡ false }
+{
+    Arg::new(alloc, PICTURE)
+        .long(PICTURE)
+        .value_name("FILE")
+        .help(PICTURE_HELP)
+}
+
+/// It stands in the help. The words that clap reads are without it.
+fn strict<'a>(alloc: Global) -> Arg<'a>
+    ensures rule { rule_of result ≡ spec.strict_argument }
+    ensures local { result.global ≡ false }
+{
+    Arg::new(alloc, STRICT)
+        .long(STRICT)
+        .action(ArgAction::SetTrue)
+        .help(STRICT_HELP)
+}
+
 /// It stands in the help. The words that clap reads are without it.
 fn quiet<'a>(alloc: Global) -> Arg<'a>
     ensures rule { rule_of result ≡ spec.quiet_argument }
@@ -278,6 +327,39 @@ fn new_journal<'a>(alloc: Global) -> Arg<'a>
         .long(NEW_JOURNAL)
         .value_name("FILE")
         .help(NEW_JOURNAL_HELP)
+}
+
+/// It stands in the help, and clap says what is wrong where its file is wanting. The words that clap reads are without any that has one.
+fn resume<'a>(alloc: Global) -> Arg<'a>
+    ensures rule { rule_of result ≡ spec.resume_argument }
+    ensures local { result.global ≡ false }
+{
+    Arg::new(alloc, RESUME)
+        .long(RESUME)
+        .value_name("JOURNAL")
+        .help(RESUME_HELP)
+}
+
+/// It stands in the help, and clap says what is wrong where its names are wanting. The words that clap reads are without it, but where no run is to go on.
+fn mended<'a>(alloc: Global) -> Arg<'a>
+    ensures rule { rule_of result ≡ spec.mended_argument }
+    ensures local { result.global ≡ false }
+{
+    Arg::new(alloc, MENDED)
+        .long(MENDED)
+        .value_name("HOSTS")
+        .help(MENDED_HELP)
+}
+
+/// It stands in the help. The words that clap reads are without it, but where no run is to go on.
+fn changed_inputs<'a>(alloc: Global) -> Arg<'a>
+    ensures rule { rule_of result ≡ spec.changed_inputs_argument }
+    ensures local { result.global ≡ false }
+{
+    Arg::new(alloc, CHANGED_INPUTS)
+        .long(CHANGED_INPUTS)
+        .action(ArgAction::SetTrue)
+        .help(CHANGED_INPUTS_HELP)
 }
 
 /// What clap reads of the words.

@@ -27,3 +27,5 @@ pub mod ParseLaws
 pub mod Breaches
 pub mod OnlyLaws
 pub mod Firsts
+pub mod Mentioned
+pub mod Unmentioned

@@ -10,4 +10,5 @@ pub mod Readings
 pub mod Fronts
 pub mod Conditions
 pub mod Conjunctions
+pub mod Mentions
 pub mod Worked

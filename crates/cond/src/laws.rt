@@ -1,8 +1,14 @@
-//! The laws of the grammar.
+//! The laws of the grammar, and of what conditions mention.
 ghost use Rattle.std.specs.Prelude.{◌≡◌, ℕ, List, true, false};
+ghost use Rattle.group_tree.specs.Names.{Name};
 ghost use Rattle.text_parts.specs.Words.{is_reserved};
 ghost use Rattle.cond.specs.Grammar.{Any, tokens_of};
-ghost use Rattle.cond.specs.Tokens.{Name, token_of_word};
+ghost use Rattle.cond.specs.Tokens as token;
+ghost use Rattle.cond.specs.Tokens.{token_of_word};
+ghost use Rattle.cond.specs.Meaning.{Environment};
+ghost use Rattle.cond.specs.Trees.{verdict_of};
+ghost use Rattle.cond.specs.Mentions.{AgreeBeside, mentions};
+ghost use Rattle.cond.specs.declared.condition.Cond.{Cond};
 
 /// One list of tokens is at most one condition.
 #[tactic(auto, using(crate::proofs::Unambiguous::one_reading))]
@@ -13,6 +19,12 @@ pub fn one_reading()
 /// A word is a name exactly where it is none of the words that name nothing in the words of a command.
 #[tactic(auto, using(crate::proofs::ReservedWords::unreserved, crate::proofs::ReservedWords::reserved))]
 pub fn names_are_unreserved()
-    ensures name { (word : List ℕ) → is_reserved word ≡ false → token_of_word word ≡ Name word }
-    ensures reserved { (word name : List ℕ) → is_reserved word ≡ true → token_of_word word ≡ Name name → ⊥ }
+    ensures name { (word : List ℕ) → is_reserved word ≡ false → token_of_word word ≡ token.Name word }
+    ensures reserved { (word name : List ℕ) → is_reserved word ≡ true → token_of_word word ≡ token.Name name → ⊥ }
+{}
+
+/// What a name has that a condition doesn't mention makes no difference to it.
+#[tactic(auto, using(crate::proofs::Unmentioned::condition_same))]
+pub fn unmentioned_names_make_no_difference()
+    ensures { (name : Name) (condition : Cond) (e other : Environment) → mentions name condition ≡ false → AgreeBeside name e other → verdict_of e condition ≡ verdict_of other condition }
 {}

@@ -8,7 +8,7 @@ use Rattle.domains.specs.Numbered.{host_at}
 use Rattle.play_course.specs.declared.end.End.TheVariants as ending
 use Rattle.recap.specs.PlanText.{names_line}
 use Rattle.journal.specs.Names.{HasPlainNames}
-use Rattle.journal.specs.Entries.{Entry, Head, begun, closed, ended, entry_body, held, is_digest, is_digit, opened, play, without_feed}
+use Rattle.journal.specs.Entries.{Entry, Head, again, begun, closed, ended, entry_body, held, is_digest, is_digit, opened, play, resumed, without_feed}
 use Rattle.journal.specs.States.{is_head, most_number}
 use Rattle.journal.specs.Fits.{AreHosts, Fits, IsOutcome}
 use Rattle.journal.proofs.GuessLemmas.{all_words, blocked_body, closed_are, group_word, head_body, head_fields, host_word, names_are, outcome_is_word, outcome_word, too_many_body, too_many_fields}
@@ -52,6 +52,8 @@ module _ (fleet : FleetView) (sound : IsSound fleet) (plain : HasPlainNames flee
   body_line (play hosts) fits = hosts_line (codes "play:") hosts refl fits
   body_line (held hosts) fits = hosts_line (codes "held:") hosts refl fits
   body_line (opened hosts) fits = hosts_line (codes "open:") hosts refl fits
+  body_line (resumed hosts) fits = hosts_line (codes "resumed:") hosts refl fits
+  body_line (again hosts) fits = hosts_line (codes "again:") hosts refl fits
   body_line (closed outcomes) fits =
       ap is_line (closed_are fleet sound plain outcomes)
       ∙ line_both (codes "closed:") (spaced (map (outcome_word fleet sound plain) outcomes)) refl

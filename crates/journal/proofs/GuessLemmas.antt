@@ -26,7 +26,7 @@ use Rattle.fleet_states.specs.declared.status.Status.TheVariants as status
 use Rattle.play_course.specs.declared.end.End.TheVariants as ending
 use Rattle.recap.specs.PlanText.{names_line, names_text}
 use Rattle.recap.specs.RecapText.{blocked_end, state_word, too_many_end}
-use Rattle.journal.specs.Entries.{Entry, Head, Outcome, begun, closed, closed_line, ended, entry_body, head_line, held, is_digest, is_digit, opened, outcome_text, play, without_feed}
+use Rattle.journal.specs.Entries.{Entry, Head, Outcome, again, begun, closed, closed_line, ended, entry_body, head_line, held, is_digest, is_digit, opened, outcome_text, play, resumed, without_feed}
 use Rattle.journal.specs.States.{is_head, is_over, most_number}
 use Rattle.journal.specs.Names.{HasPlainNames}
 use Rattle.journal.specs.Words.{is_space, words_of}
@@ -264,6 +264,10 @@ module _ (fleet : FleetView) (sound : IsSound fleet) (plain : HasPlainNames flee
       ap (entry_of fleet (entry_body fleet (held hosts))) (names_words (codes "held:") hosts refl fits) ∙ ap (option_map held) (hosts_say hosts fits)
   said_is_found (opened hosts) fits =
       ap (entry_of fleet (entry_body fleet (opened hosts))) (names_words (codes "open:") hosts refl fits) ∙ ap (option_map opened) (hosts_say hosts fits)
+  said_is_found (resumed hosts) fits =
+      ap (entry_of fleet (entry_body fleet (resumed hosts))) (names_words (codes "resumed:") hosts refl fits) ∙ ap (option_map resumed) (hosts_say hosts fits)
+  said_is_found (again hosts) fits =
+      ap (entry_of fleet (entry_body fleet (again hosts))) (names_words (codes "again:") hosts refl fits) ∙ ap (option_map again) (hosts_say hosts fits)
   said_is_found (closed outcomes) fits =
       ap (entry_of fleet (entry_body fleet (closed outcomes))) (closed_words outcomes fits)
       ∙ ap (option_map closed) (each_says (outcome_in fleet) outcome_word (IsOutcome fleet) outcome_says outcomes fits)

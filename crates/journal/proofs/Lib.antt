@@ -7,6 +7,7 @@ pub mod WordLemmas
 pub mod NameLemmas
 pub mod SayLemmas
 pub mod GuessLemmas
+pub mod MendLemmas
 pub mod ReadLemmas
 pub mod TextLemmas
 pub mod BodyLemmas

@@ -1,10 +1,10 @@
 -- Lines that tell whether they are whole.
-use Rattle.std.proofs.Common.{◌≡◌, ℕ, suc, ◌+◌, ◌*◌, ◌^◌, ◌<◌, ◌≤◌, List, [], ◌∷◌, ◌++◌, length, get_or, sym, ap, ◌∙◌, subst, arith, append_assoc, length-append}
+use Rattle.std.proofs.Common.{◌≡◌, ◌⊎◌, ◌-◌, inl, inr, refl, ℕ, suc, ◌+◌, ◌*◌, ◌^◌, ◌<◌, ◌≤◌, List, [], ◌∷◌, ◌++◌, length, get_or, sym, ap, ◌∙◌, subst, arith, append_assoc, length-append}
 use Rattle.std.specs.Prelude.{codes, decimal}
 use Rattle.std.proofs.lemmas.List.{get_or-append-add}
 use Rattle.std.proofs.lemmas.Nat.{mul-le}
-use Rattle.journal.specs.Lines.{line_of, line_text, number_word, weighed}
-use Rattle.journal.specs.Inside.{IsNoLine, behind_space}
+use Rattle.journal.specs.Lines.{HasNoFeed, IsCut, IsWholeLength, line_of, line_text, number_word, weighed}
+use Rattle.journal.specs.Inside.{IsBehindLines, IsNoLine, behind_space}
 use Rattle.journal.proofs.ByteLemmas.{behind_number_word}
 
 -- each is a byte
@@ -51,3 +51,23 @@ no_line line found are within is otherwise body e =
 pub line_pieces : (body : List ℕ) (sum : ℕ) → sum ≡ weighed 1 body
     → decimal (length body) ++ (codes " " ++ (decimal sum ++ (codes " " ++ (body ++ codes "\n")))) ≡ line_text body
 line_pieces body sum is = rw is (simp append_assoc)
+
+-- one line more
+pub lines_more : (text left front behind : List ℕ) → IsBehindLines text left → IsCut left front behind → IsBehindLines text behind
+lines_more text left front behind so_far cut =
+    let lines : List ℕ = (so_far.lines ++ front) ++ 10 ∷ [] in
+    record {
+      lines = lines;
+      parts = so_far.parts ∙ ap (λ l. so_far.lines ++ l) cut.parts ∙ sym (append_assoc so_far.lines front (10 ∷ behind)) ∙ sym (append_assoc (so_far.lines ++ front) (10 ∷ []) behind);
+      are = inr (so_far.lines ++ front, refl);
+    }
+
+pub lines_end : (text left : List ℕ) → IsBehindLines text left → HasNoFeed left → (count : ℕ) → count ≡ length text - length left → IsWholeLength text count
+lines_end text left so_far feedless count all = record {
+  lines = so_far.lines;
+  torn = left;
+  parts = so_far.parts;
+  are = so_far.are;
+  feedless = feedless;
+  counted = omega (arith, all, ap length so_far.parts, length-append so_far.lines left);
+}

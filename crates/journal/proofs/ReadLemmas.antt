@@ -9,8 +9,8 @@ use Rattle.std.proofs.lemmas.List.Elements.{All-nil}
 use Rattle.std.proofs.lemmas.List.FromFn.{length-range_with_len}
 use Rattle.domains.specs.FleetViews.{FleetView, IsSound}
 use Rattle.journal.specs.Lines.{HasNoFeed, IsCut, line_of}
-use Rattle.journal.specs.Entries.{Entry, begun, closed, ended, entries_text, entry_body, entry_text, held, opened, play}
-use Rattle.journal.specs.States.{JournalState, begins, closes, ends, follow, holds, is_between, is_in_batch, may_begin, next, opens, plays, start, state_after}
+use Rattle.journal.specs.Entries.{Entry, again, begun, closed, ended, entries_text, entry_body, entry_text, held, opened, play, resumed}
+use Rattle.journal.specs.States.{JournalState, begins, closes, ends, follow, holds, is_between, is_in_batch, may_begin, next, opens, plays, resumes, start, state_after}
 use Rattle.journal.specs.Names.{HasPlainNames}
 use Rattle.journal.specs.Inside.{IsNoLine}
 use Rattle.journal.specs.Guesses.{entry_in}
@@ -121,6 +121,8 @@ first_says_which fleet (held hosts) later e = absurd (cc)
 first_says_which fleet (opened hosts) later e = absurd (cc)
 first_says_which fleet (closed outcomes) later e = absurd (cc)
 first_says_which fleet (ended end) later e = absurd (cc)
+first_says_which fleet (resumed hosts) later e = absurd (cc)
+first_says_which fleet (again hosts) later e = absurd (cc)
 
 stays_known : (fleet : FleetView) (state : JournalState) (entry : Entry) (later : JournalState) → next fleet state entry ≡ Some later → is_some state.head ≡ true → is_some later.head ≡ true
 stays_known fleet state (begun head) later e known =
@@ -139,6 +141,12 @@ stays_known fleet state (closed outcomes) later e known =
     let given = mapped (closes state) _ later both.1 in ap (λ (s : JournalState). is_some s.head) (sym given.is) ∙ known
 stays_known fleet state (ended end) later e known =
     let both = guarded _ (Some (ends state end)) later e in let same = both.1 in let is : ends state end ≡ later = cc in ap (λ (s : JournalState). is_some s.head) (sym is) ∙ known
+stays_known fleet state (resumed hosts) later e known =
+    let both = guarded _ (Some (resumes state hosts)) later e in
+    let same = both.1 in let is : resumes state hosts ≡ later = cc in ap (λ (s : JournalState). is_some s.head) (sym is) ∙ known
+stays_known fleet state (again hosts) later e known =
+    let both = guarded (is_between state) _ later e in
+    let given = mapped (holds state) _ later both.1 in ap (λ (s : JournalState). is_some s.head) (sym given.is) ∙ known
 
 pub read_more : (fleet : FleetView) (text left front behind : List ℕ) (state later : JournalState) (line : ℕ) → IsReadTo fleet text left state line → IsCut left front behind
     → IsNext fleet state front later → IsReadTo fleet text behind later (line + 1)

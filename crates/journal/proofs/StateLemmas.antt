@@ -1,16 +1,18 @@
 -- Where entries lead.
 use Rattle.std.proofs.Common.{◌≡◌, ℕ, suc, ◌<◌, Bool, true, false, ◌&&◌, ◌==◌, cond, Option, None, Some, option_map, List, [], ◌∷◌, length, set, refl, sym, ap, ◌∙◌, subst}
-use Rattle.std.specs.Prelude.{All}
+use Rattle.std.specs.Prelude.{All, is_some, nat_lt}
 use Rattle.std.proofs.lemmas.Bool.{and_parts, eqb-true, ltb-true}
-use Rattle.std.proofs.lemmas.List.{length-set}
+use Rattle.std.proofs.lemmas.List.{length-map, length-set}
 use Rattle.std.proofs.lemmas.List.Elements.{All-cons, All-head, All-nil, All-tail}
+use Rattle.fleet_numbers.specs.NumberLists.{are_below}
 use Rattle.domains.specs.FleetViews.{FleetView}
 use Rattle.fleet_states.specs.declared.status.Status.{Status}
 use Rattle.fleet_states.specs.declared.status.Status.TheVariants.{Idle, Waiting, Running, Held}
 use Rattle.batch_plan.specs.Beginnings.{restart_statuses}
 use Rattle.batch_plan.proofs.BeginningLemmas.{length-restart_statuses}
-use Rattle.journal.specs.Entries.{Entry, Outcome, begun, closed, ended, held, opened, play}
-use Rattle.journal.specs.States.{JournalState, begins, closes, ends, has_status, holds, is_between, is_head, is_in_batch, is_over, may_begin, may_end, moved, next, opens, plays, settled}
+use Rattle.journal.specs.Entries.{Entry, Outcome, again, begun, closed, ended, held, opened, play, resumed}
+use Rattle.fleet_states.proofs.StatusLemmas.{length-changed}
+use Rattle.journal.specs.States.{JournalState, are_hosts, at_rest, begins, closes, ends, has_status, holds, is_between, is_head, is_in_batch, is_over, may_begin, may_end, mended, moved, next, opens, plays, resumes, settled, stood_up}
 use Rattle.journal.specs.Fits.{AreHosts, Fits, IsKept, IsOutcome}
 
 -- a batch isn't over by what became of more or fewer hosts
@@ -76,6 +78,12 @@ settled_are fleet (host ∷ hosts) (outcome ∷ outcomes) statuses later below e
       long = rest.long ∙ length-set statuses host outcome.status;
     }
 
+all_below : (bound : ℕ) (hosts : List ℕ) → are_below bound hosts ≡ true → All (λ host. host < bound) hosts
+all_below bound [] are = All-nil (λ host. host < bound)
+all_below bound (host ∷ hosts) are =
+    let both = and_parts (nat_lt host bound) (are_below bound hosts) are in
+    All-cons (λ host. host < bound) host hosts (ltb-true host bound both.0) (all_below bound hosts both.1)
+
 module _ (fleet : FleetView) (state : JournalState) (kept : IsKept fleet state) where
   pub record Leads (entry : Entry) (later : JournalState) : Type 0 where
     pub fits : Fits fleet entry
@@ -118,3 +126,16 @@ module _ (fleet : FleetView) (state : JournalState) (kept : IsKept fleet state) 
       let both = guarded _ (Some (ends state end)) later e in
       let is : ends state end ≡ later = let same = both.1 in cc in
       record { fits = (and_parts (is_between state) (may_end fleet end) both.0).1; keeps = subst (IsKept fleet) is (record { all = kept.all; batch = kept.batch }) }
+  leads (resumed hosts) later e =
+      let both = guarded _ (Some (resumes state hosts)) later e in
+      let is : resumes state hosts ≡ later = let same = both.1 in cc in
+      let long = length-map (mended hosts state.statuses) at_rest ∙ length-changed stood_up hosts state.statuses in
+      record {
+        fits = all_below (length fleet.hosts) hosts (and_parts _ (are_hosts fleet hosts) both.0).1;
+        keeps = subst (IsKept fleet) is (record { all = long ∙ kept.all; batch = All-nil (λ h. h < length fleet.hosts) });
+      }
+  leads (again hosts) later e =
+      let both = guarded (is_between state) _ later e in
+      let given = mapped (holds state) (moved Idle Waiting hosts state.statuses) later both.1 in
+      let went = moved_below Idle Waiting hosts state.statuses given.value given.was in
+      record { fits = hosts_of state.statuses kept.all went; keeps = subst (IsKept fleet) given.is (record { all = went.long ∙ kept.all; batch = kept.batch }) }

@@ -21,7 +21,8 @@ pub record Outcome : Type 0 where
   pub host : ℕ
   pub status : Status
 
--- what a run says: which it is; that a play begins, and who waits; who is set aside; that a batch of these opens; what became of its hosts; how the play ended
+-- what a run says: which it is; that a play begins, and who waits; who is set aside; that a batch of these opens; what became of its hosts; how the play ended; and of one that
+-- was broken off that it is resumed, where these hosts are up by now; and that the play in which it broke off goes on, and who waits
 pub data Entry : Type 0 where
   begun : Head → Entry
   play : List ℕ → Entry
@@ -29,6 +30,8 @@ pub data Entry : Type 0 where
   opened : List ℕ → Entry
   closed : List Outcome → Entry
   ended : End → Entry
+  resumed : List ℕ → Entry
+  again : List ℕ → Entry
 
 -- `rollout journal 1 inventory=DIGEST playbook=DIGEST plays=N`
 abbrev pub head_line : Head → List ℕ
@@ -51,6 +54,8 @@ said fleet (held hosts) = names_line (codes "held:") fleet hosts
 said fleet (opened hosts) = names_line (codes "open:") fleet hosts
 said fleet (closed outcomes) = closed_line fleet outcomes
 said fleet (ended end) = ended_line fleet end
+said fleet (resumed hosts) = names_line (codes "resumed:") fleet hosts
+said fleet (again hosts) = names_line (codes "again:") fleet hosts
 
 -- a line without its line feed
 abbrev pub without_feed : List ℕ → List ℕ

@@ -1,7 +1,7 @@
 -- Entries that a run of a fleet may have at some place.
 use Rattle.std.specs.Prelude.{◌≡◌, ◌<◌, ℕ, true, Some, List, All, length}
 use Rattle.domains.specs.FleetViews.{FleetView}
-use Rattle.journal.specs.Entries.{Entry, Outcome, begun, closed, ended, entry_body, held, opened, play}
+use Rattle.journal.specs.Entries.{Entry, Outcome, again, begun, closed, ended, entry_body, held, opened, play, resumed}
 use Rattle.journal.specs.States.{JournalState, is_head, is_over, may_end}
 use Rattle.journal.specs.Guesses.{entry_in}
 use Rattle.journal.specs.Names.{HasPlainNames}
@@ -19,6 +19,8 @@ Fits fleet (held hosts) = AreHosts fleet hosts
 Fits fleet (opened hosts) = AreHosts fleet hosts
 Fits fleet (closed outcomes) = All (IsOutcome fleet) outcomes
 Fits fleet (ended end) = may_end fleet end ≡ true
+Fits fleet (resumed hosts) = AreHosts fleet hosts
+Fits fleet (again hosts) = AreHosts fleet hosts
 
 -- there is a status for each host, and the open batch is of hosts
 pub record IsKept (fleet : FleetView) (state : JournalState) : Type 0 where

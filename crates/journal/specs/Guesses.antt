@@ -12,7 +12,7 @@ use Rattle.fleet_states.specs.declared.status.Status.TheVariants as status
 use Rattle.play_course.specs.declared.end.End.{End}
 use Rattle.play_course.specs.declared.end.End.TheVariants as ending
 use Rattle.recap.specs.RecapText.{state_word}
-use Rattle.journal.specs.Entries.{Entry, Head, Outcome, begun, closed, ended, held, opened, play}
+use Rattle.journal.specs.Entries.{Entry, Head, Outcome, again, begun, closed, ended, held, opened, play, resumed}
 use Rattle.journal.specs.States.{most_number}
 use Rattle.journal.specs.Words.{is_space, words_of}
 use Rattle.journal.specs.Inside.{behind_space, stripped}
@@ -84,11 +84,15 @@ end_in fleet body =
 
 -- the word before a list of hosts, and the entry of such a list
 abbrev pub is_list_word : List ℕ → Bool
-is_list_word word = bytes_eq word (codes "play:") || (bytes_eq word (codes "held:") || bytes_eq word (codes "open:"))
+is_list_word word =
+    bytes_eq word (codes "play:") || (bytes_eq word (codes "held:") || (bytes_eq word (codes "open:") || (bytes_eq word (codes "resumed:") || bytes_eq word (codes "again:"))))
 
 abbrev pub list_entry : List ℕ → List ℕ → Entry
 list_entry word hosts =
-    if bytes_eq word (codes "play:") then play hosts else (if bytes_eq word (codes "held:") then held hosts else opened hosts)
+    if bytes_eq word (codes "play:") then play hosts
+    else (if bytes_eq word (codes "held:") then held hosts
+    else (if bytes_eq word (codes "open:") then opened hosts
+    else (if bytes_eq word (codes "resumed:") then resumed hosts else again hosts)))
 
 -- the entry of a body of these words
 abbrev pub entry_of : FleetView → List ℕ → List (List ℕ) → Option Entry

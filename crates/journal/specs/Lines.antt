@@ -1,5 +1,5 @@
 -- Lines that tell whether they are whole.
-use Rattle.std.specs.Prelude.{◌≡◌, ℕ, ◌+◌, ◌*◌, Bool, ◌==◌, List, [], ◌∷◌, ◌++◌, codes, decimal, length, false}
+use Rattle.std.specs.Prelude.{◌≡◌, ◌⊎◌, ℕ, ◌+◌, ◌*◌, Bool, ◌==◌, List, [], ◌∷◌, ◌++◌, codes, decimal, length, false}
 use Rattle.std.specs.List.{list_any}
 
 -- the most bytes of a line's body
@@ -34,3 +34,16 @@ line_text body = line_of body ++ codes "\n"
 pub record IsCut (bytes front behind : List ℕ) : Type 0 where
   pub feedless : HasNoFeed front
   pub parts : bytes ≡ front ++ 10 ∷ behind
+
+-- the bytes are lines, each with its line feed
+abbrev pub AreLines : List ℕ → Type 0
+AreLines bytes = (bytes ≡ []) ⊎ ((front : List ℕ) × (bytes ≡ front ++ 10 ∷ []))
+
+-- so many bytes of the text are lines, and no line feed stands behind them
+pub record IsWholeLength (text : List ℕ) (count : ℕ) : Type 0 where
+  pub lines : List ℕ
+  pub torn : List ℕ
+  pub parts : text ≡ lines ++ torn
+  pub are : AreLines lines
+  pub feedless : HasNoFeed torn
+  pub counted : count ≡ length lines

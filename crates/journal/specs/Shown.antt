@@ -5,10 +5,10 @@ use Rattle.group_tree.specs.declared.ids.HostId.{HostId}
 use Rattle.fleet_states.specs.declared.status.Status.{Status}
 use Rattle.fleet_states.specs.Statuses.{status_at}
 use Rattle.journal.specs.Entries as spec
-use Rattle.journal.specs.Entries.{begun, closed, ended, held, opened, play}
+use Rattle.journal.specs.Entries.{again, begun, closed, ended, held, opened, play, resumed}
 use Rattle.journal.specs.States.{JournalState}
 use Rattle.journal.specs.declared.entry.Entry.{Entry}
-use Rattle.journal.specs.declared.entry.Entry.TheVariants.{Begun, Play, Held, Opened, Closed, Ended}
+use Rattle.journal.specs.declared.entry.Entry.TheVariants.{Begun, Play, Held, Opened, Closed, Ended, Resumed, Again}
 use Rattle.journal.specs.declared.entry.Head.{Head}
 use Rattle.journal.specs.declared.entry.Outcome.{Outcome}
 use Rattle.journal.specs.declared.state.Journal.{Journal}
@@ -29,6 +29,8 @@ shown_entry (Held hosts) = held (host_numbers hosts.items)
 shown_entry (Opened hosts) = opened (host_numbers hosts.items)
 shown_entry (Closed outcomes) = closed (shown_outcomes outcomes.items)
 shown_entry (Ended end) = ended end
+shown_entry (Resumed hosts) = resumed (host_numbers hosts.items)
+shown_entry (Again hosts) = again (host_numbers hosts.items)
 
 abbrev pub shown_journal : Journal → JournalState
 shown_journal journal = record {

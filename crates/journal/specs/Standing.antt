@@ -1,5 +1,5 @@
 -- What is told of where a run stands.
-use Rattle.std.specs.Prelude.{ℕ, ◌&&◌, Option, Some, None, List, [], ◌++◌, codes, flat_map, length, nat_lt, if◌then◌else◌}
+use Rattle.std.specs.Prelude.{ℕ, Option, Some, None, List, [], ◌++◌, codes, flat_map, length, if◌then◌else◌}
 use Rattle.std.specs.List.{range_with_len}
 use Rattle.domains.specs.FleetViews.{FleetView}
 use Rattle.domains.specs.Numbered.{host_at}
@@ -7,11 +7,11 @@ use Rattle.fleet_states.specs.declared.status.Status.{Status}
 use Rattle.fleet_states.specs.Statuses.{status_at}
 use Rattle.play_course.specs.declared.end.End.{End}
 use Rattle.recap.specs.RecapText.{ended_line, state_word}
-use Rattle.journal.specs.States.{JournalState, is_finished, is_idle, plays_of}
+use Rattle.journal.specs.States.{JournalState, is_idle, is_one_more}
 
 -- how a run has ended: as its last play; it has not where that has no end, or finished and there are plays to come
 abbrev pub run_end : JournalState → Option End
-run_end state = if is_finished state.end && nat_lt state.play (plays_of state.head) then None else state.end
+run_end state = if is_one_more state then None else state.end
 
 -- `NAME state=S`; an idle host has no line
 abbrev pub state_line : FleetView → ℕ → Status → List ℕ

@@ -1,15 +1,16 @@
 -- Where a run stands behind entries of its journal.
 use Rattle.std.specs.Prelude.{ℕ, suc, Bool, true, false, ◌&&◌, ◌||◌, ◌==◌, nat_le, nat_lt, not}
-use Rattle.std.specs.Prelude.{Option, None, Some, is_none, option_map, option_and_then, List, [], ◌∷◌, length, slice_set, if◌then◌else◌}
+use Rattle.std.specs.Prelude.{Option, None, Some, is_none, is_some, option_map, option_and_then, List, [], ◌∷◌, length, map, slice_set, if◌then◌else◌}
+use Rattle.fleet_numbers.specs.NumberLists.{are_below}
 use Rattle.domains.specs.FleetViews.{FleetView}
 use Rattle.fleet_states.specs.declared.status.Status.{Status}
 use Rattle.fleet_states.specs.declared.status.Status.TheVariants.{Idle, Waiting, Running, Updated, Failed, Halted, Off, Held}
 use Rattle.fleet_states.specs.Starts.{start_statuses}
-use Rattle.fleet_states.specs.Statuses.{is_running, is_waiting, status_at}
+use Rattle.fleet_states.specs.Statuses.{changed, is_down, is_running, is_waiting, status_at}
 use Rattle.batch_plan.specs.Beginnings.{restart_statuses}
 use Rattle.play_course.specs.declared.end.End.{End}
 use Rattle.play_course.specs.declared.end.End.TheVariants as ending
-use Rattle.journal.specs.Entries.{Entry, Head, Outcome, begun, closed, ended, held, is_digest, opened, play}
+use Rattle.journal.specs.Entries.{Entry, Head, Outcome, again, begun, closed, ended, held, is_digest, opened, play, resumed}
 
 -- which run it is; which of its plays has begun last, from 1, and none with 0; the statuses of the hosts; the batch that is open, and nobody where none is;
 -- how the play has ended, if it has
@@ -120,9 +121,47 @@ may_end fleet (ending.Blocked group) = nat_lt group.index (length fleet.groups)
 may_end fleet (ending.TooManyFailed step failed size) = (nat_le step most_number && nat_le failed most_number) && nat_le size most_number
 may_end fleet ending.AllFailed = true
 
+-- these are hosts of the fleet
+abbrev pub are_hosts : FleetView → List ℕ → Bool
+are_hosts fleet hosts = are_below (length fleet.hosts) hosts
+
 -- a run says first which it is
 abbrev pub is_head : Head → Bool
 is_head head = (is_digest head.inventory && is_digest head.playbook) && nat_le head.plays most_number
+
+-- the host is up, where it was down
+abbrev pub stood_up : Status → Status
+stood_up status = if is_down status then Idle else status
+
+-- these hosts are up again
+abbrev pub mended : List ℕ → List Status → List Status
+mended hosts statuses = changed stood_up hosts statuses
+
+-- a host whose run was broken off: where it was at work it may be down, and stays so; it waits no more; what became of it before that stays
+abbrev pub at_rest : Status → Status
+at_rest Idle = Idle
+at_rest Waiting = Idle
+at_rest Running = Halted
+at_rest Updated = Updated
+at_rest Failed = Failed
+at_rest Halted = Halted
+at_rest Off = Off
+at_rest Held = Idle
+
+-- the hosts of a run that was broken off, where these are up by now
+abbrev pub rested : List ℕ → List Status → List Status
+rested hosts statuses = map at_rest (mended hosts statuses)
+
+-- the play has finished, and there is one more
+abbrev pub is_one_more : JournalState → Bool
+is_one_more state = is_finished state.end && nat_lt state.play (plays_of state.head)
+
+-- a run that is resumed has no end, but for that of a play behind which the next one comes
+abbrev pub resumed_end : JournalState → Option End
+resumed_end state = if is_one_more state then state.end else None
+
+abbrev pub resumes : JournalState → List ℕ → JournalState
+resumes state hosts = record state { statuses = rested hosts state.statuses; open_batch = []; end = resumed_end state }
 
 abbrev pub begins : JournalState → Head → JournalState
 begins state head = record state { head = Some head }
@@ -153,6 +192,8 @@ next fleet state (opened hosts) =
 next fleet state (closed outcomes) =
     if is_in_batch state then option_map (closes state) (settled state.open_batch outcomes state.statuses) else None
 next fleet state (ended end) = if is_between state && may_end fleet end then Some (ends state end) else None
+next fleet state (resumed hosts) = if is_some state.head && are_hosts fleet hosts then Some (resumes state hosts) else None
+next fleet state (again hosts) = if is_between state then option_map (holds state) (moved Idle Waiting hosts state.statuses) else None
 
 -- where entries lead from there, if they may come so
 abbrev pub follow : FleetView → JournalState → List Entry → Option JournalState

@@ -35,4 +35,8 @@ pub(crate) enum Entry<'t> {
     Closed(Vec<Outcome>),
     /// The play has ended.
     Ended(End),
+    /// The run, which was broken off, is resumed, and these are up by now.
+    Resumed(Vec<HostId>),
+    /// The play in which it broke off goes on, and these hosts wait.
+    Again(Vec<HostId>),
 }

@@ -58,13 +58,21 @@ impl Journal<'_> {
         }
     }
 
+    /// Whether the play that began last has finished, and there is one more.
+    pub fn is_one_more(&self) -> bool
+        ensures { result ≡ spec.is_one_more (shown_journal self.now) }
+    {
+        is_finished(self.end) && self.play < self.plays()
+    }
+
     fn may_begin(&self) -> bool
         ensures { result ≡ spec.may_begin (shown_journal self.now) }
     {
         self.play < self.plays() && (self.play == 0 || is_finished(self.end))
     }
 
-    fn is_under_way(&self) -> bool
+    /// Whether a play has begun and has not ended.
+    pub fn is_under_way(&self) -> bool
         ensures { result ≡ spec.is_under_way (shown_journal self.now) }
     {
         self.play > 0 && self.end.is_none()
@@ -206,6 +214,44 @@ fn end<'t>(fleet: &Fleet, mut journal: Journal<'t>, end: End) -> Option<Journal<
     Some(journal)
 }
 
+fn are_hosts(fleet: &Fleet, hosts: &[HostId]) -> bool
+    ensures { result ≡ spec.are_hosts fleet.now (host_numbers hosts.now) }
+{
+    for host in hosts {
+        if host.index >= fleet.hosts() {
+            return false;
+        }
+    }
+    true
+}
+
+fn resume<'t>(
+    alloc: Global,
+    fleet: &Fleet,
+    journal: Journal<'t>,
+    hosts: &[HostId],
+) -> Result<Option<Journal<'t>>, AllocError>
+    ensures { IfOk result (λ after. option_map shown_journal after ≡ next fleet.now (shown_journal journal.entry) (entries.resumed (host_numbers hosts.now))) }
+{
+    if journal.head.is_none() || !are_hosts(fleet, hosts) {
+        return Ok(None);
+    }
+    Ok(Some(journal.resumed(alloc, hosts)?))
+}
+
+fn go_on<'t>(mut journal: Journal<'t>, hosts: &[HostId]) -> Option<Journal<'t>>
+    ensures { (fleet : FleetView) → option_map shown_journal result ≡ next fleet (shown_journal journal.entry) (entries.again (host_numbers hosts.now)) }
+{
+    if !journal.is_between() {
+        return None;
+    }
+    let statuses = journal.statuses.as_mut_slice();
+    if !move_hosts(statuses, Status::Idle, Status::Waiting, hosts) {
+        return None;
+    }
+    Some(journal)
+}
+
 /// Where an entry leads; nowhere where it may not come. Only want of memory refuses it.
 pub(crate) fn follow<'t>(
     alloc: Global,
@@ -222,5 +268,7 @@ pub(crate) fn follow<'t>(
         Entry::Opened(hosts) => Ok(open(journal, hosts)),
         Entry::Closed(outcomes) => Ok(close(journal, outcomes.as_slice())),
         Entry::Ended(how) => Ok(end(fleet, journal, how)),
+        Entry::Resumed(hosts) => resume(alloc, fleet, journal, hosts.as_slice()),
+        Entry::Again(hosts) => Ok(go_on(journal, hosts.as_slice())),
     }
 }

@@ -158,7 +158,11 @@ fn other_in<'t>(fleet: &Fleet, body: &'t [u8]) -> Option<Entry<'t>>
 fn is_list_word(word: &[u8]) -> bool
     ensures { result ≡ spec.is_list_word word.now }
 {
-    word == b"play:".as_slice() || word == b"held:".as_slice() || word == b"open:".as_slice()
+    word == b"play:".as_slice()
+        || word == b"held:".as_slice()
+        || word == b"open:".as_slice()
+        || word == b"resumed:".as_slice()
+        || word == b"again:".as_slice()
 }
 
 /// The entry of a list of hosts behind the word.
@@ -169,8 +173,12 @@ fn list_entry<'t>(word: &[u8], hosts: Vec<HostId>) -> Entry<'t>
         Entry::Play(hosts)
     } else if word == b"held:".as_slice() {
         Entry::Held(hosts)
-    } else {
+    } else if word == b"open:".as_slice() {
         Entry::Opened(hosts)
+    } else if word == b"resumed:".as_slice() {
+        Entry::Resumed(hosts)
+    } else {
+        Entry::Again(hosts)
     }
 }
 

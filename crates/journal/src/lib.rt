@@ -12,6 +12,7 @@ mod laws;
 mod lines;
 mod moving;
 mod reading;
+mod resuming;
 mod saying;
 mod standing;
 mod state;
@@ -21,8 +22,11 @@ pub use digest::digest_of;
 pub use entry::{Head, Outcome};
 pub use fault::JournalFault;
 pub use laws::{fronts_are_read, no_change_passes};
-pub use lines::first_line;
+pub use lines::{first_line, whole_length};
 pub use reading::read_journal;
 pub use standing::write_state;
 pub use state::Journal;
-pub use writing::{write_closed, write_end, write_head, write_held, write_open, write_play};
+pub use writing::{
+    write_again, write_closed, write_end, write_head, write_held, write_open, write_play,
+    write_resumed,
+};

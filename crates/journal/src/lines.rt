@@ -3,7 +3,7 @@ ghost use Rattle.std.specs.Prelude.{◌≡◌, ◌<◌, ◌∷◌, ◌++◌, [],
 ghost use Rattle.std.specs.Option.{option_map_or};
 ghost use Rattle.std.specs.List.{after_first, before_first, prefix_len, slice_split};
 ghost use Rattle.journal.specs.Lines as spec;
-ghost use Rattle.journal.specs.Lines.{HasNoFeed, IsCut};
+ghost use Rattle.journal.specs.Lines.{HasNoFeed, IsCut, IsWholeLength};
 ghost use Rattle.journal.specs.Words.{is_space};
 ghost use Rattle.journal.specs.Inside.{BeginsOtherwise, stripped};
 
@@ -63,4 +63,15 @@ pub(crate) fn strip<'l>(bytes: &'l [u8], front: &[u8]) -> Option<&'l [u8]>
     ensures stripped { option_map (λ rest. rest.now) result ≡ stripped front.now bytes.now }
 {
     bytes.strip_prefix(front)
+}
+
+/// How many bytes stand up to the last line feed, with it: what is behind it broke off.
+pub fn whole_length(text: &[u8]) -> usize
+    ensures { IsWholeLength text.now result }
+{
+    let mut left = text;
+    while let Some((_, behind)) = cut_line(left) {
+        left = behind;
+    }
+    text.len() - left.len()
 }

@@ -28,7 +28,7 @@ fn has_status(before: Status, statuses: &[Status], host: HostId) -> bool
 }
 
 /// Gives a host a status; a number that no host has is passed over.
-fn set_status(statuses: &mut [Status], host: HostId, status: Status)
+pub(crate) fn set_status(statuses: &mut [Status], host: HostId, status: Status)
     ensures { statuses.new ≡ slice_set statuses.old host.index status }
 {
     if host.index < statuses.len() {

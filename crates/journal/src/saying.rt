@@ -62,6 +62,8 @@ fn write_said<W: Write>(text: &mut TextWriter<'_, W>, fleet: &Fleet, entry: &Ent
         Entry::Opened(hosts) => write_names_line(text, "open:", fleet, hosts.as_slice()),
         Entry::Closed(outcomes) => write_closed_line(text, fleet, outcomes.as_slice()),
         Entry::Ended(end) => write_end(text, fleet, *end),
+        Entry::Resumed(hosts) => write_names_line(text, "resumed:", fleet, hosts.as_slice()),
+        Entry::Again(hosts) => write_names_line(text, "again:", fleet, hosts.as_slice()),
     }
 }
 

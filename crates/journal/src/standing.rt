@@ -6,7 +6,6 @@ ghost use Rattle.journal.specs.Standing as spec;
 ghost use Rattle.journal.specs.Standing.{standing_end, state_line, state_lines, state_text};
 ghost use Rattle.journal.specs.Shown.{shown_journal};
 
-use crate::following::is_finished;
 use crate::state::Journal;
 use bounded_io::{TextWriter, WriteFault};
 use domains::Fleet;
@@ -21,11 +20,7 @@ impl Journal<'_> {
     pub fn run_end(&self) -> Option<End>
         ensures { result ≡ spec.run_end (shown_journal self.now) }
     {
-        if is_finished(self.end) && self.play < self.plays() {
-            None
-        } else {
-            self.end
-        }
+        if self.is_one_more() { None } else { self.end }
     }
 }
 

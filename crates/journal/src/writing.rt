@@ -90,6 +90,34 @@ fn copied(alloc: Global, hosts: &[HostId]) -> Result<Vec<HostId>, AllocError>
     hosts.iter().copied().collect(alloc)
 }
 
+/// Writes that the play in which a run broke off goes on with these statuses, and which hosts wait. Only want of memory refuses it; then nothing is written.
+pub fn write_again<W: Write>(
+    alloc: Global,
+    text: &mut TextWriter<'_, W>,
+    fleet: &Fleet,
+    statuses: &[Status],
+) -> Result<(), AllocError>
+    ensures writes { OnOk result (Writes W.contents text.old text.new (entry_text fleet.now (entries.again (waiting_hosts statuses.now)))) }
+    ensures silent { OnErr result (Writes W.contents text.old text.new []) }
+{
+    let hosts = list_waiting(alloc, statuses)?;
+    write_entry(alloc, text, fleet, &Entry::Again(hosts))
+}
+
+/// Writes that a run which was broken off is resumed, where these hosts are up by now. Only want of memory refuses it; then nothing is written.
+pub fn write_resumed<W: Write>(
+    alloc: Global,
+    text: &mut TextWriter<'_, W>,
+    fleet: &Fleet,
+    hosts: &[HostId],
+) -> Result<(), AllocError>
+    ensures writes { OnOk result (Writes W.contents text.old text.new (entry_text fleet.now (entries.resumed (host_numbers hosts.now)))) }
+    ensures silent { OnErr result (Writes W.contents text.old text.new []) }
+{
+    let hosts = copied(alloc, hosts)?;
+    write_entry(alloc, text, fleet, &Entry::Resumed(hosts))
+}
+
 /// Writes that these hosts are set aside. Only want of memory refuses it; then nothing is written.
 pub fn write_held<W: Write>(
     alloc: Global,

@@ -25,6 +25,47 @@ use Rattle.journal.specs.States.{JournalState, follow, has_status, moved, plays,
 use Rattle.keeping.specs.Laws.{MayComeNext, SaysTruly}
 use Rattle.keeping.proofs.MoveLemmas.{moved_given}
 
+-- who waits by these statuses
+pub listed : (statuses : List Status) (host : ℕ) → host < length statuses → has_number host (waiting_hosts statuses) ≡ is_waiting (status_at statuses host)
+listed statuses host within =
+    has_number-numbers_where (λ h. is_waiting (status_at statuses h)) (length statuses) host
+    ∙ ap (λ b. b && is_waiting (status_at statuses host)) (lt-ltb host (length statuses) within)
+
+-- hosts that wait from now on were idle before, and the others are as they were
+module _ (idle statuses : List Status) (long : length idle ≡ length statuses)
+    (were_idle : (host : ℕ) → host < length statuses → is_waiting (status_at statuses host) ≡ true → stands Idle (status_at idle host) ≡ true)
+    (were_so : (host : ℕ) → host < length statuses → is_waiting (status_at statuses host) ≡ false → status_at idle host ≡ status_at statuses host) where
+  abbrev those : List ℕ
+  those = waiting_hosts statuses
+
+  waiting : (host : ℕ) → has_number host those ≡ true → (host < length statuses) × (is_waiting (status_at statuses host) ≡ true)
+  waiting host here =
+      let both = and_parts _ _ (sym (has_number-numbers_where (λ h. is_waiting (status_at statuses h)) (length statuses) host) ∙ here) in
+      (ltb-true host (length statuses) both.0, both.1)
+
+  stood_idle : (host : ℕ) → has_number host those ≡ true → has_status Idle idle host ≡ true
+  stood_idle host here =
+      let waits = waiting host here in
+      and_from _ _ (lt-ltb host (length idle) (omega (arith, waits.0, long))) (were_idle host waits.0 waits.1)
+
+  begun_are : given (λ _. Waiting) those idle ≡ statuses
+  begun_are = ext_get_or Idle (given (λ _. Waiting) those idle) statuses (length-given (λ _. Waiting) those idle ∙ long) each
+    where
+      either : (k : ℕ) → k < length statuses → (b : Bool) → has_number k those ≡ b → cond b Waiting (status_at idle k) ≡ status_at statuses k
+      either k within true is = sym (is_waiting-true (status_at statuses k) (waiting k is).1)
+      either k within false is = were_so k within (sym (listed statuses k within) ∙ is)
+
+      each : (k : ℕ) → k < length (given (λ _. Waiting) those idle) → status_at (given (λ _. Waiting) those idle) k ≡ status_at statuses k
+      each k l =
+          let within : k < length statuses = omega (arith, l, length-given (λ _. Waiting) those idle, long) in
+          status_at-given (λ _. Waiting) those idle k (omega (arith, within, long)) ∙ either k within (has_number k those) refl
+
+  distinct : are_distinct those ≡ true
+  distinct = distinct_rising (length statuses) those (rising-numbers_where (λ h. is_waiting (status_at statuses h)) (length statuses))
+
+  pub all_wait : moved Idle Waiting those idle ≡ Some statuses
+  all_wait = moved_given Idle Waiting those idle stood_idle distinct ∙ ap Some begun_are
+
 -- the statuses with which a play begins
 module _ (said : JournalState) (statuses : List Status) (comes : MayComeNext said statuses) where
   abbrev whom : List ℕ
@@ -49,11 +90,6 @@ module _ (said : JournalState) (statuses : List Status) (comes : MayComeNext sai
   begun_at : (host : ℕ) → host < length statuses → status_at statuses host ≡ restart_status (status_at said.statuses host) (has_number host whom)
   begun_at host within = sym (ap (λ (l : List Status). status_at l host) comes.starts) ∙ restarted whom host within
 
-  waiting : (host : ℕ) → has_number host whom ≡ true → (host < length statuses) × (is_waiting (status_at statuses host) ≡ true)
-  waiting host here =
-      let both = and_parts _ _ (sym (has_number-numbers_where (λ h. is_waiting (status_at statuses h)) (length statuses) host) ∙ here) in
-      (ltb-true host (length statuses) both.0, both.1)
-
   waits_from_idle : (s : Status) → is_waiting (restart_status s true) ≡ true → stands Idle (restart_status s false) ≡ true
   waits_from_idle Idle e = refl
   waits_from_idle Waiting e = refl
@@ -64,32 +100,20 @@ module _ (said : JournalState) (statuses : List Status) (comes : MayComeNext sai
   waits_from_idle Off e = absurd (cc)
   waits_from_idle Held e = refl
 
-  were_idle : (host : ℕ) → has_number host whom ≡ true → has_status Idle idle host ≡ true
-  were_idle host here =
-      let waits = waiting host here in
-      let began : status_at statuses host ≡ restart_status (status_at said.statuses host) true = begun_at host waits.0 ∙ ap (restart_status (status_at said.statuses host)) here in
-      and_from _ _ (lt-ltb host (length idle) (omega (arith, waits.0, idle_long)))
-      (ap (stands Idle) (idle_at host waits.0) ∙ waits_from_idle (status_at said.statuses host) (sym (ap is_waiting began) ∙ waits.1))
+  were_idle : (host : ℕ) → host < length statuses → is_waiting (status_at statuses host) ≡ true → stands Idle (status_at idle host) ≡ true
+  were_idle host within waits =
+      let here : has_number host whom ≡ true = listed statuses host within ∙ waits in
+      let began : status_at statuses host ≡ restart_status (status_at said.statuses host) true = begun_at host within ∙ ap (restart_status (status_at said.statuses host)) here in
+      ap (stands Idle) (idle_at host within) ∙ waits_from_idle (status_at said.statuses host) (sym (ap is_waiting began) ∙ waits)
 
-  begun_are : given (λ _. Waiting) whom idle ≡ statuses
-  begun_are = ext_get_or Idle (given (λ _. Waiting) whom idle) statuses (length-given (λ _. Waiting) whom idle ∙ idle_long) each
-    where
-      either : (k : ℕ) → k < length statuses → (b : Bool) → has_number k whom ≡ b → cond b Waiting (status_at idle k) ≡ status_at statuses k
-      either k within true is = sym (is_waiting-true (status_at statuses k) (waiting k is).1)
-      either k within false is = idle_at k within ∙ sym (begun_at k within ∙ ap (restart_status (status_at said.statuses k)) is)
-
-      each : (k : ℕ) → k < length (given (λ _. Waiting) whom idle) → status_at (given (λ _. Waiting) whom idle) k ≡ status_at statuses k
-      each k l =
-          let within : k < length statuses = omega (arith, l, length-given (λ _. Waiting) whom idle, idle_long) in
-          status_at-given (λ _. Waiting) whom idle k (omega (arith, within, idle_long)) ∙ either k within (has_number k whom) refl
-
-  distinct : are_distinct whom ≡ true
-  distinct = distinct_rising (length statuses) whom (rising-numbers_where (λ h. is_waiting (status_at statuses h)) (length statuses))
+  were_so : (host : ℕ) → host < length statuses → is_waiting (status_at statuses host) ≡ false → status_at idle host ≡ status_at statuses host
+  were_so host within rests =
+      idle_at host within ∙ sym (begun_at host within ∙ ap (restart_status (status_at said.statuses host)) (listed statuses host within ∙ rests))
 
   pub begins_so : (fleet : FleetView) → follow fleet said (play whom ∷ []) ≡ Some (plays said statuses)
   begins_so fleet =
       ap (option_and_then (λ s. follow fleet s [])) (ap (λ b. cond b (option_map (plays said) (moved Idle Waiting whom idle)) None) comes.begins
-      ∙ ap (option_map (plays said)) (moved_given Idle Waiting whom idle were_idle distinct ∙ ap Some begun_are))
+      ∙ ap (option_map (plays said)) (all_wait idle statuses idle_long were_idle were_so))
 
 -- a play that has begun
 pub begun_truly : (said : JournalState) (roll : Roll) → said.open_batch ≡ [] → SaysTruly (plays said roll.start) (start_state roll)
@@ -105,11 +129,6 @@ begun_truly said roll nobody =
 -- these statuses are those that the others leave to the hosts that wait by them
 module _ (before statuses : List Status) (long : length before ≡ length statuses)
     (each : (host : ℕ) → host < length statuses → restart_status (status_at before host) (is_waiting (status_at statuses host)) ≡ status_at statuses host) where
-  listed : (host : ℕ) → host < length statuses → has_number host (waiting_hosts statuses) ≡ is_waiting (status_at statuses host)
-  listed host within =
-      has_number-numbers_where (λ h. is_waiting (status_at statuses h)) (length statuses) host
-      ∙ ap (λ b. b && is_waiting (status_at statuses host)) (lt-ltb host (length statuses) within)
-
   pub restarts_to : restart_statuses before (waiting_hosts statuses) ≡ statuses
   restarts_to = ext_get_or Idle (restart_statuses before (waiting_hosts statuses)) statuses (length-restart_statuses before (waiting_hosts statuses) ∙ long) at
     where
@@ -117,7 +136,7 @@ module _ (before statuses : List Status) (long : length before ≡ length status
       at k l =
           let within : k < length statuses = omega (arith, l, long, length-restart_statuses before (waiting_hosts statuses)) in
           get_or-map-range_with_len (λ h. restart_status (status_at before h) (has_number h (waiting_hosts statuses))) 0 (length before) k k Idle (omega (arith, within, long)) (omega arith)
-          ∙ ap (restart_status (status_at before k)) (listed k within) ∙ each k within
+          ∙ ap (restart_status (status_at before k)) (listed statuses k within) ∙ each k within
 
 restarts_once : (s : Status) (targeted : Bool) → restart_status s (is_waiting (restart_status s targeted)) ≡ restart_status s targeted
 restarts_once Idle true = refl

@@ -1,19 +1,20 @@
 -- Who is down by a journal, entry by entry.
-use Rattle.std.proofs.Common.{◌≡◌, ℕ, ◌≤◌, ◌<◌, length, Bool, true, false, ◌&&◌, ◌||◌, ◌==◌, nat_eq, nat_lt, Option, Some, None, is_none, option_map, List, [], ◌∷◌, set, sym, ap, ◌∙◌, refl, subst, inl, inr, ◌⊎◌, arith}
+use Rattle.std.proofs.Common.{◌≡◌, ℕ, ◌≤◌, ◌<◌, length, Bool, true, false, cond, ◌&&◌, ◌||◌, ◌==◌, nat_eq, nat_lt, Option, Some, None, is_none, option_map, List, [], ◌∷◌, set, sym, ap, ◌∙◌, refl, subst, inl, inr, ◌⊎◌, arith}
 use Rattle.std.proofs.lemmas.Bool.{and_parts, and_right, both_ways, cases_eq, cases_lt, eqb-false, eqb-true, ltb-true, or_cases, or_parts}
+use Rattle.std.proofs.lemmas.List.{get_or-map, length-map}
 use Rattle.std.proofs.lemmas.List.FromFn.{get_or-map-range_with_len}
 use Rattle.domains.specs.FleetViews.{FleetView}
 use Rattle.fleet_numbers.specs.NumberLists.{has_number}
 use Rattle.fleet_states.specs.declared.status.Status.{Status}
 use Rattle.fleet_states.specs.declared.status.Status.TheVariants.{Idle, Waiting, Running, Updated, Failed, Halted, Off, Held}
 use Rattle.fleet_states.specs.Statuses.{is_down, status_at}
-use Rattle.fleet_states.proofs.StatusLemmas.{status_at-past, status_at-set, status_at-set_other}
+use Rattle.fleet_states.proofs.StatusLemmas.{status_at-changed_idle, status_at-past, status_at-set, status_at-set_other}
 use Rattle.batch_plan.proofs.BeginningLemmas.{length-restart_statuses}
 use Rattle.batch_plan.specs.Beginnings.{restart_status, restart_statuses}
 use Rattle.play_course.specs.declared.end.End.{End}
 use Rattle.journal.proofs.StateLemmas.{guarded, mapped}
-use Rattle.journal.specs.Entries.{Entry, Outcome, begun, closed, ended, held, opened, play}
-use Rattle.journal.specs.States.{JournalState, begins, closes, ends, has_status, holds, is_between, is_finished, is_in_batch, is_nobody, is_over, is_under_way, may_begin, may_end, moved, next, opens, plays, plays_of, settled}
+use Rattle.journal.specs.Entries.{Entry, Outcome, again, begun, closed, ended, held, opened, play, resumed}
+use Rattle.journal.specs.States.{JournalState, at_rest, begins, closes, ends, has_status, holds, is_between, is_finished, is_in_batch, is_nobody, is_over, is_under_way, may_begin, may_end, mended, moved, next, opens, plays, plays_of, rested, resumes, settled, stood_up}
 use Rattle.keeping.specs.Losses.{may_be_ahead, opens_none}
 
 -- where hosts have moved, a host is as it was, or has moved
@@ -58,6 +59,40 @@ settled_other (first ∷ batch) (outcome ∷ outcomes) statuses later host e out
     let parts = or_parts (nat_eq host first) (has_number host batch) outside in
     settled_other batch outcomes (set statuses first outcome.status) later host both.1 parts.1
     ∙ status_at-set_other statuses first outcome.status host (eqb-false host first parts.0)
+
+-- a host as a run that was broken off left it, where these are up by now
+abbrev pub left_at : List ℕ → List Status → ℕ → Status
+left_at hosts statuses host = at_rest (cond (has_number host hosts) (stood_up (status_at statuses host)) (status_at statuses host))
+
+pub rested_at : (hosts : List ℕ) (statuses : List Status) (host : ℕ) → status_at (rested hosts statuses) host ≡ left_at hosts statuses host
+rested_at hosts statuses host = by_case (cases_lt host (length (mended hosts statuses)))
+  where
+    is : status_at (mended hosts statuses) host ≡ cond (has_number host hosts) (stood_up (status_at statuses host)) (status_at statuses host)
+    is = status_at-changed_idle stood_up hosts statuses host refl
+
+    by_case : (host < length (mended hosts statuses)) ⊎ (length (mended hosts statuses) ≤ host) → status_at (rested hosts statuses) host ≡ left_at hosts statuses host
+    by_case (inl within) = get_or-map at_rest (mended hosts statuses) host Idle Idle within ∙ ap at_rest is
+    by_case (inr past) =
+        status_at-past (rested hosts statuses) host (omega (arith, past, length-map (mended hosts statuses) at_rest))
+        ∙ ap at_rest (sym (status_at-past (mended hosts statuses) host past) ∙ is)
+
+-- nobody else comes down by it
+pub rested_down : (hosts : List ℕ) (statuses : List Status) (host : ℕ) → is_down (status_at (rested hosts statuses) host) ≡ true → is_down (status_at statuses host) ≡ true
+rested_down hosts statuses host down = either (status_at statuses host) (has_number host hosts) (sym (ap is_down (rested_at hosts statuses host)) ∙ down)
+  where
+    either : (s : Status) (listed : Bool) → is_down (at_rest (cond listed (stood_up s) s)) ≡ true → is_down s ≡ true
+    either Idle true e = absurd (cc)
+    either Idle false e = absurd (cc)
+    either Waiting true e = absurd (cc)
+    either Waiting false e = absurd (cc)
+    either Running listed e = refl
+    either Updated true e = absurd (cc)
+    either Updated false e = absurd (cc)
+    either Failed listed e = refl
+    either Halted listed e = refl
+    either Off listed e = refl
+    either Held true e = absurd (cc)
+    either Held false e = absurd (cc)
 
 -- a restart brings nobody down
 restarted_down : (statuses : List Status) (host : ℕ) → is_down (status_at (restart_statuses statuses []) host) ≡ true → is_down (status_at statuses host) ≡ true
@@ -184,4 +219,21 @@ module _ (fleet : FleetView) (said : JournalState) (batch : BatchWorks said) whe
         works = record { works = batch.works; idle = λ over. none };
         falls = λ opens host down. down;
         rises = λ ahead host down. down;
+      })
+  moves (resumed hosts) later e =
+      let both = guarded _ (Some (resumes said hosts)) later e in
+      let is : resumes said hosts ≡ later = let same = both.1 in cc in
+      subst (λ (l : JournalState). Moves said l (resumed hosts)) is (record {
+        works = record { works = none_works [] (rested hosts said.statuses) refl; idle = λ over. refl };
+        falls = λ opens host down. rested_down hosts said.statuses host down;
+        rises = λ ahead. absurd (cc);
+      })
+  moves (again hosts) later e =
+      let both = guarded (is_between said) _ later e in
+      let given = mapped (holds said) (moved Idle Waiting hosts said.statuses) later both.1 in
+      let none : said.open_batch ≡ [] = nobody_listed said.open_batch (and_parts (is_under_way said) (is_nobody said.open_batch) both.0).1 in
+      subst (λ (l : JournalState). Moves said l (again hosts)) given.is (record {
+        works = record { works = none_works said.open_batch given.value none; idle = λ over. none };
+        falls = λ opens. up Waiting hosts Idle said.statuses given.value given.was refl;
+        rises = λ ahead. absurd (cc);
       })

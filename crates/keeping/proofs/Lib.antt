@@ -10,3 +10,5 @@ pub mod LossLemmas
 pub mod TurnLemmas
 pub mod WrittenLemmas
 pub mod EndLemmas
+pub mod ResumeLemmas
+pub mod AddedLemmas

@@ -1,5 +1,5 @@
 -- Where the entries of a play lead its journal.
-use Rattle.std.proofs.Common.{◌≡◌, ℕ, suc, ◌<◌, Bool, true, false, cond, ◌==◌, nat_lt, Option, Some, None, List, [], ◌∷◌, ◌++◌, map, take, drop, sym, ap, ◌∙◌, refl, subst}
+use Rattle.std.proofs.Common.{◌≡◌, ℕ, ◌<◌, Bool, true, false, cond, ◌==◌, nat_lt, Option, Some, None, List, [], ◌∷◌, ◌++◌, map, take, drop, sym, ap, ◌∙◌, refl, subst}
 use Rattle.std.specs.Prelude.{option_and_then, if◌then◌else◌}
 use Rattle.std.proofs.lemmas.Bool.{and_from, lt-ltb, or_right}
 use Rattle.std.proofs.lemmas.List.{map-append, take-append-drop}
@@ -26,7 +26,7 @@ use Rattle.keeping.specs.Keepings.{entry_of}
 use Rattle.keeping.specs.Laws.{IsSaidTruly, MayComeNext, PlaysAreSaidTruly, SaysTruly, told}
 use Rattle.keeping.proofs.BeginLemmas.{begins_so, begun_truly, restart_restarts}
 use Rattle.keeping.proofs.StepLemmas.{IsOfSome, Leads, next_of_some, one_leads, same_statuses, step_leads, unsaid}
-use Rattle.roll_run.specs.Journals.{end_entries, entries, entries_at, play_entries}
+use Rattle.roll_run.specs.Journals.{end_entries, entries, entries_at}
 
 -- entries behind others lead on from where those lead
 pub follow_all : (fleet : FleetView) (said mid : JournalState) (first behind : List Entry) → follow fleet said first ≡ Some mid → follow fleet said (first ++ behind) ≡ follow fleet mid behind
@@ -76,66 +76,66 @@ same_down roll said state work truly host = by_case (has_number host state.batch
     by_case true here = ap is_down (truly.inside host here) ∙ works (has_failed (state.rows host)) ∙ sym (ap is_down (work.works host here))
     by_case false outside = ap is_down (truly.outside host outside)
 
--- a play with this log
-module _ (fleet : FleetView) (inventory playbook : List ℕ) (said : JournalState) (roll : Roll) (log : List Event) (comes : MayComeNext said roll.start)
+-- a play that has begun, with this log
+module _ (fleet : FleetView) (inventory playbook : List ℕ) (begun : JournalState) (roll : Roll) (log : List Event) (begun_so : SaysTruly begun (start_state roll))
     (legal : IsLegal roll (start_state roll) log) where
-  abbrev begun : JournalState
-  begun = plays said roll.start
-
   abbrev end : State
   end = end_state roll log
 
   abbrev inside : List Entry
   inside = told inventory playbook (entries roll (start_state roll) log)
 
-  pub led : Leads fleet (plays said roll.start) (told inventory playbook (entries roll (start_state roll) log)) (end_state roll log)
-  led =
-      log_leads fleet inventory playbook roll begun (start_state roll) log (start_at_work roll) (λ going. absurd (going refl)) (begun_truly said roll comes.nobody) legal
+  pub led : Leads fleet begun (told inventory playbook (entries roll (start_state roll) log)) (end_state roll log)
+  led = log_leads fleet inventory playbook roll begun (start_state roll) log (start_at_work roll) (λ going. absurd (going refl)) begun_so legal
 
-  -- the entries of the play lead to where those of its log do, and from there the one of its end does
-  pub play_leads : (how : Option End) → follow fleet said (told inventory playbook (play_entries roll log how)) ≡ follow fleet led.later (told inventory playbook (end_entries how))
-  play_leads how =
-      let behind : List Entry = told inventory playbook (end_entries how) in
-      ap (λ l. follow fleet said (play (waiting_hosts roll.start) ∷ l)) (map-append (entry_of inventory playbook) (entries roll (start_state roll) log) (end_entries how))
-      ∙ follow_all fleet said begun (play (waiting_hosts roll.start) ∷ []) (inside ++ behind) (begins_so said roll.start comes fleet)
-      ∙ follow_all fleet begun led.later inside behind led.leads
+  -- behind an entry that has it begin, the entries of its log lead to where those of its log do, and from there the one of its end does
+  module _ (said : JournalState) (first : Entry) (begins : follow fleet said (first ∷ []) ≡ Some begun) where
+    pub play_leads : (how : Option End) → follow fleet said (first ∷ told inventory playbook (entries roll (start_state roll) log ++ end_entries how))
+        ≡ follow fleet led.later (told inventory playbook (end_entries how))
+    play_leads how =
+        let behind : List Entry = told inventory playbook (end_entries how) in
+        ap (λ l. follow fleet said (first ∷ l)) (map-append (entry_of inventory playbook) (entries roll (start_state roll) log) (end_entries how))
+        ∙ follow_all fleet said begun (first ∷ []) (inside ++ behind) begins
+        ∙ follow_all fleet begun led.later inside behind led.leads
 
-  work : AtWork roll.play end
-  work = end_at_work roll log legal
-
-  -- so far the journal says truly where it stands
-  pub play_said : IsSaidTruly fleet said (told inventory playbook (play_entries roll log None)) (end_state roll log)
-  play_said =
-      record {
-        later = led.later;
-        leads = play_leads None;
-        truly = led.truly;
-        down = same_down roll led.later end work led.truly;
-        rests = λ at. same_statuses led.later end led.truly (work.bare at);
-      }
+    -- so far the journal says truly where it stands
+    pub play_said : IsSaidTruly fleet said (first ∷ told inventory playbook (entries roll (start_state roll) log ++ end_entries None)) (end_state roll log)
+    play_said =
+        let work : AtWork roll.play end = end_at_work roll log legal in
+        record {
+          later = led.later;
+          leads = play_leads None;
+          truly = led.truly;
+          down = same_down roll led.later end work led.truly;
+          rests = λ at. same_statuses led.later end led.truly (work.bare at);
+        }
 
   -- and once it has finished
   module _ (over : (end_state roll log).phase ≡ between) where
-    rests : is_between led.later ≡ true
-    rests = and_from (is_under_way led.later) (is_nobody led.later.open_batch) led.truly.going (ap is_nobody (led.truly.batch ∙ work.bare over))
+    nobody : led.later.open_batch ≡ []
+    nobody = led.truly.batch ∙ (end_at_work roll log legal).bare over
 
-    pub finishes : follow fleet said (told inventory playbook (play_entries roll log (Some Finished))) ≡ Some (ends led.later Finished)
-    finishes =
-        play_leads (Some Finished)
+    rests : is_between led.later ≡ true
+    rests = and_from (is_under_way led.later) (is_nobody led.later.open_batch) led.truly.going (ap is_nobody nobody)
+
+    pub finishes : (said : JournalState) (first : Entry) → follow fleet said (first ∷ []) ≡ Some begun
+        → follow fleet said (first ∷ told inventory playbook (entries roll (start_state roll) log ++ end_entries (Some Finished))) ≡ Some (ends led.later Finished)
+    finishes said first begins =
+        play_leads said first begins (Some Finished)
         ∙ one_leads fleet led.later (ends led.later Finished) (ended Finished) (ap (λ b. cond b (Some (ends led.later Finished)) None) (and_from (is_between led.later) true rests refl))
 
-    pub next_comes : (target : List ℕ) (statuses : List Status) → statuses ≡ restart_statuses (end_state roll log).statuses target → suc said.play < plays_of said.head
+    pub next_comes : (target : List ℕ) (statuses : List Status) → statuses ≡ restart_statuses (end_state roll log).statuses target → begun.play < plays_of begun.head
         → MayComeNext (ends led.later Finished) statuses
     next_comes target statuses is more =
         record {
-          begins = and_from _ _ (ap (λ n. nat_lt n (plays_of led.later.head)) led.same_play ∙ ap (λ h. nat_lt (suc said.play) (plays_of h)) led.same_head
-              ∙ lt-ltb (suc said.play) (plays_of said.head) more) (or_right (led.later.play == 0) true refl);
-          nobody = led.truly.batch ∙ work.bare over;
-          starts = ap (λ (l : List Status). restart_statuses l (waiting_hosts statuses)) (same_statuses led.later end led.truly (work.bare over))
+          begins = and_from _ _ (ap (λ n. nat_lt n (plays_of led.later.head)) led.same_play ∙ ap (λ h. nat_lt begun.play (plays_of h)) led.same_head
+              ∙ lt-ltb begun.play (plays_of begun.head) more) (or_right (led.later.play == 0) true refl);
+          nobody = nobody;
+          starts = ap (λ (l : List Status). restart_statuses l (waiting_hosts statuses)) (same_statuses led.later end led.truly ((end_at_work roll log legal).bare over))
               ∙ subst (λ (l : List Status). restart_statuses end.statuses (waiting_hosts l) ≡ l) (sym is) (restart_restarts end.statuses target);
         }
 
 pub plays_are_said_truly : PlaysAreSaidTruly
 plays_are_said_truly fleet inventory playbook said roll log n comes legal =
     let so_far = beginnings_are_legal roll (take n log) (drop n log) (subst (IsLegal roll (start_state roll)) (sym (take-append-drop n log)) legal) in
-    play_said fleet inventory playbook said roll (take n log) comes so_far
+    play_said fleet inventory playbook (plays said roll.start) roll (take n log) (begun_truly said roll comes.nobody) so_far said (play (waiting_hosts roll.start)) (begins_so said roll.start comes fleet)

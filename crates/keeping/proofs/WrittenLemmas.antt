@@ -11,11 +11,11 @@ use Rattle.keeping.specs.Laws.{told}
 use Rattle.keeping.specs.Written.{IsWhole, KeptIsWritten, is_later}
 use Rattle.roll_run.specs.Journals.{HasKept, JournalEntry, aside, beginning, closing, ended, heading, opening}
 
-appends_none : (known : Option (List ℕ)) → Appends known known []
+pub appends_none : (known : Option (List ℕ)) → Appends known known []
 appends_none None = tt
 appends_none (Some bytes) = sym (append-nil bytes)
 
-appends_twice : (old mid new : Option (List ℕ)) (first later : List ℕ) → Appends old mid first → Appends mid new later → Appends old new (first ++ later)
+pub appends_twice : (old mid new : Option (List ℕ)) (first later : List ℕ) → Appends old mid first → Appends mid new later → Appends old new (first ++ later)
 appends_twice None mid new first later one other = tt
 appends_twice (Some bytes) None new first later one other = absurd one
 appends_twice (Some bytes) (Some more) None first later one other = absurd other

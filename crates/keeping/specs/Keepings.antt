@@ -9,7 +9,7 @@ use Rattle.journal.specs.Entries.{Entry, entry_text}
 use Rattle.journal.specs.Entries as entries
 use Rattle.journal.specs.Listings.{outcomes_of, waiting_hosts}
 use Rattle.keeping.specs.declared.said.Said.{Said}
-use Rattle.keeping.specs.declared.said.Said.TheVariants.{Head, Play, Held, Open, Closed, End}
+use Rattle.keeping.specs.declared.said.Said.TheVariants.{Head, Play, Held, Open, Closed, End, Resumed, Again}
 use Rattle.roll_run.specs.Journals.{JournalEntry, aside, beginning, closing, ended, heading, opening}
 
 -- what is said is this entry
@@ -20,6 +20,8 @@ entry_said (Held hosts) = entries.held (host_numbers hosts.now)
 entry_said (Open batch) = entries.opened (host_numbers batch.now)
 entry_said (Closed batch statuses) = entries.closed (outcomes_of statuses.now (host_numbers batch.now))
 entry_said (End how) = entries.ended how
+entry_said (Resumed hosts) = entries.resumed (host_numbers hosts.now)
+entry_said (Again statuses) = entries.again (waiting_hosts statuses.now)
 
 -- the most plays that a head can tell
 abbrev pub most_plays : ℕ

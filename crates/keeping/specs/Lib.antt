@@ -4,3 +4,4 @@ pub mod Losses
 pub mod Turns
 pub mod Written
 pub mod Ends
+pub mod Resumings

@@ -4,7 +4,7 @@ use Rattle.std.specs.List.{list_all}
 use Rattle.domains.specs.FleetViews.{FleetView, IsSound}
 use Rattle.fleet_states.specs.Statuses.{is_down, status_at}
 use Rattle.event_log.specs.States.{State}
-use Rattle.journal.specs.Entries.{Entry, begun, closed, ended, entries_text, held, opened, play}
+use Rattle.journal.specs.Entries.{Entry, again, begun, closed, ended, entries_text, held, opened, play, resumed}
 use Rattle.journal.specs.Laws.{IsReadOnlyAs}
 use Rattle.journal.specs.Lines.{max_body}
 use Rattle.journal.specs.Names.{HasPlainNames}
@@ -20,6 +20,8 @@ opens_none (held hosts) = true
 opens_none (opened hosts) = false
 opens_none (closed outcomes) = true
 opens_none (ended end) = true
+opens_none (resumed hosts) = true
+opens_none (again hosts) = true
 
 -- the entry may stand in a journal before what it says has come to be in the log: a batch opens, or the play has ended
 abbrev pub may_be_ahead : Entry → Bool
@@ -29,6 +31,8 @@ may_be_ahead (held hosts) = false
 may_be_ahead (opened hosts) = true
 may_be_ahead (closed outcomes) = false
 may_be_ahead (ended end) = true
+may_be_ahead (resumed hosts) = false
+may_be_ahead (again hosts) = false
 
 -- a reader takes these entries for a journal, and by them everybody is down who is so in the log's state
 pub record LosesNobody (fleet : FleetView) (entries : List Entry) (state : State) : Type 0 where

@@ -24,4 +24,11 @@ pub trait Shelf {
     /// A new file of this name, which nobody but its owner may read; an error where anything of this name is there.
     fn create(&self, name: &str) -> io::Result<Self::Journal>
         ensures { IfOk result (λ file. is_new file name.now) };
+
+    /// The file has under this name so many bytes from its beginning, and nothing behind them.
+    ghost is_cut: { Self.Journal → List ℕ → ℕ → Type 0 };
+
+    /// The file of this name, which is there, to go on behind so many bytes from its beginning; what it has behind them is gone.
+    fn reopen(&self, name: &str, length: u64) -> io::Result<Self::Journal>
+        ensures { IfOk result (λ file. is_cut file name.now length) };
 }

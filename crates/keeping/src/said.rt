@@ -10,7 +10,10 @@ use bounded_io::{TextWriter, WriteFault};
 use domains::Fleet;
 use fleet_states::Status;
 use group_tree::HostId;
-use journal::{digest_of, write_closed, write_end, write_head, write_held, write_open, write_play};
+use journal::{
+    digest_of, write_again, write_closed, write_end, write_head, write_held, write_open,
+    write_play, write_resumed,
+};
 use std::alloc::{AllocError, Global};
 use std::io::Write;
 
@@ -24,6 +27,10 @@ pub enum Said<'s> {
     Open(&'s [HostId]),
     Closed(&'s [HostId], &'s [Status]),
     End(play_course::End),
+    /// That the run is resumed, where these hosts are up by now.
+    Resumed(&'s [HostId]),
+    /// With which statuses its play goes on.
+    Again(&'s [Status]),
 }
 
 /// Writes what is said. Want of memory writes nothing.
@@ -52,6 +59,8 @@ fn write_said<W: Write>(
         Said::Open(batch) => write_open(alloc, text, fleet, batch),
         Said::Closed(batch, statuses) => write_closed(alloc, text, fleet, batch, statuses),
         Said::End(how) => write_end(alloc, text, fleet, how),
+        Said::Resumed(hosts) => write_resumed(alloc, text, fleet, hosts),
+        Said::Again(statuses) => write_again(alloc, text, fleet, statuses),
     }
 }
 

@@ -1,5 +1,5 @@
 -- A batch in which hosts fail at the first step alone.
-use Rattle.std.proofs.Common.{◌≡◌, ℕ, ◌+◌, ◌^◌, ◌<◌, ◌≤◌, ◌&&◌, ◌++◌, append-nil, drop, nat_eq, Bool, true, false, cond, Option, Some, None, List, [], ◌∷◌, length, not, refl, sym, ap, ◌∙◌, subst, arith, inl, inr, ◌⊎◌, get_or, is_some, find, take}
+use Rattle.std.proofs.Common.{◌≡◌, ℕ, ◌+◌, ◌^◌, ◌<◌, ◌≤◌, ◌&&◌, ◌++◌, append-nil, drop, nat_eq, Bool, true, false, cond, Option, Some, None, List, [], ◌∷◌, length, not, refl, sym, ap, ◌∙◌, subst, arith, inl, inr, ◌⊎◌, get_or, is_some, filter, find, take}
 use Rattle.std.proofs.lemmas.Bool.{cases_eq, cases_lt, eq-eqb, false_from_ne_true, lt-ltb, or_left, or_right}
 use Rattle.std.proofs.lemmas.List.{drop_all, get_or_past, take_all}
 use Rattle.std.specs.Prelude.{IfSome, if◌then◌else◌}
@@ -95,6 +95,12 @@ find_same test other alike [] = refl
 find_same test other alike (host ∷ hosts) =
     ap (λ b. cond b (Some host) (find test hosts)) (alike host) ∙ ap (cond (other host) (Some host)) (find_same test other alike hosts)
 
+-- tests that agree leave the same hosts
+pub filter_alike : (test other : HostId → Bool) → ((host : HostId) → test host ≡ other host) → (hosts : List HostId) → filter test hosts ≡ filter other hosts
+filter_alike test other alike [] = refl
+filter_alike test other alike (host ∷ hosts) =
+    ap (λ b. cond b (host ∷ filter test hosts) (filter test hosts)) (alike host) ∙ ap (λ (l : List HostId). cond (other host) (host ∷ l) l) (filter_alike test other alike hosts)
+
 -- who can fail where just the batch does stands in it
 module _ (hosts : ℕ) (batch : List ℕ) (failing : List (Option ℕ)) (steps : AreFirstSteps hosts batch failing) (below : are_below hosts batch ≡ true) where
   can_fail_in : (host : ℕ) → is_some (fails_in failing host) ≡ has_number host batch
@@ -109,6 +115,10 @@ module _ (hosts : ℕ) (batch : List ℕ) (failing : List (Option ℕ)) (steps :
   pub spared_is_outside : (named : List HostId) → find (λ host. not (is_some (fails_in failing host.index))) named ≡ first_outside batch named
   spared_is_outside named =
       find_same (λ host. not (is_some (fails_in failing host.index))) (λ host. not (has_number host.index batch)) (λ host. ap not (can_fail_in host.index)) named
+
+  pub able_are_in : (marked : List HostId) → filter (λ host. is_some (fails_in failing host.index)) marked ≡ filter (λ host. has_number host.index batch) marked
+  able_are_in marked =
+      filter_alike (λ host. is_some (fails_in failing host.index)) (λ host. has_number host.index batch) (λ host. can_fail_in host.index) marked
 
 -- numbers that are below a bound one by one
 pub all_below : (bound : ℕ) (xs : List ℕ) → ((n : ℕ) → has_number n xs ≡ true → n < bound) → are_below bound xs ≡ true

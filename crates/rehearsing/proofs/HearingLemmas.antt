@@ -3,9 +3,9 @@ use Rattle.std.proofs.Common.{◌≡◌, ℕ, ◌+◌, ◌<◌, ◌≤◌, true,
 use Rattle.bounded_io.specs.Writing.{Writes}
 use Rattle.bounded_io.specs.declared.text_writer.TextWriter.{TextWriter}
 use Rattle.bounded_io.proofs.WritingLemmas.{writes_none, writes_two}
-use Rattle.rehearsing.specs.Stacks.{RehearsalView}
+use Rattle.rehearsing.specs.Histories.{HistoryView}
 use Rattle.rehearsing.specs.Answers.{Answers, LeadsTo, answer_to}
-use Rattle.rehearsing.specs.Commands.{Command, advance, command_in, ends_session, help, hosts, nothing, plan, quit, show, undo, unknown}
+use Rattle.rehearsing.specs.Commands.{Command, advance, command_in, ends_session, fail, finish, help, hosts, next, nothing, plan, quit, show, undo, unknown}
 use Rattle.rehearsing.specs.declared.fault.RehearseFault.{RehearseFault}
 use Rattle.rehearsing.specs.declared.fault.RehearseFault.TheVariants.{Refused, Memory, File, TooLarge, LongLine, Write}
 use Rattle.rehearsing.specs.Inside.{HasNoRoom, Hears, HearsEnd, HearsUntil, StopsAt}
@@ -24,9 +24,12 @@ stops_there front behind (Refused fault) e room = absurd room
 stops_there front behind (Write fault) e room = absurd room
 
 -- a command that ends the session is answered by nothing, and leads nowhere
-ends_there : (before : RehearsalView) (command : Command) (after : RehearsalView) → ends_session command ≡ true → LeadsTo before command after → (answer_to before command ≡ []) × (after ≡ before)
+ends_there : (before : HistoryView) (command : Command) (after : HistoryView) → ends_session command ≡ true → LeadsTo before command after → (answer_to before command after ≡ []) × (after ≡ before)
 ends_there before nothing after ends to = absurd (cc)
 ends_there before (advance names) after ends to = absurd (cc)
+ends_there before (next count) after ends to = absurd (cc)
+ends_there before finish after ends to = absurd (cc)
+ends_there before (fail host) after ends to = absurd (cc)
 ends_there before undo after ends to = absurd (cc)
 ends_there before plan after ends to = absurd (cc)
 ends_there before show after ends to = absurd (cc)
@@ -36,17 +39,17 @@ ends_there before quit after ends to = (refl, to)
 ends_there before unknown after ends to = absurd (cc)
 
 -- how far bytes were heard: those before `left`
-pub record Hearing {W : Type 0} (contents : W → Option (List ℕ)) (before : RehearsalView) (line bytes left now : List ℕ) (after : RehearsalView) (old new : TextWriter W) : Type 0 where
+pub record Hearing {W : Type 0} (contents : W → Option (List ℕ)) (before : HistoryView) (line bytes left now : List ℕ) (after : HistoryView) (old new : TextWriter W) : Type 0 where
   pub taken : List ℕ
   pub parts : bytes ≡ taken ++ left
   pub hears : Hears contents before (line ++ taken) now after old new
   pub is_line : IsLine now
 
 module _ {W : Type 0} (contents : W → Option (List ℕ)) where
-  pub hears_none : (before : RehearsalView) (rest : List ℕ) (text : TextWriter W) → Hears contents before rest rest before text text
+  pub hears_none : (before : HistoryView) (rest : List ℕ) (text : TextWriter W) → Hears contents before rest rest before text text
   hears_none before rest text = record { text = []; heard = heard_none before rest; written = writes_none contents text }
 
-  pub hears_on : (before : RehearsalView) (bytes rest : List ℕ) (between : RehearsalView) (more left : List ℕ) (after : RehearsalView) (t0 t1 t2 : TextWriter W)
+  pub hears_on : (before : HistoryView) (bytes rest : List ℕ) (between : HistoryView) (more left : List ℕ) (after : HistoryView) (t0 t1 t2 : TextWriter W)
       → Hears contents before bytes rest between t0 t1 → Hears contents between (rest ++ more) left after t1 t2 → Hears contents before (bytes ++ more) left after t0 t2
   hears_on before bytes rest between more left after t0 t1 t2 one two = record {
     text = one.text ++ two.text;
@@ -55,13 +58,13 @@ module _ {W : Type 0} (contents : W → Option (List ℕ)) where
   }
 
   -- nothing more is answered
-  pub hears_silence : (before : RehearsalView) (bytes rest : List ℕ) (between : RehearsalView) (more : List ℕ) (after : RehearsalView) (t0 t1 t2 : TextWriter W)
+  pub hears_silence : (before : HistoryView) (bytes rest : List ℕ) (between : HistoryView) (more : List ℕ) (after : HistoryView) (t0 t1 t2 : TextWriter W)
       → Hears contents before bytes rest between t0 t1 → after ≡ between → Writes contents t1 t2 [] → Hears contents before (bytes ++ more) (rest ++ more) after t0 t2
   hears_silence before bytes rest between more after t0 t1 t2 one same silent =
       let still : Hears contents between (rest ++ more) (rest ++ more) between t1 t2 = record { text = []; heard = heard_none between (rest ++ more); written = silent } in
-      subst (λ (r : RehearsalView). Hears contents before (bytes ++ more) (rest ++ more) r t0 t2) (sym same) (hears_on before bytes rest between more (rest ++ more) between t0 t1 t2 one still)
+      subst (λ (r : HistoryView). Hears contents before (bytes ++ more) (rest ++ more) r t0 t2) (sym same) (hears_on before bytes rest between more (rest ++ more) between t0 t1 t2 one still)
 
-  pub begins_hearing : (before : RehearsalView) (line bytes : List ℕ) (text : TextWriter W) → IsLine line → Hearing contents before line bytes bytes line before text text
+  pub begins_hearing : (before : HistoryView) (line bytes : List ℕ) (text : TextWriter W) → IsLine line → Hearing contents before line bytes bytes line before text text
   begins_hearing before line bytes text is = record {
     taken = [];
     parts = refl;
@@ -69,7 +72,7 @@ module _ {W : Type 0} (contents : W → Option (List ℕ)) where
     is_line = is;
   }
 
-  module _ (before : RehearsalView) (line bytes left now : List ℕ) (between after : RehearsalView) (t0 t1 t2 : TextWriter W) (hearing : Hearing contents before line bytes left now between t0 t1) where
+  module _ (before : HistoryView) (line bytes left now : List ℕ) (between after : HistoryView) (t0 t1 t2 : TextWriter W) (hearing : Hearing contents before line bytes left now between t0 t1) where
     whole : (line ++ hearing.taken) ++ left ≡ line ++ bytes
     whole = append_assoc line hearing.taken left ∙ ap (λ l. line ++ l) (sym hearing.parts)
 

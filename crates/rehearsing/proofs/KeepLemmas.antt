@@ -1,15 +1,16 @@
 -- A session leads from a rehearsal to a rehearsal of the same play.
-use Rattle.std.proofs.Common.{◌≡◌, ℕ, ◌+◌, None, Some, Option, List, [], ◌∷◌, length, sym, refl, ap, ◌∙◌, subst, arith}
+use Rattle.std.proofs.Common.{◌≡◌, ℕ, ◌+◌, Bool, List, [], ◌∷◌, length, sym, ap, ◌∙◌, subst, arith}
 use Rattle.domains.specs.FleetViews.{FleetView}
 use Rattle.fleet_states.specs.declared.status.Status.{Status}
 use Rattle.play_model.specs.declared.play.Play.{Play}
 use Rattle.group_tree.specs.declared.ids.HostId.{HostId}
-use Rattle.rehearsing.specs.declared.stage.Stage.{Stage}
 use Rattle.rehearsing.specs.Plays.{IsRehearsalOf}
-use Rattle.rehearsing.specs.Stacks.{IsAdvanced, IsBehind, IsRehearsal, IsUndone, RehearsalView, pushed, top}
-use Rattle.rehearsing.proofs.StackLemmas.{above-pop, above-push}
-use Rattle.rehearsing.specs.Answers.{AdvancesTo, GoesBackTo, LeadsTo, refusal}
-use Rattle.rehearsing.specs.Commands.{Command, advance, command_in, help, hosts, nothing, plan, quit, show, undo, unknown}
+use Rattle.rehearsing.specs.Stacks.{IsAdvanced, IsBehind, RehearsalView, top}
+use Rattle.rehearsing.specs.Histories.{HistoryView, Place, back_at, led_on, refusing, undone}
+use Rattle.rehearsing.proofs.StackLemmas.{above-push}
+use Rattle.rehearsing.proofs.LeadLemmas.{Leads, goes_back, leads_on, leads_somehow, refuses, stays}
+use Rattle.rehearsing.specs.Answers.{LeadsTo}
+use Rattle.rehearsing.specs.Commands.{Command, command_in}
 use Rattle.rehearsing.specs.Laws.{SessionsRehearse}
 use Rattle.rehearsing.specs.Sessions.{Session}
 
@@ -29,39 +30,33 @@ module _ (fleet : FleetView) (play : Play) (statuses : List Status) where
         opening = is.opening;
       })
 
-  is_undone : (old new : RehearsalView) → IsUndone old new → Is old → Is new
-  is_undone old new undone is =
-      let before : Is (pushed undone.stage new) = subst Is undone.shrunk is in
-      record {
-        is_rehearsal = record { opens = before.is_rehearsal.opens; stands = above-pop new.rules 0 new.first new.above undone.stage before.is_rehearsal.stands };
-        rules = before.rules;
-        opening = before.opening;
-      }
+  -- wherever it stands and stood there is a rehearsal of the play
+  abbrev AreAt : List Place → Type 0
+  AreAt [] = Unit {0}
+  AreAt (place ∷ places) = Is place.rehearsal × AreAt places
 
-  advances : (before : RehearsalView) (names : List (List ℕ)) (refused : Option (List ℕ)) (after : RehearsalView) → AdvancesTo before names refused after → Is before → Is after
-  advances before names (Some line) after to is = subst Is (sym to) is
-  advances before names None after to is = is_advanced _ before after to is
+  abbrev Are : HistoryView → Type 0
+  Are history = Is history.place.rehearsal × AreAt history.earlier
 
-  goes_back : (before : RehearsalView) (above : List Stage) (after : RehearsalView) → GoesBackTo before above after → Is before → Is after
-  goes_back before [] after to is = subst Is (sym to) is
-  goes_back before (stage ∷ above) after to is = is_undone before after to is
+  are_back : (place : Place) (earlier : List Place) (refused : Bool) → Is place.rehearsal × AreAt earlier
+      → Are (back_at (let h : HistoryView = record { place = place; earlier = earlier; refused = refused } in h) earlier)
+  are_back place [] refused are = are
+  are_back place (before ∷ earlier) refused are = are.1
 
-  leads : (before : RehearsalView) (command : Command) (after : RehearsalView) → LeadsTo before command after → Is before → Is after
-  leads before nothing after to is = subst Is (sym to) is
-  leads before (advance names) after to is = advances before names (refusal before names) after to is
-  leads before undo after to is = goes_back before before.above after to is
-  leads before plan after to is = subst Is (sym to) is
-  leads before show after to is = subst Is (sym to) is
-  leads before (hosts group) after to is = subst Is (sym to) is
-  leads before help after to is = subst Is (sym to) is
-  leads before quit after to is = subst Is (sym to) is
-  leads before unknown after to is = subst Is (sym to) is
+  leads : (before : HistoryView) (command : Command) (after : HistoryView) → LeadsTo before command after → Are before → Are after
+  leads before command after to are = by_way (leads_somehow Is is_advanced before command after to)
+    where
+      by_way : Leads Is before command after → Are after
+      by_way (stays same) = subst Are (sym same) are
+      by_way (refuses same) = subst Are (sym same) are
+      by_way (leads_on place kept to_place) = subst Are (sym to_place) (kept are.0, are)
+      by_way (goes_back undoes same) = subst Are (sym same) (are_back before.place before.earlier before.refused are)
 
-  stays : (before : RehearsalView) (lines : List (List ℕ)) (text : List ℕ) (after : RehearsalView) → Session before lines text after → Is before → Is after
-  stays before [] text after session is = subst Is (sym session.1) is
-  stays before (line ∷ lines) text after session is =
-      stays session.0 lines session.1 after session.3 (leads before (command_in line) session.0 session.2 is)
+  all_lead : (before : HistoryView) (lines : List (List ℕ)) (text : List ℕ) (after : HistoryView) → Session before lines text after → Are before → Are after
+  all_lead before [] text after session are = subst Are (sym session.1) are
+  all_lead before (line ∷ lines) text after session are =
+      all_lead session.0 lines session.1 after session.3 (leads before (command_in line) session.0 session.2 are)
 
 pub sessions_rehearse : SessionsRehearse
 sessions_rehearse inventory playbook before lines text after opening session =
-    stays opening.fleet opening.play _ before lines text after session opening.opening.of
+    (all_lead opening.fleet opening.play _ _ lines text after session (opening.opening.of, tt)).0

@@ -1,5 +1,7 @@
 pub mod BatchLemmas
 pub mod StackLemmas
+pub mod GoingOnLemmas
+pub mod HistoryLemmas
 pub mod ForecastLemmas
 pub mod PlayLemmas
 pub mod UndoLemmas
@@ -14,8 +16,11 @@ pub mod HearingLemmas
 pub mod ReadLemmas
 pub mod ListeningLemmas
 pub mod OpeningLemmas
+pub mod LeadLemmas
 pub mod KeepLemmas
 pub mod CourseLemmas
+pub mod EndLemmas
+pub mod NextLemmas
 pub mod CoursesLemmas
 pub mod CourseTextLemmas
 pub mod SameTextLemmas

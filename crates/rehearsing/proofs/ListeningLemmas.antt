@@ -7,7 +7,7 @@ use Rattle.bounded_io.specs.Reading.{max_input}
 use Rattle.bounded_io.specs.Writing.{Writes}
 use Rattle.bounded_io.specs.declared.text_writer.TextWriter.{TextWriter}
 use Rattle.bounded_io.proofs.WritingLemmas.{writes_two}
-use Rattle.rehearsing.specs.Stacks.{RehearsalView}
+use Rattle.rehearsing.specs.Histories.{HistoryView}
 use Rattle.rehearsing.specs.declared.fault.RehearseFault.{RehearseFault}
 use Rattle.rehearsing.specs.declared.fault.RehearseFault.TheVariants.{Refused, Memory, File, TooLarge, LongLine, Write}
 use Rattle.rehearsing.specs.Inside.{Hears, HearsEnd, HearsUntil, LastAnswer, ListensInVain, ListensToEnd, ListensUntil, StopsAt, Unheard}
@@ -18,7 +18,7 @@ use Rattle.rehearsing.proofs.SessionLemmas.{session_of}
 use Rattle.rehearsing.proofs.HearingLemmas.{hears_none, hears_on, hears_silence}
 
 -- what was heard of a reader that gave so many bytes
-pub record Listening {W : Type 0} (contents : W → Option (List ℕ)) (before : RehearsalView) (old new : Option (List ℕ)) (given : ℕ) (line : List ℕ) (after : RehearsalView) (text_old text_new : TextWriter W) : Type 0 where
+pub record Listening {W : Type 0} (contents : W → Option (List ℕ)) (before : HistoryView) (old new : Option (List ℕ)) (given : ℕ) (line : List ℕ) (after : HistoryView) (text_old text_new : TextWriter W) : Type 0 where
   pub bytes : List ℕ
   pub consumed : Consumes old new bytes
   pub many : length bytes ≡ given
@@ -40,7 +40,7 @@ stops_before rest more TooLarge is = absurd is
 stops_before rest more (Refused fault) is = absurd is
 stops_before rest more (Write fault) is = absurd is
 
-module _ {W : Type 0} (contents : W → Option (List ℕ)) (before : RehearsalView) (old : Option (List ℕ)) (t0 : TextWriter W) where
+module _ {W : Type 0} (contents : W → Option (List ℕ)) (before : HistoryView) (old : Option (List ℕ)) (t0 : TextWriter W) where
   pub begins_listening : Listening contents before old old 0 [] before t0 t0
   begins_listening = record {
     bytes = [];
@@ -51,7 +51,7 @@ module _ {W : Type 0} (contents : W → Option (List ℕ)) (before : RehearsalVi
     is_line = record { feedless = refl; within = omega arith };
   }
 
-  module _ (mid : Option (List ℕ)) (given : ℕ) (line : List ℕ) (between : RehearsalView) (t1 : TextWriter W) (so_far : Listening contents before old mid given line between t0 t1) where
+  module _ (mid : Option (List ℕ)) (given : ℕ) (line : List ℕ) (between : HistoryView) (t1 : TextWriter W) (so_far : Listening contents before old mid given line between t0 t1) where
     -- nothing was written meanwhile
     pub still_listening : (t2 : TextWriter W) → Writes contents t1 t2 [] → Listening contents before old mid given line between t0 t2
     still_listening t2 silent = record {
@@ -99,7 +99,7 @@ module _ {W : Type 0} (contents : W → Option (List ℕ)) (before : RehearsalVi
       consumed_all : Consumes old new so_far.bytes
       consumed_all = subst (Consumes old new) (append-nil so_far.bytes) (Consumes-trans old mid new so_far.bytes [] so_far.consumed none)
 
-      pub to_all : (after : RehearsalView) (t2 : TextWriter W) → IsAtEnd new → LastAnswer contents between line after t1 t2 → ListensToEnd contents before old new t0 t2
+      pub to_all : (after : HistoryView) (t2 : TextWriter W) → IsAtEnd new → LastAnswer contents between line after t1 t2 → ListensToEnd contents before after old new t0 t2
       to_all after t2 end last = record {
         text = so_far.hears.text ++ last.text;
         over = inl (record {
@@ -108,7 +108,6 @@ module _ {W : Type 0} (contents : W → Option (List ℕ)) (before : RehearsalVi
           first = so_far.hears.text;
           between = between;
           last = last.text;
-          after = after;
           consumed = consumed_all;
           end = end;
           within = omega (arith, so_far.many, so_far.within);
@@ -135,7 +134,7 @@ module _ {W : Type 0} (contents : W → Option (List ℕ)) (before : RehearsalVi
         written = writes_two contents t0 t1 t2 so_far.hears.text [] so_far.hears.text so_far.hears.written silent (append-nil so_far.hears.text);
       }
 
-    module _ (new : Option (List ℕ)) (after : RehearsalView) (t2 : TextWriter W) where
+    module _ (new : Option (List ℕ)) (after : HistoryView) (t2 : TextWriter W) where
       pub one_read_more : (chunk now : List ℕ) (count : ℕ) → Consumes mid new chunk → length chunk ≡ count → given + count ≤ max_input
           → Hears contents between (line ++ chunk) now after t1 t2 → IsLine now → Listening contents before old new (given + count) now after t0 t2
       one_read_more chunk now count read many within hears is_line = record {
@@ -176,7 +175,7 @@ module _ {W : Type 0} (contents : W → Option (List ℕ)) (before : RehearsalVi
 
       -- a line of the chunk ended the session; perhaps a byte past the bound came behind the chunk
       pub to_line : (chunk past : List ℕ) → Consumes mid new (chunk ++ past) → length (chunk ++ past) ≤ max_read → given + length (chunk ++ past) ≤ max_input + 1 → given + length chunk ≤ max_input
-          → HearsEnd contents between line chunk after t1 t2 → ListensToEnd contents before old new t0 t2
+          → HearsEnd contents between line chunk after t1 t2 → ListensToEnd contents before after old new t0 t2
       to_line chunk past read short few within hears =
           let bytes : List ℕ = so_far.bytes ++ (chunk ++ past) in
           let rest : List ℕ = hears.line ++ 10 ∷ hears.behind in
@@ -187,7 +186,6 @@ module _ {W : Type 0} (contents : W → Option (List ℕ)) (before : RehearsalVi
               bytes = bytes;
               line = hears.line;
               behind = hears.behind ++ past;
-              after = after;
               consumed = Consumes-trans old mid new so_far.bytes (chunk ++ past) so_far.consumed read;
               heard = record {
                 lines = all.heard.lines;
@@ -265,7 +263,7 @@ module _ {W : Type 0} (contents : W → Option (List ℕ)) (before : RehearsalVi
       until_fault is_reliable chunk behind (Write fault) read few within hears = absurd hears.stops
 
 -- the last line was answered
-pub last_told : {W : Type 0} (contents : W → Option (List ℕ)) (before : RehearsalView) (line answer : List ℕ) (after : RehearsalView) (t0 t1 : TextWriter W) → 0 < length line
+pub last_told : {W : Type 0} (contents : W → Option (List ℕ)) (before : HistoryView) (line answer : List ℕ) (after : HistoryView) (t0 t1 : TextWriter W) → 0 < length line
     → Answers before line answer after → Writes contents t0 t1 answer → LastAnswer contents before line after t0 t1
 last_told contents before [] answer after t0 t1 some is written = absurd (omega (arith, some))
 last_told contents before (byte ∷ bytes) answer after t0 t1 some is written =

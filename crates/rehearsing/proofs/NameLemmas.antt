@@ -1,6 +1,8 @@
 -- The hosts and the groups of names.
 use Rattle.std.proofs.Common.{◌≡◌, ℕ, ◌<◌, ◌≤◌, Bool, true, false, ◌&&◌, not, cond, nat_eq, Option, None, Some, List, [], ◌∷◌, length, get_or, sym, refl, ap, ◌∙◌, subst, arith}
-use Rattle.std.specs.Prelude.{MatchOption, if◌then◌else◌}
+use Rattle.std.specs.Prelude.{MatchOption, option_and_then, if◌then◌else◌}
+use Rattle.text_parts.specs.Numerals.{number_in_digits}
+use Rattle.rehearsing.specs.Commands.{number_in, some_number}
 use Rattle.std.specs.List.{find, list_any, position, position_or_len}
 use Rattle.std.specs.Str.{IsUtf8, is_utf8}
 use Rattle.std.proofs.lemmas.Bool.Decides.{nat_tests}
@@ -73,3 +75,17 @@ no_group fleet name not_utf8 = by_case (is_utf8 name) refl
     by_case : (b : Bool) → is_utf8 name ≡ b → None ≡ group_named fleet name
     by_case true e = absurd (not_utf8 (IsUtf8-from_is_utf8 name e))
     by_case false e = sym (ap (λ b. if b then position (same_name name) fleet.groups else None) e)
+
+-- the number of a word that is text
+pub found_number : (word text : Name) (found : Option ℕ) → text ≡ word → IsUtf8 word → found ≡ number_in_digits 5 65535 text
+    → (option_and_then some_number found ≡ number_in word)
+found_number word text found same utf8 is =
+    ap (option_and_then some_number) (is ∙ ap (number_in_digits 5 65535) same)
+    ∙ sym (ap (λ b. if b then option_and_then some_number (number_in_digits 5 65535 word) else None) (is_utf8-from_IsUtf8 word utf8))
+
+pub no_number : (word : Name) → (IsUtf8 word → ⊥) → None ≡ number_in word
+no_number word not_utf8 = by_case (is_utf8 word) refl
+  where
+    by_case : (b : Bool) → is_utf8 word ≡ b → None ≡ number_in word
+    by_case true e = absurd (not_utf8 (IsUtf8-from_is_utf8 word e))
+    by_case false e = sym (ap (λ b. if b then option_and_then some_number (number_in_digits 5 65535 word) else None) e)

@@ -5,7 +5,7 @@ use Rattle.std.specs.List.{flat_map}
 use Rattle.std.proofs.lemmas.List.{map-append}
 use Rattle.std.proofs.lemmas.List.Elements.{All-append, All-cons, All-nil}
 use Rattle.std.proofs.lemmas.Grind.{flat_map-append}
-use Rattle.rehearsing.specs.Stacks.{RehearsalView}
+use Rattle.rehearsing.specs.Histories.{HistoryView}
 use Rattle.rehearsing.specs.Answers.{Answers, LeadsTo, answer_to}
 use Rattle.rehearsing.specs.Commands.{command_in}
 use Rattle.rehearsing.specs.Lines.{IsLine, joined, without_return}
@@ -15,29 +15,29 @@ abbrev GoesOn : List ℕ → Type 0
 GoesOn line = quits line ≡ false
 
 -- two sessions, one behind the other
-pub session_on : (before : RehearsalView) (lines : List (List ℕ)) (text : List ℕ) (between : RehearsalView) (more : List (List ℕ)) (later : List ℕ) (after : RehearsalView)
+pub session_on : (before : HistoryView) (lines : List (List ℕ)) (text : List ℕ) (between : HistoryView) (more : List (List ℕ)) (later : List ℕ) (after : HistoryView)
     → Session before lines text between → Session between more later after → Session before (lines ++ more) (text ++ later) after
 session_on before [] text between more later after one two =
-    subst (λ (t : List ℕ). Session before more (t ++ later) after) (sym one.0) (subst (λ (r : RehearsalView). Session r more later after) one.1 two)
+    subst (λ (t : List ℕ). Session before more (t ++ later) after) (sym one.0) (subst (λ (r : HistoryView). Session r more later after) one.1 two)
 session_on before (line ∷ lines) text between more later after one two = (
   one.0,
   one.1 ++ later,
   one.2,
   session_on one.0 lines one.1 between more later after one.3 two,
-  ap (λ t. t ++ later) one.4 ∙ append_assoc (answer_to before (command_in line)) one.1 later,
+  ap (λ t. t ++ later) one.4 ∙ append_assoc (answer_to before (command_in line) one.0) one.1 later,
 )
 
 -- a session of one line
-pub session_of : (before : RehearsalView) (line text : List ℕ) (after : RehearsalView) → Answers before line text after → Session before (line ∷ []) text after
+pub session_of : (before : HistoryView) (line text : List ℕ) (after : HistoryView) → Answers before line text after → Session before (line ∷ []) text after
 session_of before line text after is =
-    (after, [], is.leads, (refl, refl), is.text_is ∙ sym (append-nil (answer_to before (command_in line))))
+    (after, [], is.leads, (refl, refl), is.text_is ∙ sym (append-nil (answer_to before (command_in line) after)))
 
 -- nothing was heard yet of what stands there
-pub heard_none : (before : RehearsalView) (rest : List ℕ) → Heard before rest rest [] before
+pub heard_none : (before : HistoryView) (rest : List ℕ) → Heard before rest rest [] before
 heard_none before rest = record { lines = []; parts = refl; are_lines = All-nil IsLine; go_on = All-nil GoesOn; answers = (refl, refl) }
 
 -- one line was heard
-pub heard_one : (before : RehearsalView) (line bytes text : List ℕ) (after : RehearsalView) → IsLine line → quits line ≡ false → bytes ≡ line ++ 10 ∷ []
+pub heard_one : (before : HistoryView) (line bytes text : List ℕ) (after : HistoryView) → IsLine line → quits line ≡ false → bytes ≡ line ++ 10 ∷ []
     → Answers before (without_return line) text after → Heard before bytes [] text after
 heard_one before line bytes text after is goes_on parts answers = record {
   lines = line ∷ [];
@@ -48,7 +48,7 @@ heard_one before line bytes text after is goes_on parts answers = record {
 }
 
 -- what follows was heard too
-pub heard_on : (before : RehearsalView) (bytes rest text : List ℕ) (between : RehearsalView) (more left later : List ℕ) (after : RehearsalView)
+pub heard_on : (before : HistoryView) (bytes rest text : List ℕ) (between : HistoryView) (more left later : List ℕ) (after : HistoryView)
     → Heard before bytes rest text between → Heard between (rest ++ more) left later after → Heard before (bytes ++ more) left (text ++ later) after
 heard_on before bytes rest text between more left later after one two = record {
   lines = one.lines ++ two.lines;

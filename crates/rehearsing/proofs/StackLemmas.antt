@@ -1,5 +1,5 @@
 -- Stages above one another.
-use Rattle.std.proofs.Common.{◌≡◌, ℕ, zero, suc, ◌+◌, ◌-◌, ◌<◌, true, Option, Some, None, List, [], ◌∷◌, ◌++◌, length, get_or, slice_get, refl, sym, ap, ◌∙◌, subst, arith}
+use Rattle.std.proofs.Common.{◌≡◌, ℕ, zero, suc, ◌+◌, ◌-◌, ◌<◌, true, Option, Some, None, List, [], ◌∷◌, ◌++◌, length, get_or, slice_get, take, refl, sym, ap, ◌∙◌, subst, arith}
 use Rattle.std.proofs.lemmas.Option.{same_Some}
 use Rattle.group_tree.specs.declared.ids.HostId.{HostId}
 use Rattle.fleet_numbers.specs.NumberLists.{has_number}
@@ -15,7 +15,7 @@ use Rattle.play_course.specs.declared.end.End.{End}
 use Rattle.play_course.specs.Courses.{IsBoundary, IsPlannedFrom, end_behind, end_here, halt_of, next_batch, statuses_behind}
 use Rattle.play_course.proofs.OpenedLemmas.{opened_waits}
 use Rattle.rehearsing.specs.declared.stage.Stage.{Stage}
-use Rattle.rehearsing.specs.Stacks.{AreAbove, IsBehind, RehearsalView, Rules, cap_at, fail_first, first_outside, last_batch_of, named_at, pushed, top, top_of, where_fail}
+use Rattle.rehearsing.specs.Stacks.{AreAbove, IsBehind, RehearsalView, Rules, cap_at, cut_to, fail_first, first_outside, last_batch_of, named_at, pushed, top, top_of, where_fail}
 use Rattle.rehearsing.specs.Advances.{AreFirstSteps, IsEndOfBatch, halt_by}
 use Rattle.rehearsing.specs.Kept.{IsKept}
 use Rattle.rehearsing.proofs.BatchLemmas.{end_is_behind, statuses_are_behind}
@@ -30,6 +30,11 @@ module _ (rules : Rules) where
   pub above-pop : (opened : ℕ) (below : Stage) (above : List Stage) (stage : Stage) → AreAbove rules opened below (above ++ stage ∷ []) → AreAbove rules opened below above
   above-pop opened below [] stage are = tt
   above-pop opened below (next ∷ above) stage are = (are.0, above-pop (opened + 1) next above stage are.1)
+
+  pub above-take : (count opened : ℕ) (below : Stage) (above : List Stage) → AreAbove rules opened below above → AreAbove rules opened below (take count above)
+  above-take zero opened below above are = tt
+  above-take (suc count) opened below [] are = tt
+  above-take (suc count) opened below (stage ∷ above) are = (are.0, above-take count (opened + 1) stage above are.1)
 
   -- a stage whose boundary was planned for statuses of the whole fleet
   pub record Stands (stage : Stage) : Type 0 where
@@ -123,6 +128,18 @@ kept-pop rehearsal stage kept =
           record {
             opens = kept.rehearsed.opens;
             stands = above-pop rehearsal.rules 0 rehearsal.first rehearsal.above stage kept.rehearsed.stands;
+          };
+      all = kept.all;
+      sizes = kept.sizes;
+    }
+
+pub kept-cut : (stages : ℕ) (rehearsal : RehearsalView) → IsKept rehearsal → IsKept (cut_to stages rehearsal)
+kept-cut stages rehearsal kept =
+    record {
+      rehearsed =
+          record {
+            opens = kept.rehearsed.opens;
+            stands = above-take rehearsal.rules stages 0 rehearsal.first rehearsal.above kept.rehearsed.stands;
           };
       all = kept.all;
       sizes = kept.sizes;

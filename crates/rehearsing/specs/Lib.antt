@@ -8,6 +8,9 @@ pub mod Commands
 pub mod Names
 pub mod Hosts
 pub mod Help
+pub mod Histories
+pub mod GoingOn
+pub mod Points
 pub mod Answers
 pub mod AnswersInside
 pub mod Lines
@@ -19,3 +22,4 @@ pub mod Laws
 pub mod CourseTexts
 pub mod CourseSteps
 pub mod CourseLaws
+pub mod HistoryLaws

@@ -5,31 +5,32 @@ use Rattle.bounded_io.specs.Sending.{SendsFirst}
 use Rattle.planning.specs.PlanTexts.{IsRefusedAfter, IsUnread}
 use Rattle.planning.specs.declared.fault.PlanFault.{PlanFault}
 use Rattle.rehearsing.specs.Stacks.{RehearsalView}
+use Rattle.rehearsing.specs.Histories.{HistoryView, unbegun}
 use Rattle.rehearsing.specs.Openings.{IsOpeningIn}
 use Rattle.rehearsing.specs.Sessions.{IsEndedBy, IsHeard, IsOver}
 use Rattle.rehearsing.specs.declared.fault.RehearseFault.{RehearseFault}
 use Rattle.rehearsing.specs.declared.fault.RehearseFault.TheVariants.{Refused, Memory, File, TooLarge, LongLine, Write}
 
 -- all commands of the reader were answered, as far as a line that ended the session, and their answers went out, and nothing else
-pub record HoldsSession (before : RehearsalView) (old new out_old out_new : Option (List ℕ)) : Type 0 where
+pub record HoldsSession (before after : HistoryView) (old new out_old out_new : Option (List ℕ)) : Type 0 where
   pub text : List ℕ
-  pub over : IsOver before old new text
+  pub over : IsOver before after old new text
   pub written : Appends out_old out_new text
 
 -- a fault ended the session, and the answers before it went out, and nothing else
-pub record EndsSession (is_reliable : Bool) (before : RehearsalView) (old new out_old out_new : Option (List ℕ)) (fault : RehearseFault) : Type 0 where
+pub record EndsSession (is_reliable : Bool) (before : HistoryView) (old new out_old out_new : Option (List ℕ)) (fault : RehearseFault) : Type 0 where
   pub text : List ℕ
   pub ended : IsEndedBy is_reliable before old new text fault
   pub written : Appends out_old out_new text
 
 -- the answers broke off after so many bytes
-pub record BreaksSession (before : RehearsalView) (old new out_old out_new : Option (List ℕ)) (count : ℕ) : Type 0 where
+pub record BreaksSession (before : HistoryView) (old new out_old out_new : Option (List ℕ)) (count : ℕ) : Type 0 where
   pub text : List ℕ
-  pub heard : IsHeard before old new text ⊎ IsOver before old new text
+  pub heard : IsHeard before old new text ⊎ ((after : HistoryView) × IsOver before after old new text)
   pub written : SendsFirst out_old out_new text count
 
 -- what a fault says of a session
-abbrev pub IsTrueOfSession : Bool → RehearsalView → Option (List ℕ) → Option (List ℕ) → Option (List ℕ) → Option (List ℕ) → RehearseFault → Type 0
+abbrev pub IsTrueOfSession : Bool → HistoryView → Option (List ℕ) → Option (List ℕ) → Option (List ℕ) → Option (List ℕ) → RehearseFault → Type 0
 IsTrueOfSession is_reliable before old new out_old out_new (Refused fault) = ⊥
 IsTrueOfSession is_reliable before old new out_old out_new Memory = EndsSession is_reliable before old new out_old out_new Memory
 IsTrueOfSession is_reliable before old new out_old out_new File = EndsSession is_reliable before old new out_old out_new File
@@ -37,17 +38,19 @@ IsTrueOfSession is_reliable before old new out_old out_new TooLarge = EndsSessio
 IsTrueOfSession is_reliable before old new out_old out_new LongLine = EndsSession is_reliable before old new out_old out_new LongLine
 IsTrueOfSession is_reliable before old new out_old out_new (Write fault) = BreaksSession before old new out_old out_new fault.written
 
--- the two texts are accepted, and a session on the playbook's first play answered all commands
-pub record Rehearses (inventory playbook : List ℕ) (old new out_old out_new : Option (List ℕ)) : Type 0 where
+-- the two texts are accepted, and a session on the playbook's first play answered all commands; a line of them was refused, or none
+pub record Rehearses (inventory playbook : List ℕ) (old new out_old out_new : Option (List ℕ)) (refused : Bool) : Type 0 where
   pub before : RehearsalView
+  pub after : HistoryView
   pub opening : IsOpeningIn inventory playbook before
-  pub session : HoldsSession before old new out_old out_new
+  pub session : HoldsSession (unbegun before) after old new out_old out_new
+  pub refused_is : refused ≡ after.refused
 
 -- the two texts are accepted, and the fault is true of a session on the playbook's first play
 pub record EndsRehearsal (is_reliable : Bool) (inventory playbook : List ℕ) (old new out_old out_new : Option (List ℕ)) (fault : RehearseFault) : Type 0 where
   pub before : RehearsalView
   pub opening : IsOpeningIn inventory playbook before
-  pub session : IsTrueOfSession is_reliable before old new out_old out_new fault
+  pub session : IsTrueOfSession is_reliable (unbegun before) old new out_old out_new fault
 
 -- no command was read, and nothing went out
 pub record IsUnbegun (old new out_old out_new : Option (List ℕ)) : Type 0 where

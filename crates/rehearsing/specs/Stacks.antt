@@ -1,5 +1,5 @@
 -- What a rehearsal is: a stack of boundaries, each behind the batch of the one below it, in which the hosts that were named fail.
-use Rattle.std.specs.Prelude.{◌≡◌, ℕ, ◌+◌, ◌-◌, Option, Some, None, List, [], ◌∷◌, ◌++◌, find, length, map, min, not, slice_index_or, if◌then◌else◌}
+use Rattle.std.specs.Prelude.{◌≡◌, ℕ, ◌+◌, ◌-◌, Option, Some, None, List, [], ◌∷◌, ◌++◌, find, length, map, min, not, slice_index_or, take, if◌then◌else◌}
 use Rattle.group_tree.specs.declared.ids.HostId.{HostId}
 use Rattle.fleet_numbers.specs.NumberLists.{has_number}
 use Rattle.domains.specs.FleetViews.{FleetView}
@@ -101,6 +101,15 @@ abbrev pub last_batch_of : Stage → List Stage → List ℕ
 last_batch_of below [] = []
 last_batch_of below (stage ∷ []) = next_batch below.boundary.answer
 last_batch_of below (stage ∷ next ∷ above) = last_batch_of stage (next ∷ above)
+
+-- the batches by which it advanced, the first one first
+abbrev pub batches_to : Stage → List Stage → List (List ℕ)
+batches_to below [] = []
+batches_to below (stage ∷ above) = next_batch below.boundary.answer ∷ batches_to stage above
+
+-- as it stood when it had advanced by so many batches
+abbrev pub cut_to : ℕ → RehearsalView → RehearsalView
+cut_to stages rehearsal = record rehearsal { above = take stages rehearsal.above }
 
 -- all its boundaries, the first one first
 abbrev pub boundaries_of : RehearsalView → List Boundary

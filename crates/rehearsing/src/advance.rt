@@ -1,5 +1,5 @@
 //! What the batch that comes next does to the statuses, and how it ends the play, where these hosts fail in it.
-ghost use Rattle.std.specs.Prelude.{◌≡◌, ℕ, ◌<◌, IfOk, Some, find, if◌then◌else◌, is_some, length, not, true};
+ghost use Rattle.std.specs.Prelude.{◌≡◌, ℕ, ◌<◌, IfOk, Some, filter, find, if◌then◌else◌, is_some, length, not, true};
 ghost use Rattle.fleet_numbers.specs.NumberLists.{are_below, has_number};
 ghost use Rattle.domains.specs.Ids.{host_numbers};
 ghost use Rattle.fleet_states.specs.Batches as spec;
@@ -74,6 +74,35 @@ pub(crate) fn first_outside(
 {
     let failing = first_steps(alloc, hosts, batch)?;
     Ok(first_spared(failing.as_slice(), named))
+}
+
+/// Those of these hosts that can fail. Only want of memory refuses it.
+fn list_able(
+    alloc: Global,
+    failing: &[Option<usize>],
+    hosts: &[HostId],
+) -> Result<Vec<HostId>, AllocError>
+    ensures { IfOk result (λ able. able.items ≡ filter (λ host. is_some (fails_in failing.now host.index)) hosts.now) }
+{
+    hosts
+        .iter()
+        .copied()
+        .filter(|host| can_fail(failing, *host))
+        .collect(alloc)
+}
+
+/// Those of the hosts that stand in the batch, in their order. Only want of memory refuses it.
+pub(crate) fn those_in(
+    alloc: Global,
+    hosts: usize,
+    batch: &[HostId],
+    marked: &[HostId],
+) -> Result<Vec<HostId>, AllocError>
+    requires { are_below hosts (host_numbers batch.now) ≡ true }
+    ensures { IfOk result (λ found. found.items ≡ filter (λ host. has_number host.index (host_numbers batch.now)) marked.now) }
+{
+    let failing = first_steps(alloc, hosts, batch)?;
+    list_able(alloc, failing.as_slice(), marked)
 }
 
 /// How many hosts of a batch have failed that halted at a step, or at none.

@@ -7,13 +7,21 @@ ghost use Rattle.rehearsing.specs.AnswersInside.{asked};
 
 use crate::words::cut_word;
 use std::ops::ControlFlow;
+use std::str;
+use text_parts::number_in_digits;
 
 /// What a line asks for.
 #[derive(Clone, Copy)]
 pub(crate) enum Command<'l> {
     Nothing,
-    /// To go on by a batch in which the hosts of these names fail.
+    /// To go on by a batch in which the hosts of these names fail too.
     Advance(&'l [u8]),
+    /// To go on by so many batches.
+    Next(u16),
+    /// To go on to the end of the play.
+    Finish,
+    /// To mark the host of this name.
+    Fail(&'l [u8]),
     Undo,
     Plan,
     Show,
@@ -54,6 +62,15 @@ fn command_named<'l>(word: &[u8], rest: &'l [u8]) -> Command<'l>
     if word == b"advance".as_slice() {
         return Command::Advance(rest);
     }
+    if word == b"next".as_slice() {
+        return next_of(rest);
+    }
+    if word == b"finish".as_slice() {
+        return alone(Command::Finish, rest);
+    }
+    if word == b"fail".as_slice() {
+        return fail_of(rest);
+    }
     if word == b"undo".as_slice() {
         return alone(Command::Undo, rest);
     }
@@ -81,6 +98,52 @@ fn hosts_of(rest: &[u8]) -> Command<'_>
 {
     match cut_word(rest) {
         Some((group, behind)) => alone(Command::Hosts(group), behind),
+        None => Command::Unknown,
+    }
+}
+
+/// The command that asks to mark a host, where just its name stands there.
+fn fail_of(rest: &[u8]) -> Command<'_>
+    ensures { asked result ≡ spec.fail_of (words_of rest.now) }
+{
+    match cut_word(rest) {
+        Some((host, behind)) => alone(Command::Fail(host), behind),
+        None => Command::Unknown,
+    }
+}
+
+/// The number from 1 to 65,535 that a word of one to five digits says.
+fn number_in(word: &[u8]) -> Option<u16>
+    ensures { result ≡ spec.number_in word.now }
+{
+    match str::from_utf8(word) {
+        Ok(digits) => some_number(number_in_digits(digits, 5, 65535)?),
+        Err(_) => None,
+    }
+}
+
+fn some_number(count: u16) -> Option<u16>
+    ensures { result ≡ spec.some_number count }
+{
+    if 0 < count { Some(count) } else { None }
+}
+
+/// The command that asks to go on by this number of batches, where nothing stands behind it.
+fn next_by<'l>(count: Option<u16>, rest: &[u8]) -> Command<'l>
+    ensures { asked result ≡ spec.next_by count (words_of rest.now) }
+{
+    match count {
+        Some(count) => alone(Command::Next(count), rest),
+        None => Command::Unknown,
+    }
+}
+
+/// The command that asks to go on by several batches, where just their number stands there.
+fn next_of(rest: &[u8]) -> Command<'_>
+    ensures { asked result ≡ spec.next_of (words_of rest.now) }
+{
+    match cut_word(rest) {
+        Some((word, behind)) => next_by(number_in(word), behind),
         None => Command::Unknown,
     }
 }

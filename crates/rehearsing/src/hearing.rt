@@ -10,9 +10,9 @@ ghost use Rattle.rehearsing.specs.Inside.{HasNoRoom, Hears, HearsEnd, HearsUntil
 ghost use Rattle.rehearsing.specs.Sessions.{quits};
 
 use crate::fault::RehearseFault;
+use crate::history::History;
 use crate::line::answer;
 use crate::lines::{cut_line, grow, without_return};
-use crate::rehearsal::Rehearsal;
 use bounded_io::TextWriter;
 use std::alloc::Global;
 use std::io::Write;
@@ -21,7 +21,7 @@ use std::ops::ControlFlow;
 /// Ends a line with these bytes and answers it; then the next one begins, where the session goes on. Whatever refuses it, nothing is answered.
 fn end_line<W: Write>(
     alloc: Global,
-    rehearsal: &mut Rehearsal<'_>,
+    history: &mut History<'_>,
     line: &mut Vec<u8>,
     bytes: &[u8],
     text: &mut TextWriter<'_, W>,
@@ -29,15 +29,15 @@ fn end_line<W: Write>(
     requires { length line.old.items ≤ spec.max_line }
     ensures within { OnOk result (length line.old.items + length bytes.now ≤ spec.max_line) }
     ensures next { OnOk result (line.new.items ≡ []) }
-    ensures writes { OnOk result (Writes W.contents text.old text.new (answer_to rehearsal.old (command_in (spec.without_return (line.old.items ++ bytes.now))))) }
-    ensures answers { OnOk result (Answers rehearsal.old (spec.without_return (line.old.items ++ bytes.now)) (answer_to rehearsal.old (command_in (spec.without_return (line.old.items ++ bytes.now)))) rehearsal.new) }
+    ensures writes { OnOk result (Writes W.contents text.old text.new (answer_to history.old (command_in (spec.without_return (line.old.items ++ bytes.now))) history.new)) }
+    ensures answers { OnOk result (Answers history.old (spec.without_return (line.old.items ++ bytes.now)) (answer_to history.old (command_in (spec.without_return (line.old.items ++ bytes.now))) history.new) history.new) }
     ensures flow { IfOk result (λ flow. is_some (break_value flow) ≡ quits (line.old.items ++ bytes.now)) }
     ensures err { IfErr result (HasNoRoom (length line.old.items + length bytes.now)) }
-    ensures unchanged { OnErr result (rehearsal.new ≡ rehearsal.old) }
+    ensures unchanged { OnErr result (history.new ≡ history.old) }
     ensures silent { OnErr result (Writes W.contents text.old text.new []) }
 {
     grow(line, bytes)?;
-    let flow = answer(alloc, rehearsal, without_return(line.as_slice()), text)?;
+    let flow = answer(alloc, history, without_return(line.as_slice()), text)?;
     line.clear();
     Ok(flow)
 }
@@ -46,20 +46,20 @@ fn end_line<W: Write>(
 /// that has begun then.
 pub(crate) fn hear<W: Write>(
     alloc: Global,
-    rehearsal: &mut Rehearsal<'_>,
+    history: &mut History<'_>,
     line: &mut Vec<u8>,
     bytes: &[u8],
     text: &mut TextWriter<'_, W>,
 ) -> Result<ControlFlow<()>, RehearseFault>
     requires { IsLine line.old.items }
     ensures hears { IfOk result (λ flow. MatchControlFlow flow
-        (λ _. Hears W.contents rehearsal.old (line.old.items ++ bytes.now) line.new.items rehearsal.new text.old text.new × IsLine line.new.items)
-        (λ _. HearsEnd W.contents rehearsal.old line.old.items bytes.now rehearsal.new text.old text.new)) }
-    ensures err { IfErr result (HearsUntil W.contents rehearsal.old (line.old.items ++ bytes.now) rehearsal.new text.old text.new) }
+        (λ _. Hears W.contents history.old (line.old.items ++ bytes.now) line.new.items history.new text.old text.new × IsLine line.new.items)
+        (λ _. HearsEnd W.contents history.old line.old.items bytes.now history.new text.old text.new)) }
+    ensures err { IfErr result (HearsUntil W.contents history.old (line.old.items ++ bytes.now) history.new text.old text.new) }
 {
     let mut left = bytes;
     while let Some((front, behind)) = cut_line(left) {
-        match end_line(alloc, rehearsal, line, front, text) {
+        match end_line(alloc, history, line, front, text) {
             Ok(ControlFlow::Continue(())) => left = behind,
             Ok(ControlFlow::Break(())) => return Ok(ControlFlow::Break(())),
             Err(fault) => return Err(fault),

@@ -3,12 +3,14 @@ ghost use Rattle.std.specs.Prelude.{flat_map};
 ghost use Rattle.bounded_io.specs.Writing.{Writes};
 ghost use Rattle.domains.specs.Ids.{host_numbers};
 ghost use Rattle.rehearsing.specs.Stacks.{top};
-ghost use Rattle.rehearsing.specs.Answers.{hosts_text};
+ghost use Rattle.rehearsing.specs.Answers.{LooksUpTo, hosts_text};
 ghost use Rattle.rehearsing.specs.Hosts.{batch_text, member_line, member_lines};
 ghost use Rattle.rehearsing.specs.Names.{group_named};
 
 use crate::batch::batch_number;
-use crate::names::{find_group, write_nobody};
+use crate::history::History;
+use crate::names::find_group;
+use crate::refusal::{Refusal, refuse};
 use crate::rehearsal::Rehearsal;
 use bounded_io::TextWriter;
 use fleet_states::status_of;
@@ -61,17 +63,19 @@ fn write_members<W: Write>(
     write_each_member(text, rehearsal, hosts);
 }
 
-/// Writes the lines of the hosts of the group of this name, or that no group has it.
-pub(crate) fn write_hosts<W: Write>(
-    text: &mut TextWriter<'_, W>,
-    rehearsal: &Rehearsal<'_>,
+/// Answers a line that asks for the hosts of the group of this name.
+pub(crate) fn answer_hosts<W: Write>(
+    history: &mut History<'_>,
     name: &[u8],
+    text: &mut TextWriter<'_, W>,
 )
-    ensures { Writes W.contents text.old text.new
-        (hosts_text rehearsal.now.rules.fleet (top rehearsal.now) name.now (group_named rehearsal.now.rules.fleet name.now)) }
+    ensures text { Writes W.contents text.old text.new (hosts_text history.old.place.rehearsal.rules.fleet (top history.old.place.rehearsal) name.now
+        (group_named history.old.place.rehearsal.rules.fleet name.now)) }
+    ensures leads { LooksUpTo history.old (group_named history.old.place.rehearsal.rules.fleet name.now) history.new }
 {
+    let rehearsal = history.rehearsal();
     match find_group(rehearsal.fleet(), name) {
         Some(group) => write_members(text, rehearsal, rehearsal.fleet().members(group)),
-        None => write_nobody(text, name),
+        None => refuse(history, Refusal::NoSuchName(name), text),
     }
 }

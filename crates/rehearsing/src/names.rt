@@ -43,7 +43,7 @@ pub(crate) fn find_hosts<'l>(
 }
 
 /// The host of a name.
-fn find_host(fleet: &Fleet, name: &[u8]) -> Option<HostId>
+pub(crate) fn find_host(fleet: &Fleet, name: &[u8]) -> Option<HostId>
     ensures { MatchOption result (is_nobody fleet.now name.now ≡ true)
         (λ host. (is_nobody fleet.now name.now ≡ false) × (host ≡ host_named fleet.now name.now)) }
 {

@@ -17,6 +17,8 @@ use play_model::OnBlocked;
 use std::alloc::{AllocError, Global};
 use std::marker::Model;
 
+mod going_on;
+
 /// What a play would do to a fleet if these hosts failed, batch by batch. It goes forth by one batch, in which just the named hosts fail, at
 /// the first step, and back again. A stage keeps its plan, and its statuses in a byte a host; so going back costs nothing but the memory that is
 /// given back.

@@ -1,8 +1,9 @@
 //! From the bytes of an inventory and a playbook, and commands as they come, to their answers.
-ghost use Rattle.std.specs.Prelude.{◌≡◌, IfErr, OnOk};
+ghost use Rattle.std.specs.Prelude.{◌≡◌, IfErr, IfOk};
 ghost use Rattle.rehearsing.specs.RehearseTexts.{IsTrueFault, Rehearses};
 
 use crate::fault::RehearseFault;
+use crate::history::History;
 use crate::listening::hold_session;
 use crate::opening::read_opening;
 use crate::prompt::Prompt;
@@ -16,7 +17,8 @@ use std::io::Write;
 /// then the first part of a pattern, of any play, that names nothing. Answers are sent, and `prompt` is told, before each read. A line `quit` ends the session, as the end of the
 /// commands does. A line of more than `MAX_LINE` bytes, more commands than an
 /// input has bytes, a failed read and want of memory end the session behind the answers to the lines before. Where a write fails, exactly the
-/// first bytes of all answers went out, as many as the fault says.
+/// first bytes of all answers went out, as many as the fault says. The answer is true where a line was refused: a name that nobody has, a play that has ended, a host that
+/// isn't in the batch or doesn't wait, or what is no command.
 pub fn rehearse_text<P: Prompt, I: Input, W: Write>(
     alloc: Global,
     inventory: &[u8],
@@ -24,15 +26,15 @@ pub fn rehearse_text<P: Prompt, I: Input, W: Write>(
     prompt: &P,
     input: &mut I,
     out: &mut W,
-) -> Result<(), RehearseFault>
-    ensures ok { OnOk result (Rehearses inventory.now playbook.now (I.remaining input.old) (I.remaining input.new) (W.contents out.old) (W.contents out.new)) }
+) -> Result<bool, RehearseFault>
+    ensures ok { IfOk result (Rehearses inventory.now playbook.now (I.remaining input.old) (I.remaining input.new) (W.contents out.old) (W.contents out.new)) }
     ensures err { IfErr result (IsTrueFault (I.is_reliable input.old) inventory.now playbook.now (I.remaining input.old) (I.remaining input.new) (W.contents out.old) (W.contents out.new)) }
 {
     let opening = match read_opening(alloc, inventory, playbook) {
         Ok(opening) => opening,
         Err(fault) => return Err(fault),
     };
-    let mut rehearsal = match Rehearsal::new(
+    let rehearsal = match Rehearsal::new(
         alloc,
         &opening.fleet,
         opening.statuses.as_slice(),
@@ -43,5 +45,9 @@ pub fn rehearse_text<P: Prompt, I: Input, W: Write>(
         Ok(rehearsal) => rehearsal,
         Err(_refused) => return Err(RehearseFault::Memory),
     };
-    hold_session(alloc, &mut rehearsal, prompt, input, out)
+    let mut history = History::new(alloc, rehearsal);
+    match hold_session(alloc, &mut history, prompt, input, out) {
+        Ok(()) => Ok(history.refused()),
+        Err(fault) => Err(fault),
+    }
 }

@@ -1,6 +1,8 @@
+pub mod Asking
 pub mod Ignoring
 pub mod Rehearsing
 pub mod Rolling
+pub mod Resuming
 pub mod Tables
 mod Starting
 pub mod States

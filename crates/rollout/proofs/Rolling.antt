@@ -13,14 +13,14 @@ use Rattle.roll_run.specs.declared.fault.Break.{Break}
 use Rattle.roll_run.specs.declared.fault.Break.TheVariants as break
 use Rattle.roll_run.specs.Histories.{Gains}
 use Rattle.roll_run.proofs.Following.{gains_as}
-use Rattle.running.specs.RunTexts.{IsTrueFault, MayBreakText, WritesRecap}
+use Rattle.running.specs.RunTexts.{MayBreakText}
 use Rattle.running.specs.declared.end.RunEnd.{RunEnd}
 use Rattle.running.specs.declared.fault.RunTextFault.{RunTextFault}
 use Rattle.running.specs.declared.fault.RunTextFault.TheVariants as running
 use Rattle.rollout.specs.Inputs.{LacksInput, ReadsBoth}
 use Rattle.rollout.specs.PlanFaults as planning
 use Rattle.rollout.specs.RollFaults.{fault_of}
-use Rattle.rollout.specs.Rolls.{BreaksOff, PrintsRecap, RollsInputs}
+use Rattle.rollout.specs.Rolls.{Breaks, BreaksOff, Prints, PrintsRecap, RollsInputs}
 use Rattle.rollout.specs.Status.{status_of_run}
 use Rattle.rollout.specs.Systems.{Sources}
 use Rattle.rollout.specs.declared.fault.Fault.{Fault}
@@ -48,7 +48,7 @@ never_lacking sources inventory playbook old new fault is lacks = never (subst (
     never (inl unreadable) = unreadable
     never (inr lacking) = lacking.unreadable
 
-plan_stops_nothing : (fault : PlanFault) → planning.fault_of fault ≡ Stopped → ⊥
+pub plan_stops_nothing : (fault : PlanFault) → planning.fault_of fault ≡ Stopped → ⊥
 plan_stops_nothing (plan.Read fault) same = cc
 plan_stops_nothing (plan.Fleet fault) same = cc
 plan_stops_nothing (plan.Playbook fault) same = cc
@@ -83,21 +83,21 @@ told_stops asks refuses (Ok end) true result is may same = let both : ◌≡◌ 
 told_stops asks refuses (Ok end) false result is may same = let both : JournalWrite ≡ Stopped = fault_in JournalWrite (sym is ∙ same) in absurd (cc)
 told_stops asks refuses (Err fault) whole result is may same = stops_where_asked asks refuses fault may (fault_in (fault_of fault) (sym is ∙ same))
 
-module _ (may : Work → Ending → Type 0) (inventory playbook : List ℕ) (forks : ℕ) (old new : Option (List ℕ)) (before after : List (List Event)) where
+module _ (Writes : RunEnd → List (List Event) → Type 0) (IsTrue : RunTextFault → List (List Event) → Type 0) (before after : List (List Event)) where
   abbrev TellsOk : Result Status Fault → Type 0
-  TellsOk result = IfOk result (λ status. Gains before after (PrintsRecap may inventory playbook forks old new status))
+  TellsOk result = IfOk result (λ status. Gains before after (Prints Writes status))
 
   abbrev TellsErr : Result Status Fault → Type 0
-  TellsErr result = IfErr result (λ fault. Gains before after (BreaksOff may inventory playbook forks old new fault))
+  TellsErr result = IfErr result (λ fault. Gains before after (Breaks Writes IsTrue fault))
 
-  pub told_ok : (ran : Result RunEnd RunTextFault) (whole : Bool) (result : Result Status Fault) → Ended ran whole result → IfOk ran (λ end. Gains before after (WritesRecap may inventory playbook forks old new end)) → TellsOk result
+  pub told_ok : (ran : Result RunEnd RunTextFault) (whole : Bool) (result : Result Status Fault) → Ended ran whole result → IfOk ran (λ end. Gains before after (Writes end)) → TellsOk result
   told_ok (Ok end) true result is prints =
       subst TellsOk (sym is) (gains_as before after (λ logs recap. record { end = end; recap = recap; tells = refl }) prints)
   told_ok (Ok end) false result is prints = subst TellsOk (sym is) tt
   told_ok (Err fault) whole result is prints = subst TellsOk (sym is) tt
 
-  pub told_err : (ran : Result RunEnd RunTextFault) (whole : Bool) (result : Result Status Fault) → Ended ran whole result → IfOk ran (λ end. Gains before after (WritesRecap may inventory playbook forks old new end))
-      → IfErr ran (λ fault. Gains before after (IsTrueFault may inventory playbook forks old new fault)) → TellsErr result
+  pub told_err : (ran : Result RunEnd RunTextFault) (whole : Bool) (result : Result Status Fault) → Ended ran whole result → IfOk ran (λ end. Gains before after (Writes end))
+      → IfErr ran (λ fault. Gains before after (IsTrue fault)) → TellsErr result
   told_err (Ok end) true result is prints breaks = subst TellsErr (sym is) tt
   told_err (Ok end) false result is prints breaks =
       subst TellsErr (sym is)

@@ -26,7 +26,7 @@ use Rattle.play_rules.specs.declared.key.ConditionKey.{ConditionKey}
 use Rattle.recap.specs.Printable.{printed}
 use Rattle.rollout.specs.FaultLines.{Row, ShownDetail}
 use Rattle.rollout.specs.declared.fault.Fault.{Fault}
-use Rattle.rollout.specs.declared.fault.Fault.TheVariants.{Line, Input, Read, Fleet, Playbook, Pattern, Mixed, LongLine, JournalThere, JournalWrite, ChildrenIgnored, Stopped, Locked, BadJournal, OtherInputs, Write, Memory}
+use Rattle.rollout.specs.declared.fault.Fault.TheVariants.{Line, Input, Read, Fleet, Playbook, Pattern, Mixed, LongLine, JournalThere, JournalWrite, ChildrenIgnored, Stopped, Locked, BadJournal, OtherInputs, NeedsResult, Write, Memory}
 
 abbrev row : List ℕ → List ShownDetail → Row
 row name details = record { name = name; details = details }
@@ -134,6 +134,7 @@ number_of Stopped = Some 917
 number_of Locked = Some 918
 number_of (BadJournal line) = Some 912
 number_of OtherInputs = Some 913
+number_of (NeedsResult name) = Some 914
 number_of (Write fault) = Some 904
 number_of Memory = None
 
@@ -153,5 +154,6 @@ row_of Stopped = row (codes "Stopped") []
 row_of Locked = row (codes "Locked") []
 row_of (BadJournal line) = row (codes "BadJournal") (number (codes "line") line ∷ [])
 row_of OtherInputs = row (codes "OtherInputs") []
+row_of (NeedsResult name) = name_row (codes "NeedsResult") (string_bytes name)
 row_of (Write fault) = row (codes "Write") (number (codes "written") fault.written ∷ [])
 row_of Memory = no_row

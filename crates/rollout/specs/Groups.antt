@@ -15,10 +15,11 @@ use Rattle.rollout.specs.Systems.{Sources}
 use Rattle.rollout.specs.declared.fault.Fault.{Fault}
 use Rattle.rollout.specs.declared.status.Status.{Status}
 
--- what a plan is asked for: its course, where the names of the hosts that fail in it are given, be it nobody's; and its groups
+-- what a plan is asked for: its course, where the names of the hosts that fail in it are given, be it nobody's; its groups; and the file of a picture
 pub record PlanWish : Type 0 where
   pub course : Option (List ℕ)
   pub groups : Bool
+  pub picture : Option (List ℕ)
 
 -- the plan of both texts went out with its groups, and the status tells of its end
 pub record PrintsSurveyedPlan (inventory playbook : List ℕ) (old new : Option (List ℕ)) (status : Status) : Type 0 where

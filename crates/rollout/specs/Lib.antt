@@ -13,9 +13,12 @@ pub mod PlanFaults
 pub mod Plans
 pub mod Courses
 pub mod Groups
+pub mod Pictures
 pub mod RollFaults
 pub mod Rolls
 pub mod RehearsalFaults
 pub mod Rehearsals
 pub mod StateTexts
+pub mod ResumeFaults
+pub mod Resumes
 pub mod Runs

@@ -17,27 +17,34 @@ use Rattle.rollout.specs.declared.fault.Fault.{Fault}
 use Rattle.rollout.specs.declared.fault.Fault.TheVariants.{ChildrenIgnored, JournalThere, JournalWrite, Locked, Memory, Stopped}
 use Rattle.rollout.specs.declared.status.Status.{Status}
 
--- the plays of both texts were run with so many workers, their recap went out, and the status tells of their end
-pub record PrintsRecap (may : Work → Ending → Type 0) (inventory playbook : List ℕ) (forks : ℕ) (old new : Option (List ℕ)) (status : Status) (logs : List (List Event)) : Type 0 where
+-- plays were run, their recap went out, and the status tells of their end
+pub record Prints (Writes : RunEnd → List (List Event) → Type 0) (status : Status) (logs : List (List Event)) : Type 0 where
   pub end : RunEnd
-  pub recap : WritesRecap may inventory playbook forks old new end logs
+  pub recap : Writes end logs
   pub tells : status ≡ status_of_run end
 
--- the fault is true of both texts, of a run of their plays, or of where its recap broke off
-pub record FailsBy (may : Work → Ending → Type 0) (inventory playbook : List ℕ) (forks : ℕ) (old new : Option (List ℕ)) (fault : Fault) (logs : List (List Event)) : Type 0 where
+-- what a fault of a run of plays is to the program, where it is true
+pub record Fails (IsTrue : RunTextFault → List (List Event) → Type 0) (fault : Fault) (logs : List (List Event)) : Type 0 where
   pub cause : RunTextFault
   pub is : fault ≡ fault_of cause
-  pub is_true : IsTrueFault may inventory playbook forks old new cause logs
+  pub is_true : IsTrue cause logs
 
--- the plays were run and their recap went out, and the journal of the run did not take its end
-pub record LosesEnd (may : Work → Ending → Type 0) (inventory playbook : List ℕ) (forks : ℕ) (old new : Option (List ℕ)) (fault : Fault) (logs : List (List Event)) : Type 0 where
+-- plays were run and their recap went out, and the journal of the run did not take its end
+pub record LosesEnd (Writes : RunEnd → List (List Event) → Type 0) (fault : Fault) (logs : List (List Event)) : Type 0 where
   pub status : Status
-  pub prints : PrintsRecap may inventory playbook forks old new status logs
+  pub prints : Prints Writes status logs
   pub is : fault ≡ JournalWrite
 
+abbrev pub Breaks : (RunEnd → List (List Event) → Type 0) → (RunTextFault → List (List Event) → Type 0) → Fault → List (List Event) → Type 0
+Breaks Writes IsTrue fault logs = Fails IsTrue fault logs ⊎ LosesEnd Writes fault logs
+
+-- the plays of both texts were run with so many workers
+abbrev pub PrintsRecap : (Work → Ending → Type 0) → List ℕ → List ℕ → ℕ → Option (List ℕ) → Option (List ℕ) → Status → List (List Event) → Type 0
+PrintsRecap may inventory playbook forks old new = Prints (WritesRecap may inventory playbook forks old new)
+
+-- the fault is true of both texts, of a run of their plays, or of where its recap broke off; or the journal did not take its end
 abbrev pub BreaksOff : (Work → Ending → Type 0) → List ℕ → List ℕ → ℕ → Option (List ℕ) → Option (List ℕ) → Fault → List (List Event) → Type 0
-BreaksOff may inventory playbook forks old new fault logs =
-    FailsBy may inventory playbook forks old new fault logs ⊎ LosesEnd may inventory playbook forks old new fault logs
+BreaksOff may inventory playbook forks old new = Breaks (WritesRecap may inventory playbook forks old new) (IsTrueFault may inventory playbook forks old new)
 
 -- both inputs were read, and the plays of their texts were run
 pub record ShowsRecap (may : Work → Ending → Type 0) (sources : Sources) (inventory playbook : Source) (forks : ℕ) (input_old input_new out_old out_new : Option (List ℕ)) (status : Status) (logs : List (List Event)) : Type 0 where

@@ -1,12 +1,13 @@
 -- What a run of the program does, from the words that the system gives to the exit status.
-use Rattle.std.specs.Prelude.{◌≡◌, ◌≢◌, ◌⊎◌, ℕ, Bool, List, [], Option, Result, Err, drop, is_some}
+use Rattle.std.specs.Prelude.{◌≡◌, ◌≢◌, ◌⊎◌, ℕ, Bool, List, [], Option, None, Some, option_map, Result, Err, drop, is_some}
 use Rattle.std.specs.declared.io.ErrorKind.{ErrorKind}
 use Rattle.std.specs.declared.io.ErrorKind.TheVariants.{OutOfMemory}
 use Rattle.std.specs.Io.KnownBytes.{Keeps}
 use Rattle.command_line.specs.Messages as messages
 use Rattle.command_line.specs.Operands.{Word}
-use Rattle.command_line.specs.RunFiles.{stop_file}
-use Rattle.command_line.specs.Flags.{course, is_grouped, plain}
+use Rattle.command_line.specs.RunFiles.{mended, resume, stop_file}
+use Rattle.command_line.specs.Flags.{course, is_grouped, is_strict, plain, takes_others}
+use Rattle.command_line.specs.PlanOptions.{picture}
 use Rattle.command_line.specs.Words as words
 use Rattle.command_line.specs.declared.command.Line as declared_line
 use Rattle.command_line.specs.declared.command.Source.{Source}
@@ -18,9 +19,11 @@ use Rattle.event_log.specs.Events.{Event}
 use Rattle.event_log.specs.Told.{Work}
 use Rattle.rollout.specs.Commands.{TabulatesLimits, Prints}
 use Rattle.rollout.specs.Endings.{Reports, status_of}
-use Rattle.rollout.specs.Groups.{PlanWish, PlansBy}
+use Rattle.rollout.specs.Groups.{PlanWish}
+use Rattle.rollout.specs.Pictures.{PlansDrawn}
 use Rattle.rollout.specs.Rehearsals.{RehearsesInputs}
-use Rattle.rollout.specs.Rolls.{AreSafeFrom, Rolls}
+use Rattle.rollout.specs.Resumes.{AreSafeAgain, ResumeWish, RollsBy}
+use Rattle.rollout.specs.Rolls.{AreSafeFrom}
 use Rattle.rollout.specs.StateTexts.{TellsState}
 use Rattle.rollout.specs.Status.{code_of}
 use Rattle.rollout.specs.Systems.{Fails, Sources, Gives, Known}
@@ -28,20 +31,29 @@ use Rattle.rollout.specs.declared.fault.Fault.{Fault}
 use Rattle.rollout.specs.declared.fault.Fault.TheVariants.{Line, Memory}
 use Rattle.rollout.specs.declared.status.Status.{Status}
 
+-- what the words ask of a plan
+abbrev pub plan_wish : List Word → PlanWish
+plan_wish words_given = record { course = course words_given; groups = is_grouped words_given; picture = picture words_given }
+
+-- the run that the words ask to go on, if they do
+abbrev pub resume_wish : List Word → Option ResumeWish
+resume_wish words_given =
+    option_map (λ journal. record { journal = journal; mended = mended words_given; takes_others = takes_others words_given }) (resume words_given)
+
 -- what a line asks for was done, or its fault is true; and these are the logs of all that was started: `run` alone starts anything. A plan may be asked for its course, in which
 -- named hosts fail, and for its groups
-abbrev pub Does : (Work → Ending → Type 0) → Bool → PlanWish → Sources → declared_line.Line → Option (List ℕ) → Option (List ℕ) → Option (List ℕ) → Option (List ℕ) → Result Status Fault → List (List Event) → Type 0
-Does may asks wish sources (Limits inventory) input_old input_new out_old out_new result logs =
+abbrev pub Does : (Work → Ending → Type 0) → Bool → PlanWish → Option ResumeWish → Bool → Sources → declared_line.Line → Option (List ℕ) → Option (List ℕ) → Option (List ℕ) → Option (List ℕ) → Result Status Fault → List (List Event) → Type 0
+Does may asks wish resume strict sources (Limits inventory) input_old input_new out_old out_new result logs =
     TabulatesLimits sources inventory input_old input_new out_old out_new result × (logs ≡ [])
-Does may asks wish sources (Plan inventory playbook) input_old input_new out_old out_new result logs =
-    PlansBy wish.groups wish.course sources inventory playbook input_old input_new out_old out_new result × (logs ≡ [])
-Does may asks wish sources (Run inventory playbook forks) input_old input_new out_old out_new result logs =
-    Rolls may asks sources inventory playbook forks input_old input_new out_old out_new result logs
-Does may asks wish sources (Rehearse inventory playbook) input_old input_new out_old out_new result logs =
-    RehearsesInputs sources inventory playbook input_old input_new out_old out_new result × (logs ≡ [])
-Does may asks wish sources (State inventory journal) input_old input_new out_old out_new result logs =
+Does may asks wish resume strict sources (Plan inventory playbook) input_old input_new out_old out_new result logs =
+    PlansDrawn wish.picture wish.groups wish.course sources inventory playbook input_old input_new out_old out_new result × (logs ≡ [])
+Does may asks wish resume strict sources (Run inventory playbook forks) input_old input_new out_old out_new result logs =
+    RollsBy may asks resume sources inventory playbook forks input_old input_new out_old out_new result logs
+Does may asks wish resume strict sources (Rehearse inventory playbook) input_old input_new out_old out_new result logs =
+    RehearsesInputs strict sources inventory playbook input_old input_new out_old out_new result × (logs ≡ [])
+Does may asks wish resume strict sources (State inventory journal) input_old input_new out_old out_new result logs =
     TellsState sources inventory journal input_old input_new out_old out_new result × (logs ≡ [])
-Does may asks wish sources (Print message) input_old input_new out_old out_new result logs =
+Does may asks wish resume strict sources (Print message) input_old input_new out_old out_new result logs =
     Keeps input_old input_new × Prints (messages.text_of message) out_old out_new result × (logs ≡ [])
 
 -- the words, but for the flags and the stop file of a run and those of a plan, are a line, and what it asks for was done: whether a run tells of itself while it goes on makes no
@@ -49,7 +61,7 @@ Does may asks wish sources (Print message) input_old input_new out_old out_new r
 pub record FollowsLine (may : Work → Ending → Type 0) (sources : Sources) (words_given : List Word) (input_old input_new out_old out_new : Option (List ℕ)) (result : Result Status Fault) (logs : List (List Event)) : Type 0 where
   pub line : declared_line.Line
   pub says : words.Says (plain words_given) line
-  pub does : Does may (is_some (stop_file words_given)) (record { course = course words_given; groups = is_grouped words_given }) sources line input_old input_new out_old out_new result logs
+  pub does : Does may (is_some (stop_file words_given)) (plan_wish words_given) (resume_wish words_given) (is_strict words_given) sources line input_old input_new out_old out_new result logs
 
 -- the words are no line, and nothing was read or written
 pub record RefusesWords (words_given : List Word) (input_old input_new out_old out_new : Option (List ℕ)) (result : Result Status Fault) (logs : List (List Event)) : Type 0 where
@@ -101,6 +113,11 @@ pub record Runs (may : Work → Ending → Type 0) (given : Known (List Word)) (
   pub reports : Reports outcome errors_old errors_new
   pub ends : status ≡ code_of (status_of outcome)
 
+-- these are the logs of the rolls of a run that begins, or of one that goes on
+abbrev pub AreSafeOrAgain : (Work → Ending → Type 0) → Option ResumeWish → Sources → Source → Source → ℕ → Option (List ℕ) → Option (List ℕ) → List (List Event) → Type 0
+AreSafeOrAgain may None sources inventory playbook forks input_old input_new logs = AreSafeFrom may sources inventory playbook forks input_old input_new logs
+AreSafeOrAgain may (Some wish) sources inventory playbook forks input_old input_new logs = AreSafeAgain may sources inventory playbook wish forks input_old input_new logs
+
 -- these are the logs of the rolls that a line `run` of these words asks for
 pub record AreSafeByWords (may : Work → Ending → Type 0) (given : Known (List Word)) (sources : Sources) (input_old input_new : Option (List ℕ)) (logs : List (List Event)) : Type 0 where
   pub args : List Word
@@ -109,7 +126,7 @@ pub record AreSafeByWords (may : Work → Ending → Type 0) (given : Known (Lis
   pub playbook : Source
   pub forks : ℕ
   pub says : words.Says (plain (drop 1 args)) (Run inventory playbook forks)
-  pub safe : AreSafeFrom may sources inventory playbook forks input_old input_new logs
+  pub safe : AreSafeOrAgain may (resume_wish (drop 1 args)) sources inventory playbook forks input_old input_new logs
 
 -- nothing was started, or the words are a line `run`, and at no moment of what was started is a group of its inventory over its limit
 abbrev pub StartsSafely : (Work → Ending → Type 0) → Known (List Word) → Sources → Option (List ℕ) → Option (List ℕ) → List (List Event) → Type 0

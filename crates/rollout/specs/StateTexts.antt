@@ -20,7 +20,7 @@ use Rattle.rollout.specs.LimitsText.{IsFleetIn, IsUnread}
 use Rattle.rollout.specs.Status.{status_of_run}
 use Rattle.rollout.specs.Systems.{Sources}
 use Rattle.rollout.specs.declared.fault.Fault.{Fault}
-use Rattle.rollout.specs.declared.fault.Fault.TheVariants.{Line, Input, Read, Fleet, Playbook, Pattern, Mixed, LongLine, JournalThere, JournalWrite, ChildrenIgnored, Stopped, Locked, BadJournal, OtherInputs, Write, Memory}
+use Rattle.rollout.specs.declared.fault.Fault.TheVariants.{Line, Input, Read, Fleet, Playbook, Pattern, Mixed, LongLine, JournalThere, JournalWrite, ChildrenIgnored, Stopped, Locked, BadJournal, OtherInputs, NeedsResult, Write, Memory}
 use Rattle.rollout.specs.declared.status.Status.{Status}
 use Rattle.rollout.specs.declared.status.Status.TheVariants.{BrokenOff}
 
@@ -70,6 +70,7 @@ pub record IsOfOther (fleet : FleetView) (inventory text : List ℕ) : Type 0 wh
 abbrev pub IsTrueOfJournal : FleetView → List ℕ → List ℕ → Option (List ℕ) → Option (List ℕ) → Fault → Type 0
 IsTrueOfJournal fleet inventory text old new (BadJournal line) = (IsBadAt fleet text line ⊎ HasNoLine text line) × Keeps old new
 IsTrueOfJournal fleet inventory text old new OtherInputs = IsOfOther fleet inventory text × Keeps old new
+IsTrueOfJournal fleet inventory text old new (NeedsResult name) = ⊥
 IsTrueOfJournal fleet inventory text old new (Write fault) = BreaksStanding fleet inventory text old new fault.written
 IsTrueOfJournal fleet inventory text old new Memory = Keeps old new
 IsTrueOfJournal fleet inventory text old new (Line fault) = ⊥

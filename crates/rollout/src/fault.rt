@@ -12,6 +12,7 @@ use journal::JournalFault;
 use planning::PlanFault;
 use play_rules::PlayFault;
 use rehearsing::RehearseFault;
+use resuming::ResumeFault;
 use roll_run::Break;
 use running::RunTextFault;
 use std::alloc::AllocError;
@@ -47,6 +48,8 @@ pub enum Fault {
     BadJournal { line: u64 },
     /// A journal is of a run with another inventory.
     OtherInputs,
+    /// A run that is to go on reads in a step what a step of an earlier play registered.
+    NeedsResult { name: String },
     /// Another run that is kept goes on with the same inventory.
     Locked,
     /// An output broke off.
@@ -75,6 +78,7 @@ impl Fault {
             Fault::Locked => Some(918),
             Fault::BadJournal { line: _ } => Some(912),
             Fault::OtherInputs => Some(913),
+            Fault::NeedsResult { name: _ } => Some(914),
             Fault::Write(fault) => Some(fault.number()),
             Fault::Memory => None,
         }
@@ -188,6 +192,36 @@ impl From<JournalFault> for Fault {
             JournalFault::Bad { line } => Fault::BadJournal { line },
             JournalFault::Memory => Fault::Memory,
         }
+    }
+}
+
+impl From<ResumeFault> for Fault {
+    ghost use Rattle.std.specs.Prelude.{◌≡◌};
+    ghost use Rattle.rollout.specs.ResumeFaults.{fault_of};
+
+    ghost from_gives = { λ cause fault. fault ≡ fault_of cause };
+
+    fn from(fault: ResumeFault) -> Fault {
+        match fault {
+            ResumeFault::Texts(fault) => Fault::from(fault),
+            ResumeFault::Journal(fault) => Fault::from(fault),
+            ResumeFault::OtherInputs => Fault::OtherInputs,
+            ResumeFault::Mended(fault) => Fault::from(fault),
+            ResumeFault::Over(fault) => Fault::Fleet(fault),
+            ResumeFault::NeedsResult { name } => Fault::NeedsResult { name },
+            ResumeFault::Memory => Fault::Memory,
+        }
+    }
+}
+
+impl From<PatternFault> for Fault {
+    ghost use Rattle.std.specs.Prelude.{◌≡◌};
+    ghost use Rattle.rollout.specs.declared.fault.Fault.TheVariants.{Pattern};
+
+    ghost from_gives = { λ pattern fault. fault ≡ Pattern pattern };
+
+    fn from(fault: PatternFault) -> Fault {
+        Fault::Pattern(fault)
     }
 }
 

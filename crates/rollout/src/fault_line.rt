@@ -63,6 +63,7 @@ fn write_row<W: Write>(text: &mut TextWriter<'_, W>, fault: &Fault)
         Fault::Locked => row(text, "Locked", &[]),
         Fault::BadJournal { line } => row(text, "BadJournal", &[Number("line", *line)]),
         Fault::OtherInputs => row(text, "OtherInputs", &[]),
+        Fault::NeedsResult { name } => row(text, "NeedsResult", &[Text("name", name.as_str())]),
         Fault::Write(fault) => row(text, "Write", &[Number("written", fault.written)]),
         Fault::Memory => {}
     }

@@ -1,15 +1,21 @@
 //! A run of the program: its words, what they ask for, and the end.
-ghost use Rattle.std.specs.Prelude.{map, string_bytes};
+ghost use Rattle.std.specs.Prelude.{◌≡◌, Err, IfErr, IfOk, OnOk, map, string_bytes};
 ghost use Rattle.std.specs.Option.{option_map};
 ghost use Rattle.std.specs.Process.{exit_status};
 ghost use Rattle.roll_run.specs.Histories.{Gains};
 ghost use Rattle.rollout.specs.Courses.{PlansOrForesees};
 ghost use Rattle.rollout.specs.Groups.{PlansBy};
+ghost use Rattle.rollout.specs.Pictures.{PlansDrawn};
+ghost use Rattle.rollout.specs.Resumes as model;
+ghost use Rattle.rollout.specs.Resumes.{RollsBy};
 ghost use Rattle.rollout.specs.Runs.{Attempts, Does, Performs, Runs, StartsSafely};
 ghost use Rattle.rollout.specs.Systems.{sources_of};
 
 use crate::attendant::Attendant;
-use crate::commands::{course, groups, limits, plan, print, rehearse, roll, state};
+use crate::commands::{
+    Drawing, PlanWish, ResumeWish, course, groups, limits, plan, print, rehearse, resume, roll,
+    state,
+};
 use crate::ending::{conclude, exit_code};
 use crate::fault::Fault;
 use crate::status::Status;
@@ -17,7 +23,7 @@ use crate::system::System;
 use crate::words::{words_fault, words_of};
 use bounded_io::Input;
 use command_line::command::Line;
-use command_line::{Request, Source, request_of};
+use command_line::{Forks, Request, Source, request_of};
 use local_programs::Notes;
 use roll_core::{History, Runner, Watch};
 use roll_run::{Attend, Coordinator};
@@ -131,8 +137,13 @@ fn attempt<
                 is_quiet,
                 stop_file,
                 journal,
+                resume,
+                mended,
+                takes_others,
                 course,
                 is_grouped,
+                picture,
+                is_strict,
             },
         ) => {
             begin_telling(system, tell, &line, is_verbose, is_quiet);
@@ -148,8 +159,16 @@ fn attempt<
                 runner,
                 tell,
                 line,
-                PlanWish { course, is_grouped },
-                journal,
+                PlanWish {
+                    course,
+                    is_grouped,
+                    picture,
+                },
+                RunWish {
+                    journal,
+                    resume: resume_wish(resume, mended, takes_others),
+                },
+                is_strict,
                 input,
                 out,
                 history,
@@ -180,13 +199,14 @@ fn plan_or_course<S: System, T: Watch, I: Input, O: Write>(
     system: &S,
     alloc: Global,
     watch: &mut T,
+    drawing: &mut Drawing<'_, '_, S>,
     inventory: Source,
     playbook: Source,
-    failing: Option<String>,
+    failing: &Option<String>,
     input: &mut I,
     out: &mut O,
 ) -> Result<Status, Fault>
-    ensures { PlansOrForesees (option_map string_bytes failing) (sources_of (S.files system.now) (I.is_reliable input.old)) inventory playbook
+    ensures { PlansOrForesees (option_map string_bytes failing.now) (sources_of (S.files system.now) (I.is_reliable input.old)) inventory playbook
         (I.remaining input.old) (I.remaining input.new) (O.contents out.old) (O.contents out.new) result }
 {
     match failing {
@@ -194,24 +214,48 @@ fn plan_or_course<S: System, T: Watch, I: Input, O: Write>(
             system,
             alloc,
             watch,
+            drawing,
             inventory,
             playbook,
             failing.as_str(),
             input,
             out,
         ),
-        None => plan(system, alloc, watch, inventory, playbook, input, out),
+        None => plan(
+            system, alloc, watch, drawing, inventory, playbook, input, out,
+        ),
     }
 }
 
-/// What a line of `plan` is asked for.
-#[derive(Drop)]
-struct PlanWish {
-    course: Option<String>,
-    is_grouped: bool,
+/// Does what a line of `plan` asks for but for its picture: with the groups, where it is asked for them.
+#[allow(clippy::too_many_arguments)]
+fn print_plan<S: System, T: Watch, I: Input, O: Write>(
+    system: &S,
+    alloc: Global,
+    watch: &mut T,
+    drawing: &mut Drawing<'_, '_, S>,
+    inventory: Source,
+    playbook: Source,
+    wish: &PlanWish,
+    input: &mut I,
+    out: &mut O,
+) -> Result<Status, Fault>
+    ensures { PlansBy wish.now.is_grouped (option_map string_bytes wish.now.course) (sources_of (S.files system.now) (I.is_reliable input.old)) inventory playbook
+        (I.remaining input.old) (I.remaining input.new) (O.contents out.old) (O.contents out.new) result }
+{
+    let course = &wish.course;
+    if wish.is_grouped {
+        groups(
+            system, alloc, watch, drawing, inventory, playbook, course, input, out,
+        )
+    } else {
+        plan_or_course(
+            system, alloc, watch, drawing, inventory, playbook, course, input, out,
+        )
+    }
 }
 
-/// Does what a line of `plan` asks for: with the groups, where it is asked for them.
+/// Does what a line of `plan` asks for, and draws its picture behind that, where it is asked for one.
 #[allow(clippy::too_many_arguments)]
 fn plan_by<S: System, T: Watch, I: Input, O: Write>(
     system: &S,
@@ -223,18 +267,117 @@ fn plan_by<S: System, T: Watch, I: Input, O: Write>(
     input: &mut I,
     out: &mut O,
 ) -> Result<Status, Fault>
-    ensures { PlansBy wish.is_grouped (option_map string_bytes wish.course) (sources_of (S.files system.now) (I.is_reliable input.old)) inventory playbook
+    ensures { PlansDrawn (option_map string_bytes wish.picture) wish.is_grouped (option_map string_bytes wish.course) (sources_of (S.files system.now) (I.is_reliable input.old)) inventory playbook
         (I.remaining input.old) (I.remaining input.new) (O.contents out.old) (O.contents out.new) result }
 {
-    let PlanWish { course, is_grouped } = wish;
-    if is_grouped {
-        groups(
-            system, alloc, watch, inventory, playbook, course, input, out,
-        )
-    } else {
-        plan_or_course(
-            system, alloc, watch, inventory, playbook, course, input, out,
-        )
+    let mut drawing = Drawing::new(system, &wish);
+    let printed = print_plan(
+        system,
+        alloc,
+        watch,
+        &mut drawing,
+        inventory,
+        playbook,
+        &wish,
+        input,
+        out,
+    );
+    match &wish.picture {
+        Some(_file) => drawn(printed, drawing.outcome()),
+        None => printed,
+    }
+}
+
+/// How a plan ends that was printed so, and behind which its picture was drawn or not.
+fn drawn(printed: Result<Status, Fault>, drawn: Result<(), Fault>) -> Result<Status, Fault>
+    ensures ok { OnOk drawn (result ≡ printed) }
+    ensures lost { IfErr drawn (λ fault. IfOk printed (λ _. result ≡ Err fault)) }
+    ensures err { IfErr printed (λ fault. result ≡ Err fault) }
+{
+    match (printed, drawn) {
+        (Ok(_), Err(fault)) => Err(fault),
+        (printed, _) => printed,
+    }
+}
+
+/// What a line of `run` is asked for.
+#[derive(Drop)]
+struct RunWish {
+    journal: Option<String>,
+    resume: Option<ResumeWish>,
+}
+
+/// The run that is to go on, where a journal of one is named.
+fn resume_wish(resume: Option<String>, mended: String, takes_others: bool) -> Option<ResumeWish>
+    ensures { option_map model.wished result ≡ option_map (λ journal. record { journal = string_bytes journal; mended = string_bytes mended; takes_others = takes_others }) resume }
+{
+    match resume {
+        Some(journal) => Some(ResumeWish {
+            journal,
+            mended,
+            takes_others,
+        }),
+        None => None,
+    }
+}
+
+/// Does what a line of `run` asks for: a run goes on, or one begins.
+#[allow(clippy::too_many_arguments)]
+fn run_by<
+    S: System,
+    H: Threads + Wait + Processes<Started = SystemProcess> + Sync,
+    R: Runner,
+    A: Attend,
+    T: Watch,
+    I: Input,
+    O: Write,
+>(
+    system: &S,
+    coordinator: &Coordinator<'_, H, A>,
+    runner: &R,
+    watch: &mut T,
+    inventory: Source,
+    playbook: Source,
+    forks: Forks,
+    wish: RunWish,
+    input: &mut I,
+    out: &mut O,
+    history: History,
+) -> (Result<Status, Fault>, History)
+    ensures { Gains history result.1 (RollsBy (R.may runner.now) (A.asks coordinator.now.attend.now) (option_map model.wished wish.resume) (sources_of (S.files system.now) (I.is_reliable input.old)) inventory playbook forks
+        (I.remaining input.old) (I.remaining input.new) (O.contents out.old) (O.contents out.new) result.0) }
+{
+    let RunWish {
+        journal,
+        resume: again,
+    } = wish;
+    match again {
+        Some(wish) => resume(
+            system,
+            coordinator,
+            runner,
+            watch,
+            inventory,
+            playbook,
+            forks,
+            &wish,
+            input,
+            out,
+            history,
+        ),
+        None => roll(
+            system,
+            coordinator,
+            runner,
+            watch,
+            inventory,
+            playbook,
+            forks,
+            journal,
+            input,
+            out,
+            history,
+        ),
     }
 }
 
@@ -254,12 +397,13 @@ fn follow<
     watch: &mut T,
     line: Line,
     wish: PlanWish,
-    journal: Option<String>,
+    run_wish: RunWish,
+    is_strict: bool,
     input: &mut I,
     out: &mut O,
     history: History,
 ) -> (Result<Status, Fault>, History)
-    ensures { Gains history result.1 (Does (R.may runner.now) (A.asks coordinator.now.attend.now) (record { course = option_map string_bytes wish.course; groups = wish.is_grouped }) (sources_of (S.files system.now) (I.is_reliable input.old)) line
+    ensures { Gains history result.1 (Does (R.may runner.now) (A.asks coordinator.now.attend.now) (record { course = option_map string_bytes wish.course; groups = wish.is_grouped; picture = option_map string_bytes wish.picture }) (option_map model.wished run_wish.resume) is_strict (sources_of (S.files system.now) (I.is_reliable input.old)) line
         (I.remaining input.old) (I.remaining input.new) (O.contents out.old) (O.contents out.new) result.0) }
 {
     let alloc = coordinator.alloc;
@@ -276,7 +420,7 @@ fn follow<
             inventory,
             playbook,
             forks,
-        } => roll(
+        } => run_by(
             system,
             coordinator,
             runner,
@@ -284,7 +428,7 @@ fn follow<
             inventory,
             playbook,
             forks,
-            journal,
+            run_wish,
             input,
             out,
             history,
@@ -293,7 +437,7 @@ fn follow<
             inventory,
             playbook,
         } => (
-            rehearse(system, alloc, inventory, playbook, input, out),
+            rehearse(system, alloc, inventory, playbook, is_strict, input, out),
             history,
         ),
         Line::State { inventory, journal } => (

@@ -33,6 +33,12 @@ pub trait System: Prompt + Shelf {
         ensures ok { IfOk result (λ file. Opens (files self.now name.now) (Self.File.remaining file) (Self.File.is_reliable file)) }
         ensures err { IfErr result (λ error. Fails (files self.now name.now) (error_kind error)) };
 
+    /// A file that is written anew.
+    type Output: Write + Drop;
+
+    /// The file of this name, made where none is there, with nothing in it.
+    fn write_to(&self, name: &str) -> io::Result<Self::Output>;
+
     /// Holds the lock of a file for as long as it is there.
     type Lock: Drop;
 
@@ -104,6 +110,8 @@ impl<R: fs::Files> Shelf for Host<'_, R> {
 
     ghost is_new = { λ _ _. Unit {0} };
 
+    ghost is_cut = { λ _ _ _. Unit {0} };
+
     /// Its folder is on the disk too, so that the file is found there.
     fn create(&self, name: &str) -> io::Result<OnDisk<R::File>> {
         let mut how = fs::OpenOptions::new();
@@ -112,11 +120,26 @@ impl<R: fs::Files> Shelf for Host<'_, R> {
         fs::open(self.rt, folder_of(name))?.sync_all()?;
         Ok(OnDisk(file))
     }
+
+    /// A link isn't followed.
+    fn reopen(&self, name: &str, length: u64) -> io::Result<OnDisk<R::File>> {
+        if !fs::symlink_metadata(self.rt, name)?.is_file() {
+            return Err(io::ErrorKind::Unsupported.into());
+        }
+        let mut how = fs::OpenOptions::new();
+        how.append(true);
+        let file = how.open(self.rt, name)?;
+        file.set_len(length)?;
+        file.sync_all()?;
+        Ok(OnDisk(file))
+    }
 }
 
 impl<R: Env + fs::Files<File = fs::File> + AllocGlobal + Processes<Started = SystemProcess>> System
     for Host<'_, R> {
     type File = Fallible<R::File>;
+
+    type Output = OnDisk<R::File>;
 
     type Lock = fs::File;
 
@@ -126,6 +149,12 @@ impl<R: Env + fs::Files<File = fs::File> + AllocGlobal + Processes<Started = Sys
 
     fn open(&self, name: &str) -> io::Result<Fallible<R::File>> {
         Ok(Fallible(fs::open(self.rt, name)?))
+    }
+
+    fn write_to(&self, name: &str) -> io::Result<OnDisk<R::File>> {
+        let mut how = fs::OpenOptions::new();
+        how.write(true).create(true).truncate(true);
+        Ok(OnDisk(how.open(self.rt, name)?))
     }
 
     /// A pipe isn't opened for it, since it could be read once alone.

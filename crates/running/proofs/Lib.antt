@@ -4,5 +4,8 @@ pub mod SameCourses
 pub mod SameHosts
 pub mod SameRuns
 pub mod TextLemmas
+pub mod FirstLemmas
 pub mod LeftLemmas
 pub mod SafeRecaps
+pub mod PlayLemmas
+pub mod RecapLemmas

@@ -1,4 +1,4 @@
--- What is kept of the runs of the plays that two texts say.
+-- What is kept of runs.
 use Rattle.std.specs.Prelude.{◌≡◌, ◌⊎◌, ℕ, List, [], length}
 use Rattle.domains.specs.FleetViews.{FleetView}
 use Rattle.fleet_states.specs.declared.status.Status.{Status}
@@ -8,27 +8,34 @@ use Rattle.event_log.specs.Events.{Event}
 use Rattle.roll_run.specs.Journals.{AreKept, AreKeptAhead, JournalEntry, heading}
 use Rattle.running.specs.Inputs.{AreInputs}
 
--- of the runs with these logs, on the fleet of the inventory, all was kept that there is to keep, behind how many plays there are, and nothing else
+-- of the runs of these plays with these logs, on this fleet, all was kept that there is to keep, behind how many plays there are, and nothing else
+pub record KeepsFrom {K : Type 0} (keeps : K → K → FleetView → JournalEntry → Type 0) (fleet : FleetView) (plays : List Play) (before after : K) (logs : List (List Event)) : Type 0 where
+  pub begun : K
+  pub begins : keeps before begun fleet (heading (length plays))
+  pub kept : AreKept keeps fleet begun after logs
+
+-- the same, and at most one entry more
+pub record KeepsAheadFrom {K : Type 0} (keeps : K → K → FleetView → JournalEntry → Type 0) (fleet : FleetView) (plays : List Play) (before after : K) (logs : List (List Event)) : Type 0 where
+  pub begun : K
+  pub begins : keeps before begun fleet (heading (length plays))
+  pub ahead : AreKeptAhead keeps fleet begun after logs
+
+-- the same of the runs of the plays that two texts say, on the fleet of the inventory
 pub record KeepsRuns {K : Type 0} (keeps : K → K → FleetView → JournalEntry → Type 0) (inventory playbook : List ℕ) (before after : K) (logs : List (List Event)) : Type 0 where
   pub fleet : FleetView
   pub vars : List Vars
   pub plays : List Play
   pub statuses : List Status
   pub inputs : AreInputs inventory playbook fleet vars plays statuses
-  pub begun : K
-  pub begins : keeps before begun fleet (heading (length plays))
-  pub kept : AreKept keeps fleet begun after logs
+  pub keeps_from : KeepsFrom keeps fleet plays before after logs
 
--- the same, and at most one entry more
 pub record KeepsAheadOf {K : Type 0} (keeps : K → K → FleetView → JournalEntry → Type 0) (inventory playbook : List ℕ) (before after : K) (logs : List (List Event)) : Type 0 where
   pub fleet : FleetView
   pub vars : List Vars
   pub plays : List Play
   pub statuses : List Status
   pub inputs : AreInputs inventory playbook fleet vars plays statuses
-  pub begun : K
-  pub begins : keeps before begun fleet (heading (length plays))
-  pub ahead : AreKeptAhead keeps fleet begun after logs
+  pub keeps_from : KeepsAheadFrom keeps fleet plays before after logs
 
 -- where nothing was started, nothing was kept
 abbrev pub KeepsBroken : {K : Type 0} → (K → K → FleetView → JournalEntry → Type 0) → List ℕ → List ℕ → K → K → List (List Event) → Type 0

@@ -1,13 +1,19 @@
 -- What holds of every recap.
-use Rattle.std.specs.Prelude.{◌≡◌, ℕ, List}
+use Rattle.std.specs.Prelude.{◌≡◌, ℕ, List, Option}
+use Rattle.domains.specs.FleetViews.{FleetView}
 use Rattle.event_log.specs.Columns.{Columns, gives}
 use Rattle.event_log.specs.Events.{Event}
 use Rattle.host_track.specs.Endings.{Ending}
 use Rattle.event_log.specs.Told.{Work}
+use Rattle.play_model.specs.declared.play.Play.{Play}
 use Rattle.roll_run.specs.declared.run.Run.{Run}
 use Rattle.roll_run.specs.Files.{TellTheirs}
 use Rattle.roll_run.specs.declared.fault.RunFault.{RunFault}
+use Rattle.running.specs.Beginnings.{AreSafeBehind, IsTrueFaultFrom, WritesFrom}
 use Rattle.running.specs.RunTexts.{AreSafeIn, IsBrokenRecap, IsRecap}
+use Rattle.running.specs.declared.beginning.Beginning.{Beginning}
+use Rattle.running.specs.declared.end.RunEnd.{RunEnd}
+use Rattle.running.specs.declared.fault.RunTextFault.{RunTextFault}
 
 -- the recaps of two runs of the same texts, in which programs end as the same columns say, are one text, however many workers there were
 abbrev pub OneRecap : Type 0
@@ -35,3 +41,15 @@ RecapsAreOfSafeRolls may =
 abbrev pub BrokenRecapsAreOfSafeRolls : (Work → Ending → Type 0) → Type 0
 BrokenRecapsAreOfSafeRolls may =
     (inventory playbook text : List ℕ) (forks : ℕ) (done : List Run) (last : RunFault) (logs : List (List Event)) → IsBrokenRecap may inventory playbook forks done last logs text → AreSafeIn may inventory playbook forks logs
+
+-- the logs of runs that began in the midst of a file and whose recaps went out are safe
+abbrev pub RunsFromAreOfSafeRolls : (Work → Ending → Type 0) → Type 0
+RunsFromAreOfSafeRolls may =
+    (fleet : FleetView) (forks : ℕ) (plays : List Play) (beginning : Beginning) (old new : Option (List ℕ)) (end : RunEnd) (logs : List (List Event)) → WritesFrom may fleet forks plays beginning old new end logs
+    → AreSafeBehind may fleet forks plays beginning logs
+
+-- and so are those of which a true fault tells
+abbrev pub FaultsFromAreOfSafeRolls : (Work → Ending → Type 0) → Type 0
+FaultsFromAreOfSafeRolls may =
+    (fleet : FleetView) (forks : ℕ) (plays : List Play) (beginning : Beginning) (old new : Option (List ℕ)) (fault : RunTextFault) (logs : List (List Event)) → IsTrueFaultFrom may fleet forks plays beginning old new fault logs
+    → AreSafeBehind may fleet forks plays beginning logs

@@ -2,6 +2,8 @@ pub mod Ends
 pub mod Inputs
 pub mod Lefts
 pub mod Recaps
+pub mod Writings
 pub mod RunTexts
+pub mod Beginnings
 pub mod Laws
 pub mod Keepings

@@ -34,11 +34,18 @@ abbrev pub headed : Bool → ℕ → List ℕ → List ℕ
 headed true number text = field_text (codes "play ") number ++ (codes "\n" ++ text)
 headed false number text = text
 
--- the recaps of runs, numbered from 1
-abbrev pub runs_text : FleetView → Bool → List Run → List ℕ
-runs_text fleet several runs = text_by_place (λ place run. headed several (place + 1) (run_text fleet run)) 0 runs
+-- the recaps of runs of a file's plays behind so many; each stands under the number that its play has in the file, from 1
+abbrev pub runs_text_from : ℕ → FleetView → Bool → List Run → List ℕ
+runs_text_from before fleet several runs = text_by_place (λ place run. headed several (place + 1) (run_text fleet run)) before runs
 
--- the recaps of runs, and behind them that of the run which a fault broke off
+-- the same, and behind them that of the run which a fault broke off
+abbrev pub broken_text_from : ℕ → FleetView → Bool → List Run → RunFault → List ℕ
+broken_text_from before fleet several done last =
+    runs_text_from before fleet several done ++ headed several (before + length done + 1) (fault_text fleet last)
+
+-- both from the first play of the file on
+abbrev pub runs_text : FleetView → Bool → List Run → List ℕ
+runs_text fleet several runs = runs_text_from 0 fleet several runs
+
 abbrev pub broken_text : FleetView → Bool → List Run → RunFault → List ℕ
-broken_text fleet several done last =
-    runs_text fleet several done ++ headed several (length done + 1) (fault_text fleet last)
+broken_text fleet several done last = broken_text_from 0 fleet several done last

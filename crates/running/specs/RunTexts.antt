@@ -1,7 +1,6 @@
 -- What `run` writes of the texts of an inventory and a playbook.
-use Rattle.std.specs.Prelude.{◌≡◌, ◌⊎◌, ℕ, Bool, List, [], Option, Result, Ok, Err}
-use Rattle.std.specs.Io.KnownBytes.{Appends, Keeps}
-use Rattle.bounded_io.specs.Sending.{SendsFirst}
+use Rattle.std.specs.Prelude.{◌≡◌, ℕ, Bool, List, [], Option}
+use Rattle.std.specs.Io.KnownBytes.{Keeps}
 use Rattle.domains.specs.FleetViews.{FleetView}
 use Rattle.fleet_states.specs.declared.status.Status.{Status}
 use Rattle.host_vars.specs.declared.vars.Vars.{Vars}
@@ -10,13 +9,12 @@ use Rattle.play_model.specs.declared.play.Play.{Play}
 use Rattle.event_log.specs.Events.{Event}
 use Rattle.event_log.specs.Told.{Work}
 use Rattle.roll_run.specs.declared.run.Run.{Run}
-use Rattle.roll_run.specs.declared.fault.Break.{Break}
 use Rattle.roll_run.specs.declared.fault.RunFault.{RunFault}
 use Rattle.roll_run.specs.Plays.{AreBroken, AreRuns, AreSafeRolls}
 use Rattle.roll_run.specs.Runs.{MayBreak}
-use Rattle.running.specs.Ends.{IsEndOf}
 use Rattle.running.specs.Inputs.{AreInputs, RefusesTexts}
 use Rattle.running.specs.Recaps.{are_several, broken_text, runs_text}
+use Rattle.running.specs.Writings.{IsFaultOfRuns, WritesRuns}
 use Rattle.running.specs.declared.end.RunEnd.{RunEnd}
 use Rattle.running.specs.declared.fault.RunTextFault.{RunTextFault}
 use Rattle.running.specs.declared.fault.RunTextFault.TheVariants.{Refused, Memory, Broken, Write}
@@ -50,45 +48,17 @@ pub record IsBrokenRecap (may : Work → Ending → Type 0) (inventory playbook 
   pub text_is : text ≡ broken_text fleet (are_several plays) done last
 
 -- the recaps of runs of the plays went out, and nothing else; the end is that of the last of them; and just these were started
-pub record WritesRecap (may : Work → Ending → Type 0) (inventory playbook : List ℕ) (forks : ℕ) (old new : Option (List ℕ)) (end : RunEnd) (logs : List (List Event)) : Type 0 where
-  pub runs : List Run
-  pub text : List ℕ
-  pub is : IsRecap may inventory playbook forks runs logs text
-  pub written : Appends old new text
-  pub ends : IsEndOf runs end
+abbrev pub WritesRecap : (Work → Ending → Type 0) → List ℕ → List ℕ → ℕ → Option (List ℕ) → Option (List ℕ) → RunEnd → List (List Event) → Type 0
+WritesRecap may inventory playbook forks old new end logs = WritesRuns (IsRecap may inventory playbook forks) old new end logs
 
--- the recaps of runs of the plays broke off after so many bytes; just these were started
-pub record BreaksRecap (may : Work → Ending → Type 0) (inventory playbook : List ℕ) (forks : ℕ) (old new : Option (List ℕ)) (count : ℕ) (logs : List (List Event)) : Type 0 where
-  pub runs : List Run
-  pub text : List ℕ
-  pub is : IsRecap may inventory playbook forks runs logs text
-  pub written : SendsFirst old new text count
-
--- the runs were broken off, and the recaps of what they came to went out, and nothing else; just these were started
-pub record WritesBroken (may : Work → Ending → Type 0) (inventory playbook : List ℕ) (forks : ℕ) (old new : Option (List ℕ)) (why : Break) (logs : List (List Event)) : Type 0 where
-  pub done : List Run
-  pub last : RunFault
-  pub text : List ℕ
-  pub is : IsBrokenRecap may inventory playbook forks done last logs text
-  pub written : Appends old new text
-  pub why_is : why ≡ last.why
-
--- the runs were broken off, and the recaps of what they came to broke off after so many bytes; just these were started
-pub record BreaksBroken (may : Work → Ending → Type 0) (inventory playbook : List ℕ) (forks : ℕ) (old new : Option (List ℕ)) (count : ℕ) (logs : List (List Event)) : Type 0 where
-  pub done : List Run
-  pub last : RunFault
-  pub text : List ℕ
-  pub is : IsBrokenRecap may inventory playbook forks done last logs text
-  pub written : SendsFirst old new text count
-
--- what the fault says is true: a text is refused, or memory was wanting, and nothing was started and nothing went out; or the runs were broken off; or
--- their text broke off where the fault says. The logs are those of all that was started
+-- what the fault says is true: a text is refused, or memory was wanting, and nothing was started and nothing went out; or it is true of runs of the plays
 abbrev pub IsTrueFault : (Work → Ending → Type 0) → List ℕ → List ℕ → ℕ → Option (List ℕ) → Option (List ℕ) → RunTextFault → List (List Event) → Type 0
 IsTrueFault may inventory playbook forks old new (Refused fault) logs = RefusesTexts inventory playbook (Refused fault) × Keeps old new × (logs ≡ [])
 IsTrueFault may inventory playbook forks old new Memory logs = Keeps old new × (logs ≡ [])
-IsTrueFault may inventory playbook forks old new (Broken why) logs = WritesBroken may inventory playbook forks old new why logs
+IsTrueFault may inventory playbook forks old new (Broken why) logs =
+    IsFaultOfRuns (IsRecap may inventory playbook forks) (IsBrokenRecap may inventory playbook forks) old new (Broken why) logs
 IsTrueFault may inventory playbook forks old new (Write fault) logs =
-    BreaksRecap may inventory playbook forks old new fault.written logs ⊎ BreaksBroken may inventory playbook forks old new fault.written logs
+    IsFaultOfRuns (IsRecap may inventory playbook forks) (IsBrokenRecap may inventory playbook forks) old new (Write fault) logs
 
 -- these are the logs of rolls of the first of the plays that both texts say, by so many workers, on the fleet that they say, which begins as they say: each behind
 -- the one before it, and at no moment of any of them is a group over its limit
@@ -106,18 +76,3 @@ MayBreakText asks refuses (Refused fault) = Unit {0}
 MayBreakText asks refuses Memory = Unit {0}
 MayBreakText asks refuses (Broken why) = MayBreak asks refuses why
 MayBreakText asks refuses (Write fault) = Unit {0}
-
--- the recaps of runs that came to their ends went out, or broke off
-abbrev pub TellsRuns : FleetView → Bool → List Run → Option (List ℕ) → Option (List ℕ) → Result RunEnd RunTextFault → Type 0
-TellsRuns fleet several runs old new (Ok end) = IsEndOf runs end × Appends old new (runs_text fleet several runs)
-TellsRuns fleet several runs old new (Err (Write fault)) = SendsFirst old new (runs_text fleet several runs) fault.written
-TellsRuns fleet several runs old new (Err (Refused fault)) = ⊥
-TellsRuns fleet several runs old new (Err Memory) = ⊥
-TellsRuns fleet several runs old new (Err (Broken why)) = ⊥
-
--- the recaps of runs of which a fault broke the last one off went out, or broke off
-abbrev pub TellsBroken : FleetView → Bool → List Run → RunFault → Option (List ℕ) → Option (List ℕ) → RunTextFault → Type 0
-TellsBroken fleet several done last old new (Broken why) = (why ≡ last.why) × Appends old new (broken_text fleet several done last)
-TellsBroken fleet several done last old new (Write fault) = SendsFirst old new (broken_text fleet several done last) fault.written
-TellsBroken fleet several done last old new (Refused fault) = ⊥
-TellsBroken fleet several done last old new Memory = ⊥

@@ -7,9 +7,16 @@ use play_model::Play;
 use roll_core::Watch;
 use std::alloc::{AllocError, Global};
 
-/// Tells of the hosts that the plays name and that stay down, where anybody is told anything and there is memory for it.
-pub(crate) fn tell_left_out<T: Watch>(alloc: Global, watch: &mut T, fleet: &Fleet, plays: &[Play]) {
-    if !watch.is_told() {
+/// Tells of the hosts that the plays of a file name and that stay down, where anybody is told anything and there is memory for it. Where plays of the file were
+/// run before, it was told with the first.
+pub(crate) fn tell_left_out<T: Watch>(
+    alloc: Global,
+    watch: &mut T,
+    fleet: &Fleet,
+    plays: &[Play],
+    plays_before: usize,
+) {
+    if plays_before > 0 || !watch.is_told() {
         return;
     }
     if let Ok(lines) = left_out_lines(alloc, fleet, plays) {
@@ -17,7 +24,7 @@ pub(crate) fn tell_left_out<T: Watch>(alloc: Global, watch: &mut T, fleet: &Flee
     }
 }
 
-/// What is to be told behind the recap: why hosts are down, or, where the recap couldn't be written whole, its lines of those hosts.
+/// What is to be told behind the recap of plays of a file: why hosts are down, or, where the recap couldn't be written whole, its lines of those hosts.
 fn lines_behind(
     alloc: Global,
     fleet: &Fleet,

@@ -18,10 +18,10 @@ use std::alloc::{AllocError, Global};
 
 /// What the texts of an inventory and a playbook say: the fleet, the plays, and what the first play begins with.
 #[derive(Drop)]
-pub(crate) struct Inputs {
-    pub(crate) fleet: Fleet,
-    pub(crate) plays: Vec<Play>,
-    pub(crate) start: Start,
+pub struct Inputs {
+    pub fleet: Fleet,
+    pub plays: Vec<Play>,
+    pub start: Start,
 }
 
 /// The statuses with which a first play begins. Only want of memory refuses it, where its pattern was looked up.
@@ -36,12 +36,8 @@ fn start_first(alloc: Global, fleet: &Fleet, play: &Play) -> Result<Vec<Status>,
 }
 
 /// Reads both texts: first the inventory's faults are told, then the playbook's, then the first part of a pattern, of any play, that names
-/// nothing.
-pub(crate) fn read_inputs(
-    alloc: Global,
-    inventory: &[u8],
-    playbook: &[u8],
-) -> Result<Inputs, RunTextFault>
+/// nothing. Nothing else refuses them but want of memory.
+pub fn read_inputs(alloc: Global, inventory: &[u8], playbook: &[u8]) -> Result<Inputs, RunTextFault>
     ensures ok { IfOk result (λ inputs. AreInputs inventory.now playbook.now inputs.fleet inputs.start.vars.items inputs.plays.items inputs.start.statuses.items) }
     ensures starts { IfOk result (λ inputs. MayStart inputs.fleet inputs.start) }
     ensures err { IfErr result (RefusesTexts inventory.now playbook.now) }

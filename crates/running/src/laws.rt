@@ -1,5 +1,5 @@
 //! What holds of every recap.
-ghost use Rattle.running.specs.Laws.{BrokenRecapsAreOfSafeRolls, OneRecap, OneRecapByPlays, RecapsAreOfSafeRolls};
+ghost use Rattle.running.specs.Laws.{BrokenRecapsAreOfSafeRolls, FaultsFromAreOfSafeRolls, OneRecap, OneRecapByPlays, RecapsAreOfSafeRolls, RunsFromAreOfSafeRolls};
 
 use roll_core::Runner;
 
@@ -18,4 +18,10 @@ pub fn one_recap_by_plays<R: Runner, S: Runner>(one: &R, other: &S)
 pub fn recaps_are_of_safe_rolls<R: Runner>(runner: &R)
     ensures ended { RecapsAreOfSafeRolls (R.may runner.now) }
     ensures broken { BrokenRecapsAreOfSafeRolls (R.may runner.now) }
+{}
+
+/// So was what was started in the midst of a file, from how it began: whether its recap went out, or a fault tells of it.
+pub fn runs_from_are_of_safe_rolls<R: Runner>(runner: &R)
+    ensures ended { RunsFromAreOfSafeRolls (R.may runner.now) }
+    ensures broken { FaultsFromAreOfSafeRolls (R.may runner.now) }
 {}

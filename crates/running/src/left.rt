@@ -1,5 +1,5 @@
 //! What runs have left.
-ghost use Rattle.std.specs.Prelude.{◌≡◌, ◌+◌, ◌≤◌};
+ghost use Rattle.std.specs.Prelude.{◌≡◌, ◌+◌, ◌-◌, ◌<◌, ◌≤◌, []};
 ghost use Rattle.running.specs.Lefts.{EndsWithBroken, EndsWithDone};
 ghost use Rattle.roll_core.specs.Histories.{log_at};
 ghost use Rattle.roll_core.specs.Views.{events_of};
@@ -13,10 +13,11 @@ use roll_core::{Event, History};
 use roll_run::{Run, RunFault, RunsFault};
 use std::alloc::{AllocError, Global};
 
-/// The runs of the first plays of a file, and behind them the one that was broken off, if one was; with the history that has their logs, behind those
-/// of so many rolls.
+/// The runs of the plays of a file behind so many, and behind them the one that was broken off, if one was; with the history that has their logs, behind
+/// those of so many rolls.
 #[derive(Clone, Copy)]
 pub(crate) struct Left<'r> {
+    plays_before: usize,
     done: &'r [Run],
     broken: Option<&'r RunFault>,
     history: &'r History,
@@ -25,12 +26,19 @@ pub(crate) struct Left<'r> {
 
 impl<'r> Left<'r> {
     /// What runs have left that came to their ends, whose logs the history has behind those of so many rolls.
-    pub(crate) fn of_all(done: &'r [Run], history: &'r History, rolls_before: usize) -> Left<'r>
+    pub(crate) fn of_all(
+        plays_before: usize,
+        done: &'r [Run],
+        history: &'r History,
+        rolls_before: usize,
+    ) -> Left<'r>
         requires { EndsWithDone rolls_before done.now history.now }
         ensures history { result.history.now ≡ history.now }
         ensures before { result.rolls_before ≡ rolls_before }
+        ensures plays { result.plays_before ≡ plays_before }
     {
         Left {
+            plays_before,
             done,
             broken: None,
             history,
@@ -40,6 +48,7 @@ impl<'r> Left<'r> {
 
     /// The same of runs of which a fault broke the last one off.
     pub(crate) fn of_broken(
+        plays_before: usize,
         fault: &'r RunsFault,
         history: &'r History,
         rolls_before: usize,
@@ -47,8 +56,10 @@ impl<'r> Left<'r> {
         requires { EndsWithBroken rolls_before fault.now.done.items history.now }
         ensures history { result.history.now ≡ history.now }
         ensures before { result.rolls_before ≡ rolls_before }
+        ensures plays { result.plays_before ≡ plays_before }
     {
         Left {
+            plays_before,
             done: fault.done.as_slice(),
             broken: Some(&fault.last),
             history,
@@ -82,14 +93,20 @@ impl<'r> Left<'r> {
         }
     }
 
-    /// The log of the play at this place, from 0; of one that wasn't begun it is empty.
+    /// The log of the play at this place of the file, from 0; of one that wasn't begun, or stands before these, it is empty.
     fn log(&self, place: usize) -> &'r [Event]
-        ensures { self.now.rolls_before + place ≤ 18446744073709551615 → events_of result.now ≡ log_at self.now.history.now (self.now.rolls_before + place) }
+        ensures before { place < self.now.plays_before → events_of result.now ≡ [] }
+        ensures own { self.now.plays_before ≤ place → self.now.rolls_before + (place - self.now.plays_before) ≤ 18446744073709551615
+            → events_of result.now ≡ log_at self.now.history.now (self.now.rolls_before + (place - self.now.plays_before)) }
     {
-        self.history.log(self.rolls_before.saturating_add(place))
+        if place < self.plays_before {
+            return &[];
+        }
+        let behind = place - self.plays_before;
+        self.history.log(self.rolls_before.saturating_add(behind))
     }
 
-    /// The plays with their logs.
+    /// The plays of the file with their logs.
     pub(crate) fn played(
         &self,
         alloc: Global,

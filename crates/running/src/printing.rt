@@ -1,62 +1,20 @@
 //! From the bytes of an inventory and a playbook to the recaps of the runs of its plays.
-ghost use Rattle.std.specs.Prelude.{◌≡◌, ◌<◌, ◌≤◌, IfErr, IfOk, length};
-ghost use Rattle.running.specs.Recaps as model;
+ghost use Rattle.std.specs.Prelude.{◌<◌, ◌≤◌, IfErr, IfOk};
 ghost use Rattle.roll_run.specs.Histories.{Gains};
 ghost use Rattle.running.specs.Keepings.{KeepsBroken, KeepsRuns};
-ghost use Rattle.running.specs.RunTexts.{IsTrueFault, MayBreakText, TellsBroken, TellsRuns, WritesRecap};
+ghost use Rattle.running.specs.RunTexts.{IsTrueFault, MayBreakText, WritesRecap};
 
-use crate::behind::{tell_behind, tell_left_out};
-use crate::end::{RunEnd, end_of_runs};
+use crate::beginning::Beginning;
+use crate::end::RunEnd;
 use crate::fault::RunTextFault;
 use crate::inputs::{Inputs, read_inputs};
-use crate::left::Left;
-use crate::recaps::{send_broken, send_runs};
-use domains::Fleet;
-use play_model::Play;
+use crate::plays::run_from;
 use roll_core::{History, Runner, Watch};
-use roll_run::{Attend, Coordinator, Keep, Run, RunsFault, Setup, run_plays};
+use roll_run::{Attend, Coordinator, Keep};
 use std::io::Write;
 use std::process::{Processes, SystemProcess};
 use std::sync::Wait;
 use std::thread::Threads;
-
-/// Whether each recap stands under the number of its play.
-fn are_several(plays: &[Play]) -> bool
-    ensures { result ≡ model.are_several plays.now }
-{
-    plays.len() > 1
-}
-
-/// Writes the recaps of runs that came to their ends.
-fn tell_runs<W: Write>(
-    fleet: &Fleet,
-    several: bool,
-    runs: &[Run],
-    out: &mut W,
-) -> Result<RunEnd, RunTextFault>
-    requires { 0 < length runs.now }
-    ensures { TellsRuns fleet.now several runs.now (W.contents out.old) (W.contents out.new) result }
-{
-    match send_runs(fleet, several, runs, out) {
-        Ok(()) => Ok(end_of_runs(runs)),
-        Err(fault) => Err(RunTextFault::Write(fault)),
-    }
-}
-
-/// Writes the recaps of runs of which a fault broke the last one off, and tells that fault, or where the text broke off.
-fn tell_broken<W: Write>(
-    fleet: &Fleet,
-    several: bool,
-    fault: &RunsFault,
-    out: &mut W,
-) -> RunTextFault
-    ensures { TellsBroken fleet.now several fault.now.done.items fault.now.last (W.contents out.old) (W.contents out.new) result }
-{
-    match send_broken(fleet, several, fault, out) {
-        Ok(()) => RunTextFault::Broken(fault.last.why),
-        Err(fault) => RunTextFault::Write(fault),
-    }
-}
 
 /// Runs the plays of a playbook on the fleet of an inventory, each given as the bytes of its text, with `forks` workers, 1 to 64, and
 /// writes the recap when the runs have ended: of each play that was begun, under its number where the file has several. Nothing is run, and
@@ -77,7 +35,7 @@ pub fn run_text<
 >(
     coordinator: &Coordinator<'_, H, A>,
     watch: &mut T,
-    mut keeper: K,
+    keeper: K,
     inventory: &[u8],
     playbook: &[u8],
     forks: usize,
@@ -93,43 +51,28 @@ pub fn run_text<
     ensures kept { IfOk result.0 (λ _. Gains history result.1 (KeepsRuns K.keeps inventory.now playbook.now keeper result.2)) }
     ensures ahead { IfErr result.0 (λ _. Gains history result.1 (KeepsBroken K.keeps inventory.now playbook.now keeper result.2)) }
 {
-    let alloc = coordinator.alloc;
     let Inputs {
         fleet,
         plays,
         start,
-    } = match read_inputs(alloc, inventory, playbook) {
+    } = match read_inputs(coordinator.alloc, inventory, playbook) {
         Ok(inputs) => inputs,
         Err(fault) => return (Err(fault), history, keeper),
     };
-    let rolls = history.rolls();
-    let listed = plays.as_slice();
-    let several = are_several(listed);
-    tell_left_out(alloc, watch, &fleet, listed);
-    watch.plays_begin(listed.len());
-    keeper.plays_begin(&fleet, listed.len());
-    let setup = Setup {
-        fleet: &fleet,
-        plays: listed,
-        runner,
-        forks,
+    let beginning = Beginning {
+        plays_before: 0,
+        start,
     };
-    let (ran, history, keeper) = run_plays(coordinator, watch, keeper, &setup, start, history);
-    match ran {
-        Ok(runs) => {
-            watch.plays_end();
-            let told = tell_runs(&fleet, several, runs.as_slice(), out);
-            let left = Left::of_all(runs.as_slice(), &history, rolls);
-            tell_behind(alloc, watch, &fleet, listed, &left, told.is_ok());
-            (told, history, keeper)
-        }
-        Err(fault) => {
-            watch.plays_end();
-            let told = tell_broken(&fleet, several, &fault, out);
-            let is_whole = !matches!(told, RunTextFault::Write(_));
-            let left = Left::of_broken(&fault, &history, rolls);
-            tell_behind(alloc, watch, &fleet, listed, &left, is_whole);
-            (Err(told), history, keeper)
-        }
-    }
+    run_from(
+        coordinator,
+        watch,
+        keeper,
+        &fleet,
+        plays.as_slice(),
+        beginning,
+        forks,
+        runner,
+        out,
+        history,
+    )
 }

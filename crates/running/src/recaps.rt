@@ -1,9 +1,9 @@
 //! The recaps of the runs of several plays, one behind the other.
-ghost use Rattle.std.specs.Prelude.{◌≡◌, ◌+◌};
+ghost use Rattle.std.specs.Prelude.{◌≡◌, ◌+◌, ◌<◌, ◌≤◌, length};
 ghost use Rattle.bounded_io.specs.Sending.{SendsText};
 ghost use Rattle.bounded_io.specs.Writing.{Writes};
 ghost use Rattle.recap.specs.RecapText.{recap_text};
-ghost use Rattle.running.specs.Recaps.{broken_text, fault_text, headed, run_text, runs_text};
+ghost use Rattle.running.specs.Recaps.{broken_text_from, fault_text, headed, run_text, runs_text_from};
 
 use bounded_io::{TextWriter, WriteFault};
 use domains::Fleet;
@@ -48,12 +48,20 @@ fn write_run<W: Write>(
     write_one(text, fleet, several, number, &recap);
 }
 
-/// Writes the recaps of these runs, numbered from 1 where the file has several plays.
-fn write_runs<W: Write>(text: &mut TextWriter<'_, W>, fleet: &Fleet, several: bool, runs: &[Run])
-    ensures { Writes W.contents text.old text.new (runs_text fleet.now several runs.now) }
+/// Writes the recaps of these runs of the plays behind so many, each under its number in the file, from 1, where that has several plays.
+fn write_runs<W: Write>(
+    text: &mut TextWriter<'_, W>,
+    fleet: &Fleet,
+    several: bool,
+    plays_before: usize,
+    runs: &[Run],
+)
+    requires { plays_before + length runs.now ≤ 18446744073709551615 }
+    ensures { Writes W.contents text.old text.new (runs_text_from plays_before fleet.now several runs.now) }
 {
     for place in 0..runs.len() {
-        write_run(text, fleet, several, place as u64 + 1, &runs[place]);
+        let number = (plays_before + place) as u64 + 1;
+        write_run(text, fleet, several, number, &runs[place]);
     }
 }
 
@@ -82,13 +90,15 @@ fn write_fault<W: Write>(
 pub(crate) fn send_runs<W: Write>(
     fleet: &Fleet,
     several: bool,
+    plays_before: usize,
     runs: &[Run],
     out: &mut W,
 ) -> Result<(), WriteFault>
-    ensures { SendsText (W.contents out.old) (W.contents out.new) (runs_text fleet.now several runs.now) result }
+    requires { plays_before + length runs.now ≤ 18446744073709551615 }
+    ensures { SendsText (W.contents out.old) (W.contents out.new) (runs_text_from plays_before fleet.now several runs.now) result }
 {
     let mut text = TextWriter::new(out);
-    write_runs(&mut text, fleet, several, runs);
+    write_runs(&mut text, fleet, several, plays_before, runs);
     text.finish()
 }
 
@@ -97,25 +107,30 @@ fn write_broken<W: Write>(
     text: &mut TextWriter<'_, W>,
     fleet: &Fleet,
     several: bool,
+    plays_before: usize,
     fault: &RunsFault,
 )
-    ensures { Writes W.contents text.old text.new (broken_text fleet.now several fault.now.done.items fault.now.last) }
+    requires { plays_before + length fault.now.done.items < 18446744073709551615 }
+    ensures { Writes W.contents text.old text.new (broken_text_from plays_before fleet.now several fault.now.done.items fault.now.last) }
 {
     let done = fault.done.as_slice();
-    write_runs(text, fleet, several, done);
-    write_fault(text, fleet, several, done.len() as u64 + 1, &fault.last);
+    write_runs(text, fleet, several, plays_before, done);
+    let number = (plays_before + done.len()) as u64 + 1;
+    write_fault(text, fleet, several, number, &fault.last);
 }
 
 /// The same of runs of which a fault broke the last one off.
 pub(crate) fn send_broken<W: Write>(
     fleet: &Fleet,
     several: bool,
+    plays_before: usize,
     fault: &RunsFault,
     out: &mut W,
 ) -> Result<(), WriteFault>
-    ensures { SendsText (W.contents out.old) (W.contents out.new) (broken_text fleet.now several fault.now.done.items fault.now.last) result }
+    requires { plays_before + length fault.now.done.items < 18446744073709551615 }
+    ensures { SendsText (W.contents out.old) (W.contents out.new) (broken_text_from plays_before fleet.now several fault.now.done.items fault.now.last) result }
 {
     let mut text = TextWriter::new(out);
-    write_broken(&mut text, fleet, several, fault);
+    write_broken(&mut text, fleet, several, plays_before, fault);
     text.finish()
 }

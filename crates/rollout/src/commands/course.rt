@@ -3,6 +3,7 @@ ghost use Rattle.std.specs.Prelude.{IfOk, IfErr};
 ghost use Rattle.rollout.specs.Courses.{Foresees, PrintsCourse, RefusesNamed};
 ghost use Rattle.rollout.specs.Systems.{sources_of};
 
+use crate::commands::drawing::Drawing;
 use crate::commands::plan::tell_behind;
 use crate::fault::Fault;
 use crate::inputs::read_both;
@@ -22,6 +23,7 @@ pub fn course<S: System, T: Watch, I: Input, W: Write>(
     system: &S,
     alloc: Global,
     watch: &mut T,
+    drawing: &mut Drawing<'_, '_, S>,
     inventory: Source,
     playbook: Source,
     failing: &str,
@@ -38,6 +40,7 @@ pub fn course<S: System, T: Watch, I: Input, W: Write>(
             let printed = print_course(alloc, inventory, playbook, failing, out);
             if printed.is_ok() {
                 tell_behind(alloc, watch, usize::MAX, inventory, playbook);
+                drawing.draw(alloc, inventory, playbook);
             }
             printed
         }

@@ -4,6 +4,7 @@ ghost use Rattle.std.specs.Option.{option_map};
 ghost use Rattle.rollout.specs.Groups.{PrintsGroups, RefusesGroups, Surveys};
 ghost use Rattle.rollout.specs.Systems.{sources_of};
 
+use crate::commands::drawing::Drawing;
 use crate::commands::plan::tell_behind;
 use crate::fault::Fault;
 use crate::inputs::read_both;
@@ -23,23 +24,25 @@ pub fn groups<S: System, T: Watch, I: Input, W: Write>(
     system: &S,
     alloc: Global,
     watch: &mut T,
+    drawing: &mut Drawing<'_, '_, S>,
     inventory: Source,
     playbook: Source,
-    failing: Option<String>,
+    failing: &Option<String>,
     input: &mut I,
     out: &mut W,
 ) -> Result<Status, Fault>
-    ensures { Surveys (option_map string_bytes failing) (sources_of (S.files system.now) (I.is_reliable input.old)) inventory playbook
+    ensures { Surveys (option_map string_bytes failing.now) (sources_of (S.files system.now) (I.is_reliable input.old)) inventory playbook
         (I.remaining input.old) (I.remaining input.new) (W.contents out.old) (W.contents out.new) result }
 {
     match read_both(system, alloc, inventory, playbook, input) {
         Ok((inventory, playbook)) => {
             let inventory = inventory.as_slice();
             let playbook = playbook.as_slice();
-            let printed = print_groups(alloc, inventory, playbook, &failing, out);
+            let printed = print_groups(alloc, inventory, playbook, failing, out);
             if printed.is_ok() {
                 let plays = if failing.is_some() { usize::MAX } else { 1 };
                 tell_behind(alloc, watch, plays, inventory, playbook);
+                drawing.draw(alloc, inventory, playbook);
             }
             printed
         }

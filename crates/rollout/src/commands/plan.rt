@@ -3,6 +3,7 @@ ghost use Rattle.std.specs.Prelude.{IfOk, IfErr};
 ghost use Rattle.rollout.specs.Plans.{Plans, PrintsPlan, RefusesTexts};
 ghost use Rattle.rollout.specs.Systems.{sources_of};
 
+use crate::commands::drawing::Drawing;
 use crate::fault::Fault;
 use crate::inputs::read_both;
 use crate::status::Status;
@@ -16,10 +17,12 @@ use std::alloc::Global;
 use std::io::Write;
 
 /// Reads the inventory and the playbook, and writes the plan of the playbook's first play. `watch` is told of the hosts that it leaves out.
+#[allow(clippy::too_many_arguments)]
 pub fn plan<S: System, T: Watch, I: Input, W: Write>(
     system: &S,
     alloc: Global,
     watch: &mut T,
+    drawing: &mut Drawing<'_, '_, S>,
     inventory: Source,
     playbook: Source,
     input: &mut I,
@@ -33,6 +36,7 @@ pub fn plan<S: System, T: Watch, I: Input, W: Write>(
             let printed = print_plan(alloc, inventory.as_slice(), playbook.as_slice(), out);
             if printed.is_ok() {
                 tell_behind(alloc, watch, 1, inventory.as_slice(), playbook.as_slice());
+                drawing.draw(alloc, inventory.as_slice(), playbook.as_slice());
             }
             printed
         }

@@ -91,7 +91,14 @@ fn lock_inventory<S: System>(
     let (Source::File(name), Some(_journal)) = (inventory, journal) else {
         return Ok(None);
     };
-    match system.lock(name.as_str()) {
+    lock_file(system, name.as_str())
+}
+
+/// The lock of a file, where it has one.
+pub(crate) fn lock_file<S: System>(system: &S, name: &str) -> Result<Option<S::Lock>, Fault>
+    ensures { IfErr result (λ fault. fault ≡ Locked) }
+{
+    match system.lock(name) {
         Ok(Some(lock)) => Ok(Some(lock)),
         Ok(None) => Err(Fault::Locked),
         Err(_error) => Ok(None),
@@ -254,7 +261,7 @@ fn roll_with<
 }
 
 /// What a run that ended so is to the program, where it was kept whole or not.
-fn ended(ran: Result<RunEnd, RunTextFault>, is_kept: bool) -> Result<Status, Fault>
+pub(crate) fn ended(ran: Result<RunEnd, RunTextFault>, is_kept: bool) -> Result<Status, Fault>
     ensures ok { IfOk ran (λ end. (is_kept ≡ true → result ≡ Ok (status_of_run end)) × (is_kept ≡ false → result ≡ Err JournalWrite)) }
     ensures err { IfErr ran (λ fault. result ≡ Err (fault_of fault)) }
 {

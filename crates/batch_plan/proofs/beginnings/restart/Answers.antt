@@ -10,7 +10,7 @@ use Rattle.batch_plan.proofs.beginnings.restart.Goals as goal
 pub returns-clause-statuses : goal.returns-clause-statuses
 returns-clause-statuses c =
     let target = host_numbers c.args.target.now in
-    c.target_idle.ensures ∙ ap (changed awaited target) c.in_ok-next.ensures ∙ restart_aimed c.args.statuses.now target
+    c.await_turns.ensures ∙ ap (changed awaited target) c.in_ok-next.ensures ∙ restart_aimed c.args.statuses.now target
 
 pub returns-clause-down : goal.returns-clause-down
 returns-clause-down c rest host =

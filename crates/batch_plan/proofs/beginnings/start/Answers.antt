@@ -9,7 +9,7 @@ use Rattle.batch_plan.proofs.beginnings.start.Goals as goal
 pub returns-clause-statuses : goal.returns-clause-statuses
 returns-clause-statuses c =
     let target = host_numbers c.args.target.now in
-    c.target_idle.ensures ∙ ap (changed awaited target) c.in_ok-statuses.ensures.statuses ∙ start_aimed c.args.fleet.now target
+    c.await_turns.ensures ∙ ap (changed awaited target) c.in_ok-statuses.ensures.statuses ∙ start_aimed c.args.fleet.now target
 
 pub returns-clause-ready : goal.returns-clause-ready
 returns-clause-ready c =

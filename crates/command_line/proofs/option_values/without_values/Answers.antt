@@ -1,8 +1,7 @@
-use Rattle.std.proofs.Common.{◌≡◌, ◌++◌, ◌∷◌, [], Bool, List, Option, None, Some, ap, cond, map, string_bytes, sym, ◌∙◌, option_map}
+use Rattle.std.proofs.Common.{◌++◌, ◌∷◌, [], List, None, ap, cond, map, string_bytes, sym, ◌∙◌, option_map}
 use Rattle.std.proofs.lemmas.List.{map-append}
 use Rattle.command_line.specs.Operands.{Word}
 use Rattle.command_line.specs.Options.{leading_value}
-use Rattle.command_line.proofs.FlagLemmas.{goes_on}
 use Rattle.command_line.proofs.ValueLemmas.{goes_by_value, goes_by_word, joined, left}
 use Rattle.command_line.proofs.option_values.without_values.Goals as goal
 

@@ -17,7 +17,8 @@ returns-clause-app c =
     let third = c.in_ok-arg-3.ensures.shape c.course.ensures.local ∙ ap₂ with_rule second c.course.ensures.rule in
     let fourth = c.in_ok-arg-4.ensures.shape c.failing.ensures.local ∙ ap₂ with_rule third c.failing.ensures.rule in
     let fifth = c.in_ok-arg-5.ensures.shape c.groups.ensures.local ∙ ap₂ with_rule fourth c.groups.ensures.rule in
-    IfOk-weaker c.arg-6.result _ _ (λ r h. h.shape c.verbose.ensures.local ∙ ap₂ with_rule fifth c.verbose.ensures.rule) c.arg-6.ensures
+    let sixth = c.in_ok-arg-6.ensures.shape c.picture.ensures.local ∙ ap₂ with_rule fifth c.picture.ensures.rule in
+    IfOk-weaker c.arg-7.result _ _ (λ r h. h.shape c.verbose.ensures.local ∙ ap₂ with_rule sixth c.verbose.ensures.rule) c.arg-7.ensures
 
 pub returns-clause-local : goal.returns-clause-local
 returns-clause-local c =
@@ -27,4 +28,5 @@ returns-clause-local c =
     let third = c.in_ok-arg-3.ensures.globals ∙ ap₂ (λ (a b : Bool). a || b) second c.course.ensures.local in
     let fourth = c.in_ok-arg-4.ensures.globals ∙ ap₂ (λ (a b : Bool). a || b) third c.failing.ensures.local in
     let fifth = c.in_ok-arg-5.ensures.globals ∙ ap₂ (λ (a b : Bool). a || b) fourth c.groups.ensures.local in
-    IfOk-weaker c.arg-6.result _ _ (λ r h. h.globals ∙ ap₂ (λ (a b : Bool). a || b) fifth c.verbose.ensures.local) c.arg-6.ensures
+    let sixth = c.in_ok-arg-6.ensures.globals ∙ ap₂ (λ (a b : Bool). a || b) fifth c.picture.ensures.local in
+    IfOk-weaker c.arg-7.result _ _ (λ r h. h.globals ∙ ap₂ (λ (a b : Bool). a || b) sixth c.verbose.ensures.local) c.arg-7.ensures

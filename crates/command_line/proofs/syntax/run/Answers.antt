@@ -18,7 +18,10 @@ returns-clause-app c =
     let fourth = c.in_ok-arg-4.ensures.shape c.verbose.ensures.local ∙ ap₂ with_rule third c.verbose.ensures.rule in
     let fifth = c.in_ok-arg-5.ensures.shape c.quiet.ensures.local ∙ ap₂ with_rule fourth c.quiet.ensures.rule in
     let sixth = c.in_ok-arg-6.ensures.shape c.stop_file.ensures.local ∙ ap₂ with_rule fifth c.stop_file.ensures.rule in
-    IfOk-weaker c.arg-7.result _ _ (λ r h. h.shape c.new_journal.ensures.local ∙ ap₂ with_rule sixth c.new_journal.ensures.rule) c.arg-7.ensures
+    let seventh = c.in_ok-arg-7.ensures.shape c.new_journal.ensures.local ∙ ap₂ with_rule sixth c.new_journal.ensures.rule in
+    let eighth = c.in_ok-arg-8.ensures.shape c.resume.ensures.local ∙ ap₂ with_rule seventh c.resume.ensures.rule in
+    let ninth = c.in_ok-arg-9.ensures.shape c.mended.ensures.local ∙ ap₂ with_rule eighth c.mended.ensures.rule in
+    IfOk-weaker c.arg-10.result _ _ (λ r h. h.shape c.changed_inputs.ensures.local ∙ ap₂ with_rule ninth c.changed_inputs.ensures.rule) c.arg-10.ensures
 
 pub returns-clause-local : goal.returns-clause-local
 returns-clause-local c =
@@ -29,4 +32,7 @@ returns-clause-local c =
     let fourth = c.in_ok-arg-4.ensures.globals ∙ ap₂ (λ (a b : Bool). a || b) third c.verbose.ensures.local in
     let fifth = c.in_ok-arg-5.ensures.globals ∙ ap₂ (λ (a b : Bool). a || b) fourth c.quiet.ensures.local in
     let sixth = c.in_ok-arg-6.ensures.globals ∙ ap₂ (λ (a b : Bool). a || b) fifth c.stop_file.ensures.local in
-    IfOk-weaker c.arg-7.result _ _ (λ r h. h.globals ∙ ap₂ (λ (a b : Bool). a || b) sixth c.new_journal.ensures.local) c.arg-7.ensures
+    let seventh = c.in_ok-arg-7.ensures.globals ∙ ap₂ (λ (a b : Bool). a || b) sixth c.new_journal.ensures.local in
+    let eighth = c.in_ok-arg-8.ensures.globals ∙ ap₂ (λ (a b : Bool). a || b) seventh c.resume.ensures.local in
+    let ninth = c.in_ok-arg-9.ensures.globals ∙ ap₂ (λ (a b : Bool). a || b) eighth c.mended.ensures.local in
+    IfOk-weaker c.arg-10.result _ _ (λ r h. h.globals ∙ ap₂ (λ (a b : Bool). a || b) ninth c.changed_inputs.ensures.local) c.arg-10.ensures

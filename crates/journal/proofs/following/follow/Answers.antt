@@ -27,3 +27,9 @@ returns-in-Closed c =
     c.close.ensures c.args.fleet.now
     ∙ ap (λ (l : List Outcome). next c.args.fleet.now (shown_journal c.args.journal) (entries.closed (shown_outcomes l))) c.as_slice-in-Closed.ensures.value
     ∙ ap (λ (e : Entry). next c.args.fleet.now (shown_journal c.args.journal) (shown_entry e)) (sym c.in-Closed.is)
+
+pub returns-in-Again : goal.returns-in-Again
+returns-in-Again c =
+    c.go_on.ensures c.args.fleet.now
+    ∙ ap (λ (l : List HostId). next c.args.fleet.now (shown_journal c.args.journal) (entries.again (host_numbers l))) c.as_slice-in-Again.ensures.value
+    ∙ ap (λ (e : Entry). next c.args.fleet.now (shown_journal c.args.journal) (shown_entry e)) (sym c.in-Again.is)

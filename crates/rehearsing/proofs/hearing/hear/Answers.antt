@@ -6,7 +6,7 @@ use Rattle.rehearsing.proofs.hearing.hear.Goals as goal
 
 pub loop-front-init : goal.loop-front-init
 loop-front-init g c =
-    begins_hearing g.W.Write.contents c.args.rehearsal.now c.args.line.now.items c.args.bytes.now c.args.text.now c.requires
+    begins_hearing g.W.Write.contents c.args.history.now c.args.line.now.items c.args.bytes.now c.args.text.now c.requires
 
 pub returns-in-Err-clause-err : goal.returns-in-Err-clause-err
 returns-in-Err-clause-err g c =
@@ -20,7 +20,7 @@ returns-in-Ok-Break-clause-hears g c =
 pub loop-front-preserved : goal.loop-front-preserved
 loop-front-preserved g c =
     subst
-    (λ (now : List ℕ). Hearing g.W.Write.contents c.args.rehearsal.now c.args.line.now.items c.args.bytes.now c.in-Some.behind.now now c.end_line.new.rehearsal c.args.text.now c.end_line.new.text)
+    (λ (now : List ℕ). Hearing g.W.Write.contents c.args.history.now c.args.line.now.items c.args.bytes.now c.in-Some.behind.now now c.end_line.new.history c.args.text.now c.end_line.new.text)
     (sym c.in-Ok-Continue.ensures.next)
     (hears_line _ _ _ _ _ _ _ _ _ _ _ c.loop-front.invariant c.in-Some.front.now c.in-Some.behind.now _ c.in-Some.ensures.cut c.in-Ok-Continue.ensures.within
     (goes_on c.in-Ok-Continue.field-0 _ _ c.in-Ok-Continue.field-0-is c.in-Ok-Continue.ensures.flow)

@@ -4,7 +4,7 @@ use Rattle.rehearsing.proofs.hearing.hear.Given as goal
 
 abbrev pub invariant-loop-front : goal.invariant-loop-front
 invariant-loop-front g l =
-    Hearing g.W.Write.contents l.initial.rehearsal l.initial.line.items l.bytes l.left l.line.items l.rehearsal l.initial.text l.text
+    Hearing g.W.Write.contents l.initial.history l.initial.line.items l.bytes l.left l.line.items l.history l.initial.text l.text
 
 abbrev pub decreases-loop-front : goal.decreases-loop-front
 decreases-loop-front g l = length l.left

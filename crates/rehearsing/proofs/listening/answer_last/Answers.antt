@@ -9,5 +9,5 @@ pub returns-clause-last : goal.returns-clause-last
 returns-clause-last g c =
     let line = c.args.line.now in
     let some : 0 < length c.args.line.now = grind (arith, nat_tests, c.is_empty.ensures, c.if-is_empty.false) in
-    last_told g.W.Write.contents c.args.rehearsal.now line (answer_to c.args.rehearsal.now (command_in line)) c.answer.new.rehearsal c.args.text.now c.answer.new.text some
+    last_told g.W.Write.contents c.args.history.now line (answer_to c.args.history.now (command_in line) c.answer.new.history) c.answer.new.history c.args.text.now c.answer.new.text some
     c.in_ok-answer.ensures.answers c.in_ok-answer.ensures.writes

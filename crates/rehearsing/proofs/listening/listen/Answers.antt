@@ -22,8 +22,8 @@ returns-then-count-eq0-clause-ok g c =
     subst (λ (n : ℕ). Consumes (g.I.Read.remaining c.reads.input) (g.I.Read.remaining c.read_some.new.self) (take n c.read_some.new.room)) c.if-count-eq0.true c.in-Some-read_some.ensures.read in
     elim c.match-answer_last.branch [
       | in-Ok w ↦ rw w.result-is (to_all _ _ _ _ _ _ _ _ _ (still_listening _ _ _ _ _ _ _ _ _ c.reads.invariant.so_far c.flush.new.self c.flush.ensures.writes) (g.I.Read.remaining c.read_some.new.self) none
-          c.answer_last.new.rehearsal c.answer_last.new.text (c.in-Some-read_some.ensures.end c.if-count-eq0.true)
-          (subst (λ (l : List ℕ). LastAnswer g.W.Write.contents c.reads.rehearsal l c.answer_last.new.rehearsal c.flush.new.self c.answer_last.new.text) c.as_slice.ensures.value w.in-Ok.ensures.last))
+          c.answer_last.new.history c.answer_last.new.text (c.in-Some-read_some.ensures.end c.if-count-eq0.true)
+          (subst (λ (l : List ℕ). LastAnswer g.W.Write.contents c.reads.history l c.answer_last.new.history c.flush.new.self c.answer_last.new.text) c.as_slice.ensures.value w.in-Ok.ensures.last))
       | in-Err w ↦ rw w.result-is tt
     ]
 
@@ -44,7 +44,7 @@ returns-in-Err-hear-clause-err g c =
     let part : List ℕ = c.split_at.result.0.now in
     let parts : take count room ≡ part ++ drop c.min.result (take count room) = read_parts count c.min.result room part (omega (arith, c.min.ensures)) c.split_at.ensures.front in
     until_fault _ _ _ _ _ _ _ _ _ (still_listening _ _ _ _ _ _ _ _ _ c.reads.invariant.so_far c.flush.new.self c.flush.ensures.writes) (g.I.Read.remaining c.read_some.new.self)
-    c.hear.new.rehearsal c.hear.new.text (g.I.Input.is_reliable c.args.input.now) part (drop c.min.result (take count room)) c.in-Err-hear.fault
+    c.hear.new.history c.hear.new.text (g.I.Input.is_reliable c.args.input.now) part (drop c.min.result (take count room)) c.in-Err-hear.fault
     (subst (Consumes (g.I.Read.remaining c.reads.input) (g.I.Read.remaining c.read_some.new.self)) parts c.in-Some-read_some.ensures.read)
     (omega (arith, ap length parts, length-take {A = ℕ}, c.in-Some-read_some.ensures.bound, c.min-most.ensures, c.reads.invariant.so_far.within))
     (omega (arith, c.split_at.ensures.front_len, c.min.ensures, c.reads.invariant.so_far.within)) c.in-Err-hear.ensures.err
@@ -56,7 +56,7 @@ returns-in-Ok-Break-clause-ok g c =
     let part : List ℕ = c.split_at.result.0.now in
     let parts : take count room ≡ part ++ drop c.min.result (take count room) = read_parts count c.min.result room part (omega (arith, c.min.ensures)) c.split_at.ensures.front in
     to_line _ _ _ _ _ _ _ _ _ (still_listening _ _ _ _ _ _ _ _ _ c.reads.invariant.so_far c.flush.new.self c.flush.ensures.writes) (g.I.Read.remaining c.read_some.new.self)
-    c.hear.new.rehearsal c.hear.new.text part (drop c.min.result (take count room))
+    c.hear.new.history c.hear.new.text part (drop c.min.result (take count room))
     (subst (Consumes (g.I.Read.remaining c.reads.input) (g.I.Read.remaining c.read_some.new.self)) parts c.in-Some-read_some.ensures.read)
     (omega (arith, ap length parts, length-take {A = ℕ}, c.in-Some-read_some.ensures.bound, c.min-most.ensures))
     (omega (arith, ap length parts, length-take {A = ℕ}, c.in-Some-read_some.ensures.bound, c.min-most.ensures, c.reads.invariant.so_far.within))
@@ -71,7 +71,7 @@ returns-then-count-left-clause-err g c =
     let one : count ≡ c.min.result + 1 = omega (arith, c.min.ensures, c.if-count-left.true, c.in-Some-read_some.ensures.bound, length-take {A = ℕ}, c.min-most.ensures) in
     let parts : take count room ≡ part ++ get_or room c.min.result 0 ∷ [] = read_one_more count c.min.result room part one (omega (arith, c.in-Some-read_some.ensures.bound)) c.split_at.ensures.front in
     until_too_large _ _ _ _ _ _ _ _ _ (still_listening _ _ _ _ _ _ _ _ _ c.reads.invariant.so_far c.flush.new.self c.flush.ensures.writes) (g.I.Read.remaining c.read_some.new.self)
-    c.hear.new.rehearsal c.hear.new.text (g.I.Input.is_reliable c.args.input.now) part c.hear.new.line.items (get_or room c.min.result 0)
+    c.hear.new.history c.hear.new.text (g.I.Input.is_reliable c.args.input.now) part c.hear.new.line.items (get_or room c.min.result 0)
     (subst (Consumes (g.I.Read.remaining c.reads.input) (g.I.Read.remaining c.read_some.new.self)) parts c.in-Some-read_some.ensures.read)
     (omega (arith, c.split_at.ensures.front_len, c.min.ensures, c.if-count-left.true, c.reads.invariant.so_far.within)) heard.0 heard.1
 
@@ -84,7 +84,7 @@ reads-preserved g c =
     let all : c.min.result ≡ count = omega (arith, c.min.ensures, c.if-count-left.false) in
     record {
       so_far = one_read_more _ _ _ _ _ _ _ _ _ (still_listening _ _ _ _ _ _ _ _ _ c.reads.invariant.so_far c.flush.new.self c.flush.ensures.writes) (g.I.Read.remaining c.read_some.new.self)
-          c.hear.new.rehearsal c.hear.new.text part c.hear.new.line.items count
+          c.hear.new.history c.hear.new.text part c.hear.new.line.items count
           (subst (Consumes (g.I.Read.remaining c.reads.input) (g.I.Read.remaining c.read_some.new.self)) (read_all count c.min.result room part all c.split_at.ensures.front) c.in-Some-read_some.ensures.read)
           (omega (arith, c.split_at.ensures.front_len, all)) (omega (arith, c.if-count-left.false, c.reads.invariant.so_far.within)) heard.0 heard.1;
       reliable = c.in-Some-read_some.ensures.stays ∙ c.reads.invariant.reliable;

@@ -5,7 +5,7 @@ use Rattle.rehearsing.proofs.listening.listen.Given as goal
 
 abbrev pub invariant-reads : goal.invariant-reads
 invariant-reads g l = record {
-  so_far : Listening g.W.Write.contents l.initial.rehearsal (g.I.Read.remaining l.initial.input) (g.I.Read.remaining l.input) l.given l.line.items l.rehearsal l.initial.text l.text;
+  so_far : Listening g.W.Write.contents l.initial.history (g.I.Read.remaining l.initial.input) (g.I.Read.remaining l.input) l.given l.line.items l.history l.initial.text l.text;
   reliable : g.I.Input.is_reliable l.input ≡ g.I.Input.is_reliable l.initial.input;
 }
 

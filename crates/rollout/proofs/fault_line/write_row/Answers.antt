@@ -5,3 +5,6 @@ returns-in-BadJournal g c = rw c.in-BadJournal.is c.row-in-BadJournal.ensures
 
 pub returns-in-OtherInputs : goal.returns-in-OtherInputs
 returns-in-OtherInputs g c = rw c.in-OtherInputs.is c.row-in-OtherInputs.ensures
+
+pub returns-in-NeedsResult : goal.returns-in-NeedsResult
+returns-in-NeedsResult g c = rw (c.in-NeedsResult.is, ← c.as_str.ensures.value) c.row-in-NeedsResult.ensures

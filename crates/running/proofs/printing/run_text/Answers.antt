@@ -1,84 +1,55 @@
-use Rattle.std.proofs.Common.{List, subst, sym}
-use Rattle.roll_run.specs.declared.run.Run.{Run}
-use Rattle.roll_run.proofs.Following.{err_of, ok_of}
-use Rattle.running.proofs.LeftLemmas.{ends_with_broken, ends_with_done}
-use Rattle.running.proofs.TextLemmas.{all_err, all_ok, fault_told, gains_err, gains_ok, keeps_broken, keeps_not_ahead, keeps_runs, may_break, runs_told}
-use Rattle.running.specs.Lefts.{EndsWithDone}
+use Rattle.std.proofs.Common.{List}
+use Rattle.play_model.specs.declared.play.Play.{Play}
+use Rattle.running.proofs.FirstLemmas.{ahead_of_texts, fault_is_true, inputs_lent, kept_of_texts, recap_written}
+use Rattle.running.proofs.TextLemmas.{err_as, ok_as}
+use Rattle.running.specs.Beginnings.{IsTrueFaultFrom, WritesFrom}
+use Rattle.running.specs.Keepings.{KeepsAheadFrom, KeepsBroken, KeepsFrom, KeepsRuns}
 use Rattle.running.specs.RunTexts.{IsTrueFault, WritesRecap}
+use Rattle.running.specs.declared.beginning.Beginning.{Beginning}
 use Rattle.running.proofs.printing.run_text.Goals as goal
 
-pub returns-in-Ok-ran-clause-ok : goal.returns-in-Ok-ran-clause-ok
-returns-in-Ok-ran-clause-ok g c =
+pub returns-clause-ok : goal.returns-clause-ok
+returns-clause-ok g c =
     let may = g.R.Runner.may c.args.runner.now in
     let old = g.W.Write.contents c.args.out.now in
-    let new = g.W.Write.contents c.tell_runs-told.new.out in
-    let gained = ok_of _ c.run_plays-ran.result.0 c.in-Ok-ran.runs c.in-Ok-ran.is c.run_plays-ran.ensures.ok in
-    gains_ok (WritesRecap may c.args.inventory.now c.args.playbook.now c.args.forks old new) c.tell_runs-told.result c.args.history c.run_plays-ran.result.1 gained
-    (runs_told may c.args.inventory.now c.args.playbook.now c.args.forks old new c.in-Ok.inputs.fleet c.in-Ok.inputs.start.vars.items c.in-Ok.inputs.plays.items _
-    c.in-Ok.inputs.start.statuses.items _ c.in-Ok-ran.runs.items _ gained.logs c.tell_runs-told.result c.in-Ok.ensures.ok c.as_slice-listed.ensures.value c.are_several-several.ensures gained.are
-    c.as_slice.ensures.value c.tell_runs-told.ensures).0
-
-pub returns-in-Ok-ran-clause-err : goal.returns-in-Ok-ran-clause-err
-returns-in-Ok-ran-clause-err g c =
-    let may = g.R.Runner.may c.args.runner.now in
-    let old = g.W.Write.contents c.args.out.now in
-    let new = g.W.Write.contents c.tell_runs-told.new.out in
-    let gained = ok_of _ c.run_plays-ran.result.0 c.in-Ok-ran.runs c.in-Ok-ran.is c.run_plays-ran.ensures.ok in
-    gains_err (IsTrueFault may c.args.inventory.now c.args.playbook.now c.args.forks old new) c.tell_runs-told.result c.args.history c.run_plays-ran.result.1 gained
-    (runs_told may c.args.inventory.now c.args.playbook.now c.args.forks old new c.in-Ok.inputs.fleet c.in-Ok.inputs.start.vars.items c.in-Ok.inputs.plays.items _
-    c.in-Ok.inputs.start.statuses.items _ c.in-Ok-ran.runs.items _ gained.logs c.tell_runs-told.result c.in-Ok.ensures.ok c.as_slice-listed.ensures.value c.are_several-several.ensures gained.are
-    c.as_slice.ensures.value c.tell_runs-told.ensures).1
+    let new = g.W.Write.contents c.run_from.new.out in
+    let inputs = c.in-Ok.inputs in
+    let plays : List Play = c.as_slice.result.now in
+    let begins : Beginning = record { plays_before = 0; start = inputs.start } in
+    let says = inputs_lent c.args.inventory.now c.args.playbook.now inputs.fleet inputs.start.vars.items inputs.plays.items plays inputs.start.statuses.items c.as_slice.ensures.value c.in-Ok.ensures.ok in
+    ok_as (WritesFrom may inputs.fleet c.args.forks plays begins old new)
+    (WritesRecap may c.args.inventory.now c.args.playbook.now c.args.forks old new) c.run_from.result.0 c.args.history c.run_from.result.1
+    (recap_written may c.args.inventory.now c.args.playbook.now c.args.forks inputs.fleet plays inputs.start says old new) c.run_from.ensures.ok
 
 pub returns-clause-err : goal.returns-clause-err
 returns-clause-err g c =
     let may = g.R.Runner.may c.args.runner.now in
-    let gained = err_of _ c.run_plays-ran.result.0 c.in-Err-ran.fault c.in-Err-ran.is c.run_plays-ran.ensures.err in
-    record {
-      logs = gained.logs;
-      grown = gained.grown;
-      are = fault_told may c.args.inventory.now c.args.playbook.now c.args.forks _ _ c.in-Ok.inputs.fleet c.in-Ok.inputs.start.vars.items c.in-Ok.inputs.plays.items _
-          c.in-Ok.inputs.start.statuses.items _ c.in-Err-ran.fault.done.items c.in-Err-ran.fault.last gained.logs c.tell_broken-told.result c.in-Ok.ensures.ok c.as_slice-listed.ensures.value
-          c.are_several-several.ensures gained.are c.tell_broken-told.ensures;
-    }
-
-pub of_all-left-requires : goal.of_all-left-requires
-of_all-left-requires g c =
-    let after = c.run_plays-ran.result.1 in
-    let gained = ok_of _ c.run_plays-ran.result.0 c.in-Ok-ran.runs c.in-Ok-ran.is c.run_plays-ran.ensures.ok in
-    subst (λ (l : List Run). EndsWithDone c.rolls-rolls.result l after) (sym c.as_slice-in-Ok-ran.ensures.value)
-    (ends_with_done (g.R.Runner.may c.args.runner.now) c.in-Ok.inputs.fleet c.args.forks _ c.in-Ok.inputs.start.statuses.items _ c.rolls-rolls.result c.args.history after c.rolls-rolls.ensures c.in-Ok-ran.runs.items gained)
-
-pub of_broken-left-requires : goal.of_broken-left-requires
-of_broken-left-requires g c =
-    let after = c.run_plays-ran.result.1 in
-    let fault = c.in-Err-ran.fault in
-    let gained = err_of _ c.run_plays-ran.result.0 fault c.in-Err-ran.is c.run_plays-ran.ensures.err in
-    ends_with_broken (g.R.Runner.may c.args.runner.now) c.in-Ok.inputs.fleet c.args.forks _ c.in-Ok.inputs.start.statuses.items _ c.rolls-rolls.result c.args.history after c.rolls-rolls.ensures fault.done.items fault.last gained
-
-pub returns-in-Ok-ran-clause-kept : goal.returns-in-Ok-ran-clause-kept
-returns-in-Ok-ran-clause-kept g c =
+    let old = g.W.Write.contents c.args.out.now in
+    let new = g.W.Write.contents c.run_from.new.out in
     let inputs = c.in-Ok.inputs in
-    let kept = ok_of _ c.run_plays-ran.result.0 c.in-Ok-ran.runs c.in-Ok-ran.is c.run_plays-ran.ensures.kept in
-    all_ok c.tell_runs-told.result
-    (keeps_runs g.K.Keep.keeps c.args.inventory.now c.args.playbook.now c.args.keeper c.plays_begin-2.new.self c.run_plays-ran.result.2 inputs.fleet inputs.start.vars.items inputs.plays.items c.as_slice-listed.result.now
-    inputs.start.statuses.items c.args.history c.run_plays-ran.result.1 c.in-Ok.ensures.ok c.as_slice-listed.ensures.value c.plays_begin-2.ensures kept)
+    let plays : List Play = c.as_slice.result.now in
+    let begins : Beginning = record { plays_before = 0; start = inputs.start } in
+    let says = inputs_lent c.args.inventory.now c.args.playbook.now inputs.fleet inputs.start.vars.items inputs.plays.items plays inputs.start.statuses.items c.as_slice.ensures.value c.in-Ok.ensures.ok in
+    err_as (IsTrueFaultFrom may inputs.fleet c.args.forks plays begins old new)
+    (IsTrueFault may c.args.inventory.now c.args.playbook.now c.args.forks old new) c.run_from.result.0 c.args.history c.run_from.result.1
+    (fault_is_true may c.args.inventory.now c.args.playbook.now c.args.forks inputs.fleet plays inputs.start says old new) c.run_from.ensures.err
 
-pub returns-in-Ok-ran-clause-ahead : goal.returns-in-Ok-ran-clause-ahead
-returns-in-Ok-ran-clause-ahead g c =
+pub returns-clause-kept : goal.returns-clause-kept
+returns-clause-kept g c =
+    let keeps = g.K.Keep.keeps in
     let inputs = c.in-Ok.inputs in
-    let kept = ok_of _ c.run_plays-ran.result.0 c.in-Ok-ran.runs c.in-Ok-ran.is c.run_plays-ran.ensures.kept in
-    all_err c.tell_runs-told.result
-    (keeps_not_ahead g.K.Keep.keeps c.args.inventory.now c.args.playbook.now c.args.keeper c.plays_begin-2.new.self c.run_plays-ran.result.2 inputs.fleet inputs.start.vars.items inputs.plays.items c.as_slice-listed.result.now
-    inputs.start.statuses.items c.args.history c.run_plays-ran.result.1 c.in-Ok.ensures.ok c.as_slice-listed.ensures.value c.plays_begin-2.ensures kept)
+    let plays : List Play = c.as_slice.result.now in
+    let says = inputs_lent c.args.inventory.now c.args.playbook.now inputs.fleet inputs.start.vars.items inputs.plays.items plays inputs.start.statuses.items c.as_slice.ensures.value c.in-Ok.ensures.ok in
+    ok_as (λ _. KeepsFrom keeps inputs.fleet plays c.args.keeper c.run_from.result.2) (λ _. KeepsRuns keeps c.args.inventory.now c.args.playbook.now c.args.keeper c.run_from.result.2)
+    c.run_from.result.0 c.args.history c.run_from.result.1
+    (λ end. kept_of_texts keeps c.args.inventory.now c.args.playbook.now inputs.fleet inputs.start.vars.items plays inputs.start.statuses.items says c.args.keeper c.run_from.result.2) c.run_from.ensures.kept
 
 pub returns-clause-ahead : goal.returns-clause-ahead
 returns-clause-ahead g c =
+    let keeps = g.K.Keep.keeps in
     let inputs = c.in-Ok.inputs in
-    let ahead = err_of _ c.run_plays-ran.result.0 c.in-Err-ran.fault c.in-Err-ran.is c.run_plays-ran.ensures.ahead in
-    keeps_broken g.K.Keep.keeps c.args.inventory.now c.args.playbook.now c.args.keeper c.plays_begin-2.new.self c.run_plays-ran.result.2 inputs.fleet inputs.start.vars.items inputs.plays.items c.as_slice-listed.result.now
-    inputs.start.statuses.items c.args.history c.run_plays-ran.result.1 c.in-Ok.ensures.ok c.as_slice-listed.ensures.value c.plays_begin-2.ensures ahead
-
-pub returns-clause-asked : goal.returns-clause-asked
-returns-clause-asked g c =
-    let asked = err_of _ c.run_plays-ran.result.0 c.in-Err-ran.fault c.in-Err-ran.is c.run_plays-ran.ensures.asked in
-    may_break (g.A.Attend.asks c.args.coordinator.now.attend.now) g.K.Keep.refuses c.in-Ok.inputs.fleet c.are_several-several.result c.in-Err-ran.fault.done.items c.in-Err-ran.fault.last _ _ c.tell_broken-told.result c.tell_broken-told.ensures asked
+    let plays : List Play = c.as_slice.result.now in
+    let says = inputs_lent c.args.inventory.now c.args.playbook.now inputs.fleet inputs.start.vars.items inputs.plays.items plays inputs.start.statuses.items c.as_slice.ensures.value c.in-Ok.ensures.ok in
+    err_as (λ _. KeepsAheadFrom keeps inputs.fleet plays c.args.keeper c.run_from.result.2) (λ _. KeepsBroken keeps c.args.inventory.now c.args.playbook.now c.args.keeper c.run_from.result.2)
+    c.run_from.result.0 c.args.history c.run_from.result.1
+    (λ fault. ahead_of_texts keeps c.args.inventory.now c.args.playbook.now inputs.fleet inputs.start.vars.items plays inputs.start.statuses.items says c.args.keeper c.run_from.result.2) c.run_from.ensures.ahead

@@ -1,0 +1,4 @@
+pub mod Escapes
+pub mod PictureText
+pub mod Views
+pub mod Laws

@@ -1,0 +1,71 @@
+//! A run that was broken off is resumed.
+ghost use Rattle.std.specs.Prelude.{◌≡◌, IfOk, map};
+ghost use Rattle.domains.specs.Ids.{host_numbers};
+ghost use Rattle.journal.specs.States as spec;
+ghost use Rattle.journal.specs.States.{mended, rested, resumes};
+ghost use Rattle.journal.specs.Shown.{shown_journal};
+
+use crate::moving::set_status;
+use crate::state::Journal;
+use fleet_states::{Status, status_of};
+use group_tree::HostId;
+use play_course::End;
+use std::alloc::{AllocError, Global};
+
+/// A host that is up, where it was down.
+fn stand_up(status: Status) -> Status
+    ensures { result ≡ spec.stood_up status }
+{
+    if status.is_down() {
+        Status::Idle
+    } else {
+        status
+    }
+}
+
+/// A host whose run was broken off.
+fn rest(status: Status) -> Status
+    ensures { result ≡ spec.at_rest status }
+{
+    match status {
+        Status::Waiting | Status::Held => Status::Idle,
+        Status::Running => Status::Halted,
+        Status::Idle | Status::Updated | Status::Failed | Status::Halted | Status::Off => status,
+    }
+}
+
+/// These hosts are up again; a number that no host has is passed over.
+fn mend(statuses: &mut [Status], hosts: &[HostId])
+    ensures { statuses.new ≡ mended (host_numbers hosts.now) statuses.old }
+{
+    for host in hosts {
+        set_status(statuses, *host, stand_up(status_of(statuses, *host)));
+    }
+}
+
+fn rest_all(alloc: Global, statuses: &[Status]) -> Result<Vec<Status>, AllocError>
+    ensures { IfOk result (λ rested. rested.items ≡ map (λ status. spec.at_rest status) statuses.now) }
+{
+    statuses.iter().map(|status| rest(*status)).collect(alloc)
+}
+
+impl<'t> Journal<'t> {
+    fn resumed_end(&self) -> Option<End>
+        ensures { result ≡ spec.resumed_end (shown_journal self.now) }
+    {
+        if self.is_one_more() { self.end } else { None }
+    }
+
+    /// Where the run stands as it is resumed, with these hosts up by now: who was at work when it broke off may be down and stays so, and nobody waits. The play that
+    /// goes on has no end. Only want of memory refuses it.
+    pub fn resumed(mut self, alloc: Global, hosts: &[HostId]) -> Result<Journal<'t>, AllocError>
+        ensures { IfOk result (λ later. shown_journal later ≡ resumes (shown_journal self.entry) (host_numbers hosts.now)) }
+    {
+        let end = self.resumed_end();
+        mend(self.statuses.as_mut_slice(), hosts);
+        self.statuses = rest_all(alloc, self.statuses.as_slice())?;
+        self.open_batch.clear();
+        self.end = end;
+        Ok(self)
+    }
+}

@@ -1,0 +1,5 @@
+pub mod Registers
+pub mod Reads
+pub mod Needs
+pub mod Standing
+pub mod Lookups

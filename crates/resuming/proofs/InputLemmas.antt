@@ -1,0 +1,54 @@
+-- What is known of the play with which a run goes on, and why none goes on.
+use Rattle.std.proofs.Common.{◌≡◌, ℕ, Bool, None, Result, Ok, Err, List, ◌∷◌, drop, subst, inl, inr}
+use Rattle.std.specs.Prelude.{IfErr}
+use Rattle.std.specs.List.{find}
+use Rattle.domains.specs.FleetViews.{FleetView}
+use Rattle.domains.specs.Patterns.{names_nothing}
+use Rattle.host_vars.specs.declared.vars.Vars.{Vars}
+use Rattle.play_model.specs.declared.play.Play.{Play}
+use Rattle.play_course.specs.PlayPlans.{named_parts, parts_of_play}
+use Rattle.planning.specs.PlanTexts.{ArePlaysIn}
+use Rattle.journal.specs.States.{JournalState}
+use Rattle.roll_run.proofs.Following.{known_first}
+use Rattle.running.proofs.PlayLemmas.{known_from}
+use Rattle.running.specs.Inputs.{AreHostsIn}
+use Rattle.resuming.specs.Journals.{IsOwnJournal, RefusesJournal}
+use Rattle.resuming.specs.Resumptions.{IsMended, RefusesBehind, RefusesNamed, RefusesToGoOn, RefusesToResume}
+use Rattle.resuming.specs.declared.fault.ResumeFault.{ResumeFault}
+use Rattle.resuming.specs.declared.fault.ResumeFault.TheVariants as fault
+
+-- where each part of each pattern names something, so does each part of the pattern of the play behind so many
+pub known_at : (fleet : FleetView) (before : ℕ) (plays : List Play) (first : Play) (later : List Play) → drop before plays ≡ first ∷ later
+    → find (names_nothing fleet) (named_parts plays) ≡ None → find (names_nothing fleet) (parts_of_play first) ≡ None
+known_at fleet before plays first later is known =
+    known_first fleet first later (subst (λ (l : List Play). find (names_nothing fleet) (named_parts l) ≡ None) is (known_from fleet before plays known))
+
+-- what is so of whatever refuses is so of the fault
+pub all_err : {T : Type 0} {P Q : ResumeFault → Type 0} (result : Result T ResumeFault) → ((why : ResumeFault) → P why → Q why) → IfErr result P → IfErr result Q
+all_err (Ok value) maps is = is
+all_err (Err why) maps is = maps why is
+
+-- both texts are accepted, and these hosts are up by now
+module _ (inventory playbook journal names : List ℕ) (takes_others : Bool) (fleet : FleetView) (vars : List Vars) (plays : List Play)
+    (hosts : AreHostsIn inventory fleet vars) (says : ArePlaysIn fleet playbook plays) (mended : List ℕ) (named : IsMended fleet names mended) where
+  behind : (why : ResumeFault) → RefusesNamed fleet inventory playbook journal names takes_others plays why → RefusesBehind inventory playbook journal names takes_others why
+  behind why refuses = record { fleet = fleet; vars = vars; plays = plays; hosts = hosts; says = says; why = inr refuses }
+
+  pub own_refused : (why : ResumeFault) → RefusesJournal fleet inventory playbook takes_others journal why → RefusesToResume inventory playbook journal names takes_others why
+  own_refused (fault.Journal found) is = behind (fault.Journal found) (record { mended = mended; named = named; why = inl is })
+  own_refused fault.OtherInputs is = behind fault.OtherInputs (record { mended = mended; named = named; why = inl is })
+  own_refused fault.Memory is = is
+  own_refused (fault.Texts texts) is = absurd is
+  own_refused (fault.Mended found) is = absurd is
+  own_refused (fault.Over over) is = absurd is
+  own_refused (fault.NeedsResult name) is = absurd is
+
+  pub on_refused : (state : JournalState) → IsOwnJournal fleet inventory playbook takes_others journal state → (why : ResumeFault) → RefusesToGoOn fleet plays mended state why
+      → RefusesToResume inventory playbook journal names takes_others why
+  on_refused state own fault.OtherInputs is = behind fault.OtherInputs (record { mended = mended; named = named; why = inr (record { state = state; own = own; why = is }) })
+  on_refused state own (fault.NeedsResult name) is = behind (fault.NeedsResult name) (record { mended = mended; named = named; why = inr (record { state = state; own = own; why = is }) })
+  on_refused state own (fault.Over over) is = behind (fault.Over over) (record { mended = mended; named = named; why = inr (record { state = state; own = own; why = is }) })
+  on_refused state own fault.Memory is = is
+  on_refused state own (fault.Texts texts) is = absurd is
+  on_refused state own (fault.Journal found) is = absurd is
+  on_refused state own (fault.Mended found) is = absurd is

@@ -1,0 +1,26 @@
+use Rattle.domains.specs.Ids.{host_numbers}
+use Rattle.journal.specs.Shown.{shown_journal}
+use Rattle.resuming.proofs.InputLemmas.{all_err, on_refused, own_refused}
+use Rattle.resuming.proofs.StartLemmas.{all_kept}
+use Rattle.resuming.proofs.inputs.resume_inputs.Goals as goal
+
+pub returns-in-Err-read_own-clause-err : goal.returns-in-Err-read_own-clause-err
+returns-in-Err-read_own-clause-err c =
+    let inputs = c.in-Ok.inputs in
+    let are = c.in-Ok.ensures.ok in
+    own_refused c.args.inventory.now c.args.playbook.now c.args.wish.journal.now c.args.wish.mended.now c.args.wish.takes_others inputs.fleet inputs.start.vars.items inputs.plays.items
+    are.hosts are.says (host_numbers c.in-Ok-mended_hosts.mended.items) c.in-Ok-mended_hosts.ensures.ok c.in-Err-read_own.fault c.in-Err-read_own.ensures.err
+
+pub go_on-requires-clause-all : goal.go_on-requires-clause-all
+go_on-requires-clause-all c =
+    let reads = c.in-Ok-read_own.ensures.ok.reads in
+    all_kept c.in-Ok.inputs.fleet reads.entries (shown_journal c.in-Ok-read_own.journal) reads.leads
+
+pub returns-clause-err : goal.returns-clause-err
+returns-clause-err c =
+    let inputs = c.in-Ok.inputs in
+    let are = c.in-Ok.ensures.ok in
+    all_err c.go_on.result
+    (on_refused c.args.inventory.now c.args.playbook.now c.args.wish.journal.now c.args.wish.mended.now c.args.wish.takes_others inputs.fleet inputs.start.vars.items inputs.plays.items
+    are.hosts are.says (host_numbers c.in-Ok-mended_hosts.mended.items) c.in-Ok-mended_hosts.ensures.ok (shown_journal c.in-Ok-read_own.journal) c.in-Ok-read_own.ensures.ok)
+    c.go_on.ensures.err

@@ -1,0 +1,3 @@
+pub mod Overs
+pub mod Journals
+pub mod Resumptions

@@ -1,0 +1,11 @@
+//! A run that broke off is resumed: from its journal and the texts that it began with to what it goes on with.
+#![tactic(auto)]
+
+mod beginning;
+mod fault;
+mod inputs;
+mod journals;
+mod over;
+
+pub use fault::ResumeFault;
+pub use inputs::{Resumption, Wish, resume_inputs};

@@ -1,0 +1,139 @@
+-- What the command `run` does that is to go on with a run which broke off.
+use Rattle.std.specs.Prelude.{◌≡◌, ◌⊎◌, ◌<◌, ◌≤◌, ℕ, Bool, true, false, List, [], Option, None, Some, Result, Ok, Err, string_bytes}
+use Rattle.std.specs.Io.KnownBytes.{Keeps}
+use Rattle.command_line.specs.declared.command.Source.{Source}
+use Rattle.host_track.specs.Endings.{Ending}
+use Rattle.event_log.specs.Events.{Event}
+use Rattle.event_log.specs.Told.{Work}
+use Rattle.resuming.specs.Resumptions.{IsResumption, RefusesToResume}
+use Rattle.resuming.specs.declared.fault.ResumeFault.{ResumeFault}
+use Rattle.resuming.specs.declared.inputs.Resumption.{Resumption}
+use Rattle.running.specs.Beginnings.{AreSafeBehind, IsTrueFaultFrom, WritesFrom}
+use Rattle.rollout.specs.Children.{IsAnswerOf}
+use Rattle.rollout.specs.Inputs.{IsFaultOfFile, IsTextOfFile, LacksInput, ReadsBoth}
+use Rattle.rollout.specs.ResumeFaults as refusals
+use Rattle.rollout.specs.Rolls.{Breaks, Prints, RefusesToRoll, Rolls}
+use Rattle.rollout.specs.Systems.{Files, Sources}
+use Rattle.rollout.specs.declared.fault.Fault.{Fault}
+use Rattle.rollout.specs.declared.fault.Fault.TheVariants.{Input, JournalWrite, Memory, Stopped}
+use Rattle.rollout.specs.declared.status.Status.{Status}
+use Rattle.rollout.specs.declared.commands.resume.ResumeWish as declared
+
+-- of which journal the run is that is to go on, the names of the hosts that are up by now, and whether the inputs may be others than those with which it began
+pub record ResumeWish : Type 0 where
+  pub journal : List ℕ
+  pub mended : List ℕ
+  pub takes_others : Bool
+
+-- what is wished for, as the program has it
+abbrev pub wished : declared.ResumeWish → ResumeWish
+wished wish = record { journal = string_bytes wish.journal; mended = string_bytes wish.mended; takes_others = wish.takes_others }
+
+-- what both texts and the journal say, and what the run goes on with
+abbrev pub IsWished : List ℕ → List ℕ → List ℕ → ResumeWish → Resumption → Type 0
+IsWished inventory playbook journal wish resumption = IsResumption inventory playbook journal wish.mended wish.takes_others resumption
+
+-- the plays were run from there with so many workers, and their recap went out
+abbrev pub PrintsRest : (Work → Ending → Type 0) → Resumption → ℕ → Option (List ℕ) → Option (List ℕ) → Status → List (List Event) → Type 0
+PrintsRest may resumption forks old new = Prints (WritesFrom may resumption.fleet forks resumption.plays.items resumption.beginning old new)
+
+-- the fault is true of a run of the plays from there, or of where its recap broke off; or the journal did not take its end
+abbrev pub BreaksRest : (Work → Ending → Type 0) → Resumption → ℕ → Option (List ℕ) → Option (List ℕ) → Fault → List (List Event) → Type 0
+BreaksRest may resumption forks old new =
+    Breaks (WritesFrom may resumption.fleet forks resumption.plays.items resumption.beginning old new) (IsTrueFaultFrom may resumption.fleet forks resumption.plays.items resumption.beginning old new)
+
+-- the run went on, and its recap went out
+pub record PrintsOn (may : Work → Ending → Type 0) (inventory playbook journal : List ℕ) (wish : ResumeWish) (forks : ℕ) (old new : Option (List ℕ)) (status : Status) (logs : List (List Event)) : Type 0 where
+  pub resumption : Resumption
+  pub wished : IsWished inventory playbook journal wish resumption
+  pub prints : PrintsRest may resumption forks old new status logs
+
+-- the run went on, and broke off
+pub record BreaksOn (may : Work → Ending → Type 0) (inventory playbook journal : List ℕ) (wish : ResumeWish) (forks : ℕ) (old new : Option (List ℕ)) (fault : Fault) (logs : List (List Event)) : Type 0 where
+  pub resumption : Resumption
+  pub wished : IsWished inventory playbook journal wish resumption
+  pub breaks : BreaksRest may resumption forks old new fault logs
+
+-- nothing was started, and nothing went out: the run can't go on, or its journal can't be written
+pub record CanNotGoOn (inventory playbook journal : List ℕ) (wish : ResumeWish) (fault : Fault) : Type 0 where
+  pub cause : ResumeFault
+  pub is : fault ≡ refusals.fault_of cause
+  pub refuses : RefusesToResume inventory playbook journal wish.mended wish.takes_others cause
+
+pub record IsNoGoingOn (inventory playbook journal : List ℕ) (wish : ResumeWish) (old new : Option (List ℕ)) (fault : Fault) (logs : List (List Event)) : Type 0 where
+  pub why : CanNotGoOn inventory playbook journal wish fault ⊎ (fault ≡ JournalWrite)
+  pub unwritten : Keeps old new
+  pub none : logs ≡ []
+
+-- what comes of both texts and the journal
+abbrev pub GoesOnBy : (Work → Ending → Type 0) → List ℕ → List ℕ → List ℕ → ResumeWish → ℕ → Option (List ℕ) → Option (List ℕ) → Result Status Fault → List (List Event) → Type 0
+GoesOnBy may inventory playbook journal wish forks old new (Ok status) logs = PrintsOn may inventory playbook journal wish forks old new status logs
+GoesOnBy may inventory playbook journal wish forks old new (Err fault) logs =
+    IsNoGoingOn inventory playbook journal wish old new fault logs ⊎ BreaksOn may inventory playbook journal wish forks old new fault logs
+
+-- the journal's file can't be read
+abbrev pub LacksJournal : Files → List ℕ → Fault → Type 0
+LacksJournal files name (Input source fault) = IsFaultOfFile (files name) fault
+LacksJournal files name Memory = Unit {0}
+LacksJournal files name fault = ⊥
+
+-- both inputs and the journal were read
+pub record GoesOn (may : Work → Ending → Type 0) (sources : Sources) (inventory playbook : Source) (wish : ResumeWish) (forks : ℕ) (input_old input_new out_old out_new : Option (List ℕ)) (result : Result Status Fault) (logs : List (List Event)) : Type 0 where
+  pub first : List ℕ
+  pub second : List ℕ
+  pub third : List ℕ
+  pub texts : ReadsBoth sources inventory playbook input_old input_new first second
+  pub journal : IsTextOfFile (sources.files wish.journal) third
+  pub goes : GoesOnBy may first second third wish forks out_old out_new result logs
+
+-- an input, or the journal, can't be read
+pub record LacksAny (sources : Sources) (inventory playbook : Source) (wish : ResumeWish) (input_old input_new out_old out_new : Option (List ℕ)) (result : Result Status Fault) (logs : List (List Event)) : Type 0 where
+  pub fault : Fault
+  pub is : result ≡ Err fault
+  pub why : LacksInput sources inventory playbook input_old input_new fault ⊎ LacksJournal sources.files wish.journal fault
+  pub unwritten : Keeps out_old out_new
+  pub none : logs ≡ []
+
+abbrev pub ResumesInputs : (Work → Ending → Type 0) → Sources → Source → Source → ResumeWish → ℕ → Option (List ℕ) → Option (List ℕ) → Option (List ℕ) → Option (List ℕ)
+    → Result Status Fault → List (List Event) → Type 0
+ResumesInputs may sources inventory playbook wish forks input_old input_new out_old out_new result logs =
+    LacksAny sources inventory playbook wish input_old input_new out_old out_new result logs
+    ⊎ GoesOn may sources inventory playbook wish forks input_old input_new out_old out_new result logs
+
+-- the ends of children are not ignored, and the run went on, by as many workers as were asked for or fewer; that it was stopped is told only where it may be
+pub record ResumesOn (may : Work → Ending → Type 0) (asks : Bool) (sources : Sources) (inventory playbook : Source) (wish : ResumeWish) (forks : ℕ) (input_old input_new out_old out_new : Option (List ℕ)) (result : Result Status Fault) (logs : List (List Event)) : Type 0 where
+  pub kept : IsAnswerOf sources.files false
+  pub workers : ℕ
+  pub some : 0 < workers
+  pub few : workers ≤ forks
+  pub resumes : ResumesInputs may sources inventory playbook wish workers input_old input_new out_old out_new result logs
+  pub stops : result ≡ Err Stopped → asks ≡ true
+
+-- the command `run` that is to go on with a run, and the logs of all that it started
+abbrev pub Resumes : (Work → Ending → Type 0) → Bool → Sources → Source → Source → ResumeWish → ℕ → Option (List ℕ) → Option (List ℕ) → Option (List ℕ) → Option (List ℕ)
+    → Result Status Fault → List (List Event) → Type 0
+Resumes may asks sources inventory playbook wish forks input_old input_new out_old out_new result logs =
+    RefusesToRoll sources input_old input_new out_old out_new result logs
+    ⊎ ResumesOn may asks sources inventory playbook wish forks input_old input_new out_old out_new result logs
+
+-- the command `run`, where a run is to go on or one is to begin
+abbrev pub RollsBy : (Work → Ending → Type 0) → Bool → Option ResumeWish → Sources → Source → Source → ℕ → Option (List ℕ) → Option (List ℕ) → Option (List ℕ) → Option (List ℕ)
+    → Result Status Fault → List (List Event) → Type 0
+RollsBy may asks None sources inventory playbook forks input_old input_new out_old out_new result logs =
+    Rolls may asks sources inventory playbook forks input_old input_new out_old out_new result logs
+RollsBy may asks (Some wish) sources inventory playbook forks input_old input_new out_old out_new result logs =
+    Resumes may asks sources inventory playbook wish forks input_old input_new out_old out_new result logs
+
+-- both inputs and the journal of a run were read, and these are the logs of rolls of the plays with which that run goes on, from how its journal leaves its hosts: at no moment
+-- of any of them is a group over its limit
+pub record AreSafeAgain (may : Work → Ending → Type 0) (sources : Sources) (inventory playbook : Source) (wish : ResumeWish) (forks : ℕ) (input_old input_new : Option (List ℕ)) (logs : List (List Event)) : Type 0 where
+  pub first : List ℕ
+  pub second : List ℕ
+  pub third : List ℕ
+  pub texts : ReadsBoth sources inventory playbook input_old input_new first second
+  pub journal : IsTextOfFile (sources.files wish.journal) third
+  pub resumption : Resumption
+  pub wished : IsWished first second third wish resumption
+  pub workers : ℕ
+  pub few : workers ≤ forks
+  pub rolls : AreSafeBehind may resumption.fleet workers resumption.plays.items resumption.beginning logs

@@ -1,0 +1,275 @@
+//! The command `run` that goes on: from the files of an inventory, a playbook and the journal of a run that broke off to the recap of its rest.
+ghost use Rattle.std.specs.Prelude.{◌≡◌, ◌<◌, ◌≤◌, Err, IfErr, IfOk, length, true};
+ghost use Rattle.journal.specs.Lines.{max_body};
+ghost use Rattle.roll_run.specs.Histories.{Gains};
+ghost use Rattle.resuming.specs.Resumptions.{CanRun};
+ghost use Rattle.rollout.specs.Inputs.{IsTextOfFile};
+ghost use Rattle.rollout.specs.Resumes.{BreaksRest, GoesOnBy, LacksJournal, PrintsRest, Resumes, ResumesInputs};
+ghost use Rattle.rollout.specs.Resumes as model;
+ghost use Rattle.rollout.specs.Systems.{sources_of};
+ghost use Rattle.rollout.specs.declared.fault.Fault.TheVariants.{Locked, Stopped};
+
+use crate::children::refusal;
+use crate::commands::run::{ended, lock_file};
+use crate::fault::Fault;
+use crate::inputs::read_both;
+use crate::source::read_file;
+use crate::status::Status;
+use crate::system::System;
+use bounded_io::Input;
+use command_line::{Forks, Source};
+use journal::whole_length;
+use keeping::{Continuer, Disk, Holds};
+use local_programs::workers;
+use resuming::{Resumption, Wish, resume_inputs};
+use roll_core::{History, Runner, Watch};
+use roll_run::{Attend, Coordinator};
+use running::run_from;
+use std::alloc::Global;
+use std::io::Write;
+use std::process::{Processes, SystemProcess};
+use std::sync::Wait;
+use std::thread::Threads;
+
+/// The run that is to go on: its journal's file, the names of the hosts that are up by now, and whether the inputs may be others than those with which it began.
+#[derive(Debug, Drop)]
+pub struct ResumeWish {
+    pub journal: String,
+    pub mended: String,
+    pub takes_others: bool,
+}
+
+/// Goes on with the run of a journal, with so many workers, where the ends of programs can be had, and writes the recap of the rest. What becomes of it is kept in the same
+/// journal. Nothing is started, and the journal stays as it was, where the run can't go on. The history has the log of each roll that was started then.
+#[allow(clippy::too_many_arguments)]
+pub fn resume<
+    S: System,
+    H: Threads + Wait + Processes<Started = SystemProcess> + Sync,
+    R: Runner,
+    A: Attend,
+    T: Watch,
+    I: Input,
+    W: Write,
+>(
+    system: &S,
+    coordinator: &Coordinator<'_, H, A>,
+    runner: &R,
+    watch: &mut T,
+    inventory: Source,
+    playbook: Source,
+    forks: Forks,
+    wish: &ResumeWish,
+    input: &mut I,
+    out: &mut W,
+    history: History,
+) -> (Result<Status, Fault>, History)
+    ensures { Gains history result.1 (Resumes (R.may runner.now) (A.asks coordinator.now.attend.now) (sources_of (S.files system.now) (I.is_reliable input.old)) inventory playbook (model.wished wish.now) forks
+        (I.remaining input.old) (I.remaining input.new) (W.contents out.old) (W.contents out.new) result.0) }
+{
+    if let Some(fault) = refusal(system, coordinator.alloc) {
+        return (Err(fault), history);
+    }
+    let _inventory = match lock_source(system, &inventory) {
+        Ok(lock) => lock,
+        Err(fault) => return (Err(fault), history),
+    };
+    let _journal = match lock_file(system, wish.journal.as_str()) {
+        Ok(lock) => lock,
+        Err(fault) => return (Err(fault), history),
+    };
+    let forks = workers(coordinator.rt, forks.number());
+    resume_sources(
+        system,
+        coordinator,
+        runner,
+        watch,
+        inventory,
+        playbook,
+        forks,
+        wish,
+        input,
+        out,
+        history,
+    )
+}
+
+/// The lock of the inventory's file, where it is one.
+fn lock_source<S: System>(system: &S, source: &Source) -> Result<Option<S::Lock>, Fault>
+    ensures { IfErr result (λ fault. fault ≡ Locked) }
+{
+    match source {
+        Source::File(name) => lock_file(system, name.as_str()),
+        Source::StandardInput => Ok(None),
+    }
+}
+
+/// Reads the inventory, the playbook and the journal, and goes on with its run.
+#[allow(clippy::too_many_arguments)]
+fn resume_sources<
+    S: System,
+    H: Threads + Wait + Processes<Started = SystemProcess> + Sync,
+    R: Runner,
+    A: Attend,
+    T: Watch,
+    I: Input,
+    W: Write,
+>(
+    system: &S,
+    coordinator: &Coordinator<'_, H, A>,
+    runner: &R,
+    watch: &mut T,
+    inventory: Source,
+    playbook: Source,
+    forks: usize,
+    wish: &ResumeWish,
+    input: &mut I,
+    out: &mut W,
+    history: History,
+) -> (Result<Status, Fault>, History)
+    requires some { 0 < forks }
+    requires few { forks ≤ 64 }
+    ensures resumes { Gains history result.1 (ResumesInputs (R.may runner.now) (sources_of (S.files system.now) (I.is_reliable input.old)) inventory playbook (model.wished wish.now) forks
+        (I.remaining input.old) (I.remaining input.new) (W.contents out.old) (W.contents out.new) result.0) }
+    ensures stops { result.0 ≡ Err Stopped → A.asks coordinator.now.attend.now ≡ true }
+{
+    let (inventory, playbook) = match read_both(
+        system,
+        coordinator.alloc,
+        inventory,
+        playbook,
+        input,
+    ) {
+        Ok(texts) => texts,
+        Err(fault) => return (Err(fault), history),
+    };
+    match read_journal_file(system, coordinator.alloc, wish.journal.as_str()) {
+        Ok(journal) => resume_texts(
+            system,
+            coordinator,
+            runner,
+            watch,
+            inventory.as_slice(),
+            playbook.as_slice(),
+            journal.as_slice(),
+            forks,
+            wish,
+            out,
+            history,
+        ),
+        Err(fault) => (Err(fault), history),
+    }
+}
+
+fn read_journal_file<S: System>(system: &S, alloc: Global, name: &str) -> Result<Vec<u8>, Fault>
+    ensures ok { IfOk result (λ text. IsTextOfFile (S.files system.now name.now) text.items) }
+    ensures err { IfErr result (LacksJournal (S.files system.now) name.now) }
+{
+    match read_file(system, alloc, name) {
+        Ok(text) => Ok(text),
+        Err(fault) => {
+            let source = Source::File(String::from_str(alloc, name)?);
+            Err(Fault::Input { source, fault })
+        }
+    }
+}
+
+/// Goes on with the run of a journal, where it can go on by both texts. What stands behind the last whole line of the journal is cut off before anything is added.
+#[allow(clippy::too_many_arguments)]
+fn resume_texts<
+    S: System,
+    H: Threads + Wait + Processes<Started = SystemProcess> + Sync,
+    R: Runner,
+    A: Attend,
+    T: Watch,
+    W: Write,
+>(
+    system: &S,
+    coordinator: &Coordinator<'_, H, A>,
+    runner: &R,
+    watch: &mut T,
+    inventory: &[u8],
+    playbook: &[u8],
+    journal: &[u8],
+    forks: usize,
+    wish: &ResumeWish,
+    out: &mut W,
+    history: History,
+) -> (Result<Status, Fault>, History)
+    requires some { 0 < forks }
+    requires few { forks ≤ 64 }
+    requires short { length journal.now ≤ max_body }
+    ensures goes { Gains history result.1 (GoesOnBy (R.may runner.now) inventory.now playbook.now journal.now (model.wished wish.now) forks (W.contents out.old) (W.contents out.new) result.0) }
+    ensures stops { result.0 ≡ Err Stopped → A.asks coordinator.now.attend.now ≡ true }
+{
+    let wished = Wish {
+        journal,
+        mended: wish.mended.as_str(),
+        takes_others: wish.takes_others,
+    };
+    let resumption = match resume_inputs(coordinator.alloc, inventory, playbook, wished) {
+        Ok(resumption) => resumption,
+        Err(fault) => return (Err(Fault::from(fault)), history),
+    };
+    match system.reopen(wish.journal.as_str(), whole_length(journal) as u64) {
+        Ok(file) => run_rest(
+            coordinator,
+            runner,
+            watch,
+            file,
+            resumption,
+            forks,
+            out,
+            history,
+        ),
+        Err(_error) => (Err(Fault::JournalWrite), history),
+    }
+}
+
+/// Runs the rest of the plays, and keeps it in the journal. The status tells how they ended.
+#[allow(clippy::too_many_arguments)]
+fn run_rest<
+    H: Threads + Wait + Processes<Started = SystemProcess> + Sync,
+    R: Runner,
+    A: Attend,
+    T: Watch,
+    F: Disk,
+    W: Write,
+>(
+    coordinator: &Coordinator<'_, H, A>,
+    runner: &R,
+    watch: &mut T,
+    file: F,
+    resumption: Resumption,
+    forks: usize,
+    out: &mut W,
+    history: History,
+) -> (Result<Status, Fault>, History)
+    requires some { 0 < forks }
+    requires few { forks ≤ 64 }
+    requires rest { CanRun resumption }
+    ensures ok { IfOk result.0 (λ status. Gains history result.1 (PrintsRest (R.may runner.now) resumption forks (W.contents out.old) (W.contents out.new) status)) }
+    ensures err { IfErr result.0 (λ fault. Gains history result.1 (BreaksRest (R.may runner.now) resumption forks (W.contents out.old) (W.contents out.new) fault)) }
+    ensures stops { result.0 ≡ Err Stopped → A.asks coordinator.now.attend.now ≡ true }
+{
+    let Resumption {
+        fleet,
+        plays,
+        beginning,
+        mended,
+        goes_on,
+    } = resumption;
+    let keeper = Continuer::new(coordinator.alloc, file, mended.as_slice(), goes_on);
+    let (ran, history, keeper) = run_from(
+        coordinator,
+        watch,
+        keeper,
+        &fleet,
+        plays.as_slice(),
+        beginning,
+        forks,
+        runner,
+        out,
+        history,
+    );
+    (ended(ran, keeper.is_whole()), history)
+}

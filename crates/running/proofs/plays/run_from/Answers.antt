@@ -1,0 +1,97 @@
+use Rattle.std.proofs.Common.{◌≡◌, None, List, subst, sym}
+use Rattle.std.specs.List.{find}
+use Rattle.domains.specs.Patterns.{names_nothing}
+use Rattle.play_course.specs.PlayPlans.{named_parts}
+use Rattle.play_model.specs.declared.play.Play.{Play}
+use Rattle.roll_run.specs.declared.run.Run.{Run}
+use Rattle.roll_run.proofs.Following.{err_of, ok_of}
+use Rattle.running.proofs.LeftLemmas.{ends_with_broken, ends_with_done}
+use Rattle.running.proofs.PlayLemmas.{known_from}
+use Rattle.running.proofs.TextLemmas.{all_err, all_ok, fault_told, gains_err, gains_ok, keeps_broken, keeps_not_ahead, keeps_runs, may_break, runs_told}
+use Rattle.running.specs.Beginnings.{IsTrueFaultFrom, WritesFrom, plays_from}
+use Rattle.running.specs.Lefts.{EndsWithDone}
+use Rattle.running.proofs.plays.run_from.Goals as goal
+
+pub invariant_of-setup-clause-known : goal.invariant_of-setup-clause-known
+invariant_of-setup-clause-known g c =
+    subst (λ (l : List Play). find (names_nothing c.args.fleet.now) (named_parts l) ≡ None) (sym c.behind-coming.ensures)
+    (known_from c.args.fleet.now c.args.beginning.plays_before c.args.plays.now c.requires.known)
+
+pub returns-in-Ok-clause-ok : goal.returns-in-Ok-clause-ok
+returns-in-Ok-clause-ok g c =
+    let may = g.R.Runner.may c.args.runner.now in
+    let old = g.W.Write.contents c.args.out.now in
+    let new = g.W.Write.contents c.tell_runs-told.new.out in
+    let gained = ok_of _ c.run_plays-ran.result.0 c.in-Ok.runs c.in-Ok.is c.run_plays-ran.ensures.ok in
+    gains_ok (WritesFrom may c.args.fleet.now c.args.forks c.args.plays.now c.args.beginning old new) c.tell_runs-told.result c.args.history c.run_plays-ran.result.1 gained
+    (runs_told may c.args.fleet.now c.args.forks c.args.plays.now c.behind-coming.result.now c.args.beginning c.are_several-several.result old new c.behind-coming.ensures c.are_several-several.ensures
+    c.in-Ok.runs.items c.as_slice.result.now gained.logs c.tell_runs-told.result gained.are c.as_slice.ensures.value c.tell_runs-told.ensures).0
+
+pub returns-in-Ok-clause-err : goal.returns-in-Ok-clause-err
+returns-in-Ok-clause-err g c =
+    let may = g.R.Runner.may c.args.runner.now in
+    let old = g.W.Write.contents c.args.out.now in
+    let new = g.W.Write.contents c.tell_runs-told.new.out in
+    let gained = ok_of _ c.run_plays-ran.result.0 c.in-Ok.runs c.in-Ok.is c.run_plays-ran.ensures.ok in
+    gains_err (IsTrueFaultFrom may c.args.fleet.now c.args.forks c.args.plays.now c.args.beginning old new) c.tell_runs-told.result c.args.history c.run_plays-ran.result.1 gained
+    (runs_told may c.args.fleet.now c.args.forks c.args.plays.now c.behind-coming.result.now c.args.beginning c.are_several-several.result old new c.behind-coming.ensures c.are_several-several.ensures
+    c.in-Ok.runs.items c.as_slice.result.now gained.logs c.tell_runs-told.result gained.are c.as_slice.ensures.value c.tell_runs-told.ensures).1
+
+pub returns-after-matches-clause-err : goal.returns-after-matches-clause-err
+returns-after-matches-clause-err g c =
+    let may = g.R.Runner.may c.args.runner.now in
+    let old = g.W.Write.contents c.args.out.now in
+    let new = g.W.Write.contents c.tell_broken-told.new.out in
+    let gained = err_of _ c.run_plays-ran.result.0 c.in-Err.fault c.in-Err.is c.run_plays-ran.ensures.err in
+    record {
+      logs = gained.logs;
+      grown = gained.grown;
+      are = fault_told may c.args.fleet.now c.args.forks c.args.plays.now c.behind-coming.result.now c.args.beginning c.are_several-several.result old new c.behind-coming.ensures c.are_several-several.ensures
+          c.in-Err.fault.done.items c.in-Err.fault.last gained.logs c.tell_broken-told.result gained.are c.tell_broken-told.ensures;
+    }
+
+pub of_all-left-requires : goal.of_all-left-requires
+of_all-left-requires g c =
+    let after = c.run_plays-ran.result.1 in
+    let start = c.args.beginning.start in
+    let gained = ok_of _ c.run_plays-ran.result.0 c.in-Ok.runs c.in-Ok.is c.run_plays-ran.ensures.ok in
+    subst (λ (l : List Run). EndsWithDone c.rolls-rolls.result l after) (sym c.as_slice-in-Ok.ensures.value)
+    (ends_with_done (g.R.Runner.may c.args.runner.now) c.args.fleet.now c.args.forks c.behind-coming.result.now start.statuses.items start.vars.items
+    c.rolls-rolls.result c.args.history after c.rolls-rolls.ensures c.in-Ok.runs.items gained)
+
+pub of_broken-left-requires : goal.of_broken-left-requires
+of_broken-left-requires g c =
+    let after = c.run_plays-ran.result.1 in
+    let start = c.args.beginning.start in
+    let fault = c.in-Err.fault in
+    let gained = err_of _ c.run_plays-ran.result.0 fault c.in-Err.is c.run_plays-ran.ensures.err in
+    ends_with_broken (g.R.Runner.may c.args.runner.now) c.args.fleet.now c.args.forks c.behind-coming.result.now start.statuses.items start.vars.items
+    c.rolls-rolls.result c.args.history after c.rolls-rolls.ensures fault.done.items fault.last gained
+
+pub returns-in-Ok-clause-kept : goal.returns-in-Ok-clause-kept
+returns-in-Ok-clause-kept g c =
+    let kept = ok_of _ c.run_plays-ran.result.0 c.in-Ok.runs c.in-Ok.is c.run_plays-ran.ensures.kept in
+    all_ok c.tell_runs-told.result
+    (keeps_runs g.K.Keep.keeps c.args.keeper c.plays_begin-2.new.self c.run_plays-ran.result.2 c.args.fleet.now (plays_from c.args.beginning c.args.plays.now) c.behind-coming.result.now
+    c.args.history c.run_plays-ran.result.1 c.behind-coming.ensures c.plays_begin-2.ensures kept)
+
+pub returns-in-Ok-clause-ahead : goal.returns-in-Ok-clause-ahead
+returns-in-Ok-clause-ahead g c =
+    let kept = ok_of _ c.run_plays-ran.result.0 c.in-Ok.runs c.in-Ok.is c.run_plays-ran.ensures.kept in
+    all_err c.tell_runs-told.result
+    (keeps_not_ahead g.K.Keep.keeps c.args.keeper c.plays_begin-2.new.self c.run_plays-ran.result.2 c.args.fleet.now (plays_from c.args.beginning c.args.plays.now) c.behind-coming.result.now
+    c.args.history c.run_plays-ran.result.1 c.behind-coming.ensures c.plays_begin-2.ensures kept)
+
+pub returns-after-matches-clause-ahead : goal.returns-after-matches-clause-ahead
+returns-after-matches-clause-ahead g c =
+    let ahead = err_of _ c.run_plays-ran.result.0 c.in-Err.fault c.in-Err.is c.run_plays-ran.ensures.ahead in
+    keeps_broken g.K.Keep.keeps c.args.keeper c.plays_begin-2.new.self c.run_plays-ran.result.2 c.args.fleet.now (plays_from c.args.beginning c.args.plays.now) c.behind-coming.result.now
+    c.args.history c.run_plays-ran.result.1 c.behind-coming.ensures c.plays_begin-2.ensures ahead
+
+pub returns-after-matches-clause-asked : goal.returns-after-matches-clause-asked
+returns-after-matches-clause-asked g c =
+    let asked = err_of _ c.run_plays-ran.result.0 c.in-Err.fault c.in-Err.is c.run_plays-ran.ensures.asked in
+    may_break
+    (g.A.Attend.asks c.args.coordinator.now.attend.now) g.K.Keep.refuses c.args.beginning.plays_before c.args.fleet.now c.are_several-several.result c.in-Err.fault.done.items c.in-Err.fault.last
+    (g.W.Write.contents c.args.out.now) (g.W.Write.contents c.tell_broken-told.new.out)
+    c.tell_broken-told.result c.tell_broken-told.ensures asked
