@@ -59,11 +59,11 @@ _rollout() {
     fi
     command=${words[1]}
     case $command in
-    limits) most=1 options=(-h --help) ;;
-    plan) most=2 options=(--course --failing --groups --picture -v --verbose -h --help) ;;
-    run) most=2 options=(--forks -v --verbose --quiet --stop-file --journal --resume --mended --changed-inputs -h --help) ;;
-    rehearse) most=2 options=(--strict -h --help) ;;
-    state) most=2 options=(-h --help) ;;
+    limits) most=1 options=(--from --mended --changed-inputs -h --help) ;;
+    plan) most=2 options=(--course --failing --groups --color --picture --from --mended --changed-inputs -v --verbose -h --help) ;;
+    run) most=2 options=(--forks -v --verbose --quiet --stop-file --journal --resume --mended --changed-inputs --lock -h --help) ;;
+    rehearse) most=2 options=(--strict --from --mended --changed-inputs -h --help) ;;
+    state) most=2 options=(--changed-inputs -h --help) ;;
     help)
         [[ ${#words[@]} -gt 3 ]] || _rollout_offer limits plan run rehearse state help
         return
@@ -78,12 +78,12 @@ _rollout() {
             files=$((files + 1))
         elif [[ ${words[i]} == -- ]]; then
             ends=yes
-        elif [[ $command == run && ${words[i]} == --@(forks|stop-file|journal|resume|mended) || $command == plan && ${words[i]} == --@(failing|picture) ]]; then
+        elif [[ " ${options[*]} " == *" ${words[i]} "* && ${words[i]} == --@(forks|stop-file|journal|resume|mended|failing|color|picture|from) ]]; then
             wants=${words[i]}
         fi
     done
     # The value may stand in the word of its option.
-    if [[ -z $ends$wants ]] && [[ $command == run && $current == --@(forks|stop-file|journal|resume|mended)=* || $command == plan && $current == --@(failing|picture)=* ]]; then
+    if [[ -z $ends$wants && " ${options[*]} " == *" ${current%%=*} "* && $current == --@(forks|stop-file|journal|resume|mended|failing|color|picture|from)=* ]]; then
         wants=${current%%=*}
         option=$wants=
         current=${current#*=}
@@ -93,8 +93,9 @@ _rollout() {
         compopt -o nosort 2>/dev/null
         _rollout_offer {1..64}
         ;;
-    --stop-file | --journal | --resume) _rollout_files ;;
+    --stop-file | --journal | --resume | --from) _rollout_files ;;
     --picture) _rollout_files '*.svg' ;;
+    --color) _rollout_offer always never auto ;;
     --failing | --mended) ;;
     *)
         if [[ -z $ends && $current == -* ]]; then

@@ -28,7 +28,9 @@ function __rollout_lacks
             set ends 1
         else if test $words[2] = run; and contains -- $word --forks --stop-file --journal --resume --mended
             set wants 1
-        else if test $words[2] = plan; and contains -- $word --failing --picture
+        else if test $words[2] = plan; and contains -- $word --failing --color --picture --from --mended
+            set wants 1
+        else if contains -- $words[2] limits rehearse; and contains -- $word --from --mended
             set wants 1
         end
     end
@@ -45,13 +47,20 @@ complete -c rollout -n __rollout_of -a rehearse -d 'Answers what a run of a play
 complete -c rollout -n __rollout_of -a state -d "Prints how each host stands by a run's journal, and whether the run has ended"
 complete -c rollout -n __rollout_of -a help -d 'Prints the help of the program, or that of a command'
 
+complete -c rollout -n '__rollout_of limits' -l from -r -F -d 'Begins where the run of this journal stands, as --resume would have it go on'
+complete -c rollout -n '__rollout_of limits' -l mended -x -d 'Beside --from these hosts and groups, parted by commas, are up by now'
+complete -c rollout -n '__rollout_of limits' -l changed-inputs -d 'The inputs may be others than those with which the run of the journal began'
 complete -c rollout -n '__rollout_of limits' -s h -l help -d 'Print help'
 complete -c rollout -n '__rollout_lacks 1 limits' -k -a '(__fish_complete_suffix .json)'
 
 complete -c rollout -n '__rollout_of plan' -l course -d 'Prints what a run would open to its end, play by play, where no program fails'
 complete -c rollout -n '__rollout_of plan' -l failing -x -d 'Beside --course these hosts and groups, parted by commas, fail at their first step'
 complete -c rollout -n '__rollout_of plan' -l groups -d 'Prints below it how many hosts of each limited group are down while each batch runs'
+complete -c rollout -n '__rollout_of plan' -l color -x -k -a "always never auto" -d 'Colours groups that are full: auto (at a terminal, unless NO_COLOR is set), always or never'
 complete -c rollout -n '__rollout_of plan' -l picture -r -F -d 'Writes the course as a picture, in SVG, into this file'
+complete -c rollout -n '__rollout_of plan' -l from -r -F -d 'Begins where the run of this journal stands, as --resume would have it go on'
+complete -c rollout -n '__rollout_of plan' -l mended -x -d 'Beside --from these hosts and groups, parted by commas, are up by now'
+complete -c rollout -n '__rollout_of plan' -l changed-inputs -d 'The inputs may be others than those with which the run of the journal began'
 complete -c rollout -n '__rollout_of plan' -s v -l verbose -d 'Tells on standard error which hosts of the play are down already, and left out'
 complete -c rollout -n '__rollout_of plan' -s h -l help -d 'Print help'
 
@@ -61,13 +70,18 @@ complete -c rollout -n '__rollout_of run' -l quiet -d 'Tells nothing unasked, al
 complete -c rollout -n '__rollout_of run' -l stop-file -r -F -d 'Ends the run before the next batch once this file is there'
 complete -c rollout -n '__rollout_of run' -l journal -r -F -d 'Keeps in this new file what becomes of each host, before and behind each batch'
 complete -c rollout -n '__rollout_of run' -l resume -r -F -d 'Goes on with the run of this journal, which broke off, and keeps it there'
-complete -c rollout -n '__rollout_of run' -l mended -x -d 'Beside --resume these hosts and groups, parted by commas, are up by now'
+complete -c rollout -n '__rollout_of run' -l mended -x -d 'These hosts and groups, parted by commas, are up by now, though the inventory or the journal has them as down'
 complete -c rollout -n '__rollout_of run' -l changed-inputs -d 'Beside --resume the inputs may be others than those with which the run began'
+complete -c rollout -n '__rollout_of run' -l lock -d "Holds the lock of the inventory's file, as --journal does: a second such run is refused meanwhile"
 complete -c rollout -n '__rollout_of run' -s h -l help -d 'Print help'
 
 complete -c rollout -n '__rollout_of rehearse' -l strict -d 'Ends with status 1 where a command was refused'
+complete -c rollout -n '__rollout_of rehearse' -l from -r -F -d 'Begins where the run of this journal stands, as --resume would have it go on'
+complete -c rollout -n '__rollout_of rehearse' -l mended -x -d 'Beside --from these hosts and groups, parted by commas, are up by now'
+complete -c rollout -n '__rollout_of rehearse' -l changed-inputs -d 'The inputs may be others than those with which the run of the journal began'
 complete -c rollout -n '__rollout_of rehearse' -s h -l help -d 'Print help'
 
+complete -c rollout -n '__rollout_of state' -l changed-inputs -d 'The inputs may be others than those with which the run of the journal began'
 complete -c rollout -n '__rollout_of state' -s h -l help -d 'Print help'
 
 complete -c rollout -n '__rollout_lacks 2 plan run rehearse state' -k -a '(__fish_complete_suffix .json)'

@@ -135,16 +135,40 @@ session_broken() {
     done
 }
 
+# journal_broken SIZE WORDS: behind so many bytes of other inputs the journal can't be read to its end.
+journal_broken() {
+    files=$1
+    shift
+    for room in $(seq 1 "$(wc -c <"$work/journal")"); do
+        breaking IN_ROOM="$((files + room))" "$@" --from "$work/journal"
+        : >"$work/out.expected"
+        echo "rollout: 902 File name=$work/journal" >"$work/errors.expected"
+        same "$room bytes read of the journal of '$*'" 1
+    done
+}
+
 printf '{"all":{"children":{"r1":{"vars":{"max_down":1},"hosts":{"a":null,"b":null}},"r2":{"hosts":{"d":null}}}}}' >"$work/racks.json"
 printf '[{"hosts":"all","tasks":[{"command":"true"}]}]' >"$work/all.json"
 printf '[' >"$work/cut.json"
 printf 'advance a\nshow\nundo\n\nadvance d x\nplan\nadvance b\njump' >"$work/lines"
 size=$(wc -c <"$work/racks.json")
+python3 - "$top/tests/slow" "$work/racks.json" "$work/all.json" <<'PYTHON' >"$work/journal"
+import sys
+sys.path.append(sys.argv[1])
+from entries import head, line
+inventory, playbook = (open(name, "rb").read() for name in sys.argv[2:])
+sys.stdout.buffer.write(b"".join(map(line, [head(inventory, playbook, 1), "play: a b d", "open: a d"])))
+PYTHON
 
 # Each break, as the environment has it.
 each_broken() {
     output_broken limits "$work/racks.json"
     output_broken plan "$work/racks.json" "$work/all.json"
+    output_broken limits "$work/racks.json" --from "$work/journal"
+    output_broken plan "$work/racks.json" "$work/all.json" --from "$work/journal" --mended d
+    output_broken plan "$work/racks.json" "$work/all.json" --from "$work/journal" --mended all --course --failing b
+    journal_broken "$size" limits "$work/racks.json"
+    journal_broken "$((size + $(wc -c <"$work/all.json")))" plan "$work/racks.json" "$work/all.json"
     output_broken --version
     report_broken limits "$work/cut.json"
     report_broken limits one two

@@ -110,7 +110,7 @@ run limits "$work/racks.json" ''
 check 'an empty word behind the file' 1 '' "rollout: 901 BadLine
 error: unexpected argument '' found
 
-Usage: rollout limits <INV>
+Usage: rollout limits [OPTIONS] <INV>
 
 For more information, try '--help'.
 "
@@ -509,13 +509,16 @@ for word in --help -h help; do
 done
 limits_help='Prints each limited group: its members, how many are down, its limit and its room
 
-Usage: rollout limits <INV>
+Usage: rollout limits [OPTIONS] <INV>
 
 Arguments:
   <INV>  The inventory: a file of JSON that lists groups with their hosts, children and variables
 
 Options:
-  -h, --help  Print help
+      --from <JOURNAL>  Begins where the run of this journal stands, as --resume would have it go on
+      --mended <HOSTS>  Beside --from these hosts and groups, parted by commas, are up by now
+      --changed-inputs  The inputs may be others than those with which the run of the journal began
+  -h, --help            Print help
 '
 for words in 'limits --help' 'limits -h' 'help limits'; do
     run $words
@@ -534,7 +537,11 @@ Options:
       --course           Prints what a run would open to its end, play by play, where no program fails
       --failing <HOSTS>  Beside --course these hosts and groups, parted by commas, fail at their first step
       --groups           Prints below it how many hosts of each limited group are down while each batch runs
+      --color <WHEN>     Colours groups that are full: auto (at a terminal, unless NO_COLOR is set), always or never
       --picture <FILE>   Writes the course as a picture, in SVG, into this file
+      --from <JOURNAL>   Begins where the run of this journal stands, as --resume would have it go on
+      --mended <HOSTS>   Beside --from these hosts and groups, parted by commas, are up by now
+      --changed-inputs   The inputs may be others than those with which the run of the journal began
   -v, --verbose          Tells on standard error which hosts of the play are down already, and left out
   -h, --help             Print help
 '
@@ -558,8 +565,9 @@ Options:
       --stop-file <FILE>  Ends the run before the next batch once this file is there
       --journal <FILE>    Keeps in this new file what becomes of each host, before and behind each batch
       --resume <JOURNAL>  Goes on with the run of this journal, which broke off, and keeps it there
-      --mended <HOSTS>    Beside --resume these hosts and groups, parted by commas, are up by now
+      --mended <HOSTS>    These hosts and groups, parted by commas, are up by now, though the inventory or the journal has them as down
       --changed-inputs    Beside --resume the inputs may be others than those with which the run began
+      --lock              Holds the lock of the inventory'\''s file, as --journal does: a second such run is refused meanwhile
   -h, --help              Print help
 '
 for words in 'run --help' 'run -h' 'help run'; do
@@ -576,8 +584,11 @@ Arguments:
   <PLAY>  The playbook: a file of JSON that lists plays with their hosts and tasks
 
 Options:
-      --strict  Ends with status 1 where a command was refused
-  -h, --help    Print help
+      --strict          Ends with status 1 where a command was refused
+      --from <JOURNAL>  Begins where the run of this journal stands, as --resume would have it go on
+      --mended <HOSTS>  Beside --from these hosts and groups, parted by commas, are up by now
+      --changed-inputs  The inputs may be others than those with which the run of the journal began
+  -h, --help            Print help
 
 Standard input has a command a line, about the first play of PLAY. Nothing is run.
   advance [HOST ..]  the next batch is over, and of it just these hosts failed
@@ -592,14 +603,15 @@ done
 
 state_help="Prints how each host stands by a run's journal, and whether the run has ended
 
-Usage: rollout state <INV> <JOURNAL>
+Usage: rollout state [OPTIONS] <INV> <JOURNAL>
 
 Arguments:
   <INV>      The inventory: a file of JSON that lists groups with their hosts, children and variables
   <JOURNAL>  The journal: what a run has written of itself
 
 Options:
-  -h, --help  Print help
+      --changed-inputs  The inputs may be others than those with which the run of the journal began
+  -h, --help            Print help
 "
 for words in 'state --help' 'state -h' 'help state'; do
     run $words
@@ -618,8 +630,8 @@ For more information, try '--help'.
 "
 }
 bad limits 'rollout limits <INV>' "the following required arguments were not provided:$newline  <INV>"
-bad 'limits a b' 'rollout limits <INV>' "unexpected argument 'b' found"
-bad 'limits a b c d e f g h i j k l m n o p q r s t' 'rollout limits <INV>' "unexpected argument 'b' found"
+bad 'limits a b' 'rollout limits [OPTIONS] <INV>' "unexpected argument 'b' found"
+bad 'limits a b c d e f g h i j k l m n o p q r s t' 'rollout limits [OPTIONS] <INV>' "unexpected argument 'b' found"
 bad jump 'rollout <COMMAND>' "unrecognized subcommand 'jump'"
 bad plan 'rollout plan <INV> <PLAY>' "the following required arguments were not provided:$newline  <INV>$newline  <PLAY>"
 bad 'plan a' 'rollout plan <INV> <PLAY>' "the following required arguments were not provided:$newline  <PLAY>"
@@ -630,42 +642,88 @@ bad 'run a' 'rollout run <INV> <PLAY>' "the following required arguments were no
 bad 'run a b c' 'rollout run [OPTIONS] <INV> <PLAY>' "unexpected argument 'c' found"
 bad 'plan -vv a b' 'rollout plan [OPTIONS] <INV> <PLAY>' "the argument '--verbose' cannot be used multiple times"
 bad 'run -vv a b' 'rollout run [OPTIONS] <INV> <PLAY>' "the argument '--verbose' cannot be used multiple times"
-run run a b --stop-file
-check 'a stop file without its file' 1 '' "rollout: 901 BadLine
-error: a value is required for '--stop-file <FILE>' but none was supplied
+# lacks OPTION VALUE WORDS: the option stands last, without its value
+lacks() {
+    run $3 "--$1"
+    check "the line '$3 --$1'" 1 '' "rollout: 901 BadLine
+error: a value is required for '--$1 <$2>' but none was supplied
 
 For more information, try '--help'.
 "
-run run a b --journal
-check 'a journal without its file' 1 '' "rollout: 901 BadLine
-error: a value is required for '--journal <FILE>' but none was supplied
+}
+lacks stop-file FILE 'run a b'
+lacks journal FILE 'run a b'
+lacks resume JOURNAL 'run a b'
+lacks resume JOURNAL 'run a b --resume c'
+lacks mended HOSTS 'run a b'
+lacks mended HOSTS 'run a b --resume c'
+lacks failing HOSTS 'plan a b --course'
+lacks color WHEN 'plan a b'
+lacks picture FILE 'plan a b'
+lacks from JOURNAL 'plan a b'
+lacks from JOURNAL 'rehearse a b'
+lacks from JOURNAL 'limits a'
+# The word behind such an option is its value, so nothing is left for the last one.
+lacks mended HOSTS 'limits a --from --mended'
+lacks journal FILE 'run a b --resume --journal'
 
-For more information, try '--help'.
-"
-run run a b --resume
-check 'a run that goes on without its journal' 1 '' "rollout: 901 BadLine
-error: a value is required for '--resume <JOURNAL>' but none was supplied
-
-For more information, try '--help'.
-"
-run run a b --resume c --mended
-check 'hosts that are up by now without their names' 1 '' "rollout: 901 BadLine
-error: a value is required for '--mended <HOSTS>' but none was supplied
-
-For more information, try '--help'.
-"
-for words in '--mended c' '--changed-inputs' '--resume c --journal d' '--journal d --resume c'; do
-    run run a b $words
-    check "the line 'run a b $words'" 1 '' "rollout: 901 BadLine$newline"
+# apart WORDS: options that don't go together
+apart() {
+    run $1
+    check "the line '$1'" 1 '' "rollout: 901 BadLine$newline"
+}
+for words in '--changed-inputs' '--mended c --changed-inputs' '--resume c --journal d' '--journal d --resume c' '--journal=d --resume=c'; do
+    apart "run a b $words"
 done
+for words in '--failing c' '--failing c --from d' '--mended c' '--changed-inputs' '--course --mended c' '--from c --groups' '--from c --picture d' '--course --groups --from c' '--groups --picture d --from=c'; do
+    apart "plan a b $words"
+done
+for words in --color= --color=red '--color Always' '--groups --color on'; do
+    apart "plan a b $words"
+done
+for words in 'rehearse a b' 'limits a'; do
+    apart "$words --mended c"
+    apart "$words --changed-inputs"
+    apart "$words --mended=c --changed-inputs"
+done
+
+# read_by WORDS NAME: the words are a line, by which this file is missing
+read_by() {
+    run $1
+    check "the line '$1'" 1 '' "rollout: 902 File name=$2$newline"
+}
+read_by 'run --journal --stop-file a b' a
+read_by 'run --stop-file --journal a b' a
+read_by 'run --journal --resume a b' a
+read_by 'run --resume --journal a b' a
+read_by 'run --mended --changed-inputs a b' a
+read_by 'run --lock --stop-file --lock a --lock b' a
+read_by 'run --resume --resume --mended --mended a b --changed-inputs --' a
+read_by 'plan --failing --course --course a b' a
+read_by 'plan --picture --failing a b' a
+read_by 'plan --picture --groups a b' a
+read_by 'plan a b --color=always' a
+read_by 'plan --color never --color=auto a b --color always' a
+read_by 'plan --from --groups a b' a
+read_by 'plan --from --mended --mended --from a b' a
+read_by 'rehearse --from --strict a b --strict' a
+read_by 'limits --from --changed-inputs a' a
+read_by 'limits --from=b --mended= --changed-inputs --changed-inputs a' a
+read_by 'limits -- --from' --from
+read_by 'state --changed-inputs --changed-inputs a b' a
+read_by 'state -- --changed-inputs b' --changed-inputs
+bad 'run --journal --resume c a b' 'rollout run [OPTIONS] <INV> <PLAY>' "unexpected argument 'b' found"
+bad 'run a b --lock=1' 'rollout run --lock <INV> <PLAY>' "unexpected value '1' for '--lock' found; no more were expected"
+bad 'run -- a b --lock' 'rollout run [OPTIONS] <INV> <PLAY>' "unexpected argument '--lock' found"
+bad 'limits -- a --from c' 'rollout limits [OPTIONS] <INV>' "unexpected argument '--from' found"
+bad 'rehearse -- a b --from c' 'rollout rehearse [OPTIONS] <INV> <PLAY>' "unexpected argument '--from' found"
+bad 'state -- a b --changed-inputs' 'rollout state [OPTIONS] <INV> <JOURNAL>' "unexpected argument '--changed-inputs' found"
+bad 'state a b --from c' 'rollout state <INV> <JOURNAL>' "unexpected argument '--from' found$newline$newline  tip: to pass '--from' as a value, use '-- --from'"
+bad 'state a b --mended c' 'rollout state <INV> <JOURNAL>' "unexpected argument '--mended' found$newline$newline  tip: to pass '--mended' as a value, use '-- --mended'"
+bad 'run a b --from c' 'rollout run <INV> <PLAY>' "unexpected argument '--from' found$newline$newline  tip: to pass '--from' as a value, use '-- --from'"
 bad 'run -- a b --journal c' 'rollout run [OPTIONS] <INV> <PLAY>' "unexpected argument '--journal' found"
 bad 'run -- a b --stop-file c' 'rollout run [OPTIONS] <INV> <PLAY>' "unexpected argument '--stop-file' found"
-run plan a b --picture
-check 'a picture without its file' 1 '' "rollout: 901 BadLine
-error: a value is required for '--picture <FILE>' but none was supplied
-
-For more information, try '--help'.
-"
+bad 'plan -- a b --color always' 'rollout plan [OPTIONS] <INV> <PLAY>' "unexpected argument '--color' found"
 bad 'plan -- a b --picture c' 'rollout plan [OPTIONS] <INV> <PLAY>' "unexpected argument '--picture' found"
 bad 'rehearse -- a b --strict' 'rollout rehearse [OPTIONS] <INV> <PLAY>' "unexpected argument '--strict' found"
 bad 'limits a --strict' 'rollout limits <INV>' "unexpected argument '--strict' found$newline$newline  tip: to pass '--strict' as a value, use '-- --strict'"
@@ -676,7 +734,7 @@ bad 'rehearse --forks 3 a b' 'rollout rehearse [OPTIONS] <INV> <PLAY>' "unexpect
 bad 'rehears a b' 'rollout <COMMAND>' "unrecognized subcommand 'rehears'$newline$newline  tip: a similar subcommand exists: 'rehearse'"
 bad state 'rollout state <INV> <JOURNAL>' "the following required arguments were not provided:$newline  <INV>$newline  <JOURNAL>"
 bad 'state a' 'rollout state <INV> <JOURNAL>' "the following required arguments were not provided:$newline  <JOURNAL>"
-bad 'state a b c' 'rollout state <INV> <JOURNAL>' "unexpected argument 'c' found"
+bad 'state a b c' 'rollout state [OPTIONS] <INV> <JOURNAL>' "unexpected argument 'c' found"
 bad '--forks 3' 'rollout <COMMAND>' "unexpected argument '--forks' found"
 run "$(printf '\377')"
 check 'a word that is no text' 1 '' "rollout: 901 BadLine$newline"

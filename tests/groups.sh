@@ -48,6 +48,43 @@ r1* 1 0/1 1/1 1/1 1/1
 r2  2 0/2 1/2 1/2 0/2
 batches=3' --course
 
+red=$(printf '\033[1;31m')
+bare=$(printf '\033[0m')
+groups 'full groups in bold red, where that is asked for' 0 "$racks" "[$(play)]" "plan batches=3 bound=group r1 waiting=3 room=1
+batch 1: a d
+batch 2: b e
+batch 3: c
+      now   1   2   3
+eu  3 0/3 2/3 2/3 1/3
+r1* 1 0/1 ${red}1/1${bare} ${red}1/1${bare} ${red}1/1${bare}
+r2  2 0/2 1/2 1/2 0/2" --color always
+
+hollow='{"x":{"vars":{"max_down":0}},"y":{"vars":{"max_down":10},"hosts":{"a":{"down":true},"b":{}}}}'
+groups 'a limit of nought is full, without hosts too; what colours it takes no column' 0 "$hollow" '[{"hosts":"b","tasks":[{"command":"true"}]}]' "plan batches=1 bound=group y waiting=1 room=9
+batch 1: b
+       now    1
+x   0  ${red}0/0${bare}  ${red}0/0${bare}
+y* 10 1/10 2/10
+down: a" --color=always
+
+NO_COLOR=1
+export NO_COLOR
+groups 'which goes over NO_COLOR' 0 "$hollow" '[{"hosts":"b","tasks":[{"command":"true"}]}]' "plan batches=1 bound=group y waiting=1 room=9
+batch 1: b
+       now    1
+x   0  ${red}0/0${bare}  ${red}0/0${bare}
+y* 10 1/10 2/10
+down: a" --color=never --color always
+unset NO_COLOR
+for words in --color=auto --color=never; do
+    groups "no colour where standard output is no terminal, $words" 0 "$hollow" '[{"hosts":"b","tasks":[{"command":"true"}]}]' 'plan batches=1 bound=group y waiting=1 room=9
+batch 1: b
+       now    1
+x   0  0/0  0/0
+y* 10 1/10 2/10
+down: a' "$words"
+done
+
 sixty='{"all":{"vars":{"max_down":"60%"},"hosts":{"h0":{},"h1":{},"h2":{},"h3":{},"h4":{},"h5":{},"h6":{},"h7":{},"h8":{},"h9":{}}}}'
 groups 'a limit in percent, and a list of sizes: each batch has the size that is in force for it' 0 "$sixty" "[$(play '"serial":[1,"20%","50%"]')]" 'boundary 1: plan batches=10 bound=serial waiting=10 size=1
 open: h0
@@ -242,6 +279,10 @@ bad 'groups of the limits' limits "$work/inventory.json" --groups
 bad 'groups of one file' plan "$work/inventory.json" --groups
 bad 'a value' plan "$work/inventory.json" "$work/playbook.json" --groups=g
 bad 'behind the word that ends options' plan "$work/inventory.json" "$work/playbook.json" -- --groups
+bad 'colours at another time' plan "$work/inventory.json" "$work/playbook.json" --groups --color=red
+bad 'colours without a time' plan "$work/inventory.json" "$work/playbook.json" --groups --color
+bad 'colours at an empty time' plan "$work/inventory.json" "$work/playbook.json" --groups --color=
+bad 'colours of a rehearsal' rehearse "$work/inventory.json" "$work/playbook.json" --color=never
 bad 'names without a course' plan "$work/inventory.json" "$work/playbook.json" --groups --failing a
 bad 'the option as the name that fails' plan "$work/inventory.json" "$work/playbook.json" --course --failing
 

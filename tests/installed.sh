@@ -233,6 +233,19 @@ listed() {
     echo 'rollout run --stop-file -- inv.json p>play.json'
     echo 'rollout run --journal n>notes.txt'
     echo 'rollout run --journal -- inv.json p>play.json'
+    echo 'rollout run --lock --mended a --resume n>notes.txt'
+    echo 'rollout run --lock --mended a --resume notes.txt inv.json p>play.json'
+    echo 'rollout limits --from n>notes.txt'
+    echo 'rollout limits --from notes.txt --mended a i>inv.json'
+    echo 'rollout limits --changed-inputs --from notes.txt inv.json p>'
+    echo 'rollout plan --from n>notes.txt'
+    echo 'rollout plan --course --from notes.txt --mended a inv.json p>play.json'
+    echo 'rollout plan --groups --color >always/auto/never'
+    echo 'rollout plan --groups --color a>always/auto'
+    echo 'rollout plan --color always inv.json p>play.json'
+    echo 'rollout rehearse --from n>notes.txt'
+    echo 'rollout rehearse --mended a --strict inv.json p>play.json'
+    echo 'rollout state --changed-inputs i>inv.json'
     echo 'rollout run -- ->'
     echo 'rollout run inv.json play.json i>'
     echo 'rollout limits inv.json p>'
@@ -282,6 +295,9 @@ asked() {
 asked 'rollout run --forks=' rollout run --forks =
 asked 'rollout run --forks=7' rollout run --forks = 7
 asked 'rollout run --stop-file=no' rollout run --stop-file = no
+asked 'rollout limits --from=no' rollout limits --from = no
+asked 'rollout plan --color=a' rollout plan --color = a
+asked 'rollout run --from=no' rollout run --from = no
 asked 'rollout limits a:' rollout limits a :
 asked 'rollout limits a:b' rollout limits a : b
 asked 'rollout plan a:b.json p' rollout plan a : b.json p
@@ -295,6 +311,9 @@ cat >"$work/expected" <<EXPECTED
 rollout run --forks=>$(seq -s ' ' 64)
 rollout run --forks=7>7
 rollout run --stop-file=no>notes.txt
+rollout limits --from=no>notes.txt
+rollout plan --color=a>always auto
+rollout run --from=no>
 rollout limits a:>b.json
 rollout limits a:b>b.json
 rollout plan a:b.json p>play.json

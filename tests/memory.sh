@@ -144,11 +144,46 @@ run_refused() {
     echo "run $*: $((number - 1)) allocations refused in turn"
 }
 
-# Whether want of memory is what the run tells: of one that is kept, that a line of its journal was not taken for it.
+# resume_refused INVENTORY PLAYBOOK WORDS: the same of a run that goes on by the journal `front`, in which everybody may be updated. Where it was refused before it went on, the journal is as it
+# was, but for a line that broke off, and nothing was started; by the journal that is left it goes on to its end, and nobody who is updated by it runs again.
+resume_refused() {
+    cd "$work" || exit 1
+    head -n "$(wc -l <front)" front >front.whole
+    cp front kept
+    rm -f notes
+    run run "$@" --resume kept
+    answered=$status
+    mv out out.answered
+    mv errors errors.answered
+    number=1
+    while cp front kept && rm -f notes && refusing "$number" "$rollout" run "$@" --resume kept; do
+        if broken_off; then
+            [ ! -s out ] || { begins_so && [ "$(tail -n 1 out)" = 'end fault' ]; } || last_unkept
+        else
+            [ "$status" -eq "$answered" ] && cmp -s out out.answered && cmp -s errors errors.answered
+        fi && pass || fail "allocation $number of 'run $* --resume' refused: status $status, $(cat errors)"
+        if [ -s out ]; then
+            head -c "$(wc -c <front.whole)" kept | cmp -s - front.whole
+        else
+            [ ! -e notes ] && { cmp -s kept front || cmp -s kept front.whole; }
+        fi && pass || fail "allocation $number: the journal doesn't go on"
+        "$rollout" state "$1" kept 2>/dev/null | sed -n 's/ state=updated$/ /p' >updated
+        rm -f notes
+        run run "$@" --resume kept --mended all
+        "$rollout" state "$1" kept >states 2>&1
+        [ "$status" -eq 0 ] && ! grep -v 'state=updated$' states | grep -qv '^end finished$' && ! { [ -e notes ] && grep -qFf updated notes; } && pass || fail "allocation $number: the rest ends with $status"
+        number=$((number + 1))
+    done
+    [ "$number" -gt 100 ] || fail "'run $* --resume' asks for little memory"
+    cd "$top" || exit 1
+    echo "run $* --resume: $((number - 1)) allocations refused in turn"
+}
+
+# Whether want of memory is what the run tells: of one that is kept, that a line of its journal was not taken for it, or that none was made before it began.
 broken_off() {
     case $status,$(cat "$work/errors") in
     '5,rollout: memory') true ;;
-    "1,rollout: 911 JournalWrite") [ -e kept ] ;;
+    "1,rollout: 911 JournalWrite") [ -e kept ] || [ ! -s out ] ;;
     *) false ;;
     esac
 }
@@ -178,6 +213,10 @@ begins_so() {
 each_refused limits "$top/examples/two-regions.json"
 each_refused limits "$top/examples/crossing-racks.json"
 each_refused state "$top/examples/two-racks.json" "$top/examples/killed.journal"
+each_refused limits "$top/examples/two-racks.json" --from "$top/examples/killed.journal" --mended web2
+each_refused plan "$top/examples/two-racks.json" "$top/examples/roll-anywhere.json" --from "$top/examples/killed.journal" --mended web2
+each_refused plan "$top/examples/two-racks.json" "$top/examples/roll-anywhere.json" --from "$top/examples/killed.journal" --mended web2,web5 --course --failing web3
+each_refused plan "$top/examples/two-racks.json" "$top/examples/two-plays.json" --from "$top/examples/two-plays.journal"
 each_refused plan "$top/examples/two-racks.json" "$top/examples/restart-web.json"
 each_refused plan "$top/examples/two-racks.json" "$top/examples/restart-web.json" --groups
 each_refused plan "$top/examples/two-regions.json" "$top/examples/everywhere.json"
@@ -220,6 +259,18 @@ run_refused "$work/few.json" "$work/twice.json" --forks 1
 printf '[{"hosts":"all","on_blocked":"hold","tasks":[{"command":{"argv":["sh","-c","echo + $0 0 1 >>notes; test $0 = d; code=$?; echo - $0 0 1 $code >>notes; exit $code","{{ inventory_hostname }}"]}}]}]' >"$work/holding.json"
 run_refused "$work/racks.json" "$work/holding.json" --forks 2
 run_refused "$work/racks.json" "$work/holding.json" --forks 2 --journal kept
+run_refused "$work/racks.json" "$work/holding.json" --forks 2 --journal kept --mended e --lock
+# It broke off in a line of its journal, while a batch was open.
+printf '{"eu":{"vars":{"max_down":2},"children":{"r1":{"vars":{"max_down":1},"hosts":{"a":null,"b":null}},"r2":{"hosts":{"d":null,"e":null}}}}}' >"$work/even.json"
+printf '[{"hosts":"all","serial":1,"tasks":[{"command":{"argv":["sh","-c","echo + $0 0 1 >>notes","{{ inventory_hostname }}"]}}]}]' >"$work/each.json"
+python3 - "$top/tests/slow" "$work/even.json" "$work/each.json" <<'PYTHON' >"$work/front"
+import sys
+sys.path.append(sys.argv[1])
+from entries import head, line
+inventory, playbook = (open(name, "rb").read() for name in sys.argv[2:])
+sys.stdout.buffer.write(b"".join(map(line, [head(inventory, playbook, 1), "play: a b d e", "open: a", "closed: updated:a", "open: d"])) + line("closed: updated:d")[:-1])
+PYTHON
+resume_refused "$work/even.json" "$work/each.json" --forks 2 --mended b
 printf '[{"hosts":"a","tasks":[{"command":"/no/such/program"}]}]' >"$work/absent.json"
 run_refused "$work/few.json" "$work/absent.json"
 
@@ -264,6 +315,8 @@ answers_so() {
 printf 'plan\nadvance a d\nshow\nadvance b b\nundo\n\nadvance\nplan\nundo\nundo\nundo\nadvance x\nadvance e\nshow\nadvance\nadvance\njump\n' >"$work/commands"
 rehearsal_refused "$work/few.json" "$work/twice.json"
 rehearsal_refused "$work/racks.json" "$work/held.json"
+printf 'plan\nadvance web2\nshow\nundo\nadvance\nfail web3\nfinish\nhosts web\nundo\njump\n' >"$work/commands"
+rehearsal_refused "$top/examples/two-racks.json" "$top/examples/roll-anywhere.json" --from "$top/examples/killed.journal" --mended web2,web5
 input=$top/examples/two-regions.json
 each_refused
 input=/dev/null

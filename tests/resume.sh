@@ -1,9 +1,9 @@
 #!/bin/sh
-# Runs that broke off go on: worked journals with the recap and the journal that come of them in full, and what refuses it. tests/journal.sh kills runs and has them go on.
+# Runs that broke off go on, and runs begin though hosts are up that the inventory has as down: worked journals with the recap and the journal that come of them in full, and what
+# refuses it. tests/journal.sh kills runs and has them go on.
 # It needs Python and crates/rollout/out/rollout.
 . "$(dirname "$0")/common.sh"
 
-reader=$top/tests/slow/journal.py
 cd "$work" || exit 1
 # A row that may lose two hosts, with two racks: r1 may lose one, r2 two.
 printf '%s' '{"row":{"vars":{"max_down":2},"children":{"r1":{"vars":{"max_down":1},"hosts":{"a":null,"b":null,"c":null}},"r2":{"vars":{"max_down":2},"hosts":{"d":null,"e":{"down":true}}}}}}' >inventory
@@ -12,15 +12,13 @@ printf '%s' '[{"hosts":"a:b","tasks":[{"command":"true","register":"r"}]},{"host
 
 # written PLAYBOOK BODY ..: the journal of these bodies; HEAD is the head of a run of the inventory and the playbook.
 written() {
-    python3 - "$reader" "$@" <<'PYTHON' >journal
-import hashlib, importlib.util, json, sys
-spec = importlib.util.spec_from_file_location("slow", sys.argv[1])
-slow = importlib.util.module_from_spec(spec)
-spec.loader.exec_module(slow)
+    python3 - "$top/tests/slow" "$@" <<'PYTHON' >journal
+import json, sys
+sys.path.append(sys.argv[1])
+from entries import head, line
 inventory, playbook = open("inventory", "rb").read(), open(sys.argv[2], "rb").read()
-head = "rollout journal 1 inventory=%s playbook=%s plays=%d" % (hashlib.sha256(inventory).hexdigest(), hashlib.sha256(playbook).hexdigest(), len(json.loads(playbook)))
 for body in sys.argv[3:]:
-    sys.stdout.buffer.write(slow.line((head if body == "HEAD" else body).encode()))
+    sys.stdout.buffer.write(line(head(inventory, playbook, len(json.loads(playbook))) if body == "HEAD" else body))
 PYTHON
     rm -f ran
 }
@@ -118,6 +116,161 @@ written two HEAD 'play: a b' 'open: a' 'closed: failed:a' 'open: b'
 run run inventory two --resume journal --mended=all
 [ "$status" -eq 0 ] && [ "$(grep -c '^play' out)" = 2 ] && [ "$(sort ran | tr '\n' ' ')" = 'a b c d e ' ] && pass || fail "all are up by now: $(cat out)"
 
+# A host that failed in an earlier play gets no more than the play that goes on, and the later ones.
+written two HEAD 'play: a b' 'open: a' 'closed: failed:a' 'open: b' 'closed: updated:b' 'end finished' 'play: b c d' 'open: b'
+went 'who failed in the play before and is mended waits in this one alone' 0 'play 2
+open: a
+open: b
+open: c
+open: d
+a ok=1 changed=1 failed=0 skipped=0 ignored=0 state=updated
+b ok=1 changed=1 failed=0 skipped=0 ignored=0 state=updated
+c ok=1 changed=1 failed=0 skipped=0 ignored=0 state=updated
+d ok=1 changed=1 failed=0 skipped=0 ignored=0 state=updated
+e ok=0 changed=0 failed=0 skipped=0 ignored=0 state=off
+end finished' 'a b c d ' two --mended a,b
+added 'and its journal has no earlier one' 'resumed: a b' 'again: a b c d' 'open: a' 'closed: updated:a' 'open: b' 'closed: updated:b' 'open: c' 'closed: updated:c' 'open: d' 'closed: updated:d' 'end finished'
+
+# ---- who was at work when it broke off, and stays down
+
+printf '%s' '{"row":{"vars":{"max_down":2},"hosts":{"a":null,"b":null}}}' >wide
+cp inventory kept-inventory
+cp wide inventory
+written one HEAD 'play: a b' 'open: a'
+went 'a run that finishes with a halted host is none that went well' 2 'open: b
+a ok=0 changed=0 failed=0 skipped=0 ignored=0 state=halted
+b ok=1 changed=1 failed=0 skipped=0 ignored=0 state=updated
+end finished' 'b ' one
+added 'its journal says so too' 'resumed:' 'again: b' 'open: b' 'closed: updated:b' 'end finished'
+run state inventory journal
+check 'and so does its state' 2 "a state=halted${newline}b state=updated${newline}end finished$newline" ''
+written one HEAD 'play: a b' 'open: a b'
+went 'nobody was updated' 2 'a ok=0 changed=0 failed=0 skipped=0 ignored=0 state=halted
+b ok=0 changed=0 failed=0 skipped=0 ignored=0 state=halted
+end finished' '' one
+written two HEAD 'play: a b' 'open: a'
+run run inventory two --resume journal
+[ "$status" -eq 2 ] && [ "$(tail -n 1 out)" = 'end finished' ] && [ "$(cat ran)" = b ] && pass || fail "a host that was halted in the play before: $status, $(cat out)"
+# said WHAT LINES WORD ..: with -v this stands on standard error, but for what happens on the way.
+said() {
+    what=$1
+    lines=$2
+    shift 2
+    run run -v "$@"
+    grep -v ' step=\| open: \|^closed ' errors >left
+    [ "$(cat left)" = "$lines" ] && pass || fail "$what: $(cat errors)"
+    rm -f ran
+}
+written one HEAD 'play: a b' 'open: a'
+said 'why it is none that went well' 'a halted
+next: mend what is down, or mark it as down in the inventory ("down": true); then run what is left, with a narrower "hosts" (docs/FROM_ANSIBLE.md)' inventory one --resume journal
+
+# ---- who is mended is not told to stay down
+
+cp kept-inventory inventory
+written one HEAD 'play: a b c d' 'open: a b'
+said 'who is off and was not mended is left out' 'note: e is down and stays down: 1 host of the play is left out' inventory one --resume journal --mended a,b
+written one HEAD 'play: a b c d' 'open: a b'
+said 'who was mended is not' '' inventory one --resume journal --mended a,b,e
+said 'nor in a run that begins so' '' inventory one --mended e
+said 'who is not among them is' 'note: e is down and stays down: 1 host of the play is left out' inventory one --mended d
+
+# ---- what is told of plays behind others
+
+printf '%s' '[{"hosts":"all","tasks":[{"command":"true"}]},{"hosts":"d","tasks":[{"command":{"argv":["sh","-c","exit 7"]}}]}]' >fails
+written fails HEAD 'play: a b c d' 'open: a d' 'closed: updated:a updated:d' 'open: b' 'closed: updated:b' 'open: c' 'closed: updated:c' 'end finished'
+said 'in which play a host failed, and nothing of the plays before' 'd failed in play 2 at step 1: rc=7
+e off from the start
+next: mend what is down, or mark it as down in the inventory ("down": true); then run what is left, with a narrower "hosts" (docs/FROM_ANSIBLE.md)' inventory fails --resume journal
+mkfifo pipe
+written one HEAD 'play: a b c d' 'open: a' 'closed: updated:a'
+cat inventory >pipe &
+run run pipe one -v --resume journal
+wait
+[ "$(head -n 1 errors)" = "note: the inventory's file has no lock: another run of it is not kept out" ] && pass || fail "an inventory from a pipe has no lock: $(cat errors)"
+rm -f pipe ran
+
+# ---- runs that begin, though hosts are up by now that the inventory has as down
+
+rm -f journal ran
+run run inventory one --mended e --journal journal
+check 'who is mended is up, and waits' 0 'boundary 1: plan batches=3 bound=group row waiting=5 room=2
+open: a d
+boundary 2: plan batches=2 bound=group row waiting=3 room=2
+open: b e
+boundary 3: plan batches=1 bound=group row waiting=1 room=2
+open: c
+boundary 4: plan batches=0 bound=nothing
+a ok=1 changed=1 failed=0 skipped=0 ignored=0 state=updated
+b ok=1 changed=1 failed=0 skipped=0 ignored=0 state=updated
+c ok=1 changed=1 failed=0 skipped=0 ignored=0 state=updated
+d ok=1 changed=1 failed=0 skipped=0 ignored=0 state=updated
+e ok=1 changed=1 failed=0 skipped=0 ignored=0 state=updated
+end finished
+' ''
+: >before
+added 'its journal has who is up by now behind its first line' "$(head -n 1 journal | sed 's/^[0-9]* [0-9]* //')" 'resumed: e' 'play: a b c d e' 'open: a d' 'closed: updated:a updated:d' 'open: b e' 'closed: updated:b updated:e' 'open: c' 'closed: updated:c' 'end finished'
+run state inventory journal
+check 'which state reads' 0 'a state=updated
+b state=updated
+c state=updated
+d state=updated
+e state=updated
+end finished
+' ''
+mv journal kept-journal
+rm -f ran
+run run inventory one --mended e
+check 'the same without a journal' 0 "$(cat out)$newline" ''
+[ "$(sort ran | tr '\n' ' ')" = 'a b c d e ' ] && pass || fail "other hosts ran: $(cat ran)"
+# It breaks off in its second batch.
+head -n 6 kept-journal >journal
+rm -f ran
+run state inventory journal
+check 'who is mended stands there as any other' 6 'a state=updated
+b state=running
+c state=waiting
+d state=updated
+e state=running
+end broken-off
+' ''
+went 'and it goes on' 3 'a ok=0 changed=0 failed=0 skipped=0 ignored=0 state=updated
+b ok=0 changed=0 failed=0 skipped=0 ignored=0 state=halted
+c ok=0 changed=0 failed=0 skipped=0 ignored=0 state=waiting
+d ok=0 changed=0 failed=0 skipped=0 ignored=0 state=updated
+e ok=0 changed=0 failed=0 skipped=0 ignored=0 state=halted
+end blocked group=row' '' one
+head -n 6 kept-journal >journal
+went 'with who is mended again' 0 'open: b e
+open: c
+a ok=0 changed=0 failed=0 skipped=0 ignored=0 state=updated
+b ok=1 changed=1 failed=0 skipped=0 ignored=0 state=updated
+c ok=1 changed=1 failed=0 skipped=0 ignored=0 state=updated
+d ok=0 changed=0 failed=0 skipped=0 ignored=0 state=updated
+e ok=1 changed=1 failed=0 skipped=0 ignored=0 state=updated
+end finished' 'b c e ' one --mended e,b
+rm -f journal ran
+run run inventory one --mended all --journal journal
+[ "$status" -eq 0 ] && [ "$(sort ran | tr '\n' ' ')" = 'a b c d e ' ] && sed 's/^[0-9]* [0-9]* //' journal | grep -qx 'resumed: a b c d e' && pass || fail "a group that is mended: $(cat out journal)"
+rm -f journal ran
+run run inventory one --mended '' --journal journal
+[ "$status" -eq 0 ] && [ "$(sort ran | tr '\n' ' ')" = 'a b c d ' ] && sed 's/^[0-9]* [0-9]* //' journal | grep -qx 'resumed:' && pass || fail "nobody is mended: $(cat out journal)"
+# begun WHAT FAULT INVENTORY WORD ..: nothing begins, and no journal is made.
+begun() {
+    what=$1
+    fault=$2
+    of=$3
+    shift 3
+    rm -f journal ran
+    run run "$of" one --journal journal "$@"
+    check "$what" 1 '' "rollout: $fault$newline"
+    [ ! -e journal ] && [ ! -e ran ] && pass || fail "$what: a journal was made, or something was started"
+}
+begun 'a name that nothing has, of a run that begins' '304 NoSuchName name=z' inventory --mended e,z
+printf '%s' '{"row":{"vars":{"max_down":0},"hosts":{"a":null,"e":{"down":true}}}}' >over
+begun 'the inventory itself may not start over its limit' '302 StartOver group=row down=1 limit=0' over --mended e
+rm -f over
+
 # ---- what refuses it
 
 written one HEAD 'play: a b' 'open: a'
@@ -125,18 +278,29 @@ refused 'another playbook' '913 OtherInputs' two
 cp inventory kept-inventory
 printf ' ' >>inventory
 refused 'another inventory' '913 OtherInputs' one
+refused 'another inventory, by a playbook with more plays' '913 OtherInputs' two --changed-inputs
 run run inventory one --resume journal --changed-inputs
 [ "$status" -eq 0 ] || [ "$status" -eq 3 ] && pass || fail 'other inputs are meant'
 cp kept-inventory inventory
 written one HEAD 'play: a b' 'open: a'
 refused 'a name that nothing has' '304 NoSuchName name=z' one --mended a,z
+printf '20 1234 play: a b' >>journal
+refused 'a line that broke off stays where nothing goes on' '304 NoSuchName name=z' one --mended a,z
 printf '%s' '{"row":{"hosts":{"a":null,"c":null}}}' >inventory
+refused 'another inventory, before a host that it lacks' '913 OtherInputs' one
 refused 'a host that is there no more' '912 BadJournal line=2' one --changed-inputs
+printf '%s' '{"row":{"hosts":{"a":null,"b":{"down":true}}}}' >inventory
+refused 'a host that waited, and is marked as down now' '912 BadJournal line=2' one --changed-inputs
+refused 'also where it is mended' '912 BadJournal line=2' one --changed-inputs --mended b
 printf '%s' '{"row":{"vars":{"max_down":0},"hosts":{"a":null,"b":null}}}' >inventory
 refused 'a limit that is lower now' '302 StartOver group=row down=1 limit=0' one --changed-inputs
 cp kept-inventory inventory
 written two HEAD 'play: a b' 'end finished' 'play: a' 'open: a' 'closed: updated:a' 'end held'
 refused 'fewer plays' '913 OtherInputs' one --changed-inputs
+written one HEAD 'play: a b' 'open: a'
+refused 'more plays, before a name of the journal that is down' '913 OtherInputs' two --changed-inputs
+written two HEAD 'play: a b' 'open: a'
+refused 'fewer plays, in the first one' '913 OtherInputs' one --changed-inputs
 written one HEAD 'play: a' 'open: b'
 refused 'a line that no run writes' '912 BadJournal line=3' one
 : >journal
@@ -147,6 +311,34 @@ refused 'a step reads what an earlier play registered' '914 NeedsResult name=r' 
 written needs HEAD 'play: a' 'open: a'
 run run inventory needs --resume journal --mended a
 [ "$status" -eq 0 ] && pass || fail "the play that registers it goes on: $(cat errors)"
+# Who was updated in the play that goes on doesn't run it again: what it registered is gone.
+printf '%s' '[{"hosts":"a:b","serial":1,"tasks":[{"command":"true","register":"r"}]},{"hosts":"a:b","tasks":[{"command":{"argv":["sh","-c","echo {{ inventory_hostname }} >>ran"]},"when":"r is changed"}]}]' >later
+written later HEAD 'play: a b' 'open: a' 'closed: updated:a' 'open: b'
+refused 'a later play reads what the play that goes on registered' '914 NeedsResult name=r' later --mended b
+refused 'before a group is told to be over its limit' '914 NeedsResult name=r' later
+printf '%s' '[{"hosts":"a:b","serial":1,"tasks":[{"command":"true","register":"r"}]}]' >short
+written short HEAD 'play: a b' 'open: a' 'closed: updated:a' 'open: b'
+refused 'more plays, before a result that one of them reads' '913 OtherInputs' later --changed-inputs
+written later HEAD 'play: a b' 'open: a' 'closed: failed:a' 'open: b'
+went 'not where nobody was updated in it' 0 'play 1
+open: a
+open: b
+a ok=1 changed=1 failed=0 skipped=0 ignored=0 state=updated
+b ok=1 changed=1 failed=0 skipped=0 ignored=0 state=updated
+e ok=0 changed=0 failed=0 skipped=0 ignored=0 state=off
+end finished
+play 2
+open: a
+open: b
+a ok=1 changed=1 failed=0 skipped=0 ignored=0 state=updated
+b ok=1 changed=1 failed=0 skipped=0 ignored=0 state=updated
+e ok=0 changed=0 failed=0 skipped=0 ignored=0 state=off
+end finished' 'a b ' later --mended a,b
+printf '%s' '[{"hosts":"a:b","tasks":[{"command":"true","register":"r"}]},{"hosts":"a:b","tasks":[{"command":"true","register":"r"},{"command":"true","when":"r is changed"}]}]' >own
+written own HEAD 'play: a b' 'open: a' 'closed: updated:a' 'open: b'
+run run inventory own --resume journal --mended b
+[ "$status" -eq 0 ] && pass || fail "what a play registers itself it may read: $(cat out errors)"
+rm -f ran
 rm journal
 run run inventory one --resume journal
 check 'no journal' 1 '' "rollout: 902 File name=journal$newline"
@@ -156,6 +348,15 @@ ln -s journal link
 run run inventory one --resume link
 check 'a link' 1 '' "rollout: 911 JournalWrite$newline"
 [ ! -e ran ] && pass || fail 'a link is gone on with'
+# A pipe waits for its writer, and can't be added to.
+mkfifo pipe
+timeout 1 "$rollout" run inventory one --resume pipe >out 2>errors
+[ "$?" -eq 124 ] && [ ! -s out ] && [ ! -s errors ] && [ ! -e ran ] && pass || fail 'a pipe without a writer is not waited for'
+cat journal >pipe &
+run run inventory one --resume pipe
+wait
+check 'a pipe' 1 '' "rollout: 911 JournalWrite$newline"
+[ ! -e ran ] && pass || fail 'a pipe is gone on with'
 
 # held FILE: goes on while somebody else holds the lock of a file
 held() {
@@ -173,4 +374,23 @@ done
 written one HEAD
 held one
 [ "$status" -eq 0 ] && pass || fail 'a playbook has no lock'
+
+# While a run goes on, by a program of its own: a second one with the same journal, also one with a copy of the inventory, and a new one with a journal of its own.
+cp inventory copied
+cat >beside.sh <<'SCRIPT'
+for words in 'inventory beside --resume journal' 'copied beside --resume journal' 'inventory beside --journal new'; do
+    "$1" run $words >>beside.out 2>>beside.errors
+    echo "$?" >>beside.status
+done
+cp journal journal.meanwhile
+SCRIPT
+printf '[{"hosts":"a","tasks":[{"command":{"argv":["sh","beside.sh","%s"]}}]}]' "$rollout" >beside
+written beside HEAD 'play: a'
+went 'runs beside one that goes on are refused' 0 'open: a
+a ok=1 changed=1 failed=0 skipped=0 ignored=0 state=updated
+e ok=0 changed=0 failed=0 skipped=0 ignored=0 state=off
+end finished' '' beside
+added 'runs beside it leave its journal as it is' 'resumed:' 'again: a' 'open: a' 'closed: updated:a' 'end finished'
+[ "$(tr '\n' ' ' <beside.status)" = '1 1 1 ' ] && [ "$(sort -u beside.errors)" = 'rollout: 918 Locked' ] && [ ! -s beside.out ] && [ ! -e new ] && pass || fail "beside a run that goes on: $(cat beside.status beside.errors)"
+[ "$(sed 's/^[0-9]* [0-9]* //' journal.meanwhile | tail -n 1)" = 'open: a' ] && pass || fail 'the journal meanwhile'
 finish

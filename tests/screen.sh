@@ -1,6 +1,6 @@
 #!/bin/sh
-# What a terminal shows while a run goes on, without `-v`: one line that is written over, and each failure above it; what it shows when the run is over; and that nothing of
-# that goes anywhere else. The terminals are Python's, and what they show is made out by tests/programs/screen.py. It needs a C compiler, Python 3 and
+# What a terminal shows while a run goes on, without `-v`: one line that is written over, and each failure above it; what it shows when the run is over; that nothing of
+# that goes anywhere else; and where full groups are coloured. The terminals are Python's, and what they show is made out by tests/programs/screen.py. It needs a C compiler, Python 3 and
 # crates/rollout/out/rollout.
 . "$(dirname "$0")/common.sh"
 . "$top/tests/programs/steps.sh"
@@ -112,6 +112,37 @@ for flag in '' -v; do
     cmp -s "$work/out" "$work/recap" && pass || fail "a pipe of errors ${flag}: another recap"
     [ -n "$flag" ] || { [ ! -s "$work/errors" ] && [ ! -s "$work/piped" ]; } && pass || fail 'something is told where nobody asks'
 done
+
+# ---- full groups
+
+# Where standard output is a terminal full groups are coloured, as long as neither it nor the line nor `NO_COLOR` says otherwise.
+echo '{"g":{"vars":{"max_down":1},"hosts":{"a":null,"b":null}}}' >"$work/pair.json"
+echo '[{"hosts":"g","tasks":[{"command":"true"}]}]' >"$work/pair-play.json"
+# tabled WHAT CELL WORD..: behind these words `plan --groups` shows the full cells so
+tabled() {
+    what=$1 cell=$2
+    shift 2
+    timeout -k 5 "$limit" python3 "$helpers/screen.py" 80 "$work/out" "$work/raw" /bin/sh -c 'exec "$@" >&2' sh "$@" "$rollout" plan "$work/pair.json" "$work/pair-play.json" --groups $words \
+        >"$work/screen" 2>"$work/faults" </dev/null
+    printf 'plan batches=2 bound=group g waiting=2 room=1\nbatch 1: a\nbatch 2: b\n     now   1   2\ng* 1 0/1 %s %s\n' "$cell" "$cell" >"$work/wanted"
+    cmp -s "$work/raw" "$work/wanted" && pass || { fail "full groups, $what"; diff "$work/wanted" "$work/raw" | cat -v | head -8; }
+}
+red=$(printf '\033[1;31m1/1\033[0m')
+for words in '' --color=auto '--color never --color auto' --color=always; do
+    tabled "a terminal, '$words'" "$red" env -u NO_COLOR
+done
+words=
+tabled 'a NO_COLOR that is empty' "$red" env NO_COLOR=
+tabled 'NO_COLOR' 1/1 env NO_COLOR=1
+tabled 'NO_COLOR, and a long one' 1/1 env NO_COLOR=123456789
+tabled 'a dumb terminal' 1/1 env -u NO_COLOR TERM=dumb
+words='--color always --color=never'
+tabled never 1/1 env -u NO_COLOR
+words='--color always'
+tabled 'always, over NO_COLOR' "$red" env NO_COLOR=1
+tabled 'always, over a dumb terminal' "$red" env -u NO_COLOR TERM=dumb
+words='--color auto'
+tabled 'NO_COLOR beside auto' 1/1 env NO_COLOR=1
 
 # ---- no words
 

@@ -62,6 +62,11 @@ end finished' HEAD 'play: a d' 'open: a d' 'closed: updated:a updated:d' 'end fi
 told 'ended, and one has failed' 2 'a state=failed
 d state=updated
 end finished' HEAD 'play: a d' 'open: a d' 'closed: failed:a updated:d' 'end finished'
+told 'ended, and one was at work when it broke off' 2 'a state=halted
+d state=updated
+end finished' HEAD 'play: a d' 'open: a' 'resumed:' 'again: d' 'open: d' 'closed: updated:d' 'end finished'
+told 'ended, and who was at work is up by now' 0 'd state=updated
+end finished' HEAD 'play: a d' 'open: a' 'resumed: a' 'again: d' 'open: d' 'closed: updated:d' 'end finished'
 told 'hosts were set aside' 3 'a state=failed
 b state=held
 end held' HEAD 'play: a b' 'open: a' 'closed: failed:a' 'held: b' 'end held'
@@ -152,6 +157,53 @@ check 'another inventory, by a line feed' 1 '' "rollout: 913 OtherInputs$newline
 printf '{"all":{"hosts":{"z":null}}}' >"$work/other.json"
 run state "$work/other.json" "$work/journal"
 check 'another inventory, without the hosts' 1 '' "rollout: 913 OtherInputs$newline"
+
+# ---- another inventory that is meant
+
+# meant WHAT STATUS TEXT WORD ..: with the other inventory this is told of the journal.
+meant() {
+    what=$1
+    ends=$2
+    text=$3
+    shift 3
+    run state "$@" "$work/other.json" "$work/journal"
+    check "$what" "$ends" "$text$newline" ''
+}
+written HEAD 'play: a b d' 'open: a' 'closed: updated:a' 'open: b'
+printf '%s\n' "$racks" >"$work/other.json"
+stands='a state=updated
+b state=running
+d state=waiting
+end broken-off'
+meant 'the same by a line feed' 6 "$stands" --changed-inputs
+run state "$work/other.json" "$work/journal" --changed-inputs --changed-inputs
+check 'the same, said behind the files and twice' 6 "$stands$newline" ''
+run state "$work/racks.json" "$work/journal" --changed-inputs
+check 'with the inventory that it began with nothing changes' 6 "$stands$newline" ''
+printf '{"r9":{"vars":{"max_down":1},"hosts":{"a":null,"b":null,"c":null,"d":null,"new":{"down":true}}}}' >"$work/other.json"
+meant 'with other groups and limits, and a host more that is down' 6 'a state=updated
+b state=running
+d state=waiting
+new state=off
+end broken-off' --changed-inputs
+# lost WHAT LINE INVENTORY: with this inventory this line is bad.
+lost() {
+    printf '%s' "$3" >"$work/other.json"
+    run state --changed-inputs "$work/other.json" "$work/journal"
+    check "$1" 1 '' "rollout: 912 BadJournal line=$2$newline"
+}
+lost 'a host that is there no more' 2 '{"r1":{"hosts":{"a":null,"b":null}}}'
+lost 'a host that waited, and is marked as down now' 2 '{"r1":{"hosts":{"a":null,"b":{"down":true},"d":null}}}'
+written HEAD 'play: a' 'open: a' 'closed: failed:a' 'end blocked group=r1'
+lost 'a group that is there no more' 5 '{"r9":{"hosts":{"a":null}}}'
+lost 'a host that failed, and is marked as down now' 2 '{"r1":{"hosts":{"a":{"down":true}}}}'
+written 'play: a'
+lost 'no head' 1 "$racks"
+printf '{' >"$work/other.json"
+run state --changed-inputs "$work/other.json" "$work/journal"
+check 'another inventory that is none' 1 '' "rollout: 201 NotJson$newline"
+
+written HEAD 'play: a b'
 printf '{' >"$work/other.json"
 run state "$work/other.json" "$work/journal"
 check 'an inventory that is none' 1 '' "rollout: 201 NotJson$newline"

@@ -1,6 +1,6 @@
-/* Loaded before the C library: the file that is made new is the journal, and each write to it and each sync of it is counted. At the call DISK_AT it does what DISK_DOES says: the
-   process is killed before the call or behind it, the call fails, or a write takes one byte. What was synced is copied to DISK_IMAGE: so much a power cut leaves at least. With
-   FOLDER_FAILS its folder can't be synced. */
+/* Loaded before the C library: the file that is made new, or gone on with at its end, is the journal, and each write to it, each sync of it and each cut is counted. At the call DISK_AT it
+   does what DISK_DOES says: the process is killed before the call or behind it, the call fails, a write takes one byte, or the disk is full from then on, behind one byte more. What was synced
+   is copied to DISK_IMAGE: so much a power cut leaves at least. With FOLDER_FAILS its folder can't be synced. */
 #define _GNU_SOURCE
 #include <dlfcn.h>
 #include <errno.h>
@@ -28,8 +28,10 @@ __attribute__((constructor)) static void alone(void) {
 
 static int is(const char *what) { return calls == at && does && !strcmp(does, what); }
 
+static int is_full(void) { return calls >= at && at >= 0 && does && !strcmp(does, "full"); }
+
 static int made(int fd, const char *path, int flags) {
-    if (fd >= 0 && (flags & O_CREAT) && (flags & O_EXCL)) {
+    if (fd >= 0 && ((flags & O_APPEND) || ((flags & O_CREAT) && (flags & O_EXCL)))) {
         journal = fd;
         name = strdup(path);
     }
@@ -67,11 +69,11 @@ ssize_t write(int fd, const void *bytes, size_t count) {
     calls++;
     if (is("kill_before"))
         raise(SIGKILL);
-    if (is("fail")) {
+    if (is("fail") || (is_full() && calls > at)) {
         errno = ENOSPC;
         return -1;
     }
-    ssize_t taken = real(fd, bytes, is("short") || is("short_kill") ? 1 : count);
+    ssize_t taken = real(fd, bytes, is("short") || is("short_kill") || is_full() ? 1 : count);
     if (is("kill_behind") || is("short_kill"))
         raise(SIGKILL);
     return taken;
@@ -90,10 +92,8 @@ static void keep(void) {
     close(to);
 }
 
-int fdatasync(int fd) {
-    int (*real)(int) = dlsym(RTLD_NEXT, "fdatasync");
-    if (fd != journal)
-        return real(fd);
+/* A call to the journal that is no write. */
+static int counted(int fd, int (*real)(int, off_t), off_t length, int syncs) {
     calls++;
     if (is("kill_before"))
         raise(SIGKILL);
@@ -101,21 +101,40 @@ int fdatasync(int fd) {
         errno = EIO;
         return -1;
     }
-    int status = real(fd);
-    if (image)
+    int status = real(fd, length);
+    if (image && syncs)
         keep();
     if (is("kill_behind"))
         raise(SIGKILL);
     return status;
 }
 
-/* Only of a folder is this asked. */
+static int to_disk(int fd, off_t ignored) {
+    (void)ignored;
+    return ((int (*)(int))dlsym(RTLD_NEXT, "fdatasync"))(fd);
+}
+
+static int wholly_to_disk(int fd, off_t ignored) {
+    (void)ignored;
+    return ((int (*)(int))dlsym(RTLD_NEXT, "fsync"))(fd);
+}
+
+static int cut(int fd, off_t length) { return ((int (*)(int, off_t))dlsym(RTLD_NEXT, "ftruncate"))(fd, length); }
+
+int fdatasync(int fd) { return fd == journal ? counted(fd, to_disk, 0, 1) : to_disk(fd, 0); }
+
+int ftruncate(int fd, off_t length) { return fd == journal ? counted(fd, cut, length, 0) : cut(fd, length); }
+
+int ftruncate64(int fd, off64_t length) { return ftruncate(fd, length); }
+
+/* Of the journal, or of its folder. */
 int fsync(int fd) {
-    int (*real)(int) = dlsym(RTLD_NEXT, "fsync");
     struct stat found;
+    if (fd == journal)
+        return counted(fd, wholly_to_disk, 0, 1);
     if (getenv("FOLDER_FAILS") && !fstat(fd, &found) && S_ISDIR(found.st_mode)) {
         errno = EIO;
         return -1;
     }
-    return real(fd);
+    return wholly_to_disk(fd, 0);
 }

@@ -14,15 +14,12 @@ import subprocess
 import sys
 import time
 
-sys.path.insert(0, os.path.dirname(os.path.abspath(__file__)))
-import importlib.util
+HERE = os.path.dirname(os.path.abspath(__file__))
+# What is here goes before what the slow program has, whose reader of journals is written beside the pages.
+sys.path += [HERE, os.path.join(HERE, "../slow")]
 
+import commands
 import journal
-
-# The reader of journals that is written beside the pages.
-READER = importlib.util.spec_from_file_location("slow_journal", os.path.join(os.path.dirname(os.path.abspath(__file__)), "../slow/journal.py"))
-slow = importlib.util.module_from_spec(READER)
-READER.loader.exec_module(slow)
 
 PROGRAM, FOLDER, PRELOAD = sys.argv[1:4]
 draw = random.Random(int(sys.argv[4]))
@@ -169,8 +166,8 @@ def wrong_in_told(case, kept, hosts):
 def wrong_in_standing(case, kept):
     """What `state` says otherwise than the slow reader of a journal that was gone on with."""
     told = subprocess.run([PROGRAM, "state", case.paths[0], case.paths[2]], stdin=subprocess.DEVNULL, capture_output=True)
-    wanted = slow.expected(case.inventory, kept)
-    return (told.stdout, told.stderr, told.returncode) != wanted and f"state says {told}, not {wanted}"
+    wanted = commands.state(case.inventory, kept)
+    return (told.stdout.decode(), told.stderr.decode(), told.returncode) != (wanted.out, wanted.errors, wanted.status) and f"state says {told}, not {wanted}"
 
 
 def forty():

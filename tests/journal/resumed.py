@@ -18,6 +18,7 @@ sys.path.insert(0, os.path.dirname(os.path.abspath(__file__)))
 import journal
 import kept
 from kept import Case, draw, fleet, judge, settle
+from limits import over
 
 
 def stamping(failing):
@@ -86,15 +87,7 @@ def wrong_in_limits(case, mended_at):
     for stamp, word, host in case.stamps():
         moves.append((int(stamp), host, word != "ended"))
     moves += [(stamp, host, False) for stamp, host in mended_at]
-    down = set()
-    for stamp, host, goes in sorted(moves, key=lambda move: (move[0], move[2])):
-        (down.add if goes else down.discard)(host)
-        for rack, (hosts, limit) in case.racks.items():
-            if len(down & set(hosts)) > limit:
-                return f"{sorted(down & set(hosts))} of {rack} down, and it may lose {limit}"
-        if len(down) > case.row:
-            return f"{sorted(down)} down, and the row may lose {case.row}"
-    return None
+    return over({**case.racks, "the row": (case.hosts, case.row)}, [move[1:] for move in sorted(moves, key=lambda move: (move[0], move[2]))])
 
 
 def updated_by(kept_, hosts):

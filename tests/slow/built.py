@@ -3,7 +3,7 @@
 import subprocess
 from pathlib import Path
 
-from cases import INVENTORY, PLAYBOOK, Case
+from cases import INVENTORY, JOURNAL, PLAYBOOK, Case
 from commands import Said
 from telling import in_order, timeless
 
@@ -19,7 +19,8 @@ def call(program, case, folder, before=None):
         )
     except subprocess.TimeoutExpired:
         return Said("", f"it didn't end within {LONGEST_RUN} seconds\n", -1)
-    return Said(_text(done.stdout), _told(case, _text(done.stderr)), done.returncode)
+    left = None if case.journal is None else (Path(folder) / JOURNAL).read_bytes()
+    return Said(_text(done.stdout), _told(case, _text(done.stderr)), done.returncode, left)
 
 
 def _told(case, errors):
@@ -30,9 +31,11 @@ def _told(case, errors):
 
 
 def put_files(case, folder):
-    """Writes the inventory and the playbook of a case."""
+    """Writes the inventory and the playbook of a case, and its journal, where it has one."""
     (Path(folder) / INVENTORY).write_bytes(case.inventory)
     (Path(folder) / PLAYBOOK).write_bytes(case.playbook)
+    if case.journal is not None:
+        (Path(folder) / JOURNAL).write_bytes(case.journal)
 
 
 def _text(raw):

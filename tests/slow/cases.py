@@ -12,6 +12,7 @@ from draw_playbook import draw_playbook
 from draw_playbook import draw_right as draw_right_playbook
 from draw_programs import RunStyle
 from draw_steps import AnyStyle, name_tasks
+from entries import renamed
 from faults import Fault
 from inventory import read_inventory
 from json_draw import Members, write
@@ -23,22 +24,24 @@ from rehearsal import Rehearsal
 INVENTORY = "inventory.json"
 PLAYBOOK = "playbook.json"
 FORKS = (1, 2, 5, 64)
-KINDS = ("limits", "plan", "run", "rehearse")
+JOURNAL = "journal"
+KINDS = ("limits", "plan", "run", "rehearse", "state")
 MISSING = ["missing.json", "inventory.json/", ".", "./", "", "caf\u00e9 \x7f", "no/such/folder"]
 
 
 @dataclass(frozen=True)
 class Case:
-    """One call of the program in a folder with two files. `words` are the arguments; `typed` is standard input."""
+    """One call of the program in a folder with two files, or three. `words` are the arguments; `typed` is standard input."""
 
     words: tuple
     inventory: bytes
     playbook: bytes = b""
     typed: bytes = b""
+    journal: bytes | None = None
 
     @property
     def kind(self):
-        """The command: limits (also without words), plan, run or rehearse."""
+        """The command: limits (also without words), plan, run, rehearse or state."""
         return self.words[0] if self.words else "limits"
 
     @property
@@ -48,19 +51,28 @@ class Case:
 
     def said(self):
         """What the slow program says."""
-        files = {INVENTORY: self.inventory, PLAYBOOK: self.playbook}
-        named = self.words[1:3]
+        files = {INVENTORY: self.inventory, PLAYBOOK: self.playbook, JOURNAL: self.journal}
+        named = commands.named_files(self.words)
         for name in named:
             if name not in files:
                 return commands.refused(Fault(902, "File", name=name))
         return commands.command(self.words, [files[name] for name in named] or [self.typed], self.typed)
+
+    def put(self, part, text):
+        """The same case with another text. A journal stays that of a run that began with it, where it was so."""
+        case = replace(self, **{part: text})
+        if self.journal is None or part not in ("inventory", "playbook"):
+            return case
+        return replace(case, journal=renamed(self.journal, getattr(self, part), text))
 
     def at_forks(self, numbers):
         """The run with each of these numbers of programs at once."""
         return [replace(self, words=(*self.words, "--forks", str(forks))) for forks in numbers]
 
     def variants(self):
-        """The calls that have to say the same: a run with several numbers of programs at once, where none is said."""
+        """The calls that have to say the same: a run with several numbers of programs at once, where none is said. Of a run that goes on it is told first where it stands."""
+        if self.journal is not None:
+            return [replace(self, words=("state", INVENTORY, JOURNAL)), self]
         if self.kind != "run" or "--forks" in self.words:
             return [self]
         if self.is_verbose:
@@ -126,7 +138,9 @@ def draw_grouped(seed, number):
     failing = [] if are_many and random.random() < 0.7 else _failing(random, hosts_in(inventory), names_in(inventory))
     words = ["--course", *failing] if random.random() < 0.6 else []
     words.insert(random.choice([0, len(words)]), "--groups")
-    return Case(("plan", INVENTORY, PLAYBOOK, *words), inventory, write(value, random))
+    playbook = write(value, random)
+    words += random.choice(["", "--color auto", "--color=never", "--color always", "--color=always", "--color=never --color always"]).split()
+    return Case(("plan", INVENTORY, PLAYBOOK, *words), inventory, playbook)
 
 
 def _few(random):

@@ -4,29 +4,33 @@ from dataclasses import dataclass
 
 from aftermath import left_out, why
 from course import next_boundary
+from entries import digest, entries_of, line, whole_of
 from faults import Fault
 from fleet import Fleet, parts_of
 from foreseen import foresee, foreseen_text
 from inventory import read_inventory
 from planning import Blocked, start
 from playbook import read_playbook
-from plays import recaps, run_plays, status_of
+from plays import end_line, recaps, run_plays, status_of
 from rehearsal import Rehearsal
 from rehearsal import rehearse as answers
+from resuming import is_of, rest_of
 from rules import turned
 from sizes import cap
+from standing import read_journal
 from surveyed import groups_lines, sight_of_plan
 from telling import told
-from texts import as_text, limits_text, plan_text
+from texts import as_text, limits_text, listed, plan_text
 
 
 @dataclass(frozen=True)
 class Said:
-    """Both outputs of a command, as texts, and its exit status."""
+    """Both outputs of a command, as texts, and its exit status; and what is left of the journal that it was given."""
 
     out: str
     errors: str
     status: int
+    journal: bytes | None = None
 
 
 def command(words, files, typed):
@@ -34,11 +38,15 @@ def command(words, files, typed):
     if not words or words[0] == "limits":
         return limits(*files)
     if words[0] == "plan" and "--course" in words:
-        return course(*files, names_to_fail(words), "--groups" in words)
+        return course(*files, names_to_fail(words), "--groups" in words, wants_colours(words))
     if words[0] == "plan":
-        return plan(*files, "--groups" in words)
+        return plan(*files, "--groups" in words, wants_colours(words))
+    if words[0] == "run" and "--resume" in words:
+        return resume(*files, mended_names(words), "--changed-inputs" in words)
     if words[0] == "run":
         return run(*files, is_verbose="-v" in words)
+    if words[0] == "state":
+        return state(*files)
     if words[0] == "rehearse":
         return rehearse(*files, typed)
     return refused(Fault(901, "BadLine"))
@@ -52,8 +60,8 @@ def limits(inventory):
         return refused(fault)
 
 
-def plan(inventory, playbook, is_grouped=False):
-    """The plan of the first play, once all plays were accepted; below it its groups, where they are asked for."""
+def plan(inventory, playbook, is_grouped=False, is_coloured=False):
+    """The plan of the first play, once all plays were accepted; below it its groups, where they are asked for, and the full ones coloured where that is."""
     try:
         fleet, plays, targets = accepted(inventory, playbook)
     except Fault as fault:
@@ -61,19 +69,41 @@ def plan(inventory, playbook, is_grouped=False):
     state = start(fleet, targets[0])
     boundary = next_boundary(fleet, plays[0], state, cap(plays[0].sizes, targeted(fleet, targets[0]), 0))
     left_out = boundary.aside and not turned("held-hosts-make-status-three")
-    groups = as_text(groups_lines(fleet, sight_of_plan(state, boundary.answer, boundary.aside))) if is_grouped else ""
+    groups = as_text(groups_lines(fleet, sight_of_plan(state, boundary.answer, boundary.aside), is_coloured)) if is_grouped else ""
     return Said(plan_text(boundary.answer, boundary.aside) + groups, "", 3 if isinstance(boundary.answer, Blocked) or left_out else 0)
 
 
+def named_files(words):
+    """The names of the files that a line of words gives, in the order in which they are read."""
+    journal = [value for word, value in zip(words, words[1:]) if word == "--resume"]
+    return [*words[1:3], *journal]
+
+
+def wants_colours(words):
+    """Whether the last `--color` asks for colours where standard output is no terminal."""
+    asked = [word.removeprefix("--color=") for word in " ".join(words).replace("--color ", "--color=").split(" ") if word.startswith("--color=")]
+    return asked[-1:] == ["always"]
+
+
 def names_to_fail(words):
-    """The names that `--failing` gives, as a word of its own or behind a `=`, in their order."""
-    apart = [value for word, value in zip(words, words[1:]) if word == "--failing"]
-    attached = [word.removeprefix("--failing=") for word in words if word.startswith("--failing=")]
+    """The names that `--failing` gives."""
+    return _names_behind("--failing", words)
+
+
+def mended_names(words):
+    """The names that `--mended` gives."""
+    return _names_behind("--mended", words)
+
+
+def _names_behind(option, words):
+    """The names that an option gives, as a word of its own or behind a `=`, in their order."""
+    apart = [value for word, value in zip(words, words[1:]) if word == option]
+    attached = [word.removeprefix(f"{option}=") for word in words if word.startswith(f"{option}=")]
     return [name for value in apart + attached for name in parts_of(value)]
 
 
-def course(inventory, playbook, names, is_grouped=False):
-    """What a run would open to its end, where just the hosts of these names fail; below each play its groups, where they are asked for."""
+def course(inventory, playbook, names, is_grouped=False, is_coloured=False):
+    """What a run would open to its end, where just the hosts of these names fail; below each play its groups, where they are asked for, and the full ones coloured where that is."""
     try:
         if turned("course-names-last"):
             Fleet(read_inventory(inventory)).target(names)
@@ -84,7 +114,7 @@ def course(inventory, playbook, names, is_grouped=False):
     except Fault as fault:
         return refused(fault)
     courses = foresee(fleet, plays, targets, lambda target: targeted(fleet, target), failing)
-    return Said(foreseen_text(fleet, courses, len(plays) > 1, is_grouped), "", status_of(courses))
+    return Said(foreseen_text(fleet, courses, len(plays) > 1, is_grouped, is_coloured), "", status_of(courses))
 
 
 def run(inventory, playbook, is_verbose=False):
@@ -96,6 +126,30 @@ def run(inventory, playbook, is_verbose=False):
     courses = run_plays(fleet, plays, targets, lambda target: targeted(fleet, target))
     errors = left_out(fleet, targets) + told(plays, courses) + why(fleet, plays, courses) if is_verbose else ""
     return Said(recaps(courses, len(plays) > 1), errors, status_of(courses))
+
+
+def state(inventory, journal):
+    """Where a run stands by its journal, which began with the inventory."""
+    try:
+        standing = read_journal(Fleet(read_inventory(inventory)), journal, lambda inputs: inputs[0] == digest(inventory))
+    except Fault as fault:
+        return refused(fault, journal=journal)
+    out, status = standing.told()
+    return Said(out, "", status, journal)
+
+
+def resume(inventory, playbook, journal, names, takes_others):
+    """The recap of the rest of a run that broke off, and its journal, which goes on."""
+    try:
+        fleet, plays, targets = accepted(inventory, playbook)
+        is_own = (lambda inputs: True) if takes_others else (lambda inputs: is_of(inputs, inventory, playbook))
+        rest = rest_of(fleet, plays, targets, names, lambda: read_journal(fleet, journal, is_own))
+    except Fault as fault:
+        return refused(fault, journal=journal)
+    courses = run_plays(fleet, plays[rest.before :], targets[rest.before :], lambda target: targeted(fleet, target), rest.state, rest.opened)
+    before = 0 if turned("resume-plays-have-the-numbers-of-the-file") else rest.before
+    went_on = b"".join(line(body) for body in [listed("resumed:", rest.mended), *entries_of(courses, end_line, rest.word)])
+    return Said(recaps(courses, len(plays) > 1, before), "", status_of(courses), whole_of(journal) + went_on)
 
 
 def rehearse(inventory, playbook, typed):
@@ -129,6 +183,6 @@ def targeted(fleet, target):
     return len(target)
 
 
-def refused(fault, out=""):
-    """What is said of a refused input, behind what went out before."""
-    return Said(out, fault.line(), 1)
+def refused(fault, out="", journal=None):
+    """What is said of a refused input, behind what went out before. A journal stays as it was."""
+    return Said(out, fault.line(), 1, journal)

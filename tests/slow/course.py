@@ -26,17 +26,19 @@ class Boundary:
 
 @dataclass
 class Course:
-    """A play's boundaries, its end (its words), the state it leaves, and each host's counts."""
+    """A play's boundaries, its end (its words), the state it leaves, and each host's counts; and who waits as it begins."""
 
     boundaries: list = field(default_factory=list)
     end: tuple = ()
     state: dict = field(default_factory=dict)
     counts: dict = field(default_factory=dict)
+    waits: list = field(default_factory=list)
 
 
 def run_play(fleet, play, state, hosts, targeted, opened=0):
     """A whole play from a state; `targeted` is the number of which sizes in percent are taken, `opened` the first size."""
-    course = Course(state=state, counts={host: dict.fromkeys(COUNTED, 0) for host in fleet.hosts})
+    waits = [host for host in fleet.hosts if state[host] == "waiting"]
+    course = Course(state=state, counts={host: dict.fromkeys(COUNTED, 0) for host in fleet.hosts}, waits=waits)
     end = None
     while True:
         boundary = next_boundary(fleet, play, state, cap(play.sizes, targeted, opened), end)

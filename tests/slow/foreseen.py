@@ -22,11 +22,11 @@ class Foreseen:
     states: list[dict]
 
 
-def foresee(fleet, plays, targets, counted, failing):
-    """The courses of the plays that a run would begin, where just these hosts fail."""
+def foresee(fleet, plays, targets, counted, failing, begun=None):
+    """The courses of the plays that a run would begin, where just these hosts fail; from the state of a first play that has begun, where it is given."""
     courses = []
     for play, target in zip(plays, targets):
-        state = _again(courses[-1].state, target, failing) if courses else start(fleet, target)
+        state = _again(courses[-1].state, target, failing) if courses else begun or start(fleet, target)
         courses.append(_course(fleet, play, state, counted(target), failing))
         if courses[-1].end != ("finished",):
             break
@@ -59,17 +59,17 @@ def _course(fleet, play, state, targeted, failing):
             state.update({host: "updated" for host in batch if state[host] == "failed"})
 
 
-def foreseen_text(fleet, courses, several, is_grouped=False):
+def foreseen_text(fleet, courses, several, is_grouped=False, is_coloured=False, before=0):
     """The boundaries and the end of each play as a recap has them, behind its number where there are several, with its groups where they are asked for; and how many batches that are."""
     lines = []
-    for number, course in enumerate(courses, 1):
+    for number, course in enumerate(courses, before + 1):
         lines += [f"play {number}"] if several else []
         for place, boundary in enumerate(course.boundaries, 1):
             lines.append(f"boundary {place}: {first_line(boundary.answer)}")
             lines += [listed("held:", boundary.aside)] if boundary.aside else []
             lines += [listed("open:", boundary.opened)] if boundary.opened is not None else []
         lines.append(end_line(course.end))
-        lines += groups_lines(fleet, _sight(course)) if is_grouped else []
+        lines += groups_lines(fleet, _sight(course), is_coloured) if is_grouped else []
     counted = courses[-1:] if turned("course-counts-all-plays") else courses
     lines.append(f"batches={sum(boundary.opened is not None for course in counted for boundary in course.boundaries)}")
     return as_text(lines)

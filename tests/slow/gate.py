@@ -1,7 +1,10 @@
-"""The seed and the numbers of the cases that the gate draws: of all commands, of runs that tell of themselves, of courses, and of groups."""
+"""The seed and the numbers of the cases that the gate draws: of all commands, of runs that tell of themselves, of courses, of groups, of runs that go on, and of runs that begin with hosts that are
+up though they are marked as down."""
 
 SEED = "1"
 CASES = 5_000
 TOLD = 2_000
 FORESEEN = 3_000
 GROUPED = 1_000
+RESUMED = 1_000
+MENDED = 500

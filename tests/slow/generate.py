@@ -4,7 +4,8 @@ import shlex
 import sys
 from pathlib import Path
 
-from cases import INVENTORY, PLAYBOOK, draw_case
+from built import put_files
+from cases import draw_case
 
 
 def main(seed, number, folder):
@@ -15,8 +16,7 @@ def main(seed, number, folder):
 def keep(case, folder, program):
     """Writes a case's files; answers the command that runs it on a program."""
     folder.mkdir(parents=True, exist_ok=True)
-    (folder / INVENTORY).write_bytes(case.inventory)
-    (folder / PLAYBOOK).write_bytes(case.playbook)
+    put_files(case, folder)
     (folder / "typed").write_bytes(case.typed)
     return f"cd {shlex.quote(str(folder))} && {program} {shlex.join(case.words)} <typed"
 

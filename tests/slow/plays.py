@@ -7,10 +7,11 @@ from rules import turned
 from texts import as_text, first_line, listed
 
 
-def run_plays(fleet, plays, targets, counted):
-    """The courses of the plays that were begun. A play that ends otherwise than finished is the last one."""
+def run_plays(fleet, plays, targets, counted, state=None, opened=0):
+    """The courses of the plays that were begun, of which the first may begin from another state than that of the inventory. A play that ends otherwise than finished is the last
+    one."""
     hosts = {host: Host(fleet, host) for host in fleet.hosts}
-    state = start(fleet, targets[0])
+    state = state or start(fleet, targets[0])
     courses = []
     for play, target in zip(plays, targets):
         if courses:
@@ -18,7 +19,7 @@ def run_plays(fleet, plays, targets, counted):
         if turned("results-last-into-later-plays"):
             for host in hosts.values():
                 host.results = {}
-        courses.append(run_play(fleet, play, state, hosts, counted(target), _opened_before(courses)))
+        courses.append(run_play(fleet, play, state, hosts, counted(target), _opened_before(courses) if courses else opened))
         if len(courses) > 1 and turned("counts-of-the-play-alone"):
             _add_counts(courses[-2], courses[-1])
         if courses[-1].end != ("finished",) and not turned("only-finished-plays-go-on"):
@@ -49,10 +50,10 @@ def restart(before, target):
     return {host: status if status in stay else "waiting" if host in target else "idle" for host, status in before.items()}
 
 
-def recaps(courses, several):
-    """The recap of the only play, or of each play begun behind its number."""
+def recaps(courses, several, before=0):
+    """The recap of the only play, or of each play begun behind its number; so many stand before them."""
     text = ""
-    for number, course in enumerate(courses, 1):
+    for number, course in enumerate(courses, before + 1):
         if several and (number > 1 or len(courses) > 1 or not turned("several-plays-have-numbers")):
             text += f"play {number}\n"
         text += recap(course)
@@ -87,7 +88,7 @@ def end_line(end):
 
 
 def status_of(courses):
-    """The exit status: by the end of the last play begun, and after a finished one by whether a host has failed."""
+    """The exit status: by the end of the last play begun, and after a finished one by whether a host has failed, or was at work when the run broke off that goes on."""
     last = courses[-1]
     if last.end[0] in ("too-many-failed", "all-failed"):
         return 4
@@ -97,4 +98,5 @@ def status_of(courses):
         return 3
     if turned("failed-hosts-show-in-the-status"):
         return 0
-    return 2 if "failed" in last.state.values() else 0
+    halted = "failed" if turned("halted-hosts-show-in-the-status") else "halted"
+    return 2 if {"failed", halted} & set(last.state.values()) else 0

@@ -19,4 +19,6 @@ RULES = {
     **runs.REHEARSALS,
     **runs.COURSES,
     **runs.GROUPS,
+    **runs.JOURNALS,
+    **runs.RESUMES,
 }

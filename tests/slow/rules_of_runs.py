@@ -1,4 +1,4 @@
-"""The rules of plans, programs, steps, batches, plays, recaps, of what a run tells, and of rehearsals, each as it is while it isn't turned."""
+"""The rules of plans, programs, steps, batches, plays, recaps, of what a run tells, of rehearsals, and of runs that go on by their journals, each as it is while it isn't turned."""
 
 PLANS = {
     "batches-rounded-up": "The number of batches is rounded up.",
@@ -160,9 +160,11 @@ REHEARSALS = {
 
 GROUPS = {
     "groups-batches-come-up": "Behind a batch of a plan its hosts are up again.",
+    "groups-colours-take-no-column": "What colours a cell takes no column.",
     "groups-count-who-was-down": "While a batch runs those count too who were down before.",
     "groups-failed-hosts-are-listed": "Hosts that failed in an earlier play are told as down.",
     "groups-forcing-is-marked": "The group that the first plan names is marked.",
+    "groups-full-alone-are-coloured": "A cell is coloured where the group is full, and nowhere else.",
     "groups-later-asides": "Who is set aside at a later boundary is told too.",
     "groups-lines-of-100": "No line has more than 100 characters where one column fits.",
     "groups-outermost-holder": "Of a host's groups without room the outermost is told.",
@@ -176,4 +178,54 @@ COURSES = {
     "course-hosts-fail-at-the-first-step": "Hosts that are to fail do so at the first step.",
     "course-names-last": "Names of hosts that are to fail are looked up after those of patterns.",
     "course-takes-later-sizes": "A course takes the next size of a list too.",
+}
+
+JOURNALS = {
+    "journal-closed-in-their-order": "What a batch came to is said of its hosts in its order.",
+    "journal-closed-names-all": "What a batch came to is said of all its hosts.",
+    "journal-hosts-move-by-their-state": "Only hosts that wait are opened or held, and only idle ones wait.",
+    "journal-lengths-are-checked": "A line whose length is another is none.",
+    "journal-nothing-behind-the-end": "Behind an end nothing comes but a play, or that the run goes on.",
+    "journal-open-batches-are-closed": "While a batch is open nothing comes but its end, or that the run goes on.",
+    "journal-others-before-bad-lines": "That the run began with other inputs is told before a bad line.",
+    "journal-plays-are-counted": "No more plays begin than the first line says.",
+    "journal-plays-behind-finished-ones": "A play begins only behind one that finished.",
+    "journal-sums-are-checked": "A line whose sum is another is none.",
+    "journal-torn-line-cut-off": "A line that broke off is cut off before the run goes on.",
+    "journal-torn-lines-are-passed-over": "What stands behind the last line feed is passed over, also where it lacks nothing else.",
+    "state-broken-off-is-six": "Where a run broke off the status is 6.",
+    "state-failed-hosts-show-in-the-status": "Of a finished run with a failed host the status is 2.",
+    "state-halted-hosts-show-in-the-status": "Of a finished run with a host that was at work when it broke off the status is 2.",
+    "state-idle-hosts-are-left-out": "Idle hosts are not listed.",
+    "state-open-hosts-are-running": "The hosts of a batch that is open are running.",
+    "state-plays-to-come-are-missing": "A run that has finished a play and has one to come broke off.",
+}
+
+RESUMES = {
+    "halted-hosts-show-in-the-status": "A finished run with a host that was at work when it broke off has status 2.",
+    "needs-handlers-hide-nothing": "What a handler registers, which may not run, takes the place of no earlier play's result.",
+    "needs-of-all-plays-to-come": "The steps of all plays that are to come are looked at.",
+    "needs-of-the-play-that-goes-on": "Where a host was updated in the play that goes on, its results are gone too.",
+    "needs-own-result-of-the-step": "changed_when and failed_when read the step's own result.",
+    "needs-own-results-hide": "What a task before it in its own play registers takes the place of an earlier play's result.",
+    "needs-when-before-words": "A step reads what `when` mentions before what its words do.",
+    "resume-all-named-hosts-are-kept": "The journal names all who are said to be up by now, also those who were not down.",
+    "resume-as-many-plays": "A playbook with fewer plays than the run began with is another one, whatever is said.",
+    "resume-ended-plays-go-on": "A play that ended otherwise than finished goes on.",
+    "resume-failed-hosts-stay-failed": "Who failed stays so where nobody mended him.",
+    "resume-finished-plays-are-over": "Behind a play that finished the next one comes.",
+    "resume-held-hosts-wait": "Who was set aside waits again.",
+    "resume-limits-are-kept": "More hosts of a group than it may lose are no beginning.",
+    "resume-mended-hosts-wait": "Who is up by now waits, and doesn't count as updated.",
+    "resume-mended-off-hosts-are-up": "Who is down by the inventory and is said to be up by now is so.",
+    "resume-mended-updated-hosts-stay": "Who is updated and is said to be up by now stays updated.",
+    "resume-names-before-the-journal": "A name that nobody has is told before a bad journal.",
+    "resume-needs-before-limits": "A result that is missing is told before a group over its limit.",
+    "resume-needs-results": "A step that reads an earlier play's result can't go on.",
+    "resume-of-the-same-playbook": "The playbook has to be the same too.",
+    "resume-plays-have-the-numbers-of-the-file": "A play that goes on has its number in the file.",
+    "resume-running-hosts-are-down": "Who was at work when the run broke off is down.",
+    "resume-sizes-begin-anew": "A play that goes on begins with its first size.",
+    "resume-updated-hosts-stay-updated": "Who was updated in the play that goes on stays so.",
+    "resume-word-of-a-play-that-goes-on": "The journal says of a play that goes on that it does so.",
 }

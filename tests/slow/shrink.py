@@ -3,8 +3,6 @@
 Texts are never cut within a quoted word where programs are run, so that no other program than a drawn one is ever started.
 """
 
-from dataclasses import replace
-
 MOST_TRIED = 1_500
 LONGEST_CUT = 2_000
 
@@ -12,7 +10,7 @@ LONGEST_CUT = 2_000
 def smallest(case, differs):
     """A case that differs and from which no single part can be taken, as far as so many tries go."""
     shrinker = _Shrinker(differs)
-    for part in ("typed", "playbook", "inventory"):
+    for part in ("typed", "journal", "playbook", "inventory"):
         case = shrinker.shrunk(case, part)
     return case
 
@@ -27,15 +25,18 @@ class _Shrinker:
 
         def still(text):
             self.left -= 1
-            return self.left >= 0 and self.differs(replace(case, **{part: text}))
+            return self.left >= 0 and self.differs(case.put(part, text))
 
         text = getattr(case, part)
+        if text is None:
+            return case
         if text and still(b""):
-            return replace(case, **{part: b""})
-        text = self.without(text, _members, _cut_member, still)
+            return case.put(part, b"")
+        spans = _runs_of_lines if part == "journal" else _members
+        text = self.without(text, spans, _cut_out if part == "journal" else _cut_member, still)
         if case.kind != "run":
-            text = self.without(text, _runs_of_bytes, lambda text, first, last: [text[:first] + text[last:]], still)
-        return replace(case, **{part: text})
+            text = self.without(text, _runs_of_bytes, _cut_out, still)
+        return case.put(part, text)
 
     def without(self, text, spans_of, cut, still):
         """The text without all pieces that it can do without, until none is left that can go."""
@@ -58,6 +59,18 @@ def _runs_of_bytes(text):
         return []
     sizes = [len(text) >> shift for shift in range(1, len(text).bit_length())]
     return [(at, at + size) for size in sizes for at in range(0, len(text), size)]
+
+
+def _runs_of_lines(text):
+    """The places of runs of lines, long runs first."""
+    ends = [0, *(at for at in range(1, len(text) + 1) if text[at - 1 : at] == b"\n" or at == len(text))]
+    sizes = [len(ends) >> shift for shift in range(1, len(ends).bit_length())]
+    return [(ends[at], ends[at + size]) for size in sizes for at in range(0, len(ends) - size, size)]
+
+
+def _cut_out(text, first, last):
+    """The text without what stands between two places."""
+    yield text[:first] + text[last:]
 
 
 def _cut_member(text, first, last):

@@ -1,4 +1,4 @@
-"""The slow program itself, as an operator types it: `python3 slow.py [--turn NAME].. limits INV`, `plan INV PLAY`, .. or no word at all."""
+"""The slow program itself, as an operator types it: `python3 slow.py [--turn NAME].. limits INV`, `plan INV PLAY`, .. or no word at all. A journal is left as it is."""
 
 import os
 import sys
@@ -15,7 +15,7 @@ def main(words):
         turn(words[1])
         words = words[2:]
     try:
-        files = [_read(name) for name in words[1:3]] if words else [_whole(sys.stdin.buffer, "-")]
+        files = [_read(name) for name in commands.named_files(words)] if words else [_whole(sys.stdin.buffer, "-")]
     except Fault as fault:
         return commands.refused(fault)
     typed = sys.stdin.buffer.read(MOST_BYTES + 1) if words[:1] == ["rehearse"] else b""

@@ -8,6 +8,8 @@ from rules import turned
 from texts import listed
 
 LINE = 100
+# By which a terminal begins to show bold red, and by which it ends.
+RED, PLAIN = "\x1b[1;31m", "\x1b[0m"
 
 
 @dataclass
@@ -29,9 +31,9 @@ def sight_of_plan(state, answer, aside):
     return Sight(state, batches, answer, [(state, aside)])
 
 
-def groups_lines(fleet, sight):
+def groups_lines(fleet, sight, is_coloured=False):
     """The table, and the lines below it."""
-    lines = table(fleet, sight) if fleet.limited else ["no limited group"]
+    lines = table(fleet, sight, is_coloured) if fleet.limited else ["no limited group"]
     out = [host for host in fleet.hosts if sight.start[host] in ("off", "failed", "halted")]
     if turned("groups-failed-hosts-are-listed"):
         out = [host for host in out if sight.start[host] == "off"]
@@ -43,8 +45,8 @@ def groups_lines(fleet, sight):
     return lines
 
 
-def table(fleet, sight):
-    """Blocks of rows, none wider than a line as long as one column fits."""
+def table(fleet, sight, is_coloured=False):
+    """Blocks of rows, none wider than a line as long as one column fits; what colours it takes no column."""
     forcing = sight.answer.bound[1] if not isinstance(sight.answer, Blocked) and sight.answer.bound[0] == "group" else None
     if turned("groups-forcing-is-marked") and forcing is not None:
         forcing = fleet.limited[-1].name
@@ -56,6 +58,8 @@ def table(fleet, sight):
     cells = [[f"{count}/{limit}" for count, limit in zip(counts, limits)] for _, counts in columns]
     wide = max(len(text) for head, texts in zip([head for head, _ in columns], cells) for text in [head, *texts])
     name_wide, limit_wide = max(map(len, names)), max(map(len, limits))
+    least = 1 if turned("groups-full-alone-are-coloured") else 0
+    full = [[is_coloured and count >= fleet.limits[place.number] - least for count, place in zip(counts, fleet.limited)] for _, counts in columns]
     many = max(1, (LINE - name_wide - 1 - limit_wide) // (wide + 1))
     if turned("groups-lines-of-100"):
         many += 1
@@ -64,8 +68,14 @@ def table(fleet, sight):
         shown = range(first, min(first + many, len(columns)))
         lines.append(" " * (name_wide + 1 + limit_wide) + "".join(f" {columns[place][0]:>{wide}}" for place in shown))
         for row, (name, limit) in enumerate(zip(names, limits)):
-            lines.append(f"{name:<{name_wide}} {limit:>{limit_wide}}" + "".join(f" {cells[place][row]:>{wide}}" for place in shown))
+            lines.append(f"{name:<{name_wide}} {limit:>{limit_wide}}" + "".join(f" {_painted(cells[place][row], wide, full[place][row])}" for place in shown))
     return lines
+
+
+def _painted(cell, wide, is_red):
+    """A cell at the right of so many columns, in bold red where it is to be."""
+    shown = f"{RED}{cell}{PLAIN}" if is_red else cell
+    return " " * (wide - len(shown if turned("groups-colours-take-no-column") else cell)) + shown
 
 
 def _while_it_runs(fleet, state, batch, place):

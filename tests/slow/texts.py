@@ -4,9 +4,9 @@ from planning import Blocked, down, room, start
 from rules import turned
 
 
-def limits_text(fleet):
-    """A line for each limited group in preorder, and one for the whole fleet."""
-    state = start(fleet, [])
+def limits_text(fleet, state=None):
+    """A line for each limited group in preorder, and one for the whole fleet, as it starts, or in a state."""
+    state = state or start(fleet, [])
     lines = []
     for place in fleet.limited:
         members = len(fleet.members[place.number])

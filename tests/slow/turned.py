@@ -1,7 +1,8 @@
 """Shows that the drawn cases of the gate tell each rule from its turned one, and with which case.
 
 For each rule the slow program says with that rule turned what it says of the cases, one after the other, until it says something else than with
-all rules right. Rules of what a run tells are held against the runs that tell of themselves, those of courses against courses, those of groups against plans and courses that are asked for them. `python3 turned.py [SEED [CASES [NAME..]]]` prints a line a rule; its last line counts them.
+all rules right. Rules of what a run tells are held against the runs that tell of themselves, those of courses against courses, those of groups against plans and courses that are asked for them, those
+of journals against runs that go on. `python3 turned.py [SEED [CASES [NAME..]]]` prints a line a rule; its last line counts them.
 """
 
 import os
@@ -9,23 +10,31 @@ import sys
 from multiprocessing import Pool
 
 from cases import draw_case, draw_foreseen, draw_grouped, draw_told
-from gate import CASES, FORESEEN, GROUPED, SEED, TOLD
+from draw_resumed import draw_resumed
+from gate import CASES, FORESEEN, GROUPED, RESUMED, SEED, TOLD
 from programs import Unmodelled
 from rule_list import RULES
 from rules import turn, turn_none
-from rules_of_runs import COURSES, GROUPS, TELLING
+from rules_of_runs import COURSES, GROUPS, JOURNALS, RESUMES, TELLING
 
-# By what the cases are of: a command, a run that tells of itself, a course, or groups. The cases, and what is right of each.
-_cases = {"": [], "told": [], "course": [], "groups": []}
-_right = {"": [], "told": [], "course": [], "groups": []}
+# By what the cases are of, but for those of a command: how they are drawn, how many, and which rules they tell.
+_KINDS = {
+    "told": (draw_told, TOLD, TELLING),
+    "course": (draw_foreseen, FORESEEN, COURSES),
+    "groups": (draw_grouped, GROUPED, GROUPS),
+    "resume": (draw_resumed, RESUMED, {**JOURNALS, **RESUMES}),
+}
+# The cases, and what is right of each.
+_cases = {"": [], **{kind: [] for kind in _KINDS}}
+_right = {"": [], **{kind: [] for kind in _KINDS}}
 
 
 def main(seed, count, names):
     # Cases are drawn with all rules right, before the first is turned; the workers take them over.
-    for kind, draw, drawn in (("", draw_case, count), ("told", draw_told, min(count, TOLD)), ("course", draw_foreseen, min(count, FORESEEN)), ("groups", draw_grouped, min(count, GROUPED))):
-        for number in range(drawn if any(_kind(name) == kind for name in names) else 0):
+    for kind, (draw, most, _) in {"": (draw_case, count, {}), **_KINDS}.items():
+        for number in range(min(count, most) if any(_kind(name) == kind for name in names) else 0):
             _cases[kind].append(draw(seed, number))
-            _right[kind].append(_cases[kind][-1].said())
+            _right[kind].append(_said(_cases[kind][-1]))
     told = 0
     with Pool(len(os.sched_getaffinity(0))) as pool:
         for name, number in pool.imap(_first, names):
@@ -39,7 +48,12 @@ def main(seed, count, names):
 
 def _kind(name):
     """What the cases are of that are to tell a rule from its turned one."""
-    return "told" if name in TELLING else "course" if name in COURSES else "groups" if name in GROUPS else ""
+    return next((kind for kind, (_, _, rules) in _KINDS.items() if name in rules), "")
+
+
+def _said(case):
+    """What the slow program says: of a run that goes on also where it stands."""
+    return [call.said() for call in case.variants()] if case.journal is not None else [case.said()]
 
 
 def _first(name):
@@ -55,7 +69,7 @@ def _first(name):
 def _differs(case, right):
     """Whether the turned rule shows in a case. Where it makes a program run that isn't known, nobody can say."""
     try:
-        return case.said() != right
+        return _said(case) != right
     except Unmodelled:
         return False
 

@@ -1,8 +1,11 @@
 -- Hosts that plays name and that are down from the start.
-use Rattle.std.specs.Prelude.{ℕ, ◌-◌, ◌&&◌, nat_lt, Bool, true, false, if◌then◌else◌, List, [], ◌∷◌, ◌++◌, codes, length, slice_index_or, take}
+use Rattle.std.specs.Prelude.{ℕ, ◌-◌, ◌&&◌, nat_lt, Bool, true, false, if◌then◌else◌, List, [], ◌∷◌, ◌++◌, codes, length, take}
 use Rattle.std.specs.List.{list_any}
 use Rattle.fleet_numbers.specs.NumberLists.{has_number, numbers_where}
 use Rattle.domains.specs.FleetViews.{FleetView}
+use Rattle.fleet_states.specs.declared.status.Status.{Status}
+use Rattle.fleet_states.specs.declared.status.Status.TheVariants.{Idle, Waiting, Running, Updated, Failed, Halted, Off, Held}
+use Rattle.fleet_states.specs.Statuses.{status_at}
 use Rattle.play_model.specs.declared.play.Play.{Play}
 use Rattle.play_course.specs.PlayPlans.{targets}
 use Rattle.recap.specs.LimitsText.{field_text}
@@ -12,9 +15,19 @@ use Rattle.recap.specs.PlanText.{names_text}
 abbrev pub is_named : FleetView → List Play → ℕ → Bool
 is_named fleet plays host = list_any (λ play. has_number host (targets fleet play)) plays
 
--- the hosts that are off and that one of the plays names, by name, each once
-abbrev pub left_out : FleetView → List Play → List ℕ
-left_out fleet plays = numbers_where (λ host. slice_index_or fleet.off host false && is_named fleet plays host) (length fleet.hosts)
+abbrev pub is_off : Status → Bool
+is_off Idle = false
+is_off Waiting = false
+is_off Running = false
+is_off Updated = false
+is_off Failed = false
+is_off Halted = false
+is_off Off = true
+is_off Held = false
+
+-- the hosts that are off by these statuses and that one of the plays names, by name, each once
+abbrev pub left_out : FleetView → List Status → List Play → List ℕ
+left_out fleet statuses plays = numbers_where (λ host. is_off (status_at statuses host) && is_named fleet plays host) (length fleet.hosts)
 
 -- ` +N`, where there are more than ten
 abbrev pub more_text : ℕ → List ℕ
@@ -45,5 +58,5 @@ abbrev pub note_of : FleetView → Bool → List ℕ → List ℕ
 note_of fleet several [] = []
 note_of fleet several (host ∷ hosts) = note_text fleet several (host ∷ hosts)
 
-abbrev pub left_out_text : FleetView → List Play → List ℕ
-left_out_text fleet plays = note_of fleet (nat_lt 1 (length plays)) (left_out fleet plays)
+abbrev pub left_out_text : FleetView → List Status → List Play → List ℕ
+left_out_text fleet statuses plays = note_of fleet (nat_lt 1 (length plays)) (left_out fleet statuses plays)

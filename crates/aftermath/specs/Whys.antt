@@ -12,13 +12,14 @@ use Rattle.aftermath.specs.Fulls.{is_full}
 use Rattle.aftermath.specs.Rows.{LastRow, PlayedView, last_row}
 use Rattle.aftermath.specs.Waits.{wait_lines}
 
+-- the host is down by the run: it has failed, or was at work when it, or one that it goes on with, was stopped
 abbrev pub is_failed : Status → Bool
 is_failed Failed = true
 is_failed Idle = false
 is_failed Waiting = false
 is_failed Running = false
 is_failed Updated = false
-is_failed Halted = false
+is_failed Halted = true
 is_failed Off = false
 is_failed Held = false
 

@@ -1,11 +1,13 @@
-//! Hosts that plays name and that are down from the start.
+//! Hosts that plays name and that are down when the first of them begins.
 ghost use Rattle.std.specs.Prelude.{◌≡◌, ℕ, ◌<◌, ◌||◌, ◌&&◌, ◌++◌, ◌∷◌, [], cond, false, true, IfOk, OnOk, length, slice_index_or};
 ghost use Rattle.fleet_numbers.specs.NumberLists.{has_number, numbers_where};
 ghost use Rattle.domains.specs.Ids.{host_numbers};
+ghost use Rattle.fleet_states.specs.Statuses.{status_at};
 ghost use Rattle.play_course.specs.PlayPlans.{targets};
 ghost use Rattle.aftermath.specs.LeftOut as spec;
 
 use domains::Fleet;
+use fleet_states::{Status, status_of};
 use group_tree::HostId;
 use play_model::Play;
 use std::alloc::{AllocError, Global};
@@ -56,11 +58,19 @@ fn flag_named(alloc: Global, fleet: &Fleet, plays: &[Play]) -> Result<Vec<bool>,
 }
 
 /// Whether the host is off, and named by one of the plays, where `flags` say which hosts are.
-fn is_left_out(fleet: &Fleet, flags: &[bool], host: HostId) -> bool
-    requires { host.index < length fleet.now.hosts }
-    ensures { result ≡ (slice_index_or fleet.now.off host.index false && slice_index_or flags.now host.index false) }
+fn is_left_out(statuses: &[Status], flags: &[bool], host: HostId) -> bool
+    ensures { result ≡ (spec.is_off (status_at statuses.now host.index) && slice_index_or flags.now host.index false) }
 {
-    fleet.is_off(host) && is_flagged(flags, host)
+    is_off(status_of(statuses, host)) && is_flagged(flags, host)
+}
+
+fn is_off(status: Status) -> bool
+    ensures { result ≡ spec.is_off status }
+{
+    match status {
+        Status::Off => true,
+        _ => false,
+    }
 }
 
 fn is_flagged(flags: &[bool], host: HostId) -> bool
@@ -82,27 +92,33 @@ fn push_where(hosts: &mut Vec<HostId>, host: HostId, out: bool) -> Result<(), Al
     Ok(())
 }
 
-fn list_flagged(alloc: Global, fleet: &Fleet, flags: &[bool]) -> Result<Vec<HostId>, AllocError>
+fn list_flagged(
+    alloc: Global,
+    fleet: &Fleet,
+    statuses: &[Status],
+    flags: &[bool],
+) -> Result<Vec<HostId>, AllocError>
     ensures { IfOk result (λ hosts. host_numbers hosts.items
-        ≡ numbers_where (λ host. slice_index_or fleet.now.off host false && slice_index_or flags.now host false) (length fleet.now.hosts)) }
+        ≡ numbers_where (λ host. spec.is_off (status_at statuses.now host) && slice_index_or flags.now host false) (length fleet.now.hosts)) }
 {
     let mut hosts = Vec::new(alloc);
     for index in 0..fleet.hosts() {
         let host = HostId { index };
-        let out = is_left_out(fleet, flags, host);
+        let out = is_left_out(statuses, flags, host);
         push_where(&mut hosts, host, out)?;
     }
     Ok(hosts)
 }
 
-/// The hosts that are off and that one of the plays names, by name, each once. Only want of memory refuses it, where their patterns were looked up.
+/// The hosts that are off by these statuses and that one of the plays names, by name, each once. Only want of memory refuses it, where their patterns were looked up.
 pub(crate) fn list_left_out(
     alloc: Global,
     fleet: &Fleet,
+    statuses: &[Status],
     plays: &[Play],
 ) -> Result<Vec<HostId>, AllocError>
-    ensures { IfOk result (λ hosts. host_numbers hosts.items ≡ spec.left_out fleet.now plays.now) }
+    ensures { IfOk result (λ hosts. host_numbers hosts.items ≡ spec.left_out fleet.now statuses.now plays.now) }
 {
     let flags = flag_named(alloc, fleet, plays)?;
-    list_flagged(alloc, fleet, flags.as_slice())
+    list_flagged(alloc, fleet, statuses, flags.as_slice())
 }

@@ -8,6 +8,7 @@ ghost use Rattle.aftermath.specs.LeftOut as spec;
 use crate::left_out::list_left_out;
 use bounded_io::TextWriter;
 use domains::Fleet;
+use fleet_states::Status;
 use group_tree::HostId;
 use play_model::Play;
 use recap::{host_name, write_field};
@@ -146,11 +147,16 @@ fn are_several(plays: &[Play]) -> bool
     plays.len() > 1
 }
 
-/// The note of the hosts that these plays name and that are down when the first of them begins; nothing where there are none. A host is told once, however
+/// The note of the hosts that these plays name and that are off by these statuses, with which the first of them begins; nothing where there are none. A host is told once, however
 /// many of the plays name it, since it is out of all of them. Only want of memory refuses it, where the plays' patterns were looked up.
-pub fn left_out_lines(alloc: Global, fleet: &Fleet, plays: &[Play]) -> Result<Vec<u8>, AllocError>
-    ensures { IfOk result (λ lines. lines.items ≡ spec.left_out_text fleet.now plays.now) }
+pub fn left_out_lines(
+    alloc: Global,
+    fleet: &Fleet,
+    statuses: &[Status],
+    plays: &[Play],
+) -> Result<Vec<u8>, AllocError>
+    ensures { IfOk result (λ lines. lines.items ≡ spec.left_out_text fleet.now statuses.now plays.now) }
 {
-    let hosts = list_left_out(alloc, fleet, plays)?;
+    let hosts = list_left_out(alloc, fleet, statuses, plays)?;
     note_bytes(alloc, fleet, are_several(plays), hosts.as_slice())
 }

@@ -17,11 +17,12 @@ use play_course::End;
 use std::alloc::{AllocError, Global};
 use std::io::Write;
 
+/// Whether the host is down by the run: it has failed, or was at work when it, or one that it goes on with, was stopped.
 fn is_failed(status: Status) -> bool
     ensures { result ≡ spec.is_failed status }
 {
     match status {
-        Status::Failed => true,
+        Status::Failed | Status::Halted => true,
         _ => false,
     }
 }
@@ -48,7 +49,7 @@ fn is_finished(end: End) -> bool
 }
 
 /// Whether there is something to be told of a run whose last play ended so, or was broken off, and left these statuses: not where it finished
-/// and no host has failed.
+/// and no host is down by it.
 pub fn has_why(end: Option<End>, statuses: &[Status]) -> bool
     ensures { result ≡ spec.has_why end statuses.now }
 {

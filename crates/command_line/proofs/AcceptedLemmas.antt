@@ -161,25 +161,25 @@ plan_behind first second = record { taken = refl; inventory = refl; playbook = r
 rehearse_alone : (first second : Word) → IsValue first → IsValue second → ReadsBoth (codes "rehearse") (codes "rehearse" ∷ first ∷ second ∷ []) (first, second)
 unfolding clap_on_literals
 rehearse_alone first second p q = record {
-  taken = simp (p.no_end, p.no_long, p.no_short, q.no_end, q.no_long, q.no_short);
-  inventory = simp (p.no_end, p.no_long, p.no_short, q.no_end, q.no_long, q.no_short);
-  playbook = simp (p.no_end, p.no_long, p.no_short, q.no_end, q.no_long, q.no_short);
+  taken = rw (p.no_end, p.no_long, p.no_short, q.no_end, q.no_long, q.no_short) refl;
+  inventory = rw (p.no_end, p.no_long, p.no_short, q.no_end, q.no_long, q.no_short) refl;
+  playbook = rw (p.no_end, p.no_long, p.no_short, q.no_end, q.no_long, q.no_short) refl;
 }
 
 rehearse_before : (first second : Word) → IsValue first → IsValue second → ReadsBoth (codes "rehearse") (codes "rehearse" ∷ first ∷ second ∷ codes "--" ∷ []) (first, second)
 unfolding clap_on_literals
 rehearse_before first second p q = record {
-  taken = simp (p.no_end, p.no_long, p.no_short, q.no_end, q.no_long, q.no_short);
-  inventory = simp (p.no_end, p.no_long, p.no_short, q.no_end, q.no_long, q.no_short);
-  playbook = simp (p.no_end, p.no_long, p.no_short, q.no_end, q.no_long, q.no_short);
+  taken = rw (p.no_end, p.no_long, p.no_short, q.no_end, q.no_long, q.no_short) refl;
+  inventory = rw (p.no_end, p.no_long, p.no_short, q.no_end, q.no_long, q.no_short) refl;
+  playbook = rw (p.no_end, p.no_long, p.no_short, q.no_end, q.no_long, q.no_short) refl;
 }
 
 rehearse_between : (first second : Word) → IsValue first → ReadsBoth (codes "rehearse") (codes "rehearse" ∷ first ∷ codes "--" ∷ second ∷ []) (first, second)
 unfolding clap_on_literals
 rehearse_between first second p = record {
-  taken = simp (p.no_end, p.no_long, p.no_short);
-  inventory = simp (p.no_end, p.no_long, p.no_short);
-  playbook = simp (p.no_end, p.no_long, p.no_short);
+  taken = rw (p.no_end, p.no_long, p.no_short) refl;
+  inventory = rw (p.no_end, p.no_long, p.no_short) refl;
+  playbook = rw (p.no_end, p.no_long, p.no_short) refl;
 }
 
 rehearse_behind : (first second : Word) → ReadsBoth (codes "rehearse") (codes "rehearse" ∷ codes "--" ∷ first ∷ second ∷ []) (first, second)
@@ -189,25 +189,25 @@ rehearse_behind first second = record { taken = refl; inventory = refl; playbook
 state_alone : (first second : Word) → IsValue first → IsValue second → ReadsState (codes "state" ∷ first ∷ second ∷ []) (first, second)
 unfolding clap_on_literals
 state_alone first second p q = record {
-  taken = simp (p.no_end, p.no_long, p.no_short, q.no_end, q.no_long, q.no_short);
-  inventory = simp (p.no_end, p.no_long, p.no_short, q.no_end, q.no_long, q.no_short);
-  journal = simp (p.no_end, p.no_long, p.no_short, q.no_end, q.no_long, q.no_short);
+  taken = rw (p.no_end, p.no_long, p.no_short, q.no_end, q.no_long, q.no_short) refl;
+  inventory = rw (p.no_end, p.no_long, p.no_short, q.no_end, q.no_long, q.no_short) refl;
+  journal = rw (p.no_end, p.no_long, p.no_short, q.no_end, q.no_long, q.no_short) refl;
 }
 
 state_before : (first second : Word) → IsValue first → IsValue second → ReadsState (codes "state" ∷ first ∷ second ∷ codes "--" ∷ []) (first, second)
 unfolding clap_on_literals
 state_before first second p q = record {
-  taken = simp (p.no_end, p.no_long, p.no_short, q.no_end, q.no_long, q.no_short);
-  inventory = simp (p.no_end, p.no_long, p.no_short, q.no_end, q.no_long, q.no_short);
-  journal = simp (p.no_end, p.no_long, p.no_short, q.no_end, q.no_long, q.no_short);
+  taken = rw (p.no_end, p.no_long, p.no_short, q.no_end, q.no_long, q.no_short) refl;
+  inventory = rw (p.no_end, p.no_long, p.no_short, q.no_end, q.no_long, q.no_short) refl;
+  journal = rw (p.no_end, p.no_long, p.no_short, q.no_end, q.no_long, q.no_short) refl;
 }
 
 state_between : (first second : Word) → IsValue first → ReadsState (codes "state" ∷ first ∷ codes "--" ∷ second ∷ []) (first, second)
 unfolding clap_on_literals
 state_between first second p = record {
-  taken = simp (p.no_end, p.no_long, p.no_short);
-  inventory = simp (p.no_end, p.no_long, p.no_short);
-  journal = simp (p.no_end, p.no_long, p.no_short);
+  taken = rw (p.no_end, p.no_long, p.no_short) refl;
+  inventory = rw (p.no_end, p.no_long, p.no_short) refl;
+  journal = rw (p.no_end, p.no_long, p.no_short) refl;
 }
 
 state_behind : (first second : Word) → ReadsState (codes "state" ∷ codes "--" ∷ first ∷ second ∷ []) (first, second)

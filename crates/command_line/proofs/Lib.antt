@@ -1,6 +1,6 @@
 pub mod AcceptedLemmas
-pub mod FlagLemmas
-pub mod ValueLemmas
+pub mod GivenLemmas
+pub mod ReadingLemmas
 pub mod ForksLemmas
 pub mod FoundLemmas
 pub mod OptionLemmas

@@ -1,6 +1,6 @@
 -- What clap makes of the words behind the command `run`.
 use Rattle.std.proofs.Common.{◌≡◌, ◌&&◌, ◌++◌, Bool, true, false, List, [], ◌∷◌, Some, codes, refl, sym, ap, subst, ◌∙◌}
-use Rattle.std.specs.Prelude.{is_some}
+use Rattle.std.specs.Prelude.{if◌then◌else◌, is_some, map}
 use Rattle.std.specs.List.{list_all}
 use Rattle.clap.specs.Simple.{App, Shape, built, entered, help_rule, names_of, new_shape}
 use Rattle.clap.specs.Takes.{default_passes, entered_passes, is_valid, level_passes, settle_passes, walk_passes}
@@ -14,7 +14,10 @@ use Rattle.clap.specs.declared.builder.value_parser.ValueParser.TheVariants.{Str
 use Rattle.clap.specs.declared.builder.value_parser.ValueParser.TheVariants as parsers
 use Rattle.clap.proofs.OnLiterals.{clap_on_literals}
 use Rattle.clap.proofs.WalkLemmas.{walk_stopped}
-use Rattle.command_line.specs.Syntax.{changed_inputs_argument, file_in, forks_argument, inventory_argument, limits_command, mended_argument, new_journal_argument, plan_command, playbook_argument, quiet_argument, rehearse_command, resume_argument, rollout, state_command, stop_file_argument, text_in, verbose_argument}
+use Rattle.command_line.specs.Syntax.{argument_of, file_in, forks_argument, inventory_argument, limits_command, plan_command, playbook_argument, rehearse_command, rollout, run_command_by, state_command, text_in}
+use Rattle.command_line.specs.OptionNames.{has_value}
+use Rattle.command_line.specs.OptionsOf.{options_of}
+use Rattle.command_line.specs.declared.option_name.OptionName.{OptionName}
 use Rattle.command_line.specs.Operands.{Word}
 
 -- clap takes the words, and reads both files and the text of the forks
@@ -28,9 +31,7 @@ pub record ReadsText (app : App) (words : List Word) (first second text : Word) 
 abbrev pub program : ValueParser → App
 program parser = record rollout {
   subs = limits_command.top ∷ plan_command.top
-      ∷ (with_rule (with_rule (with_rule (with_rule (with_rule (with_rule (with_rule (with_rule (with_rule (with_rule (new_app (codes "run")) inventory_argument) playbook_argument)
-      (record forks_argument { parser = Some parser })) verbose_argument) quiet_argument) stop_file_argument) new_journal_argument) resume_argument) mended_argument)
-      changed_inputs_argument).top ∷ rehearse_command.top ∷ state_command.top ∷ [];
+      ∷ (run_command_by (record forks_argument { parser = Some parser })).top ∷ rehearse_command.top ∷ state_command.top ∷ [];
 }
 
 abbrev with_one_value : Rule → Rule
@@ -42,6 +43,10 @@ none_taken = record { start_inclusive = 0; end_inclusive = 0 }
 abbrev built_flag : Rule → Rule
 built_flag rule = record rule { defaults = codes "false" ∷ []; missing = codes "true" ∷ []; parser = Some parsers.Bool; range = Some none_taken }
 
+-- an option as clap builds it
+abbrev built_option : OptionName → Rule
+built_option option = if has_value option then record (with_one_value (argument_of option)) { parser = Some String } else built_flag (argument_of option)
+
 -- the command `run` as clap builds it
 abbrev pub level : ValueParser → Shape
 level parser = record (new_shape (codes "run")) {
@@ -51,13 +56,7 @@ level parser = record (new_shape (codes "run")) {
   rules = (record (with_one_value inventory_argument) { index = Some 1; parser = Some String })
       ∷ (record (with_one_value playbook_argument) { index = Some 2; parser = Some String })
       ∷ (record (with_one_value forks_argument) { parser = Some parser })
-      ∷ (built_flag verbose_argument) ∷ (built_flag quiet_argument)
-      ∷ (record (with_one_value stop_file_argument) { parser = Some String })
-      ∷ (record (with_one_value new_journal_argument) { parser = Some String })
-      ∷ (record (with_one_value resume_argument) { parser = Some String })
-      ∷ (record (with_one_value mended_argument) { parser = Some String })
-      ∷ (built_flag changed_inputs_argument)
-      ∷ (record help_rule { parser = Some String; range = Some none_taken }) ∷ [];
+      ∷ (map built_option (options_of (codes "run")) ++ (record help_rule { parser = Some String; range = Some none_taken }) ∷ []);
 }
 
 both_true : (a b : Bool) → a ≡ true → b ≡ true → (a && b) ≡ true

@@ -6,6 +6,10 @@ use Rattle.clap.specs.Simple.{on_top}
 use Rattle.clap.specs.declared.builder.action.ArgAction.TheVariants.{SetTrue}
 use Rattle.clap.specs.declared.builder.value_parser.ValueParser.TheVariants.{Unsigned}
 use Rattle.command_line.specs.Forks.{default_text, forks_in}
+use Rattle.command_line.specs.OptionNames.{has_value, id_of, is_same}
+use Rattle.command_line.specs.OptionsOf.{options_of}
+use Rattle.command_line.specs.declared.option_name.OptionName.{OptionName}
+use Rattle.command_line.specs.declared.option_name.OptionName.TheVariants.{Verbose}
 
 -- the argument for the inventory's file
 abbrev pub inventory_argument : Rule
@@ -24,92 +28,50 @@ forks_argument = record (new_rule (codes "forks")) {
   defaults = default_text ∷ [];
 }
 
--- the flag that asks a run to tell of itself, or a plan
-abbrev pub verbose_argument : Rule
-verbose_argument = record (new_rule (codes "verbose")) { short = Some 118; long = Some (codes "verbose"); action = Some SetTrue }
+abbrev pub valued_argument : Text → Rule
+valued_argument id = record (new_rule id) { long = Some id; value_names = 1 }
 
--- the flag that asks a plan for its course
-abbrev pub course_argument : Rule
-course_argument = record (new_rule (codes "course")) { long = Some (codes "course"); action = Some SetTrue }
+abbrev pub flag_argument : Text → Rule
+flag_argument id = record (new_rule id) { long = Some id; action = Some SetTrue }
 
--- the option that names hosts which are to fail in the course of a plan
-abbrev pub failing_argument : Rule
-failing_argument = record (new_rule (codes "failing")) { long = Some (codes "failing"); value_names = 1 }
+-- the flag that has a letter too
+abbrev pub lettered_argument : Text → Rule
+lettered_argument id = record (flag_argument id) { short = Some 118 }
 
--- the flag that asks a plan for its groups
-abbrev pub groups_argument : Rule
-groups_argument = record (new_rule (codes "groups")) { long = Some (codes "groups"); action = Some SetTrue }
+-- an option that is taken out of the words before clap reads them
+abbrev pub argument_of : OptionName → Rule
+argument_of option =
+    if has_value option then valued_argument (id_of option)
+    else (if is_same option Verbose then lettered_argument (id_of option) else flag_argument (id_of option))
 
--- the option that names the file of a plan's picture
-abbrev pub picture_argument : Rule
-picture_argument = record (new_rule (codes "picture")) { long = Some (codes "picture"); value_names = 1 }
-
--- the flag that asks a rehearsal to be strict
-abbrev pub strict_argument : Rule
-strict_argument = record (new_rule (codes "strict")) { long = Some (codes "strict"); action = Some SetTrue }
-
--- the flag that asks a run to tell nothing unasked
-abbrev pub quiet_argument : Rule
-quiet_argument = record (new_rule (codes "quiet")) { long = Some (codes "quiet"); action = Some SetTrue }
-
--- the option that names the file which ends a run
-abbrev pub stop_file_argument : Rule
-stop_file_argument = record (new_rule (codes "stop-file")) { long = Some (codes "stop-file"); value_names = 1 }
-
--- the option that names the file in which a run is kept
-abbrev pub new_journal_argument : Rule
-new_journal_argument = record (new_rule (codes "journal")) { long = Some (codes "journal"); value_names = 1 }
-
--- the option that names the journal of the run that is to go on
-abbrev pub resume_argument : Rule
-resume_argument = record (new_rule (codes "resume")) { long = Some (codes "resume"); value_names = 1 }
-
--- the option that names hosts which are up by now
-abbrev pub mended_argument : Rule
-mended_argument = record (new_rule (codes "mended")) { long = Some (codes "mended"); value_names = 1 }
-
--- the flag that lets a run go on with other inputs
-abbrev pub changed_inputs_argument : Rule
-changed_inputs_argument = record (new_rule (codes "changed-inputs")) { long = Some (codes "changed-inputs"); action = Some SetTrue }
+-- a command with these options
+abbrev pub with_options : App → List OptionName → App
+with_options app [] = app
+with_options app (option ∷ options) = with_options (with_rule app (argument_of option)) options
 
 abbrev pub limits_command : App
-limits_command = with_rule (new_app (codes "limits")) inventory_argument
+limits_command = with_options (with_rule (new_app (codes "limits")) inventory_argument) (options_of (codes "limits"))
 
 abbrev pub plan_command : App
-plan_command =
-    with_rule
-    (with_rule
-    (with_rule
-    (with_rule (with_rule (with_rule (with_rule (new_app (codes "plan")) inventory_argument) playbook_argument) course_argument) failing_argument)
-    groups_argument)
-    picture_argument)
-    verbose_argument
+plan_command = with_options (with_rule (with_rule (new_app (codes "plan")) inventory_argument) playbook_argument) (options_of (codes "plan"))
+
+-- a run, by the argument for its forks
+abbrev pub run_command_by : Rule → App
+run_command_by forks =
+    with_options (with_rule (with_rule (with_rule (new_app (codes "run")) inventory_argument) playbook_argument) forks) (options_of (codes "run"))
 
 abbrev pub run_command : App
-run_command =
-    with_rule
-    (with_rule
-    (with_rule
-    (with_rule
-    (with_rule
-    (with_rule
-    (with_rule (with_rule (with_rule (with_rule (new_app (codes "run")) inventory_argument) playbook_argument) forks_argument) verbose_argument)
-    quiet_argument)
-    stop_file_argument)
-    new_journal_argument)
-    resume_argument)
-    mended_argument)
-    changed_inputs_argument
+run_command = run_command_by forks_argument
 
 abbrev pub rehearse_command : App
-rehearse_command = with_rule (with_rule (with_rule (new_app (codes "rehearse")) inventory_argument) playbook_argument) strict_argument
+rehearse_command = with_options (with_rule (with_rule (new_app (codes "rehearse")) inventory_argument) playbook_argument) (options_of (codes "rehearse"))
 
 -- the argument for the journal's file
 abbrev pub journal_argument : Rule
 journal_argument = record (new_rule (codes "JOURNAL")) { required = true }
 
 abbrev pub state_command : App
-state_command = with_rule (with_rule (new_app (codes "state")) inventory_argument) journal_argument
+state_command = with_options (with_rule (with_rule (new_app (codes "state")) inventory_argument) journal_argument) (options_of (codes "state"))
 
 abbrev settings : Shape → Shape
 settings shape = record shape { has_version = true; no_binary_name = true; subcommand_required = true }

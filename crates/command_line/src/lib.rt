@@ -1,20 +1,24 @@
 //! The command line of the program: from its words to a command.
 #![tactic(auto)]
 
+mod arguments;
 pub mod command;
-mod failing;
 mod fault;
-mod flags;
+mod fitting;
 mod forks;
+mod found;
+mod given;
 mod message;
-mod option_values;
+mod option_help;
+mod option_name;
+mod option_reading;
 mod option_words;
-mod plan_options;
 mod reading;
 mod request;
-mod run_files;
 mod run_words;
+mod spelling;
 mod syntax;
+mod wishes;
 mod words;
 
 pub use command::Source;
@@ -23,3 +27,4 @@ pub use forks::Forks;
 pub use message::Message;
 pub use reading::line;
 pub use request::{Request, request_of};
+pub use wishes::Wishes;

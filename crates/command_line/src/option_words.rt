@@ -28,7 +28,7 @@ pub(crate) fn leading_value<'a>(
     if is_word(first, name) {
         return first_and_rest(rest);
     }
-    let value = behind(attached, first)?;
+    let value = behind(attached, first.as_str())?;
     Some((value, rest))
 }
 
@@ -42,8 +42,8 @@ fn first_and_rest(words: &[String]) -> Option<(&str, &[String])>
 }
 
 /// What the word has behind this beginning.
-fn behind<'a>(start: &str, word: &'a String) -> Option<&'a str>
-    ensures { option_map (λ s. s.now) result ≡ spec.behind start.now (string_bytes word.now) }
+pub(crate) fn behind<'a>(start: &str, word: &'a str) -> Option<&'a str>
+    ensures { option_map (λ s. s.now) result ≡ spec.behind start.now word.now }
 {
-    word.as_str().strip_prefix(start)
+    word.strip_prefix(start)
 }

@@ -10,8 +10,8 @@ use crate::fault::LineFault;
 use crate::forks::Forks;
 use crate::message::Message;
 use crate::run_words::run_request;
-use crate::syntax;
 use crate::words::{limits_file, plan_files, rehearse_files, state_files};
+use crate::{found, syntax};
 use clap::error::ErrorKind;
 use clap::{ArgMatches, Error};
 use std::alloc::{AllocError, Global};
@@ -53,41 +53,38 @@ fn taken(alloc: Global, words: &[String], matches: &ArgMatches<'_>) -> Result<Li
     ensures err { IfErr result (Disagrees (map string_bytes words.now) (subcommand_rows_of matches.now)) }
 {
     if let Some(inventory) = limits_file(words) {
-        return limits_line(alloc, inventory, syntax::limits_inventory(matches));
+        return limits_line(alloc, inventory, found::limits_inventory(matches));
     }
     if let Some(files) = plan_files(words) {
         let found = (
-            syntax::plan_inventory(matches),
-            syntax::plan_playbook(matches),
+            found::plan_inventory(matches),
+            found::plan_playbook(matches),
         );
         return plan_line(alloc, files, found);
     }
     if let Some(files) = rehearse_files(words) {
         let found = (
-            syntax::rehearse_inventory(matches),
-            syntax::rehearse_playbook(matches),
+            found::rehearse_inventory(matches),
+            found::rehearse_playbook(matches),
         );
         return rehearse_line(alloc, files, found);
     }
     if let Some(files) = state_files(words) {
         let found = (
-            syntax::state_inventory(matches),
-            syntax::state_journal(matches),
+            found::state_inventory(matches),
+            found::state_journal(matches),
         );
         return state_line(alloc, files, found);
     }
     match run_request(words) {
         Some((inventory, playbook, forks)) => {
-            let found = (
-                syntax::run_inventory(matches),
-                syntax::run_playbook(matches),
-            );
+            let found = (found::run_inventory(matches), found::run_playbook(matches));
             run_line(
                 alloc,
                 (inventory, playbook),
                 found,
                 forks,
-                syntax::run_forks(matches),
+                found::run_forks(matches),
             )
         }
         None => Err(LineFault::Unexplained),

@@ -2,3 +2,5 @@ pub mod GreatestLemmas
 pub mod WalkLemmas
 pub mod CellLemmas
 pub mod BlockLemmas
+pub mod ShownLemmas
+pub mod ColourLemmas

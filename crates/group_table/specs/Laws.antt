@@ -1,10 +1,15 @@
 -- What holds of every table.
-use Rattle.std.specs.Prelude.{ℕ, Option, List, [], ◌∷◌}
+use Rattle.std.specs.Prelude.{◌≡◌, ℕ, true, Option, List, [], ◌∷◌, All}
+use Rattle.group_tree.specs.Names.{is_name}
 use Rattle.domains.specs.FleetViews.{FleetView}
 use Rattle.fleet_states.specs.declared.status.Status.{Status}
 use Rattle.fleet_states.specs.Groups.{Fits, IsSafe, groups_of}
 use Rattle.batch_plan.specs.Plans.{IsPlan}
+use Rattle.group_table.specs.declared.paint.Paint.{Paint}
+use Rattle.group_table.specs.declared.paint.Paint.TheVariants.{Plain, Coloured}
+use Rattle.group_table.specs.Colours.{shown}
 use Rattle.group_table.specs.Columns.{AreWithinLimits, Column, now, planned}
+use Rattle.group_table.specs.TableText.{GridView, table_text}
 
 -- in no column of a plan is a group over its limit, where none is before it
 abbrev pub PlansAreWithinLimits : Type 0
@@ -16,3 +21,12 @@ PlansAreWithinLimits =
 abbrev pub FittingIsWithinLimits : Type 0
 FittingIsWithinLimits =
     (fleet : FleetView) (column : Column) → IsSafe (groups_of fleet) column.before → Fits (groups_of fleet) column.before column.batch → AreWithinLimits fleet (column ∷ [])
+
+-- the same table, painted so
+abbrev pub painted : Paint → GridView → GridView
+painted paint grid = record { fleet = grid.fleet; mark = grid.mark; groups = grid.groups; counts = grid.counts; paint = paint }
+
+-- a terminal shows of a coloured table what the plain one is, where the groups' names are of the alphabet of an inventory
+abbrev pub ColoursChangeNoCell : Type 0
+ColoursChangeNoCell =
+    (grid : GridView) → All (λ name. is_name name ≡ true) grid.fleet.groups → shown (table_text (painted Coloured grid)) ≡ table_text (painted Plain grid)

@@ -9,14 +9,17 @@ use Rattle.domains.specs.Numbered.{host_at}
 use Rattle.group_table.specs.declared.grid.Grid.{Grid}
 use Rattle.group_table.specs.declared.grid.Span.{Span}
 use Rattle.group_table.specs.declared.widths.Widths.{Widths}
+use Rattle.group_table.specs.declared.paint.Paint.{Paint}
+use Rattle.group_table.specs.Colours.{coloured, is_coloured}
 use Rattle.group_table.specs.Columns.{counts_of}
 
--- what a table shows of a fleet: these groups, of which one may be marked, and of each column how many of their hosts are down, in the groups' order
+-- what a table shows of a fleet: these groups, of which one may be marked, and of each column how many of their hosts are down, in the groups' order; and how it is painted
 pub record GridView : Type 0 where
   pub fleet : FleetView
   pub mark : Option ℕ
   pub groups : List ℕ
   pub counts : List (List ℕ)
+  pub paint : Paint
 
 abbrev pub grid_of : Grid → GridView
 grid_of grid = record {
@@ -24,6 +27,7 @@ grid_of grid = record {
   mark = option_map (λ group. group.index) grid.mark;
   groups = group_numbers grid.table.now.groups.items;
   counts = counts_of grid.table.now;
+  paint = grid.paint;
 }
 
 abbrev pub group_at : GridView → ℕ → ℕ
@@ -100,10 +104,14 @@ abbrev pub head_line : Widths → Span → List ℕ
 head_line widths span =
     blanks widths.name ++ (codes " " ++ (blanks widths.limit ++ (span_text (λ place. codes " " ++ rightwards widths.cell (column_head place)) span ++ codes "\n")))
 
+-- a cell at the right end of so many columns, of which its colour takes none
+abbrev pub cell_in : Paint → ℕ → ℕ → ℕ → List ℕ
+cell_in paint width down limit = blanks (width - length (cell_text down limit)) ++ coloured (is_coloured paint down limit) (cell_text down limit)
+
 -- the cells of a group's row
 abbrev pub cells_text : GridView → Widths → ℕ → Span → List ℕ
 cells_text grid widths row span =
-    span_text (λ place. codes " " ++ rightwards widths.cell (cell_text (count_at grid place row) (limit_at grid row))) span
+    span_text (λ place. codes " " ++ cell_in grid.paint widths.cell (count_at grid place row) (limit_at grid row)) span
 
 -- `NAME LIMIT D/L ..`
 abbrev pub row_line : GridView → Widths → Span → ℕ → List ℕ

@@ -3,16 +3,18 @@ ghost use Rattle.std.specs.Prelude.{◌≡◌, ◌<◌, length};
 ghost use Rattle.group_table.specs.TableText as model;
 ghost use Rattle.group_table.specs.TableText.{grid_of};
 
+use crate::paint::Paint;
 use crate::table::GroupTable;
 use domains::Fleet;
 use group_tree::GroupId;
 
-/// The table of a fleet, and the group whose name is marked in it.
+/// The table of a fleet, the group whose name is marked in it, and how it is painted.
 #[derive(Clone, Copy)]
 pub struct Grid<'g> {
     pub fleet: &'g Fleet,
     pub mark: Option<GroupId>,
     pub table: &'g GroupTable,
+    pub paint: Paint,
 }
 
 /// Columns that stand side by side: the first of them, and how many.

@@ -1,5 +1,5 @@
 //! What holds of every table.
-ghost use Rattle.group_table.specs.Laws.{FittingIsWithinLimits, PlansAreWithinLimits};
+ghost use Rattle.group_table.specs.Laws.{ColoursChangeNoCell, FittingIsWithinLimits, PlansAreWithinLimits};
 
 /// In no column of a plan's table is a group over its limit, where none is before it.
 pub fn plans_are_within_limits()
@@ -9,4 +9,9 @@ pub fn plans_are_within_limits()
 /// Nor in the column of a batch that has room in each group, where none is over its limit before it.
 pub fn what_fits_is_within_limits()
     ensures { FittingIsWithinLimits }
+{}
+
+/// A terminal shows of a coloured table what the plain one is.
+pub fn colours_change_no_cell()
+    ensures { ColoursChangeNoCell }
 {}

@@ -6,6 +6,7 @@ mod counts;
 mod grid;
 mod laws;
 mod padding;
+mod paint;
 mod settling;
 mod table;
 mod widths;
@@ -13,5 +14,6 @@ mod writing;
 
 pub use blocks::write_table;
 pub use grid::Grid;
-pub use laws::{plans_are_within_limits, what_fits_is_within_limits};
+pub use laws::{colours_change_no_cell, plans_are_within_limits, what_fits_is_within_limits};
+pub use paint::Paint;
 pub use table::{GroupTable, tabulate_plan};

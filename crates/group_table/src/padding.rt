@@ -1,11 +1,19 @@
 //! Texts that take so many columns.
 ghost use Rattle.std.specs.Prelude.{◌≡◌, ◌≤◌, ◌++◌, codes, decimal, length};
 ghost use Rattle.bounded_io.specs.Writing.{Writes};
-ghost use Rattle.group_table.specs.TableText.{blanks, cell_text, column_head, leftwards, rightwards};
+ghost use Rattle.group_table.specs.Colours as colours;
+ghost use Rattle.group_table.specs.TableText.{blanks, cell_in, cell_text, column_head, leftwards, rightwards};
 
+use crate::paint::Paint;
 use bounded_io::TextWriter;
 use itoa::Buffer;
 use std::io::Write;
+
+/// From here on a terminal shows bold red.
+const RED_BEGINS: &str = "\u{1b}[1;31m";
+
+/// And from here on no longer.
+const RED_ENDS: &str = "\u{1b}[0m";
 
 /// How many digits the number has.
 pub(crate) fn digits(number: u64) -> usize
@@ -77,19 +85,34 @@ fn write_bare_head<W: Write>(text: &mut TextWriter<'_, W>, width: usize, place: 
     }
 }
 
-/// Goes on with a cell at the right end of so many columns, behind a blank.
+/// Goes on with a cell at the right end of so many columns, behind a blank. Its colour takes none of them.
 #[tactic(auto, using(bounded_io::proofs::Pieces::pieces_of_text))]
 pub(crate) fn write_cell<W: Write>(
     text: &mut TextWriter<'_, W>,
+    paint: Paint,
     width: usize,
     down: u64,
     limit: u64,
 )
-    ensures { Writes W.contents text.old text.new (codes " " ++ rightwards width (cell_text down limit)) }
+    ensures { Writes W.contents text.old text.new (codes " " ++ cell_in paint width down limit) }
 {
     text.write_str(" ");
     write_blanks(text, width.saturating_sub(cell_length(down, limit)));
-    write_bare_cell(text, down, limit);
+    write_painted(text, paint.colours(down, limit), down, limit);
+}
+
+/// Goes on with a cell in bold red, or as it is.
+#[tactic(auto, using(bounded_io::proofs::Pieces::pieces_of_text))]
+fn write_painted<W: Write>(text: &mut TextWriter<'_, W>, is_coloured: bool, down: u64, limit: u64)
+    ensures { Writes W.contents text.old text.new (colours.coloured is_coloured (cell_text down limit)) }
+{
+    if is_coloured {
+        text.write_str(RED_BEGINS);
+        write_bare_cell(text, down, limit);
+        text.write_str(RED_ENDS);
+    } else {
+        write_bare_cell(text, down, limit);
+    }
 }
 
 #[tactic(auto, using(bounded_io::proofs::Pieces::pieces_of_text))]

@@ -46,7 +46,7 @@ fn write_cells<W: Write>(
 {
     for offset in 0..span.count {
         let down = grid.count(span.from + offset, row);
-        write_cell(text, widths.cell, down, grid.limit(row));
+        write_cell(text, grid.paint, widths.cell, down, grid.limit(row));
     }
 }
 

@@ -1,8 +1,8 @@
 //! Where a run stands.
 ghost use Rattle.std.specs.Prelude.{◌≡◌, IfOk};
 ghost use Rattle.domains.specs.FleetViews.{IsSound};
-ghost use Rattle.journal.specs.States.{start};
-ghost use Rattle.journal.specs.Shown.{shown_journal};
+ghost use Rattle.journal.specs.States.{begins, start};
+ghost use Rattle.journal.specs.Shown.{shown_head, shown_journal};
 
 use crate::entry::Head;
 use batch_plan::start;
@@ -43,5 +43,14 @@ impl<'t> Journal<'t> {
             open_batch: Vec::new(alloc),
             end: None,
         })
+    }
+
+    /// Of a run that has said which it is, and nothing else. Only want of memory refuses it.
+    pub fn begun(alloc: Global, fleet: &Fleet, head: Head<'t>) -> Result<Journal<'t>, AllocError>
+        ensures begun { IfOk result (λ journal. shown_journal journal ≡ begins (start fleet.now) (shown_head head.entry)) }
+    {
+        let mut journal = Journal::new(alloc, fleet)?;
+        journal.head = Some(head);
+        Ok(journal)
     }
 }

@@ -254,7 +254,7 @@ restarts_down Off listed = refl
 restarts_down Held true = refl
 restarts_down Held false = refl
 
-left_down : (s : Status) (listed : Bool) → is_down (at_rest (cond listed (stood_up s) s)) ≡ (is_down s && not listed)
+pub left_down : (s : Status) (listed : Bool) → is_down (at_rest (cond listed (stood_up s) s)) ≡ (is_down s && not listed)
 left_down Idle true = refl
 left_down Idle false = refl
 left_down Waiting true = refl

@@ -5,3 +5,4 @@ pub mod Turns
 pub mod Written
 pub mod Ends
 pub mod Resumings
+pub mod Beginnings

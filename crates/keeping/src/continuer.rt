@@ -78,7 +78,7 @@ impl<F: Disk> Keep for Continuer<'_, F> {
 
     ghost keeps = { λ before after fleet entry. AddsAgain F.contents (host_numbers before.mended.now) before.goes_on fleet entry before.file before.is_whole after.file after.is_whole after.goes_on × (after.mended ≡ before.mended) };
 
-    ghost holds = { λ keeper fleet batch. F.is_on_disk keeper.file };
+    ghost holds = { λ keeper fleet batch. (keeper.is_whole ≡ true) × F.is_on_disk keeper.file };
 
     fn plays_begin(&mut self, fleet: &Fleet, _plays: usize) {
         self.add(fleet, Said::Resumed(self.mended), false);

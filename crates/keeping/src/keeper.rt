@@ -1,5 +1,5 @@
 //! Whoever keeps a run in a journal.
-ghost use Rattle.std.specs.Prelude.{◌≡◌, IfSome, is_some, min, true};
+ghost use Rattle.std.specs.Prelude.{◌≡◌, IfSome, None, is_some, min, true};
 ghost use Rattle.journal.specs.Entries.{entry_text};
 ghost use Rattle.keeping.specs.Keepings.{Adds, Makes, entry_said, most_plays};
 
@@ -41,6 +41,7 @@ impl<'k, S: Shelf> Keeper<'k, S> {
         ensures playbook { result.playbook.now ≡ playbook.now }
         ensures name { result.name.now ≡ name.now }
         ensures whole { result.is_whole ≡ true }
+        ensures unmade { result.file ≡ None }
     {
         Keeper {
             alloc,
@@ -83,7 +84,7 @@ impl<'k, S: Shelf> Keeper<'k, S> {
 }
 
 /// How many plays a head tells.
-fn told_plays(plays: usize) -> u16
+pub(crate) fn told_plays(plays: usize) -> u16
     ensures { result ≡ min plays most_plays }
 {
     plays.min(65_535) as u16
@@ -107,7 +108,7 @@ impl<S: Shelf> Keep for Keeper<'_, S> {
 
     ghost keeps = { λ before after fleet entry. Keeps S.Journal.contents (λ file. S.is_new file before.name.now) before.inventory.now before.playbook.now fleet entry before.file before.is_whole after.file after.is_whole };
 
-    ghost holds = { λ keeper fleet batch. (is_some keeper.file ≡ true) × IfSome keeper.file S.Journal.is_on_disk };
+    ghost holds = { λ keeper fleet batch. (keeper.is_whole ≡ true) × (is_some keeper.file ≡ true) × IfSome keeper.file S.Journal.is_on_disk };
 
     fn plays_begin(&mut self, fleet: &Fleet, plays: usize) {
         let said = Said::Head(self.inventory, self.playbook, told_plays(plays));

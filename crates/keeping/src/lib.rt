@@ -1,6 +1,7 @@
 //! A run is kept in its journal.
 #![tactic(auto)]
 
+mod beginning;
 mod continuer;
 mod disk;
 mod holds;
@@ -8,6 +9,7 @@ mod keeper;
 mod laws;
 mod said;
 
+pub use beginning::begin_journal;
 pub use continuer::Continuer;
 pub use disk::{Disk, Shelf};
 pub use holds::Holds;

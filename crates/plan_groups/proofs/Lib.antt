@@ -3,3 +3,5 @@ pub mod LimitLemmas
 pub mod SurveyLemmas
 pub mod TextLemmas
 pub mod OneTextLemmas
+pub mod PlainNames
+pub mod ColourLemmas

@@ -28,6 +28,7 @@ use Rattle.planning.proofs.UniqueLemmas.{first_alike, one_fleet_in, same_end, sa
 use Rattle.rehearsing.specs.CourseTexts.{batches_line, batches_opened, numbered}
 use Rattle.rehearsing.proofs.OneCourseLemmas.{same_ends, same_readings}
 use Rattle.rehearsing.proofs.SameTextLemmas.{same_batches, same_course, same_many, same_sum}
+use Rattle.group_table.specs.declared.paint.Paint.{Paint}
 use Rattle.group_table.specs.Columns.{Column, planned}
 use Rattle.plan_groups.specs.CourseSurveys.{surveyed_lines, surveyed_text}
 use Rattle.plan_groups.specs.Laws.{OneSurveyedCourse, OneSurveyedPlan}
@@ -59,14 +60,14 @@ same_plan statuses begun answer other held aside same_start same_answer same_hel
     ∙ ap (λ (m : Option ℕ). outlook_by begun (batches_of other) m held) (same_forcing answer other same_answer) ∙ ap (outlook_by begun (batches_of other) (forcing other)) same_held
 
 pub one_surveyed_plan : OneSurveyedPlan
-one_surveyed_plan inventory playbook text other end otherwise first second =
+one_surveyed_plan inventory playbook paint text other end otherwise first second =
     let fleet : FleetView = first.fleet in
     let answer = second.answer in
     let held = second.held in
     let same : fleet ≡ second.fleet = one_fleet_in inventory fleet second.fleet first.plan.built second.plan.built in
     let its : IsPlaybookPlan fleet playbook first.answer first.held = first.plan.plan in
     let told : (also : IsPlaybookPlan fleet playbook answer held)
-    → other ≡ plan_text fleet answer held ++ survey_text fleet (plan_outlook (first_statuses fleet also.plan.first) answer held)
+    → other ≡ plan_text fleet answer held ++ survey_text paint fleet (plan_outlook (first_statuses fleet also.plan.first) answer held)
     → (text ≡ other) × (end ≡ otherwise) = λ also is.
     let alike = first_alike 16 playbook its.plays also.plays its.plan.others also.plan.others its.plan.first also.plan.first its.reads also.reads its.plan.are also.plan.are in
     let one = one_plan fleet its.plan.first also.plan.first first.answer answer first.held held alike its.plan.plan also.plan.plan in
@@ -75,9 +76,9 @@ one_surveyed_plan inventory playbook text other end otherwise first second =
     let begun = same_first fleet its.plan.first also.plan.first alike in
     let seen = same_plan (first_statuses fleet its.plan.first) (first_statuses fleet also.plan.first) first.answer answer first.held held begun one.0 one.1 in
     let ends = first.ends ∙ same_end first.answer answer first.held one.0 ∙ ap (end_of answer) one.1 ∙ sym second.ends in
-    (first.text_is ∙ ap₂ ◌++◌ texts (ap (survey_text fleet) seen) ∙ sym is, ends) in
+    (first.text_is ∙ ap₂ ◌++◌ texts (ap (survey_text paint fleet) seen) ∙ sym is, ends) in
     let Told : FleetView → Type 0 = λ f. (also : IsPlaybookPlan f playbook answer held)
-    → other ≡ plan_text f answer held ++ survey_text f (plan_outlook (first_statuses f also.plan.first) answer held)
+    → other ≡ plan_text f answer held ++ survey_text paint f (plan_outlook (first_statuses f also.plan.first) answer held)
     → (text ≡ other) × (end ≡ otherwise) in
     subst Told same told second.plan.plan second.text_is
 
@@ -130,24 +131,24 @@ same_outlook course other same =
     let columns = same_columns (batches_opened course) one two same ∙ ap (λ n. map opened (take (n - 1) two)) (same_many one two same) in
     ap from (same_start one two same) ∙ ap runs columns ∙ ap marks (same_mark one two same) ∙ ap keeps (same_asides one two same)
 
-module _ (fleet : FleetView) (several : Bool) where
+module _ (paint : Paint) (fleet : FleetView) (several : Bool) where
   same_from : (place : ℕ) (courses others : List Course) → AreSameCourses courses others
-      → text_by_place (surveyed_lines fleet several) place courses ≡ text_by_place (surveyed_lines fleet several) place others
+      → text_by_place (surveyed_lines paint fleet several) place courses ≡ text_by_place (surveyed_lines paint fleet several) place others
   same_from place [] [] same = refl
   same_from place [] (c ∷ cs) same = absurd same
   same_from place (b ∷ bs) [] same = absurd same
   same_from place (b ∷ bs) (c ∷ cs) same =
       let lines = ap (numbered several (place + 1)) (same_course fleet b c same.0 same.1) in
-      ap₂ ◌++◌ (ap₂ ◌++◌ lines (ap (survey_text fleet) (same_outlook b c same.0))) (same_from (place + 1) bs cs same.2)
+      ap₂ ◌++◌ (ap₂ ◌++◌ lines (ap (survey_text paint fleet) (same_outlook b c same.0))) (same_from (place + 1) bs cs same.2)
 
-  same_text : (courses others : List Course) → AreSameCourses courses others → surveyed_text fleet several courses ≡ surveyed_text fleet several others
+  same_text : (courses others : List Course) → AreSameCourses courses others → surveyed_text paint fleet several courses ≡ surveyed_text paint fleet several others
   same_text courses others same = ap₂ ◌++◌ (same_from 0 courses others same) (ap batches_line (same_sum fleet courses others same))
 
 pub one_surveyed_course : OneSurveyedCourse
-one_surveyed_course inventory playbook failing text other end otherwise first second =
+one_surveyed_course inventory playbook failing paint text other end otherwise first second =
     let one = same_readings inventory playbook failing first.fleet second.fleet first.plays second.plays first.courses second.courses first.read second.read first.courses_are second.courses_are in
     let several = nat_lt 1 (length first.plays) in (
-      first.text_is ∙ same_text first.fleet several first.courses second.courses one.2 ∙ ap (λ n. surveyed_text first.fleet (nat_lt 1 n) second.courses) one.1
-          ∙ ap (λ (f : FleetView). surveyed_text f (nat_lt 1 (length second.plays)) second.courses) one.0 ∙ sym second.text_is,
+      first.text_is ∙ same_text paint first.fleet several first.courses second.courses one.2 ∙ ap (λ n. surveyed_text paint first.fleet (nat_lt 1 n) second.courses) one.1
+          ∙ ap (λ (f : FleetView). surveyed_text paint f (nat_lt 1 (length second.plays)) second.courses) one.0 ∙ sym second.text_is,
       same_ends first.courses second.courses end otherwise one.2 first.ends second.ends,
     )

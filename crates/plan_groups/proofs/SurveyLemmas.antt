@@ -11,6 +11,7 @@ use Rattle.play_model.specs.declared.play.Play.{Play}
 use Rattle.play_course.specs.PlayPlans.{aside_at_start, first_statuses, targets}
 use Rattle.play_course.specs.declared.boundary.Boundary.{Boundary}
 use Rattle.domains.specs.Ids.{group_numbers, host_numbers}
+use Rattle.group_table.specs.declared.paint.Paint.{Paint}
 use Rattle.group_table.specs.Columns.{counts_of}
 use Rattle.group_table.specs.TableText.{GridView, table_text}
 use Rattle.batch_plan.specs.Counts.{limited_groups}
@@ -20,16 +21,16 @@ use Rattle.plan_groups.specs.declared.survey.Survey.{Survey}
 use Rattle.rehearsing.specs.CourseSteps.{course_of}
 use Rattle.rehearsing.specs.declared.course.PlayCourse.{PlayCourse}
 
-pub written_is : (fleet : FleetView) (outlook : Outlook) (survey : Survey) → IsSurveyOf fleet outlook survey → written fleet survey ≡ survey_text fleet outlook
-written_is fleet outlook survey is =
+pub written_is : (paint : Paint) (fleet : FleetView) (outlook : Outlook) (survey : Survey) → IsSurveyOf fleet outlook survey → written paint fleet survey ≡ survey_text paint fleet outlook
+written_is paint fleet outlook survey is =
     let rest = down_line fleet (host_numbers survey.down.items) ++ flat_map (held_line fleet) (held_views survey.held.items) in
-    let marked : Option ℕ → GridView = λ m. record { fleet = fleet; mark = m; groups = group_numbers survey.table.groups.items; counts = counts_of survey.table } in
-    let grouped : List ℕ → GridView = λ g. record { fleet = fleet; mark = outlook.mark; groups = g; counts = counts_of survey.table } in
-    let counted : List (List ℕ) → GridView = λ n. record { fleet = fleet; mark = outlook.mark; groups = limited_groups fleet; counts = n } in
+    let marked : Option ℕ → GridView = λ m. record { fleet = fleet; mark = m; groups = group_numbers survey.table.groups.items; counts = counts_of survey.table; paint = paint } in
+    let grouped : List ℕ → GridView = λ g. record { fleet = fleet; mark = outlook.mark; groups = g; counts = counts_of survey.table; paint = paint } in
+    let counted : List (List ℕ) → GridView = λ n. record { fleet = fleet; mark = outlook.mark; groups = limited_groups fleet; counts = n; paint = paint } in
     let grid = ap marked is.mark ∙ ap grouped is.table.groups ∙ ap counted is.table.counts in
     ap (λ (g : GridView). table_text g ++ rest) grid
-    ∙ ap (λ (hosts : List ℕ). table_text (grid_view fleet outlook) ++ (down_line fleet hosts ++ flat_map (held_line fleet) (held_views survey.held.items))) is.down
-    ∙ ap (λ (held : List HeldView). table_text (grid_view fleet outlook) ++ (down_line fleet (down_hosts fleet outlook.start) ++ flat_map (held_line fleet) held)) is.held
+    ∙ ap (λ (hosts : List ℕ). table_text (grid_view paint fleet outlook) ++ (down_line fleet hosts ++ flat_map (held_line fleet) (held_views survey.held.items))) is.down
+    ∙ ap (λ (held : List HeldView). table_text (grid_view paint fleet outlook) ++ (down_line fleet (down_hosts fleet outlook.start) ++ flat_map (held_line fleet) held)) is.held
 
 pub start_long : (count : ℕ) (boundaries : List Boundary) → 1 ≤ length boundaries → All (λ (boundary : Boundary). length boundary.statuses.items ≡ count) boundaries
     → length (start_of boundaries) ≡ count

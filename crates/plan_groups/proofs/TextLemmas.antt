@@ -21,6 +21,7 @@ use Rattle.rehearsing.proofs.CourseTextLemmas.{ends_somehow, some_course}
 use Rattle.rehearsing.specs.CourseSteps.{course_of}
 use Rattle.rehearsing.specs.CourseTexts.{AreCoursesBy, failing_by}
 use Rattle.rehearsing.specs.declared.course.PlayCourse.{PlayCourse}
+use Rattle.group_table.specs.declared.paint.Paint.{Paint}
 use Rattle.plan_groups.specs.CourseSurveys.{BreaksSurveyedCourse, IsTrueCourseFaultBeside, surveyed_text}
 use Rattle.plan_groups.specs.Inside.{IsSurveyedPlay, planned_text}
 use Rattle.plan_groups.specs.PlanSurveys.{IsSurveyedPlan, IsTrueFaultBeside}
@@ -28,28 +29,28 @@ use Rattle.plan_groups.specs.Surveys.{plan_outlook}
 use Rattle.plan_groups.specs.declared.plan.SurveyedPlan.{SurveyedPlan}
 use Rattle.plan_groups.proofs.SurveyLemmas.{written_is}
 
-pub refused_beside : (inventory playbook : List ℕ) (old new : Option (List ℕ)) (fleet : FleetView) → IsFleetIn inventory fleet → (fault : PlanFault) → Keeps old new
-    → IsPlaybookFault fleet playbook fault → IsTrueFaultBeside inventory playbook old new fault
-refused_beside inventory playbook old new fleet built (Playbook fault) keeps refused = refused_is_true inventory playbook old new fleet built (Playbook fault) keeps refused
-refused_beside inventory playbook old new fleet built (Pattern fault) keeps refused = refused_is_true inventory playbook old new fleet built (Pattern fault) keeps refused
-refused_beside inventory playbook old new fleet built (Read fault) keeps refused = absurd refused
-refused_beside inventory playbook old new fleet built (Fleet fault) keeps refused = absurd refused
-refused_beside inventory playbook old new fleet built (Write fault) keeps refused = absurd refused
+pub refused_beside : (inventory playbook : List ℕ) (paint : Paint) (old new : Option (List ℕ)) (fleet : FleetView) → IsFleetIn inventory fleet → (fault : PlanFault) → Keeps old new
+    → IsPlaybookFault fleet playbook fault → IsTrueFaultBeside inventory playbook paint old new fault
+refused_beside inventory playbook paint old new fleet built (Playbook fault) keeps refused = refused_is_true inventory playbook old new fleet built (Playbook fault) keeps refused
+refused_beside inventory playbook paint old new fleet built (Pattern fault) keeps refused = refused_is_true inventory playbook old new fleet built (Pattern fault) keeps refused
+refused_beside inventory playbook paint old new fleet built (Read fault) keeps refused = absurd refused
+refused_beside inventory playbook paint old new fleet built (Fleet fault) keeps refused = absurd refused
+refused_beside inventory playbook paint old new fleet built (Write fault) keeps refused = absurd refused
 
-pub refused_course_beside : (inventory playbook failing : List ℕ) (old new : Option (List ℕ)) (fleet : FleetView) → IsFleetIn inventory fleet → (fault : PlanFault) → Keeps old new
-    → IsPlaybookFault fleet playbook fault → IsTrueCourseFaultBeside inventory playbook failing old new fault
-refused_course_beside inventory playbook failing old new fleet built (Playbook fault) keeps refused =
+pub refused_course_beside : (inventory playbook failing : List ℕ) (paint : Paint) (old new : Option (List ℕ)) (fleet : FleetView) → IsFleetIn inventory fleet → (fault : PlanFault) → Keeps old new
+    → IsPlaybookFault fleet playbook fault → IsTrueCourseFaultBeside inventory playbook failing paint old new fault
+refused_course_beside inventory playbook failing paint old new fleet built (Playbook fault) keeps refused =
     courses.refused_is_true inventory playbook failing old new fleet built (Playbook fault) keeps refused
-refused_course_beside inventory playbook failing old new fleet built (Pattern fault) keeps refused =
+refused_course_beside inventory playbook failing paint old new fleet built (Pattern fault) keeps refused =
     courses.refused_is_true inventory playbook failing old new fleet built (Pattern fault) keeps refused
-refused_course_beside inventory playbook failing old new fleet built (Read fault) keeps refused = absurd refused
-refused_course_beside inventory playbook failing old new fleet built (Fleet fault) keeps refused = absurd refused
-refused_course_beside inventory playbook failing old new fleet built (Write fault) keeps refused = absurd refused
+refused_course_beside inventory playbook failing paint old new fleet built (Read fault) keeps refused = absurd refused
+refused_course_beside inventory playbook failing paint old new fleet built (Fleet fault) keeps refused = absurd refused
+refused_course_beside inventory playbook failing paint old new fleet built (Write fault) keeps refused = absurd refused
 
-pub is_surveyed : (inventory playbook : List ℕ) (fleet : FleetView) (plays : List Play) (play : Play) (plan : SurveyedPlan) → IsFleetIn inventory fleet → ArePlaysIn fleet playbook plays
-    → 0 < length plays → play ≡ get_or plays 0 play → IsSurveyedPlay fleet play plan
-    → IsSurveyedPlan inventory playbook (planned_text fleet plan) (end_of plan.planned.answer (host_numbers plan.planned.held.items))
-is_surveyed inventory playbook fleet plays play plan built says some is surveyed =
+pub is_surveyed : (inventory playbook : List ℕ) (paint : Paint) (fleet : FleetView) (plays : List Play) (play : Play) (plan : SurveyedPlan) → IsFleetIn inventory fleet
+    → ArePlaysIn fleet playbook plays → 0 < length plays → play ≡ get_or plays 0 play → IsSurveyedPlay fleet play plan
+    → IsSurveyedPlan inventory playbook paint (planned_text paint fleet plan) (end_of plan.planned.answer (host_numbers plan.planned.held.items))
+is_surveyed inventory playbook paint fleet plays play plan built says some is surveyed =
     let parts : plays ≡ play ∷ drop 1 plays = drop-cons plays 0 play some ∙ ap (λ (p : Play). p ∷ drop 1 plays) (sym is) in
     let held = host_numbers plan.planned.held.items in
     let first : IsFirstPlan fleet plays plan.planned.answer held = record { first = play; others = drop 1 plays; are = parts; known = says.known; plan = surveyed.plan_is } in
@@ -59,18 +60,18 @@ is_surveyed inventory playbook fleet plays play plan built says some is surveyed
       held = held;
       plan = record { built = built; plan = record { plays = plays; reads = says.reads; plan = first } };
       text_is = ap (λ (l : List ℕ). plan_text fleet plan.planned.answer held ++ l)
-          (written_is fleet (plan_outlook (first_statuses fleet play) plan.planned.answer held) plan.survey surveyed.survey_is);
+          (written_is paint fleet (plan_outlook (first_statuses fleet play) plan.planned.answer held) plan.survey surveyed.survey_is);
       ends = refl;
     }
 
-pub breaks_course : (inventory playbook failing : List ℕ) (old new : Option (List ℕ)) (fleet : FleetView) (plays : List Play) (courses : List PlayCourse) (several : Bool) (count : ℕ)
+pub breaks_course : (inventory playbook failing : List ℕ) (paint : Paint) (old new : Option (List ℕ)) (fleet : FleetView) (plays : List Play) (courses : List PlayCourse) (several : Bool) (count : ℕ)
     → IsFleetIn inventory fleet → ArePlaysIn fleet playbook plays → find (names_nothing fleet) (parts_of failing) ≡ None
     → AreCoursesBy fleet (failing_by fleet failing) plays (map course_of courses) → several ≡ nat_lt 1 (length plays)
-    → SendsFirst old new (surveyed_text fleet several (map course_of courses)) count → BreaksSurveyedCourse inventory playbook failing old new count
-breaks_course inventory playbook failing old new fleet plays courses several count built says known are is written =
+    → SendsFirst old new (surveyed_text paint fleet several (map course_of courses)) count → BreaksSurveyedCourse inventory playbook failing paint old new count
+breaks_course inventory playbook failing paint old new fleet plays courses several count built says known are is written =
     let ends = ends_somehow courses (some_course fleet (failing_by fleet failing) plays courses are) in
     record {
-      text = surveyed_text fleet several (map course_of courses);
+      text = surveyed_text paint fleet several (map course_of courses);
       end = ends.0;
       is = record {
         fleet = fleet;
@@ -79,7 +80,7 @@ breaks_course inventory playbook failing old new fleet plays courses several cou
         known = known;
         courses = map course_of courses;
         courses_are = are;
-        text_is = ap (λ b. surveyed_text fleet b (map course_of courses)) is;
+        text_is = ap (λ b. surveyed_text paint fleet b (map course_of courses)) is;
         ends = ends.1;
       };
       written = written;

@@ -2,8 +2,9 @@
 use Rattle.std.specs.Prelude.{◌≡◌, ◌<◌, ◌≤◌, ℕ, option_map, List, ◌++◌, All, flat_map, length, map, slice_index_or}
 use Rattle.domains.specs.FleetViews.{FleetView}
 use Rattle.domains.specs.Ids.{group_numbers, host_numbers}
+use Rattle.group_table.specs.declared.paint.Paint.{Paint}
 use Rattle.group_table.specs.Columns.{IsTableOf, counts_of}
-use Rattle.group_table.specs.TableText.{table_text}
+use Rattle.group_table.specs.TableText.{GridView, table_text}
 use Rattle.plan_groups.specs.Surveys.{HeldView, Outlook, columns_of, course_outlook, down_hosts, down_line, held_line, held_of, plan_outlook}
 use Rattle.play_model.specs.declared.play.Play.{Play}
 use Rattle.play_course.specs.PlayPlans.{IsPlanOf, first_statuses}
@@ -20,10 +21,20 @@ held_view held = record { host = held.host.index; group = option_map (λ group. 
 abbrev pub held_views : List HeldHost → List HeldView
 held_views held = map held_view held
 
+-- the table of a survey, painted so
+abbrev pub grid_of_survey : Paint → FleetView → Survey → GridView
+grid_of_survey paint fleet survey = record {
+  fleet = fleet;
+  mark = option_map (λ group. group.index) survey.mark;
+  groups = group_numbers survey.table.groups.items;
+  counts = counts_of survey.table;
+  paint = paint;
+}
+
 -- what is written of a survey
-abbrev pub written : FleetView → Survey → List ℕ
-written fleet survey =
-    table_text (record { fleet = fleet; mark = option_map (λ group. group.index) survey.mark; groups = group_numbers survey.table.groups.items; counts = counts_of survey.table })
+abbrev pub written : Paint → FleetView → Survey → List ℕ
+written paint fleet survey =
+    table_text (grid_of_survey paint fleet survey)
     ++ (down_line fleet (host_numbers survey.down.items) ++ flat_map (held_line fleet) (held_views survey.held.items))
 
 -- the survey has what is told of a play
@@ -50,5 +61,5 @@ pub record IsSurveyedPlay (fleet : FleetView) (play : Play) (plan : SurveyedPlan
   pub survey_is : IsSurveyOf fleet (plan_outlook (first_statuses fleet play) plan.planned.answer (host_numbers plan.planned.held.items)) plan.survey
 
 -- what is written of a plan
-abbrev pub planned_text : FleetView → SurveyedPlan → List ℕ
-planned_text fleet plan = plan_text fleet plan.planned.answer (host_numbers plan.planned.held.items) ++ written fleet plan.survey
+abbrev pub planned_text : Paint → FleetView → SurveyedPlan → List ℕ
+planned_text paint fleet plan = plan_text fleet plan.planned.answer (host_numbers plan.planned.held.items) ++ written paint fleet plan.survey

@@ -9,6 +9,9 @@ use Rattle.batch_plan.specs.declared.answers.Answer.{Answer}
 use Rattle.planning.specs.declared.end.End.{End}
 use Rattle.rehearsing.specs.CourseTexts.{AreCoursesBy}
 use Rattle.rehearsing.specs.declared.course_end.CourseEnd.{CourseEnd}
+use Rattle.group_table.specs.declared.paint.Paint.{Paint}
+use Rattle.group_table.specs.declared.paint.Paint.TheVariants.{Plain, Coloured}
+use Rattle.group_table.specs.Colours.{shown}
 use Rattle.group_table.specs.Columns.{AreWithinLimits}
 use Rattle.plan_groups.specs.CourseSurveys.{IsSurveyedCourse}
 use Rattle.plan_groups.specs.PlanSurveys.{IsSurveyedPlan}
@@ -26,14 +29,27 @@ CoursesStayWithin =
     (fleet : FleetView) (fails : Fails) (plays : List Play) (courses : List Course) → IsSound fleet → AreCoursesBy fleet fails plays courses
     → All (λ course. AreWithinLimits fleet (columns_of (course_outlook course))) courses
 
--- an inventory's text and a playbook's have one text of a plan with its groups at most, and one end
+-- an inventory's text and a playbook's have one text of a plan with its groups at most, painted so, and one end
 abbrev pub OneSurveyedPlan : Type 0
 OneSurveyedPlan =
-    (inventory playbook text other : List ℕ) (end otherwise : End) → IsSurveyedPlan inventory playbook text end → IsSurveyedPlan inventory playbook other otherwise
+    (inventory playbook : List ℕ) (paint : Paint) (text other : List ℕ) (end otherwise : End) → IsSurveyedPlan inventory playbook paint text end
+    → IsSurveyedPlan inventory playbook paint other otherwise
     → (text ≡ other) × (end ≡ otherwise)
 
 -- and with the names of failing hosts one text of a course with its groups
 abbrev pub OneSurveyedCourse : Type 0
 OneSurveyedCourse =
-    (inventory playbook failing text other : List ℕ) (end otherwise : CourseEnd) → IsSurveyedCourse inventory playbook failing text end
-    → IsSurveyedCourse inventory playbook failing other otherwise → (text ≡ other) × (end ≡ otherwise)
+    (inventory playbook failing : List ℕ) (paint : Paint) (text other : List ℕ) (end otherwise : CourseEnd) → IsSurveyedCourse inventory playbook failing paint text end
+    → IsSurveyedCourse inventory playbook failing paint other otherwise → (text ≡ other) × (end ≡ otherwise)
+
+-- a terminal shows of a coloured plan with its groups what the plain one is
+abbrev pub ColoursChangeNoPlan : Type 0
+ColoursChangeNoPlan =
+    (inventory playbook text plain : List ℕ) (end otherwise : End) → IsSurveyedPlan inventory playbook Coloured text end → IsSurveyedPlan inventory playbook Plain plain otherwise
+    → (shown text ≡ plain) × (end ≡ otherwise)
+
+-- and of a coloured course what the plain one is
+abbrev pub ColoursChangeNoCourse : Type 0
+ColoursChangeNoCourse =
+    (inventory playbook failing text plain : List ℕ) (end otherwise : CourseEnd) → IsSurveyedCourse inventory playbook failing Coloured text end
+    → IsSurveyedCourse inventory playbook failing Plain plain otherwise → (shown text ≡ plain) × (end ≡ otherwise)

@@ -11,34 +11,35 @@ use Rattle.planning.specs.PlanTexts.{IsPlanIn, IsTrueFault}
 use Rattle.planning.specs.declared.end.End.{End}
 use Rattle.planning.specs.declared.fault.PlanFault.{PlanFault}
 use Rattle.planning.specs.declared.fault.PlanFault.TheVariants.{Read, Fleet, Playbook, Pattern, Write}
+use Rattle.group_table.specs.declared.paint.Paint.{Paint}
 use Rattle.plan_groups.specs.Surveys.{plan_outlook, survey_text}
 
 -- the plan of both texts, and below its text what is told of the groups
-pub record IsSurveyedPlan (inventory playbook text : List ℕ) (end : End) : Type 0 where
+pub record IsSurveyedPlan (inventory playbook : List ℕ) (paint : Paint) (text : List ℕ) (end : End) : Type 0 where
   pub fleet : FleetView
   pub answer : Answer
   pub held : List ℕ
   pub plan : IsPlanIn inventory playbook fleet answer held
-  pub text_is : text ≡ plan_text fleet answer held ++ survey_text fleet (plan_outlook (first_statuses fleet plan.plan.plan.first) answer held)
+  pub text_is : text ≡ plan_text fleet answer held ++ survey_text paint fleet (plan_outlook (first_statuses fleet plan.plan.plan.first) answer held)
   pub ends : end ≡ end_of answer held
 
 -- that text went out, and nothing else
-pub record WritesSurveyedPlan (inventory playbook : List ℕ) (old new : Option (List ℕ)) (end : End) : Type 0 where
+pub record WritesSurveyedPlan (inventory playbook : List ℕ) (paint : Paint) (old new : Option (List ℕ)) (end : End) : Type 0 where
   pub text : List ℕ
-  pub is : IsSurveyedPlan inventory playbook text end
+  pub is : IsSurveyedPlan inventory playbook paint text end
   pub written : Appends old new text
 
 -- it broke off after so many bytes
-pub record BreaksSurveyedPlan (inventory playbook : List ℕ) (old new : Option (List ℕ)) (count : ℕ) : Type 0 where
+pub record BreaksSurveyedPlan (inventory playbook : List ℕ) (paint : Paint) (old new : Option (List ℕ)) (count : ℕ) : Type 0 where
   pub text : List ℕ
   pub end : End
-  pub is : IsSurveyedPlan inventory playbook text end
+  pub is : IsSurveyedPlan inventory playbook paint text end
   pub written : SendsFirst old new text count
 
 -- what the fault says is true: both texts are refused as the plan refuses them, or the text broke off where the fault says
-abbrev pub IsTrueFaultBeside : List ℕ → List ℕ → Option (List ℕ) → Option (List ℕ) → PlanFault → Type 0
-IsTrueFaultBeside inventory playbook old new (Write fault) = BreaksSurveyedPlan inventory playbook old new fault.written
-IsTrueFaultBeside inventory playbook old new (Read fault) = IsTrueFault inventory playbook old new (Read fault)
-IsTrueFaultBeside inventory playbook old new (Fleet fault) = IsTrueFault inventory playbook old new (Fleet fault)
-IsTrueFaultBeside inventory playbook old new (Playbook fault) = IsTrueFault inventory playbook old new (Playbook fault)
-IsTrueFaultBeside inventory playbook old new (Pattern fault) = IsTrueFault inventory playbook old new (Pattern fault)
+abbrev pub IsTrueFaultBeside : List ℕ → List ℕ → Paint → Option (List ℕ) → Option (List ℕ) → PlanFault → Type 0
+IsTrueFaultBeside inventory playbook paint old new (Write fault) = BreaksSurveyedPlan inventory playbook paint old new fault.written
+IsTrueFaultBeside inventory playbook paint old new (Read fault) = IsTrueFault inventory playbook old new (Read fault)
+IsTrueFaultBeside inventory playbook paint old new (Fleet fault) = IsTrueFault inventory playbook old new (Fleet fault)
+IsTrueFaultBeside inventory playbook paint old new (Playbook fault) = IsTrueFault inventory playbook old new (Playbook fault)
+IsTrueFaultBeside inventory playbook paint old new (Pattern fault) = IsTrueFault inventory playbook old new (Pattern fault)

@@ -16,6 +16,7 @@ use Rattle.play_course.specs.Files.{Course}
 use Rattle.play_course.specs.declared.boundary.Boundary.{Boundary}
 use Rattle.recap.specs.PlanText.{names_line}
 use Rattle.aftermath.specs.Fulls.{first_full}
+use Rattle.group_table.specs.declared.paint.Paint.{Paint}
 use Rattle.group_table.specs.Columns.{Column, counts_in, now, planned}
 use Rattle.group_table.specs.TableText.{GridView, table_text}
 use Rattle.rehearsing.specs.CourseTexts.{batches_opened}
@@ -81,8 +82,9 @@ course_outlook course = record {
   asides = map aside_at course.boundaries;
 }
 
-abbrev pub grid_view : FleetView → Outlook → GridView
-grid_view fleet outlook = record { fleet = fleet; mark = outlook.mark; groups = limited_groups fleet; counts = map (counts_in fleet) (columns_of outlook) }
+abbrev pub grid_view : Paint → FleetView → Outlook → GridView
+grid_view paint fleet outlook =
+    record { fleet = fleet; mark = outlook.mark; groups = limited_groups fleet; counts = map (counts_in fleet) (columns_of outlook); paint = paint }
 
 -- who is down, by name
 abbrev pub down_hosts : FleetView → List Status → List ℕ
@@ -109,7 +111,7 @@ held_line fleet held = codes "held " ++ (host_at fleet.hosts held.host ++ (holde
 abbrev pub held_of : FleetView → Aside → List HeldView
 held_of fleet aside = map (λ host. record { host = host; group = first_full fleet aside.statuses host }) aside.hosts
 
--- what stands below a play's text
-abbrev pub survey_text : FleetView → Outlook → List ℕ
-survey_text fleet outlook =
-    table_text (grid_view fleet outlook) ++ (down_line fleet (down_hosts fleet outlook.start) ++ flat_map (held_line fleet) (flat_map (held_of fleet) outlook.asides))
+-- what stands below a play's text, its table painted so
+abbrev pub survey_text : Paint → FleetView → Outlook → List ℕ
+survey_text paint fleet outlook =
+    table_text (grid_view paint fleet outlook) ++ (down_line fleet (down_hosts fleet outlook.start) ++ flat_map (held_line fleet) (flat_map (held_of fleet) outlook.asides))

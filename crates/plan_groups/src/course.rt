@@ -10,10 +10,12 @@ ghost use Rattle.plan_groups.specs.Surveys.{course_outlook, survey_text};
 ghost use Rattle.plan_groups.specs.Inside.{AreSurveysOf, IsSurveyOf, IsWalked};
 ghost use Rattle.plan_groups.specs.CourseSurveys.{IsTrueCourseFaultBeside, WritesSurveyedCourse, surveyed_lines, surveyed_text};
 
+use crate::manner::Manner;
 use crate::survey::{Survey, survey_course};
 use crate::writing::write_survey;
 use bounded_io::{TextWriter, WriteFault};
 use domains::{Fleet, PatternFault};
+use group_table::Paint;
 use planning::{PlanFault, read_fleet, read_known_plays};
 use recap::write_field;
 use rehearsing::{CourseEnd, PlayCourse, count_batches, foresee, last_end, write_course};
@@ -40,33 +42,34 @@ fn survey_all(
 fn write_one<W: Write>(
     text: &mut TextWriter<'_, W>,
     fleet: &Fleet,
-    several: bool,
+    manner: Manner,
     number: u64,
     course: &PlayCourse,
     survey: &Survey,
 )
     requires told { IsSurveyOf fleet.now (course_outlook (course_of course.now)) survey.now }
-    ensures { Writes W.contents text.old text.new (numbered several number (course_lines fleet.now (course_of course.now)) ++ survey_text fleet.now (course_outlook (course_of course.now))) }
+    ensures { Writes W.contents text.old text.new
+        (numbered manner.several number (course_lines fleet.now (course_of course.now)) ++ survey_text manner.paint fleet.now (course_outlook (course_of course.now))) }
 {
-    write_course(text, fleet, several, number, course);
-    write_survey(text, fleet, survey);
+    write_course(text, fleet, manner.several, number, course);
+    write_survey(text, fleet, manner.paint, survey);
 }
 
 fn write_each<W: Write>(
     text: &mut TextWriter<'_, W>,
     fleet: &Fleet,
-    several: bool,
+    manner: Manner,
     courses: &[PlayCourse],
     surveys: &[Survey],
 )
     requires told { AreSurveysOf fleet.now courses.now surveys.now }
-    ensures { Writes W.contents text.old text.new (text_by_place (surveyed_lines fleet.now several) 0 (map course_of courses.now)) }
+    ensures { Writes W.contents text.old text.new (text_by_place (surveyed_lines manner.paint fleet.now manner.several) 0 (map course_of courses.now)) }
 {
     for place in 0..courses.len() {
         write_one(
             text,
             fleet,
-            several,
+            manner,
             place as u64 + 1,
             &courses[place],
             &surveys[place],
@@ -78,15 +81,15 @@ fn write_each<W: Write>(
 fn write_all<W: Write>(
     text: &mut TextWriter<'_, W>,
     fleet: &Fleet,
-    several: bool,
+    manner: Manner,
     courses: &[PlayCourse],
     surveys: &[Survey],
 )
     requires few { sum_by batches_opened (map course_of courses.now) < 2 ^ 64 }
     requires told { AreSurveysOf fleet.now courses.now surveys.now }
-    ensures { Writes W.contents text.old text.new (surveyed_text fleet.now several (map course_of courses.now)) }
+    ensures { Writes W.contents text.old text.new (surveyed_text manner.paint fleet.now manner.several (map course_of courses.now)) }
 {
-    write_each(text, fleet, several, courses, surveys);
+    write_each(text, fleet, manner, courses, surveys);
     write_field(text, "batches=", count_batches(courses));
     text.write_str("\n");
 }
@@ -94,33 +97,34 @@ fn write_all<W: Write>(
 /// Sends the courses with their groups. It takes no memory.
 fn send_courses<W: Write>(
     fleet: &Fleet,
-    several: bool,
+    manner: Manner,
     courses: &[PlayCourse],
     surveys: &[Survey],
     out: &mut W,
 ) -> Result<(), WriteFault>
     requires few { sum_by batches_opened (map course_of courses.now) < 2 ^ 64 }
     requires told { AreSurveysOf fleet.now courses.now surveys.now }
-    ensures { SendsText (W.contents out.old) (W.contents out.new) (surveyed_text fleet.now several (map course_of courses.now)) result }
+    ensures { SendsText (W.contents out.old) (W.contents out.new) (surveyed_text manner.paint fleet.now manner.several (map course_of courses.now)) result }
 {
     let mut text = TextWriter::new(out);
-    write_all(&mut text, fleet, several, courses, surveys);
+    write_all(&mut text, fleet, manner, courses, surveys);
     text.finish()
 }
 
-/// Writes what a run of the plays of a playbook on the fleet of an inventory would open to its end, where just the hosts that `failing` names fail, as `course_text` does, and below each
-/// play how many hosts of each limited group are down while each batch runs, who is down at the play's beginning, and which group holds whom that was set aside. Nothing goes out before
-/// all was accepted: the faults are told as the course alone tells them. Where a write fails, exactly the first bytes of the text went out, as many as the fault says. Writing takes
-/// no memory.
+/// Writes what a run of the plays of a playbook on the fleet of an inventory would open to its end, where just the hosts that `failing` names fail, as `course_text` does, and
+/// below each play how many hosts of each limited group are down while each batch runs, who is down at the play's beginning, and which group holds whom that was set aside. The
+/// cells of full groups are coloured where the paint says so. Nothing goes out before all was accepted: the faults are told as the course alone tells them. Where a write
+/// fails, exactly the first bytes of the text went out, as many as the fault says. Writing takes no memory.
 pub fn surveyed_course<W: Write>(
     alloc: Global,
     inventory: &[u8],
     playbook: &[u8],
     failing: &str,
+    paint: Paint,
     out: &mut W,
 ) -> Result<CourseEnd, PlanFault>
-    ensures ok { IfOk result (WritesSurveyedCourse inventory.now playbook.now failing.now (W.contents out.old) (W.contents out.new)) }
-    ensures err { IfErr result (IsTrueCourseFaultBeside inventory.now playbook.now failing.now (W.contents out.old) (W.contents out.new)) }
+    ensures ok { IfOk result (WritesSurveyedCourse inventory.now playbook.now failing.now paint (W.contents out.old) (W.contents out.new)) }
+    ensures err { IfErr result (IsTrueCourseFaultBeside inventory.now playbook.now failing.now paint (W.contents out.old) (W.contents out.new)) }
 {
     let fleet = match read_fleet(alloc, inventory) {
         Ok(fleet) => fleet,
@@ -139,7 +143,11 @@ pub fn surveyed_course<W: Write>(
         Ok(surveys) => surveys,
         Err(_refused) => return Err(PlanFault::Pattern(PatternFault::Memory)),
     };
-    match send_courses(&fleet, plays.len() > 1, courses, surveys.as_slice(), out) {
+    let manner = Manner {
+        several: plays.len() > 1,
+        paint,
+    };
+    match send_courses(&fleet, manner, courses, surveys.as_slice(), out) {
         Ok(()) => Ok(last_end(courses)),
         Err(fault) => Err(PlanFault::Write(fault)),
     }

@@ -5,6 +5,7 @@ mod course;
 mod down;
 mod held;
 mod laws;
+mod manner;
 mod marks;
 mod plan;
 mod survey;
@@ -12,6 +13,7 @@ mod writing;
 
 pub use course::surveyed_course;
 pub use laws::{
-    courses_stay_within_limits, one_surveyed_course, one_surveyed_plan, plans_stay_within_limits,
+    colours_change_no_course, colours_change_no_plan, courses_stay_within_limits,
+    one_surveyed_course, one_surveyed_plan, plans_stay_within_limits,
 };
 pub use plan::surveyed_plan;

@@ -14,6 +14,7 @@ use batch_plan::{set_aside, start};
 use bounded_io::{TextWriter, WriteFault};
 use domains::{Fleet, PatternFault};
 use fleet_states::Status;
+use group_table::Paint;
 use group_tree::HostId;
 use planning::{End, PlanFault, end_of, read_fleet, read_known_plays};
 use play_course::{PlayPlan, plan_play};
@@ -61,8 +62,13 @@ fn survey_play(alloc: Global, fleet: &Fleet, play: &Play) -> Result<SurveyedPlan
 }
 
 #[tactic(auto, using(bounded_io::proofs::Pieces::pieces_of_text))]
-fn write_plan<W: Write>(text: &mut TextWriter<'_, W>, fleet: &Fleet, plan: &SurveyedPlan)
-    ensures { Writes W.contents text.old text.new (planned_text fleet.now plan.now) }
+fn write_plan<W: Write>(
+    text: &mut TextWriter<'_, W>,
+    fleet: &Fleet,
+    paint: Paint,
+    plan: &SurveyedPlan,
+)
+    ensures { Writes W.contents text.old text.new (planned_text paint fleet.now plan.now) }
 {
     write_plan_lines(
         text,
@@ -70,29 +76,36 @@ fn write_plan<W: Write>(text: &mut TextWriter<'_, W>, fleet: &Fleet, plan: &Surv
         &plan.planned.answer,
         plan.planned.held.as_slice(),
     );
-    write_survey(text, fleet, &plan.survey);
+    write_survey(text, fleet, paint, &plan.survey);
 }
 
 /// Sends the plan with its groups. It takes no memory.
-fn send_plan<W: Write>(fleet: &Fleet, plan: &SurveyedPlan, out: &mut W) -> Result<(), WriteFault>
-    ensures { SendsText (W.contents out.old) (W.contents out.new) (planned_text fleet.now plan.now) result }
+fn send_plan<W: Write>(
+    fleet: &Fleet,
+    paint: Paint,
+    plan: &SurveyedPlan,
+    out: &mut W,
+) -> Result<(), WriteFault>
+    ensures { SendsText (W.contents out.old) (W.contents out.new) (planned_text paint fleet.now plan.now) result }
 {
     let mut text = TextWriter::new(out);
-    write_plan(&mut text, fleet, plan);
+    write_plan(&mut text, fleet, paint, plan);
     text.finish()
 }
 
-/// Writes the plan of the first play of a playbook on the fleet of an inventory, each given as the bytes of its text, and below it how many hosts of each limited group are down while
-/// each batch runs, who is down at the start, and which group holds whom that was set aside. Nothing goes out before both were accepted: the faults are told as the plan alone tells
-/// them. Where a write fails, exactly the first bytes of the text went out, as many as the fault says. Writing takes no memory.
+/// Writes the plan of the first play of a playbook on the fleet of an inventory, each given as the bytes of its text, and below it how many hosts of each limited group are
+/// down while each batch runs, who is down at the start, and which group holds whom that was set aside. The cells of full groups are coloured where the paint says so. Nothing
+/// goes out before both were accepted: the faults are told as the plan alone tells them. Where a write fails, exactly the first bytes of the text went out, as many as the
+/// fault says. Writing takes no memory.
 pub fn surveyed_plan<W: Write>(
     alloc: Global,
     inventory: &[u8],
     playbook: &[u8],
+    paint: Paint,
     out: &mut W,
 ) -> Result<End, PlanFault>
-    ensures ok { IfOk result (WritesSurveyedPlan inventory.now playbook.now (W.contents out.old) (W.contents out.new)) }
-    ensures err { IfErr result (IsTrueFaultBeside inventory.now playbook.now (W.contents out.old) (W.contents out.new)) }
+    ensures ok { IfOk result (WritesSurveyedPlan inventory.now playbook.now paint (W.contents out.old) (W.contents out.new)) }
+    ensures err { IfErr result (IsTrueFaultBeside inventory.now playbook.now paint (W.contents out.old) (W.contents out.new)) }
 {
     let fleet = match read_fleet(alloc, inventory) {
         Ok(fleet) => fleet,
@@ -106,7 +119,7 @@ pub fn surveyed_plan<W: Write>(
         Ok(plan) => plan,
         Err(_refused) => return Err(PlanFault::Pattern(PatternFault::Memory)),
     };
-    match send_plan(&fleet, &plan, out) {
+    match send_plan(&fleet, paint, &plan, out) {
         Ok(()) => Ok(end_of(&plan.planned.answer, plan.planned.held.as_slice())),
         Err(fault) => Err(PlanFault::Write(fault)),
     }

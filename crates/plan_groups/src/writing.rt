@@ -10,7 +10,7 @@ use crate::held::HeldHost;
 use crate::survey::Survey;
 use bounded_io::TextWriter;
 use domains::Fleet;
-use group_table::{Grid, write_table};
+use group_table::{Grid, Paint, write_table};
 use group_tree::{GroupId, HostId};
 use recap::{group_name, host_name, write_names_line};
 use std::io::Write;
@@ -56,15 +56,21 @@ fn write_all_held<W: Write>(text: &mut TextWriter<'_, W>, fleet: &Fleet, held: &
     }
 }
 
-/// Goes on with what is told of a play's groups. It takes no memory.
+/// Goes on with what is told of a play's groups, the table painted so. It takes no memory.
 #[tactic(auto, using(bounded_io::proofs::Pieces::pieces_of_text))]
-pub(crate) fn write_survey<W: Write>(text: &mut TextWriter<'_, W>, fleet: &Fleet, survey: &Survey)
-    ensures { Writes W.contents text.old text.new (written fleet.now survey.now) }
+pub(crate) fn write_survey<W: Write>(
+    text: &mut TextWriter<'_, W>,
+    fleet: &Fleet,
+    paint: Paint,
+    survey: &Survey,
+)
+    ensures { Writes W.contents text.old text.new (written paint fleet.now survey.now) }
 {
     let grid = Grid {
         fleet,
         mark: survey.mark,
         table: &survey.table,
+        paint,
     };
     write_table(text, &grid);
     write_down(text, fleet, survey.down.as_slice());

@@ -19,7 +19,7 @@ use Rattle.domains.specs.Numbered.{host_at}
 use Rattle.domains.specs.Starts.{place_at, nowhere, allowed_of, hosts_off, member_count}
 use Rattle.domains.proofs.WhereLemmas.{filtered_names, filter-filter}
 use Rattle.recap.specs.LimitsText.{LimitLine, line_text, table_text}
-use Rattle.recap.specs.LimitsTable.{line_of, limits_table, fleet_line, fleet_lines, fleet_table, lines_text}
+use Rattle.recap.specs.LimitsTable.{line_of, limits_table, fleet_line, fleet_table, line_with, lines_text, lines_with}
 
 from_zero : (n : ℕ) → 0 + n ≡ n
 from_zero n = omega arith
@@ -32,35 +32,39 @@ range-more from (suc count) =
     rw (let e : suc count + 1 ≡ suc (count + 1) = omega arith in e) (ap (λ rest. from ∷ rest) rest)
 
 -- a group more adds its line, where it has one
-lines-more : (fleet : FleetView) (count : ℕ) → fleet_lines fleet (count + 1) ≡ fleet_lines fleet count ++ option_to_list (fleet_line fleet count)
-lines-more fleet count =
-    let one_more = range-more 0 count ∙ ap (λ n. range_with_len 0 count ++ n ∷ []) (from_zero count) in
-    let parts = filter_map-append (fleet_line fleet) (range_with_len 0 count) (count ∷ []) in
-    ap (filter_map (fleet_line fleet)) one_more ∙ parts ∙ ap (λ last. fleet_lines fleet count ++ last) (last_line (fleet_line fleet count))
-  where
-    last_line : (line : Option LimitLine) → filter_map (λ (o : Option LimitLine). o) (line ∷ []) ≡ option_to_list line
-    last_line None = refl
-    last_line (Some line) = refl
+module _ (fleet : FleetView) (downs : ℕ → ℕ) where
+  abbrev line_at : ℕ → Option LimitLine
+  line_at group = line_with fleet (downs group) group
 
-pub lines_text-more : (fleet : FleetView) (count : ℕ) → flat_map line_text (fleet_lines fleet count) ++ lines_text (fleet_line fleet count) ≡ flat_map line_text (fleet_lines fleet (count + 1))
-lines_text-more fleet count =
-    let before = fleet_lines fleet count in
-    let parts = flat_map-append line_text before (option_to_list (fleet_line fleet count)) in
-    sym (ap (flat_map line_text) (lines-more fleet count) ∙ parts ∙ ap (λ last. flat_map line_text before ++ last) (last_text (fleet_line fleet count)))
-  where
-    last_text : (line : Option LimitLine) → flat_map line_text (option_to_list line) ≡ lines_text line
-    last_text None = refl
-    last_text (Some line) = append-nil (line_text line)
+  lines-more : (count : ℕ) → lines_with fleet downs (count + 1) ≡ lines_with fleet downs count ++ option_to_list (line_at count)
+  lines-more count =
+      let one_more = range-more 0 count ∙ ap (λ n. range_with_len 0 count ++ n ∷ []) (from_zero count) in
+      let parts = filter_map-append line_at (range_with_len 0 count) (count ∷ []) in
+      ap (filter_map line_at) one_more ∙ parts ∙ ap (λ last. lines_with fleet downs count ++ last) (last_line (line_at count))
+    where
+      last_line : (line : Option LimitLine) → filter_map (λ (o : Option LimitLine). o) (line ∷ []) ≡ option_to_list line
+      last_line None = refl
+      last_line (Some line) = refl
 
-pub lines_count-more : (fleet : FleetView) (count : ℕ) → length (fleet_lines fleet (count + 1)) ≡ length (fleet_lines fleet count) + cond (is_some (fleet_line fleet count)) 1 0
-lines_count-more fleet count =
-    let before = fleet_lines fleet count in
-    let parts = length-append before (option_to_list (fleet_line fleet count)) in
-    ap length (lines-more fleet count) ∙ parts ∙ ap (λ n. length before + n) (last_count (fleet_line fleet count))
-  where
-    last_count : (line : Option LimitLine) → length (option_to_list line) ≡ cond (is_some line) 1 0
-    last_count None = refl
-    last_count (Some line) = refl
+  pub lines_text-more : (count : ℕ) → flat_map line_text (lines_with fleet downs count) ++ lines_text (line_at count) ≡ flat_map line_text (lines_with fleet downs (count + 1))
+  lines_text-more count =
+      let before = lines_with fleet downs count in
+      let parts = flat_map-append line_text before (option_to_list (line_at count)) in
+      sym (ap (flat_map line_text) (lines-more count) ∙ parts ∙ ap (λ last. flat_map line_text before ++ last) (last_text (line_at count)))
+    where
+      last_text : (line : Option LimitLine) → flat_map line_text (option_to_list line) ≡ lines_text line
+      last_text None = refl
+      last_text (Some line) = append-nil (line_text line)
+
+  pub lines_count-more : (count : ℕ) → length (lines_with fleet downs (count + 1)) ≡ length (lines_with fleet downs count) + cond (is_some (line_at count)) 1 0
+  lines_count-more count =
+      let before = lines_with fleet downs count in
+      let parts = length-append before (option_to_list (line_at count)) in
+      ap length (lines-more count) ∙ parts ∙ ap (λ n. length before + n) (last_count (line_at count))
+    where
+      last_count : (line : Option LimitLine) → length (option_to_list line) ≡ cond (is_some line) 1 0
+      last_count None = refl
+      last_count (Some line) = refl
 
 pub one_line_at_most : (line : Option LimitLine) → cond (is_some line) 1 0 ≤ 1
 one_line_at_most None = omega arith

@@ -11,11 +11,16 @@ module _ {X : Type 0} (piece : ℕ → X → List ℕ) where
       ∙ ap (λ n. piece place x ++ (text_by_place piece (place + 1) xs ++ piece n entry)) (omega arith)
       ∙ sym (append_assoc (piece place x) (text_by_place piece (place + 1) xs) (piece (place + length (x ∷ xs)) entry))
 
-  -- one entry more of a list
+  -- one entry more of a list, the first of which stands at this place
+  pub text_more_from : (before : ℕ) (entries : List X) (i : ℕ) (entry : X) → i < length entries → entry ≡ get_or entries i entry
+      → text_by_place piece before (take i entries) ++ piece (before + i) entry ≡ text_by_place piece before (take (i + 1) entries)
+  text_more_from before entries i entry within is =
+      let long : length (take i entries) ≡ i = length-take-le i entries (omega (arith, within)) in
+      sym
+      (ap (text_by_place piece before) (take_more entries i entry within) ∙ ap (λ e. text_by_place piece before (take i entries ++ e ∷ [])) (sym is)
+      ∙ text_push before (take i entries) entry ∙ ap (λ n. text_by_place piece before (take i entries) ++ piece n entry) (omega (arith, long)))
+
   pub text_more : (entries : List X) (i : ℕ) (entry : X) → i < length entries → entry ≡ get_or entries i entry
       → text_by_place piece 0 (take i entries) ++ piece i entry ≡ text_by_place piece 0 (take (i + 1) entries)
   text_more entries i entry within is =
-      let long : length (take i entries) ≡ i = length-take-le i entries (omega (arith, within)) in
-      sym
-      (ap (text_by_place piece 0) (take_more entries i entry within) ∙ ap (λ e. text_by_place piece 0 (take i entries ++ e ∷ [])) (sym is)
-      ∙ text_push 0 (take i entries) entry ∙ ap (λ n. text_by_place piece 0 (take i entries) ++ piece n entry) (omega (arith, long)))
+      let there : i ≡ 0 + i = omega arith in ap (λ n. text_by_place piece 0 (take i entries) ++ piece n entry) there ∙ text_more_from 0 entries i entry within is

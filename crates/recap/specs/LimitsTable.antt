@@ -7,6 +7,8 @@ use Rattle.domains.specs.Hosts.{hosts_of}
 use Rattle.domains.specs.Starts.{allowed_of, hosts_off, member_count}
 use Rattle.domains.specs.FleetViews.{FleetView, down_at_start}
 use Rattle.fleet_numbers.specs.NumberLists.{list_at}
+use Rattle.fleet_states.specs.Statuses.{down_count}
+use Rattle.fleet_states.specs.declared.status.Status.{Status}
 use Rattle.recap.specs.LimitsText.{LimitLine, line_text, table_text}
 
 -- what is said of a limited group; the room is what is left of the limit, and none where more are down
@@ -18,23 +20,36 @@ abbrev pub line_of : Inventory → Place → Option LimitLine
 line_of inventory place =
     option_map (limit_line place.name (member_count inventory place.name) (hosts_off inventory place.name)) (allowed_of inventory place)
 
--- the same of a fleet, by the group's number
+-- the same of a fleet, by the group's number, where so many of its hosts are down
+abbrev pub line_with : FleetView → ℕ → ℕ → Option LimitLine
+line_with fleet down group =
+    option_map (limit_line (slice_index_or fleet.groups group []) (length (list_at fleet.members group)) down) (slice_index_or fleet.limits group None)
+
+-- as a run begins
 abbrev pub fleet_line : FleetView → ℕ → Option LimitLine
-fleet_line fleet group =
-    option_map (limit_line (slice_index_or fleet.groups group []) (length (list_at fleet.members group)) (down_at_start fleet group)) (slice_index_or fleet.limits group None)
+fleet_line fleet group = line_with fleet (down_at_start fleet group) group
 
 -- the text of a line, where there is one
 abbrev pub lines_text : Option LimitLine → List ℕ
 lines_text None = []
 lines_text (Some line) = line_text line
 
--- the lines of the first groups
-abbrev pub fleet_lines : FleetView → ℕ → List LimitLine
-fleet_lines fleet count = filter_map (fleet_line fleet) (range_with_len 0 count)
+-- the lines of the first groups, of each of which so many hosts are down
+abbrev pub lines_with : FleetView → (ℕ → ℕ) → ℕ → List LimitLine
+lines_with fleet downs count = filter_map (λ group. line_with fleet (downs group) group) (range_with_len 0 count)
 
+-- the table of a fleet, of whose groups so many hosts are down
+abbrev pub table_with : FleetView → (ℕ → ℕ) → List ℕ
+table_with fleet downs =
+    table_text (lines_with fleet downs (length fleet.groups)) (length fleet.hosts)
+
+-- as a run begins
 abbrev pub fleet_table : FleetView → List ℕ
-fleet_table fleet =
-    table_text (fleet_lines fleet (length fleet.groups)) (length fleet.hosts)
+fleet_table fleet = table_with fleet (down_at_start fleet)
+
+-- as hosts stand by these statuses
+abbrev pub table_by : FleetView → List Status → List ℕ
+table_by fleet statuses = table_with fleet (λ group. down_count statuses (list_at fleet.members group))
 
 -- a line for each limited group in preorder, and how many hosts there are
 abbrev pub limits_table : Inventory → List ℕ

@@ -17,7 +17,7 @@ pub use ends::write_end;
 pub use fields::write_field;
 pub use hosts::{word_of, write_hosts};
 pub use integers::write_integer;
-pub use limits::write_limits;
+pub use limits::{write_limits, write_limits_by};
 pub use names::{group_name, host_name, write_names_line};
 pub use parts::Recap;
 pub use plan::{write_answer_line, write_held, write_plan, write_plan_lines};

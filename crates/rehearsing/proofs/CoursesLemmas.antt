@@ -1,26 +1,27 @@
 -- Courses one behind the other, and their text.
 use Rattle.std.proofs.Common.{◌≡◌, ℕ, zero, suc, ◌+◌, ◌-◌, ◌*◌, ◌<◌, ◌≤◌, true, false, Some, List, [], ◌∷◌, ◌++◌, flat_map, get_or, length, map, slice_get, drop, take, refl, sym, ap, ◌∙◌, subst, arith, append_assoc}
 use Rattle.std.proofs.lemmas.List.{length-map, take-map, take_rest}
-use Rattle.std.specs.Prelude.{Err, Ok, OnOk, Result}
+use Rattle.std.specs.Prelude.{Err, IfOk, Ok, OnOk, Result}
 use Rattle.std.proofs.lemmas.List.Sums.{sum_by-cons}
 use Rattle.std.proofs.Math.Nat.{suc-mul}
 use Rattle.std.proofs.lemmas.Option.{same_Some}
 use Rattle.std.specs.List.{range_with_len, sum_by}
 use Rattle.domains.specs.FleetViews.{FleetView}
 use Rattle.fleet_states.specs.Batches.{Fails}
+use Rattle.fleet_states.specs.Starts.{start_statuses}
 use Rattle.fleet_states.specs.Statuses.{status_at}
 use Rattle.fleet_states.specs.declared.status.Status.{Status}
 use Rattle.batch_plan.specs.Beginnings.{restart_statuses}
 use Rattle.play_model.specs.declared.play.Play.{Play}
-use Rattle.play_course.specs.Files.{AreLaterCourses, Course, GoesOn, PlaySetting, last_statuses}
+use Rattle.play_course.specs.Files.{AreCourses, AreLaterCourses, Course, GoesOn, PlaySetting, last_statuses}
 use Rattle.play_course.specs.PlayPlans.{targets}
 use Rattle.play_course.specs.declared.boundary.Boundary.{Boundary}
 use Rattle.play_course.specs.declared.end.End.{End}
 use Rattle.play_course.specs.declared.end.End.TheVariants.{Finished, Held, Blocked, TooManyFailed, AllFailed}
-use Rattle.recap.proofs.PlaceLemmas.{text_more}
+use Rattle.recap.proofs.PlaceLemmas.{text_more_from}
 use Rattle.recap.specs.RecapText.{boundary_lines, counts_at, end_line, host_line_of, host_lines, text_by_place}
 use Rattle.rehearsing.specs.CourseSteps.{HasFollowed, IsWholeCourse, course_of, is_finished}
-use Rattle.rehearsing.specs.CourseTexts.{IsEndOf, batches_opened, course_lines, end_of, play_by, setting_by}
+use Rattle.rehearsing.specs.CourseTexts.{AreCoursesBy, AreCoursesFrom, IsEndOf, batches_opened, course_lines, end_of, play_by, setting_by}
 use Rattle.rehearsing.specs.declared.course.PlayCourse.{PlayCourse}
 use Rattle.rehearsing.specs.declared.course_end.CourseEnd.{CourseEnd}
 
@@ -99,6 +100,17 @@ split [] first long is = absurd (omega (arith, long))
 split (play ∷ plays) first long is =
     ap (λ p. p ∷ plays) (sym is) ∙ ap (λ l. first ∷ l) (sym (take_rest (play ∷ plays) 1))
 
+-- the first of these plays begins as a run does
+pub begin_by : (fleet : FleetView) (fails : Fails) (plays : List Play) (first : Play) (statuses : List Status) (courses : List Course) → 1 ≤ length plays → first ≡ get_or plays 0 first
+    → statuses ≡ start_statuses fleet (targets fleet first) → AreCoursesFrom fleet fails plays statuses courses → AreCoursesBy fleet fails plays courses
+begin_by fleet fails [] first statuses courses long is begins are = absurd (omega (arith, long))
+begin_by fleet fails (play ∷ plays) first statuses courses long is begins are =
+    subst (λ (l : List Status). AreCourses (setting_by fleet fails play) (map (play_by fleet fails) plays) l courses) (begins ∙ ap (λ (p : Play). start_statuses fleet (targets fleet p)) is) are
+
+pub all_ok : {V E : Type 0} {P Q : V → Type 0} (result : Result V E) → ((value : V) → P value → Q value) → IfOk result P → IfOk result Q
+all_ok (Ok value) then is = then value is
+all_ok (Err fault) then is = is
+
 pub on_ok : {V E A B : Type 0} (result : Result V E) → (A → B) → OnOk result A → OnOk result B
 on_ok (Ok value) then is = then is
 on_ok (Err fault) then is = tt
@@ -140,11 +152,17 @@ at_map [] i course within is = absurd (omega (arith, within))
 at_map (c ∷ cs) zero course within is = ap course_of is
 at_map (c ∷ cs) (suc i) course within is = at_map cs i course (omega (arith, within)) is
 
--- and among those that are written
+-- and among those that are written, the first of which stands at this place
+pub line_more_from : (piece : ℕ → Course → List ℕ) (before : ℕ) (courses : List PlayCourse) (i : ℕ) (course : PlayCourse) → i < length courses → course ≡ get_or courses i course
+    → text_by_place piece before (map course_of (take i courses)) ++ piece (before + i) (course_of course) ≡ text_by_place piece before (map course_of (take (i + 1) courses))
+line_more_from piece before courses i course within is =
+    let all : List Course = map course_of courses in
+    ap (λ l. text_by_place piece before l ++ piece (before + i) (course_of course)) (sym (take-map course_of i courses))
+    ∙ text_more_from piece before all i (course_of course) (omega (arith, within, length-map courses course_of)) (at_map courses i course within is)
+    ∙ ap (text_by_place piece before) (take-map course_of (i + 1) courses)
+
 pub line_more : (piece : ℕ → Course → List ℕ) (courses : List PlayCourse) (i : ℕ) (course : PlayCourse) → i < length courses → course ≡ get_or courses i course
     → text_by_place piece 0 (map course_of (take i courses)) ++ piece i (course_of course) ≡ text_by_place piece 0 (map course_of (take (i + 1) courses))
 line_more piece courses i course within is =
-    let all : List Course = map course_of courses in
-    ap (λ l. text_by_place piece 0 l ++ piece i (course_of course)) (sym (take-map course_of i courses))
-    ∙ text_more piece all i (course_of course) (omega (arith, within, length-map courses course_of)) (at_map courses i course within is)
-    ∙ ap (text_by_place piece 0) (take-map course_of (i + 1) courses)
+    let there : i ≡ 0 + i = omega arith in
+    ap (λ n. text_by_place piece 0 (map course_of (take i courses)) ++ piece n (course_of course)) there ∙ line_more_from piece 0 courses i course within is

@@ -21,6 +21,7 @@ pub mod KeepLemmas
 pub mod CourseLemmas
 pub mod EndLemmas
 pub mod NextLemmas
+pub mod TargetLemmas
 pub mod CoursesLemmas
 pub mod CourseTextLemmas
 pub mod SameTextLemmas

@@ -24,7 +24,7 @@ use Rattle.play_read.specs.Readings.{IsStep}
 use Rattle.play_read.specs.Reads.{IsPlay}
 use Rattle.play_rules.specs.Plays.{WrittenPlay, plays_of}
 use Rattle.planning.proofs.UniqueLemmas.{one_fleet_in}
-use Rattle.rehearsing.proofs.SameTextLemmas.{same_text}
+use Rattle.rehearsing.proofs.SameTextLemmas.{same_text_from}
 use Rattle.rehearsing.specs.CourseLaws.{OneCourseText}
 use Rattle.rehearsing.specs.CourseTexts.{AreCoursesBy, AreRead, IsEndOf, courses_text, end_of, failing_by, play_by, setting_by}
 use Rattle.rehearsing.specs.declared.course_end.CourseEnd.{CourseEnd}
@@ -119,7 +119,7 @@ pub one_course_text : OneCourseText
 one_course_text inventory playbook failing text other end otherwise first second =
     let one = same_readings inventory playbook failing first.fleet second.fleet first.plays second.plays first.courses second.courses first.read second.read first.courses_are second.courses_are in
     let several = nat_lt 1 (length first.plays) in (
-      first.text_is ∙ same_text first.fleet several first.courses second.courses one.2 ∙ ap (λ n. courses_text first.fleet (nat_lt 1 n) second.courses) one.1
+      first.text_is ∙ same_text_from first.fleet 0 several first.courses second.courses one.2 ∙ ap (λ n. courses_text first.fleet (nat_lt 1 n) second.courses) one.1
           ∙ ap (λ (f : FleetView). courses_text f (nat_lt 1 (length second.plays)) second.courses) one.0 ∙ sym second.text_is,
       same_ends first.courses second.courses end otherwise one.2 first.ends second.ends,
     )

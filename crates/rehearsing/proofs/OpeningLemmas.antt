@@ -1,6 +1,6 @@
 -- What is said of a session's beginning and end.
-use Rattle.std.proofs.Common.{◌≡◌, ℕ, ◌+◌, ◌≤◌, Bool, Option, Result, Ok, Err, List, [], length, MutBor, sym, ap, ◌∙◌, subst, inl, inr, arith}
-use Rattle.std.specs.Prelude.{IfErr, IfSome, MatchResult, OnOk}
+use Rattle.std.proofs.Common.{◌≡◌, ℕ, ◌+◌, ◌≤◌, ◌⊎◌, Bool, Option, Result, Ok, Err, List, [], ◌∷◌, get_or, length, MutBor, sym, ap, ◌∙◌, subst, inl, inr, arith}
+use Rattle.std.specs.Prelude.{IfErr, IfOk, IfSome, MatchResult, OnOk}
 use Rattle.std.specs.Io.KnownBytes.{Keeps}
 use Rattle.bounded_io.specs.Reading.{max_input}
 use Rattle.bounded_io.specs.Sending.{SendsFirst}
@@ -8,15 +8,20 @@ use Rattle.bounded_io.specs.Writing.{Begins, Finishes, Writes, fault_of}
 use Rattle.bounded_io.specs.declared.text_writer.TextWriter.{TextWriter}
 use Rattle.bounded_io.specs.declared.write_fault.WriteFault.{WriteFault}
 use Rattle.domains.specs.FleetViews.{FleetView}
+use Rattle.fleet_states.specs.Starts.{start_statuses}
+use Rattle.fleet_states.specs.declared.status.Status.{Status}
+use Rattle.play_course.specs.PlayPlans.{targets}
+use Rattle.play_model.specs.declared.play.Play.{Play}
 use Rattle.play_model.specs.declared.on_blocked.OnBlocked.{OnBlocked}
 use Rattle.rehearsing.specs.Stacks.{IsRehearsal, RehearsalView, Rules}
 use Rattle.rehearsing.specs.Histories.{HistoryView, unbegun}
 use Rattle.rehearsing.specs.declared.fault.RehearseFault.{RehearseFault}
 use Rattle.rehearsing.specs.declared.fault.RehearseFault.TheVariants.{Refused, Memory, File, TooLarge, LongLine, Write}
-use Rattle.rehearsing.specs.declared.opening.Opening.{Opening}
-use Rattle.rehearsing.specs.Inside.{IsOpeningOfTexts, ListensToEnd, ListensUntil, RefusesOpening, Unheard, rules_in}
-use Rattle.rehearsing.specs.Openings.{IsOpeningIn}
-use Rattle.rehearsing.specs.RehearseTexts.{BreaksSession, EndsSession, HoldsSession, IsTrueFault, IsTrueOfSession, Rehearses}
+use Rattle.rehearsing.specs.declared.opening.FirstPlay.{FirstPlay}
+use Rattle.rehearsing.specs.Inside.{IsFirstOfTexts, ListensToEnd, ListensUntil, RefusesOpening, Unheard}
+use Rattle.rehearsing.specs.Openings.{IsFirstPlay, IsOpeningFrom, IsOpeningIn}
+use Rattle.rehearsing.specs.Plays.{rules_of}
+use Rattle.rehearsing.specs.RehearseTexts.{BreaksSession, EndsFrom, EndsRehearsal, EndsSession, HoldsSession, IsFaultFrom, IsTrueFault, IsTrueOfSession, IsUnbegun, Rehearses, RehearsesFrom}
 
 abbrev pub rules_by : FleetView → OnBlocked → List (Option ℕ) → Option ℕ → Rules
 rules_by fleet mode caps share = record { fleet = fleet; mode = mode; caps = caps; percentage = share }
@@ -31,14 +36,57 @@ module _ (is_reliable : Bool) (inventory playbook : List ℕ) (old new out_old o
   refusal_is_true LongLine unread silent refused = absurd refused
   refusal_is_true (Write fault) unread silent refused = absurd refused
 
-  pub session_is_true : (before : RehearsalView) (fault : RehearseFault) → IsOpeningIn inventory playbook before
-      → IsTrueOfSession is_reliable (unbegun before) old new out_old out_new fault → IsTrueFault is_reliable inventory playbook old new out_old out_new fault
+-- the first of the plays that were read, and how a run of it begins
+pub first_at : (inventory playbook : List ℕ) (read : FirstPlay) → IsFirstOfTexts inventory playbook read → (play : Play) → play ≡ get_or read.plays.items 0 play
+    → IsFirstPlay inventory playbook read.fleet play × (read.statuses.items ≡ start_statuses read.fleet (targets read.fleet play))
+first_at inventory playbook read is play at =
+    let same : play ≡ is.play = at ∙ ap (λ (l : List Play). get_or l 0 play) is.plays_are in (
+      record { built = is.built; plays = read.plays.items; says = is.says; later = is.later; plays_are = is.plays_are ∙ ap (λ (p : Play). p ∷ is.later) (sym same) },
+      is.begins ∙ ap (λ (p : Play). start_statuses read.fleet (targets read.fleet p)) (sym same),
+    )
+
+-- what a fault says of a session on a play whose hosts have these statuses
+module _ (is_reliable : Bool) (fleet : FleetView) (play : Play) (statuses : List Status) (old new out_old out_new : Option (List ℕ)) where
+  pub session_is_true : (before : RehearsalView) (fault : RehearseFault) → IsOpeningFrom fleet play statuses before
+      → IsTrueOfSession is_reliable (unbegun before) old new out_old out_new fault → IsFaultFrom is_reliable fleet play statuses old new out_old out_new fault
   session_is_true before (Refused fault) opening told = absurd told
   session_is_true before Memory opening told = inr (record { before = before; opening = opening; session = told })
   session_is_true before File opening told = record { before = before; opening = opening; session = told }
   session_is_true before TooLarge opening told = record { before = before; opening = opening; session = told }
   session_is_true before LongLine opening told = record { before = before; opening = opening; session = told }
   session_is_true before (Write fault) opening told = record { before = before; opening = opening; session = told }
+
+  -- is true of one on the first play of two texts
+  module _ (inventory playbook : List ℕ) (first : IsFirstPlay inventory playbook fleet play) (begins : statuses ≡ start_statuses fleet (targets fleet play)) where
+    pub opens_first : (before : RehearsalView) → IsOpeningFrom fleet play statuses before → IsOpeningIn inventory playbook before
+    opens_first before opening = record { fleet = fleet; play = play; first = first; opening = subst (λ (l : List Status). IsOpeningFrom fleet play l before) begins opening }
+
+    ends_first : (fault : RehearseFault) → EndsFrom is_reliable fleet play statuses old new out_old out_new fault → EndsRehearsal is_reliable inventory playbook old new out_old out_new fault
+    ends_first fault ends = record { before = ends.before; opening = opens_first ends.before ends.opening; session = ends.session }
+
+    memory_first : IsUnbegun old new out_old out_new ⊎ EndsFrom is_reliable fleet play statuses old new out_old out_new Memory
+        → IsTrueFault is_reliable inventory playbook old new out_old out_new Memory
+    memory_first (inl unbegun) = inl unbegun
+    memory_first (inr ends) = inr (ends_first Memory ends)
+
+    fault_first : (fault : RehearseFault) → IsFaultFrom is_reliable fleet play statuses old new out_old out_new fault → IsTrueFault is_reliable inventory playbook old new out_old out_new fault
+    fault_first (Refused fault) told = absurd told
+    fault_first Memory told = memory_first told
+    fault_first File told = ends_first File told
+    fault_first TooLarge told = ends_first TooLarge told
+    fault_first LongLine told = ends_first LongLine told
+    fault_first (Write fault) told = ends_first (Write fault) told
+
+    -- whatever came of it
+    pub told_first : (told : Result Bool RehearseFault) → IfErr told (IsFaultFrom is_reliable fleet play statuses old new out_old out_new)
+        → IfErr told (IsTrueFault is_reliable inventory playbook old new out_old out_new)
+    told_first (Ok refused) is = is
+    told_first (Err fault) is = fault_first fault is
+
+    pub rehearses_first : (told : Result Bool RehearseFault) → IfOk told (RehearsesFrom fleet play statuses old new out_old out_new)
+        → IfOk told (Rehearses inventory playbook old new out_old out_new)
+    rehearses_first (Ok refused) is = record { before = is.before; after = is.after; opening = opens_first is.before is.opening; session = is.session; refused_is = is.refused_is }
+    rehearses_first (Err fault) is = is
 
 -- rules of equal parts
 pub same_rules : (fleet : FleetView) (mode other : OnBlocked) (caps others : List (Option ℕ)) (share part : Option ℕ) → mode ≡ other → caps ≡ others → share ≡ part
@@ -82,17 +130,9 @@ broken_session contents is_reliable before after old new out_old out_new t0 t1 c
     by_result (Err (Refused fault)) none all = absurd all
 
 -- the rehearsal with which a session begins
-pub opens : (inventory playbook : List ℕ) (opening : Opening) (before : RehearsalView) (told : IsOpeningOfTexts inventory playbook opening) → before.rules ≡ rules_in opening → before.opening ≡ opening.statuses.items
-    → before.above ≡ [] → IsRehearsal before → IsOpeningIn inventory playbook before
-opens inventory playbook opening before told rules statuses alone is = record {
-  fleet = told.fleet;
-  play = told.play;
-  first = told.first;
-  opening = record {
-    of = record { is_rehearsal = is; rules = rules ∙ told.opening_is.rules_are; opening = statuses ∙ told.opening_is.statuses_are };
-    nothing_above = alone;
-  };
-}
+pub opens : (fleet : FleetView) (play : Play) (statuses : List Status) (before : RehearsalView) → before.rules ≡ rules_of fleet play → before.opening ≡ statuses → before.above ≡ []
+    → IsRehearsal before → IsOpeningFrom fleet play statuses before
+opens fleet play statuses before rules begins alone is = record { of = record { is_rehearsal = is; rules = rules; opening = begins }; nothing_above = alone }
 
 -- what is told of a session is true
 abbrev pub IsTold : Bool → HistoryView → HistoryView → Option (List ℕ) → Option (List ℕ) → Option (List ℕ) → Option (List ℕ) → Result (Unit {0}) RehearseFault → Type 0

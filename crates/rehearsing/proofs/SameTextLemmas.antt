@@ -15,7 +15,7 @@ use Rattle.play_course.specs.Laws.{AreSameBoundaries, AreSameCourses, IsSameBoun
 use Rattle.play_course.specs.declared.boundary.Boundary.{Boundary}
 use Rattle.recap.specs.PlanText.{answer_line, blocked_line, held_line, names_line, planned_line}
 use Rattle.recap.specs.RecapText.{boundary_lines, boundary_text, end_line, open_line, text_by_place}
-use Rattle.rehearsing.specs.CourseTexts.{batches_line, batches_opened, course_lines, courses_text, numbered}
+use Rattle.rehearsing.specs.CourseTexts.{batches_line, batches_opened, course_lines, courses_text_from, numbered}
 
 -- the same answers are written alike, and open the same batch
 same_line : (fleet : FleetView) (answer other : Answer) → IsSameAnswer answer other → answer_line fleet answer ≡ answer_line fleet other
@@ -82,5 +82,6 @@ module _ (fleet : FleetView) where
       sum_by-cons batches_opened b bs ∙ ap₂ ◌+◌ (ap (λ n. n - 1) (same_many b.boundaries c.boundaries same.0)) (same_sum bs cs same.2)
       ∙ sym (sum_by-cons batches_opened c cs)
 
-  pub same_text : (several : Bool) (courses others : List Course) → AreSameCourses courses others → courses_text fleet several courses ≡ courses_text fleet several others
-  same_text several courses others same = ap₂ ◌++◌ (same_lines several 0 courses others same) (ap batches_line (same_sum courses others same))
+  pub same_text_from : (before : ℕ) (several : Bool) (courses others : List Course) → AreSameCourses courses others
+      → courses_text_from before fleet several courses ≡ courses_text_from before fleet several others
+  same_text_from before several courses others same = ap₂ ◌++◌ (same_lines several before courses others same) (ap batches_line (same_sum courses others same))

@@ -42,11 +42,16 @@ setting_by fleet fails play = record {
 abbrev pub play_by : FleetView → Fails → Play → PlaySetting
 play_by fleet fails play = record { setting = setting_by fleet fails play; targets = targets fleet play }
 
+-- the courses of plays, the first of which begins with these statuses
+abbrev pub AreCoursesFrom : FleetView → Fails → List Play → List Status → List Course → Type 0
+AreCoursesFrom fleet fails [] statuses courses = ⊥
+AreCoursesFrom fleet fails (first ∷ later) statuses courses =
+    AreCourses (setting_by fleet fails first) (map (play_by fleet fails) later) statuses courses
+
 -- the courses of a file of plays, the first of which begins as a run does
 abbrev pub AreCoursesBy : FleetView → Fails → List Play → List Course → Type 0
 AreCoursesBy fleet fails [] courses = ⊥
-AreCoursesBy fleet fails (first ∷ later) courses =
-    AreCourses (setting_by fleet fails first) (map (play_by fleet fails) later) (start_statuses fleet (targets fleet first)) courses
+AreCoursesBy fleet fails (first ∷ later) courses = AreCoursesFrom fleet fails (first ∷ later) (start_statuses fleet (targets fleet first)) courses
 
 -- the hosts of which just these fail, at their first step: whom the text names, by their own names or by those of groups
 abbrev pub failing_by : FleetView → List ℕ → Fails
@@ -70,14 +75,18 @@ numbered false number text = text
 abbrev pub batches_line : ℕ → List ℕ
 batches_line count = field_text (codes "batches=") count ++ codes "\n"
 
--- the courses one behind the other, numbered from 1 where the file has several plays
-abbrev pub courses_lines : FleetView → Bool → List Course → List ℕ
-courses_lines fleet several courses =
-    text_by_place (λ place course. numbered several (place + 1) (course_lines fleet course)) 0 courses
+-- the courses of a file's plays behind so many; where it has several, each stands under the number that its play has in it, from 1
+abbrev pub courses_lines_from : ℕ → FleetView → Bool → List Course → List ℕ
+courses_lines_from before fleet several courses =
+    text_by_place (λ place course. numbered several (place + 1) (course_lines fleet course)) before courses
 
 -- and how many batches they open in all
+abbrev pub courses_text_from : ℕ → FleetView → Bool → List Course → List ℕ
+courses_text_from before fleet several courses = courses_lines_from before fleet several courses ++ batches_line (sum_by batches_opened courses)
+
+-- the same from the first play of the file on
 abbrev pub courses_text : FleetView → Bool → List Course → List ℕ
-courses_text fleet several courses = courses_lines fleet several courses ++ batches_line (sum_by batches_opened courses)
+courses_text fleet several courses = courses_text_from 0 fleet several courses
 
 abbrev pub is_failed : Status → Bool
 is_failed status.Idle = false
@@ -85,7 +94,7 @@ is_failed status.Waiting = false
 is_failed status.Running = false
 is_failed status.Updated = false
 is_failed status.Failed = true
-is_failed status.Halted = false
+is_failed status.Halted = true
 is_failed status.Off = false
 is_failed status.Held = false
 

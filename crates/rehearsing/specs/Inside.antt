@@ -3,18 +3,15 @@ use Rattle.std.specs.Prelude.{◌≡◌, ℕ, ◌+◌, ◌<◌, ◌≤◌, Bool,
 use Rattle.std.specs.Io.KnownBytes.{Consumes, IsAtEnd}
 use Rattle.bounded_io.specs.Writing.{Writes, fault_of}
 use Rattle.bounded_io.specs.declared.text_writer.TextWriter.{TextWriter}
-use Rattle.domains.specs.FleetViews.{FleetView}
 use Rattle.fleet_states.specs.Starts.{start_statuses}
 use Rattle.play_model.specs.declared.play.Play.{Play}
 use Rattle.play_course.specs.PlayPlans.{targets}
-use Rattle.rehearsing.specs.Plays.{rules_of}
-use Rattle.rehearsing.specs.Stacks.{Rules}
+use Rattle.planning.specs.PlanTexts.{ArePlaysIn, IsFleetIn}
 use Rattle.rehearsing.specs.Histories.{HistoryView}
-use Rattle.rehearsing.specs.declared.opening.Opening.{Opening}
+use Rattle.rehearsing.specs.declared.opening.FirstPlay.{FirstPlay}
 use Rattle.rehearsing.specs.declared.fault.RehearseFault.{RehearseFault}
 use Rattle.rehearsing.specs.declared.fault.RehearseFault.TheVariants.{Refused, Memory, File, TooLarge, LongLine, Write}
 use Rattle.rehearsing.specs.Lines.{IsLine, IsLong, last_line, max_line}
-use Rattle.rehearsing.specs.Openings.{IsFirstPlay}
 use Rattle.rehearsing.specs.RehearseTexts.{RefusesTexts}
 use Rattle.rehearsing.specs.Sessions.{Heard, IsEndedBy, IsHeard, IsOver, Session, quits}
 
@@ -91,23 +88,15 @@ pub record LastAnswer {W : Type 0} (contents : W → Option (List ℕ)) (before 
   pub answers : Session before (last_line line) text after
   pub written : Writes contents old new text
 
--- the rules of an opening
-abbrev pub rules_in : Opening → Rules
-rules_in opening = record { fleet = opening.fleet; mode = opening.mode; caps = opening.caps.items; percentage = opening.max_fail }
-
--- what a rehearsal of a play on a fleet begins with
-pub record IsOpening (fleet : FleetView) (play : Play) (opening : Opening) : Type 0 where
-  pub fleet_is : opening.fleet ≡ fleet
-  pub statuses_are : opening.statuses.items ≡ start_statuses fleet (targets fleet play)
-  pub all : length opening.statuses.items ≡ length fleet.hosts
-  pub rules_are : rules_in opening ≡ rules_of fleet play
-
--- the same of the playbook's first play on the inventory's fleet
-pub record IsOpeningOfTexts (inventory playbook : List ℕ) (opening : Opening) : Type 0 where
-  pub fleet : FleetView
+-- what both texts say: the fleet, the plays, and the statuses with which a run of the first one begins
+pub record IsFirstOfTexts (inventory playbook : List ℕ) (read : FirstPlay) : Type 0 where
+  pub built : IsFleetIn inventory read.fleet
+  pub says : ArePlaysIn read.fleet playbook read.plays.items
   pub play : Play
-  pub first : IsFirstPlay inventory playbook fleet play
-  pub opening_is : IsOpening fleet play opening
+  pub later : List Play
+  pub plays_are : read.plays.items ≡ play ∷ later
+  pub begins : read.statuses.items ≡ start_statuses read.fleet (targets read.fleet play)
+  pub all : length read.statuses.items ≡ length read.fleet.hosts
 
 -- what refuses one of the two texts
 abbrev pub RefusesOpening : List ℕ → List ℕ → RehearseFault → Type 0

@@ -2,11 +2,14 @@
 use Rattle.std.specs.Prelude.{◌≡◌, ◌⊎◌, ℕ, Bool, List, Option}
 use Rattle.std.specs.Io.KnownBytes.{Appends, Keeps}
 use Rattle.bounded_io.specs.Sending.{SendsFirst}
+use Rattle.domains.specs.FleetViews.{FleetView}
+use Rattle.fleet_states.specs.declared.status.Status.{Status}
+use Rattle.play_model.specs.declared.play.Play.{Play}
 use Rattle.planning.specs.PlanTexts.{IsRefusedAfter, IsUnread}
 use Rattle.planning.specs.declared.fault.PlanFault.{PlanFault}
 use Rattle.rehearsing.specs.Stacks.{RehearsalView}
 use Rattle.rehearsing.specs.Histories.{HistoryView, unbegun}
-use Rattle.rehearsing.specs.Openings.{IsOpeningIn}
+use Rattle.rehearsing.specs.Openings.{IsOpeningFrom, IsOpeningIn}
 use Rattle.rehearsing.specs.Sessions.{IsEndedBy, IsHeard, IsOver}
 use Rattle.rehearsing.specs.declared.fault.RehearseFault.{RehearseFault}
 use Rattle.rehearsing.specs.declared.fault.RehearseFault.TheVariants.{Refused, Memory, File, TooLarge, LongLine, Write}
@@ -38,6 +41,20 @@ IsTrueOfSession is_reliable before old new out_old out_new TooLarge = EndsSessio
 IsTrueOfSession is_reliable before old new out_old out_new LongLine = EndsSession is_reliable before old new out_old out_new LongLine
 IsTrueOfSession is_reliable before old new out_old out_new (Write fault) = BreaksSession before old new out_old out_new fault.written
 
+-- a session on a play whose hosts have these statuses answered all commands; a line of them was refused, or none
+pub record RehearsesFrom (fleet : FleetView) (play : Play) (statuses : List Status) (old new out_old out_new : Option (List ℕ)) (refused : Bool) : Type 0 where
+  pub before : RehearsalView
+  pub after : HistoryView
+  pub opening : IsOpeningFrom fleet play statuses before
+  pub session : HoldsSession (unbegun before) after old new out_old out_new
+  pub refused_is : refused ≡ after.refused
+
+-- the fault is true of such a session
+pub record EndsFrom (is_reliable : Bool) (fleet : FleetView) (play : Play) (statuses : List Status) (old new out_old out_new : Option (List ℕ)) (fault : RehearseFault) : Type 0 where
+  pub before : RehearsalView
+  pub opening : IsOpeningFrom fleet play statuses before
+  pub session : IsTrueOfSession is_reliable (unbegun before) old new out_old out_new fault
+
 -- the two texts are accepted, and a session on the playbook's first play answered all commands; a line of them was refused, or none
 pub record Rehearses (inventory playbook : List ℕ) (old new out_old out_new : Option (List ℕ)) (refused : Bool) : Type 0 where
   pub before : RehearsalView
@@ -56,6 +73,16 @@ pub record EndsRehearsal (is_reliable : Bool) (inventory playbook : List ℕ) (o
 pub record IsUnbegun (old new out_old out_new : Option (List ℕ)) : Type 0 where
   pub unread : Keeps old new
   pub silent : Keeps out_old out_new
+
+-- what the fault says is true: memory was wanting before a command was read or anything went out; or the session ended so
+abbrev pub IsFaultFrom : Bool → FleetView → Play → List Status → Option (List ℕ) → Option (List ℕ) → Option (List ℕ) → Option (List ℕ) → RehearseFault → Type 0
+IsFaultFrom is_reliable fleet play statuses old new out_old out_new (Refused fault) = ⊥
+IsFaultFrom is_reliable fleet play statuses old new out_old out_new Memory =
+    IsUnbegun old new out_old out_new ⊎ EndsFrom is_reliable fleet play statuses old new out_old out_new Memory
+IsFaultFrom is_reliable fleet play statuses old new out_old out_new File = EndsFrom is_reliable fleet play statuses old new out_old out_new File
+IsFaultFrom is_reliable fleet play statuses old new out_old out_new TooLarge = EndsFrom is_reliable fleet play statuses old new out_old out_new TooLarge
+IsFaultFrom is_reliable fleet play statuses old new out_old out_new LongLine = EndsFrom is_reliable fleet play statuses old new out_old out_new LongLine
+IsFaultFrom is_reliable fleet play statuses old new out_old out_new (Write fault) = EndsFrom is_reliable fleet play statuses old new out_old out_new (Write fault)
 
 -- the inventory is refused so, or it is accepted and the playbook is
 abbrev pub RefusesTexts : List ℕ → List ℕ → PlanFault → Type 0

@@ -19,11 +19,12 @@ pub enum CourseEnd {
     Stopped,
 }
 
+/// Whether the host is down by the course: it has failed, or was at work when a run broke off that goes on so.
 fn is_failed(status: Status) -> bool
     ensures { result ≡ model.is_failed status }
 {
     match status {
-        Status::Failed => true,
+        Status::Failed | Status::Halted => true,
         _ => false,
     }
 }

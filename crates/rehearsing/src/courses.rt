@@ -9,28 +9,18 @@ ghost use Rattle.play_course.specs.Files.{last_statuses};
 ghost use Rattle.play_course.specs.PlayPlans.{targets};
 ghost use Rattle.rehearsing.specs.CourseSteps as spec;
 ghost use Rattle.rehearsing.specs.CourseSteps.{HasFollowed, IsWholeCourse, course_of};
-ghost use Rattle.rehearsing.specs.CourseTexts.{AreCoursesBy, batches_opened, setting_by};
+ghost use Rattle.rehearsing.specs.CourseTexts.{AreCoursesBy, AreCoursesFrom, batches_opened, setting_by};
 
 use crate::course::PlayCourse;
 use crate::following::{Setting, follow};
-use crate::opening::count;
-use batch_plan::{restart, start};
+use crate::targets::{count, start_play, targets_of};
+use batch_plan::restart;
 use domains::Fleet;
 use fleet_states::Status;
 use group_tree::HostId;
 use play_course::End;
 use play_model::Play;
 use std::alloc::{AllocError, Global};
-
-/// The hosts that the play is for. Only want of memory refuses it, where its pattern was looked up.
-fn targets_of(alloc: Global, fleet: &Fleet, play: &Play) -> Result<Vec<HostId>, AllocError>
-    ensures { IfOk result (λ hosts. host_numbers hosts.items ≡ targets fleet.now play.now) }
-{
-    match fleet.target(alloc, play.pattern()) {
-        Ok(hosts) => Ok(hosts),
-        Err(_refused) => Err(AllocError),
-    }
-}
 
 /// The course of a play for these hosts, from these statuses on.
 fn follow_for(
@@ -54,17 +44,18 @@ fn follow_for(
     follow(alloc, &setting, statuses)
 }
 
-/// The course of a first play.
+/// The course of a first play, from these statuses on.
 fn follow_first(
     alloc: Global,
     fleet: &Fleet,
     play: &Play,
     failing: &[Option<usize>],
+    statuses: Vec<Status>,
 ) -> Result<PlayCourse, AllocError>
-    ensures { IfOk result (IsWholeCourse (setting_by fleet.now (fails_in failing.now) play.now) (start_statuses fleet.now (targets fleet.now play.now))) }
+    requires all { length statuses.items ≡ length fleet.now.hosts }
+    ensures { IfOk result (IsWholeCourse (setting_by fleet.now (fails_in failing.now) play.now) statuses.items) }
 {
     let hosts = targets_of(alloc, fleet, play)?;
-    let statuses = start(alloc, fleet, hosts.as_slice())?;
     follow_for(alloc, fleet, play, failing, hosts.as_slice(), statuses)
 }
 
@@ -116,7 +107,29 @@ fn follow_later(
     follow_later(alloc, fleet, rest, failing, course, courses)
 }
 
-/// The courses of the plays of a file, each of which begins where the one before it ended, to the one that ends otherwise than finished.
+/// The courses of these plays, the first of which begins with these statuses, and each other where the one before it ended, to the one that ends otherwise than finished.
+pub(crate) fn follow_plays_from(
+    alloc: Global,
+    fleet: &Fleet,
+    plays: &[Play],
+    failing: &[Option<usize>],
+    statuses: Vec<Status>,
+) -> Result<Vec<PlayCourse>, AllocError>
+    requires some { 0 < length plays.now }
+    requires all { length statuses.items ≡ length fleet.now.hosts }
+    ensures are { IfOk result (λ courses. AreCoursesFrom fleet.now (fails_in failing.now) plays.now statuses.items (map course_of courses.items)) }
+    ensures few { IfOk result (λ courses. sum_by batches_opened (map course_of courses.items) ≤ length plays.now * length fleet.now.hosts) }
+{
+    let [first, later @ ..] = plays else {
+        unreachable!()
+    };
+    let course = follow_first(alloc, fleet, first, failing, statuses)?;
+    let mut courses = Vec::new(alloc);
+    follow_later(alloc, fleet, later, failing, course, &mut courses)?;
+    Ok(courses)
+}
+
+/// The courses of the plays of a file, the first of which begins as a run does.
 pub(crate) fn follow_plays(
     alloc: Global,
     fleet: &Fleet,
@@ -127,11 +140,7 @@ pub(crate) fn follow_plays(
     ensures are { IfOk result (λ courses. AreCoursesBy fleet.now (fails_in failing.now) plays.now (map course_of courses.items)) }
     ensures few { IfOk result (λ courses. sum_by batches_opened (map course_of courses.items) ≤ length plays.now * length fleet.now.hosts) }
 {
-    let [first, later @ ..] = plays else {
-        unreachable!()
-    };
-    let course = follow_first(alloc, fleet, first, failing)?;
-    let mut courses = Vec::new(alloc);
-    follow_later(alloc, fleet, later, failing, course, &mut courses)?;
-    Ok(courses)
+    let [first, ..] = plays else { unreachable!() };
+    let statuses = start_play(alloc, fleet, first)?;
+    follow_plays_from(alloc, fleet, plays, failing, statuses)
 }

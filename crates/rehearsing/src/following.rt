@@ -1,12 +1,13 @@
 //! A play from boundary to boundary, where hosts fail.
 ghost use Rattle.std.specs.Prelude.{◌≡◌, IfOk, OnOk, length, min};
 ghost use Rattle.fleet_states.specs.Batches.{fails_in};
-ghost use Rattle.play_course.specs.Courses.{IsBoundary};
-ghost use Rattle.play_course.specs.PlayPlans.{targets};
+ghost use Rattle.play_course.specs.Courses.{IsBoundary, IsPlannedFrom};
+ghost use Rattle.play_course.specs.PlayPlans.{first_cap, targets};
 ghost use Rattle.rehearsing.specs.CourseSteps.{HasMoved, IsTurnAt, IsWholeCourse, setting_of};
 
 use crate::advance::close_batch;
 use crate::course::PlayCourse;
+use crate::targets::{count as count_hosts, targets_of};
 use domains::Fleet;
 use fleet_states::Status;
 use play_course::{Boundary, End};
@@ -58,6 +59,26 @@ fn next_boundary(
     let play = setting.play;
     let cap = play.cap(setting.targeted, count(boundaries));
     Boundary::from_statuses(alloc, setting.fleet, play.on_blocked(), statuses, cap)
+}
+
+/// The boundary at which a play begins that has these statuses. Only want of memory refuses it, where its pattern was looked up.
+pub fn first_boundary(
+    alloc: Global,
+    fleet: &Fleet,
+    play: &Play,
+    statuses: Vec<Status>,
+) -> Result<Boundary, AllocError>
+    requires all { length statuses.items ≡ length fleet.now.hosts }
+    ensures { IfOk result (IsPlannedFrom fleet.now play.now.on_blocked (first_cap fleet.now play.now) statuses.items) }
+{
+    let hosts = targets_of(alloc, fleet, play)?;
+    let setting = Setting {
+        fleet,
+        play,
+        targeted: count_hosts(fleet, hosts.as_slice()),
+        failing: &[],
+    };
+    next_boundary(alloc, &setting, &[], statuses)
 }
 
 /// Ends the play at the boundary, or passes its batch. Only want of memory refuses it.

@@ -32,24 +32,29 @@ mod rehearsal_laws;
 mod rehearse;
 mod show;
 mod stage;
+mod targets;
 mod words;
 
 pub use advance_fault::AdvanceFault;
 pub use course::PlayCourse;
 pub use course_end::CourseEnd;
 pub use fault::RehearseFault;
+pub use following::first_boundary;
 pub use history::History;
 pub use laws::{
     an_undone_command_leaves_nothing, one_course_text, sessions_rehearse, undoing_all_leads_back,
 };
 pub use line::answer;
 pub use lines::MAX_LINE;
-pub use printing::{count_batches, course_text, foresee, last_end, write_course};
+pub use opening::Opening;
+pub use printing::{
+    count_batches, course_text, foresee, foresee_from, last_end, send_courses, write_course,
+};
 pub use prompt::Prompt;
 pub use rehearsal::Rehearsal;
 pub use rehearsal_laws::{
     a_rehearsal_forecasts_the_play, an_undone_advance_leaves_nothing,
     undoing_all_leads_to_the_opening,
 };
-pub use rehearse::rehearse_text;
+pub use rehearse::{rehearse_play, rehearse_text};
 pub use stage::Stage;

@@ -1,36 +1,31 @@
-//! What the texts of an inventory and a playbook say to a rehearsal.
-ghost use Rattle.std.specs.Prelude.{◌≡◌, ◌<◌, ◌≤◌, All, IfErr, IfOk, IfSome, length};
-ghost use Rattle.fleet_states.specs.Starts.{start_statuses};
+//! Where a rehearsal begins.
+ghost use Rattle.std.specs.Prelude.{◌≡◌, IfErr, IfOk, length};
 ghost use Rattle.play_course.specs.PlayPlans.{targets};
-ghost use Rattle.rehearsing.specs.Plays.{caps_of, rules_of};
-ghost use Rattle.rehearsing.specs.Inside.{IsOpening, IsOpeningOfTexts, RefusesOpening};
+ghost use Rattle.rehearsing.specs.Plays.{caps_of};
+ghost use Rattle.rehearsing.specs.Inside.{IsFirstOfTexts, RefusesOpening};
 
 use crate::fault::RehearseFault;
-use batch_plan::start;
+use crate::targets::{count, start_play, targets_of};
 use domains::Fleet;
 use fleet_states::Status;
-use group_tree::{HostId, Percentage};
 use planning::{read_fleet, read_known_plays};
-use play_model::{OnBlocked, Play};
+use play_model::Play;
 use std::alloc::{AllocError, Global};
 
-/// What a rehearsal of a play begins with: the fleet, the status of each host, the most hosts of each batch, how many of each hundred may fail,
-/// and what becomes of hosts that may not go down.
-#[derive(Drop)]
-pub(crate) struct Opening {
-    pub(crate) fleet: Fleet,
-    pub(crate) statuses: Vec<Status>,
-    pub(crate) caps: Vec<Option<u32>>,
-    pub(crate) max_fail: Option<Percentage>,
-    pub(crate) mode: OnBlocked,
+/// Where a rehearsal begins: a play on a fleet whose hosts have these statuses.
+#[derive(Clone, Copy)]
+pub struct Opening<'o> {
+    pub fleet: &'o Fleet,
+    pub play: &'o Play,
+    pub statuses: &'o [Status],
 }
 
-/// How many hosts these are. A fleet has so few that the number fits.
-pub(crate) fn count(fleet: &Fleet, hosts: &[HostId]) -> u32
-    requires { length hosts.now ≤ length fleet.now.hosts }
-    ensures { result ≡ length hosts.now }
-{
-    hosts.len().min(fleet.hosts()) as u32
+/// What two texts say: the fleet, the plays, and the statuses with which a run of the first one begins.
+#[derive(Drop)]
+pub(crate) struct FirstPlay {
+    pub(crate) fleet: Fleet,
+    pub(crate) plays: Vec<Play>,
+    pub(crate) statuses: Vec<Status>,
 }
 
 /// The most hosts of each batch of a play for so many hosts, one for each of its sizes.
@@ -43,32 +38,26 @@ fn list_caps(alloc: Global, play: &Play, targeted: u32) -> Result<Vec<Option<u32
         .collect(alloc)
 }
 
-/// What a rehearsal of a play begins with, whose pattern was looked up. Only want of memory refuses it.
-fn open_play(alloc: Global, fleet: Fleet, play: &Play) -> Result<Opening, AllocError>
-    ensures { IfOk result (IsOpening fleet play.now) }
+/// The most hosts of each batch of a play. Only want of memory refuses it, where its pattern was looked up.
+pub(crate) fn caps(
+    alloc: Global,
+    fleet: &Fleet,
+    play: &Play,
+) -> Result<Vec<Option<u32>>, AllocError>
+    ensures { IfOk result (λ caps. caps.items ≡ caps_of play.now.sizes.items (length (targets fleet.now play.now))) }
 {
-    let Ok(hosts) = fleet.target(alloc, play.pattern()) else {
-        return Err(AllocError);
-    };
-    let statuses = start(alloc, &fleet, hosts.as_slice())?;
-    let caps = list_caps(alloc, play, count(&fleet, hosts.as_slice()))?;
-    Ok(Opening {
-        fleet,
-        statuses,
-        caps,
-        max_fail: play.max_fail(),
-        mode: play.on_blocked(),
-    })
+    let hosts = targets_of(alloc, fleet, play)?;
+    list_caps(alloc, play, count(fleet, hosts.as_slice()))
 }
 
 /// Reads both texts: first the inventory's faults are told, then the playbook's, then the first part of a pattern, of any play, that names
-/// nothing. The first play is opened.
-pub(crate) fn read_opening(
+/// nothing.
+pub(crate) fn read_first(
     alloc: Global,
     inventory: &[u8],
     playbook: &[u8],
-) -> Result<Opening, RehearseFault>
-    ensures ok { IfOk result (IsOpeningOfTexts inventory.now playbook.now) }
+) -> Result<FirstPlay, RehearseFault>
+    ensures ok { IfOk result (IsFirstOfTexts inventory.now playbook.now) }
     ensures err { IfErr result (RefusesOpening inventory.now playbook.now) }
 {
     let fleet = match read_fleet(alloc, inventory) {
@@ -79,8 +68,12 @@ pub(crate) fn read_opening(
         Ok(plays) => plays,
         Err(fault) => return Err(RehearseFault::Refused(fault)),
     };
-    match open_play(alloc, fleet, &plays[0]) {
-        Ok(opening) => Ok(opening),
+    match start_play(alloc, &fleet, &plays[0]) {
+        Ok(statuses) => Ok(FirstPlay {
+            fleet,
+            plays,
+            statuses,
+        }),
         Err(_refused) => Err(RehearseFault::Memory),
     }
 }

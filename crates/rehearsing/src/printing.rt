@@ -5,15 +5,17 @@ ghost use Rattle.bounded_io.specs.Sending.{SendsText};
 ghost use Rattle.bounded_io.specs.Writing.{Writes};
 ghost use Rattle.text_parts.specs.Patterns.{parts_of};
 ghost use Rattle.domains.specs.Patterns.{IsPatternFault, names_nothing};
+ghost use Rattle.fleet_states.specs.Batches.{fails_in};
 ghost use Rattle.rehearsing.specs.CourseSteps.{course_of};
-ghost use Rattle.rehearsing.specs.CourseTexts.{AreCoursesBy, AreRead, IsEndOf, IsTrueCourseFault, WritesCourse, batches_opened, course_lines, courses_lines, courses_text, failing_by, numbered};
+ghost use Rattle.rehearsing.specs.CourseTexts.{AreCoursesBy, AreCoursesFrom, AreRead, IsEndOf, IsTrueCourseFault, WritesCourse, batches_opened, course_lines, courses_lines_from, courses_text_from, failing_by, numbered};
 
 use crate::advance::first_steps;
 use crate::course::PlayCourse;
 use crate::course_end::{CourseEnd, end_of};
-use crate::courses::follow_plays;
+use crate::courses::{follow_plays, follow_plays_from};
 use bounded_io::{TextWriter, WriteFault};
 use domains::{Fleet, PatternFault};
+use fleet_states::Status;
 use planning::{PlanFault, read_fleet, read_known_plays};
 use play_model::Play;
 use recap::{Recap, write_field, write_numbered, write_play};
@@ -48,12 +50,15 @@ fn write_courses<W: Write>(
     text: &mut TextWriter<'_, W>,
     fleet: &Fleet,
     several: bool,
+    plays_before: usize,
     courses: &[PlayCourse],
 )
-    ensures { Writes W.contents text.old text.new (courses_lines fleet.now several (map course_of courses.now)) }
+    requires { plays_before + length courses.now ≤ 18446744073709551615 }
+    ensures { Writes W.contents text.old text.new (courses_lines_from plays_before fleet.now several (map course_of courses.now)) }
 {
     for place in 0..courses.len() {
-        write_course(text, fleet, several, place as u64 + 1, &courses[place]);
+        let number = (plays_before + place) as u64 + 1;
+        write_course(text, fleet, several, number, &courses[place]);
     }
 }
 
@@ -74,28 +79,33 @@ fn write_all<W: Write>(
     text: &mut TextWriter<'_, W>,
     fleet: &Fleet,
     several: bool,
+    plays_before: usize,
     courses: &[PlayCourse],
 )
+    requires before { plays_before + length courses.now ≤ 18446744073709551615 }
     requires few { sum_by batches_opened (map course_of courses.now) < 2 ^ 64 }
-    ensures { Writes W.contents text.old text.new (courses_text fleet.now several (map course_of courses.now)) }
+    ensures { Writes W.contents text.old text.new (courses_text_from plays_before fleet.now several (map course_of courses.now)) }
 {
-    write_courses(text, fleet, several, courses);
+    write_courses(text, fleet, several, plays_before, courses);
     write_field(text, "batches=", count_batches(courses));
     text.write_str("\n");
 }
 
-/// Sends the text of the courses. It takes no memory.
-fn send_courses<W: Write>(
+/// Sends the text of the courses of a file's plays behind so many; where it has several, each stands under the number that its play has in it. It takes no memory; where a write
+/// fails, exactly the first bytes of the text went out, as many as the fault says.
+pub fn send_courses<W: Write>(
     fleet: &Fleet,
     several: bool,
+    plays_before: usize,
     courses: &[PlayCourse],
     out: &mut W,
 ) -> Result<(), WriteFault>
+    requires before { plays_before + length courses.now ≤ 18446744073709551615 }
     requires few { sum_by batches_opened (map course_of courses.now) < 2 ^ 64 }
-    ensures { SendsText (W.contents out.old) (W.contents out.new) (courses_text fleet.now several (map course_of courses.now)) result }
+    ensures { SendsText (W.contents out.old) (W.contents out.new) (courses_text_from plays_before fleet.now several (map course_of courses.now)) result }
 {
     let mut text = TextWriter::new(out);
-    write_all(&mut text, fleet, several, courses);
+    write_all(&mut text, fleet, several, plays_before, courses);
     text.finish()
 }
 
@@ -106,6 +116,20 @@ pub fn last_end(courses: &[PlayCourse]) -> CourseEnd
 {
     let last = &courses[courses.len() - 1];
     end_of(last.end, last.last_statuses())
+}
+
+/// For each host the step that fails on it: the first one for those that the text names, and none for the others.
+fn failing_steps(
+    alloc: Global,
+    fleet: &Fleet,
+    failing: &str,
+) -> Result<Vec<Option<usize>>, PatternFault>
+    ensures so { IfOk result (λ steps. fails_in steps.items ≡ failing_by fleet.now failing.now) }
+    ensures known { IfOk result (λ steps. find (names_nothing fleet.now) (parts_of failing.now) ≡ None) }
+    ensures err { IfErr result (IsPatternFault fleet.now (parts_of failing.now)) }
+{
+    let named = fleet.target(alloc, failing)?;
+    Ok(first_steps(alloc, fleet.hosts(), named.as_slice())?)
 }
 
 /// The courses of these plays, where just the hosts that the text names fail, at their first step. The first part of the text that names neither a host nor a group
@@ -122,9 +146,27 @@ pub fn foresee(
     ensures known { IfOk result (λ courses. find (names_nothing fleet.now) (parts_of failing.now) ≡ None) }
     ensures err { IfErr result (IsPatternFault fleet.now (parts_of failing.now)) }
 {
-    let named = fleet.target(alloc, failing)?;
-    let steps = first_steps(alloc, fleet.hosts(), named.as_slice())?;
+    let steps = failing_steps(alloc, fleet, failing)?;
     Ok(follow_plays(alloc, fleet, plays, steps.as_slice())?)
+}
+
+/// The same of plays the first of which begins with these statuses.
+pub fn foresee_from(
+    alloc: Global,
+    fleet: &Fleet,
+    plays: &[Play],
+    statuses: Vec<Status>,
+    failing: &str,
+) -> Result<Vec<PlayCourse>, PatternFault>
+    requires some { 0 < length plays.now }
+    requires all { length statuses.items ≡ length fleet.now.hosts }
+    ensures are { IfOk result (λ courses. AreCoursesFrom fleet.now (failing_by fleet.now failing.now) plays.now statuses.items (map course_of courses.items)) }
+    ensures few { IfOk result (λ courses. sum_by batches_opened (map course_of courses.items) ≤ length plays.now * length fleet.now.hosts) }
+    ensures known { IfOk result (λ courses. find (names_nothing fleet.now) (parts_of failing.now) ≡ None) }
+    ensures err { IfErr result (IsPatternFault fleet.now (parts_of failing.now)) }
+{
+    let steps = failing_steps(alloc, fleet, failing)?;
+    Ok(follow_plays_from(alloc, fleet, plays, steps.as_slice(), statuses)?)
 }
 
 /// Writes what a run of the plays of a playbook on the fleet of an inventory would open to its end, each given as the bytes of its text, where just the hosts that
@@ -153,7 +195,7 @@ pub fn course_text<W: Write>(
         Ok(courses) => courses,
         Err(fault) => return Err(PlanFault::Pattern(fault)),
     };
-    match send_courses(&fleet, plays.len() > 1, courses.as_slice(), out) {
+    match send_courses(&fleet, plays.len() > 1, 0, courses.as_slice(), out) {
         Ok(()) => Ok(last_end(courses.as_slice())),
         Err(fault) => Err(PlanFault::Write(fault)),
     }

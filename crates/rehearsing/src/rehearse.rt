@@ -1,24 +1,64 @@
 //! From the bytes of an inventory and a playbook, and commands as they come, to their answers.
-ghost use Rattle.std.specs.Prelude.{◌≡◌, IfErr, IfOk};
-ghost use Rattle.rehearsing.specs.RehearseTexts.{IsTrueFault, Rehearses};
+ghost use Rattle.std.specs.Prelude.{◌≡◌, IfErr, IfOk, length};
+ghost use Rattle.rehearsing.specs.RehearseTexts.{IsFaultFrom, IsTrueFault, Rehearses, RehearsesFrom};
 
 use crate::fault::RehearseFault;
 use crate::history::History;
 use crate::listening::hold_session;
-use crate::opening::read_opening;
+use crate::opening::{Opening, caps, read_first};
 use crate::prompt::Prompt;
 use crate::rehearsal::Rehearsal;
 use bounded_io::Input;
 use std::alloc::Global;
 use std::io::Write;
 
-/// Rehearses the first play of a playbook on the fleet of an inventory, each given as the bytes of its text: answers the lines of commands that the reader gives, each
-/// as it comes. No command is read, and nothing goes out, before both texts were accepted: first the inventory's faults are told, then the playbook's,
-/// then the first part of a pattern, of any play, that names nothing. Answers are sent, and `prompt` is told, before each read. A line `quit` ends the session, as the end of the
+/// Rehearses a play on a fleet whose hosts have these statuses, and whose pattern was looked up: answers the lines of commands that the reader gives, each
+/// as it comes. Answers are sent, and `prompt` is told, before each read. A line `quit` ends the session, as the end of the
 /// commands does. A line of more than `MAX_LINE` bytes, more commands than an
-/// input has bytes, a failed read and want of memory end the session behind the answers to the lines before. Where a write fails, exactly the
+/// input has bytes, a failed read and want of memory end the session behind the answers to the lines before; it is never refused. Where a write fails, exactly the
 /// first bytes of all answers went out, as many as the fault says. The answer is true where a line was refused: a name that nobody has, a play that has ended, a host that
 /// isn't in the batch or doesn't wait, or what is no command.
+pub fn rehearse_play<P: Prompt, I: Input, W: Write>(
+    alloc: Global,
+    opening: &Opening<'_>,
+    prompt: &P,
+    input: &mut I,
+    out: &mut W,
+) -> Result<bool, RehearseFault>
+    requires all { length opening.now.statuses.now ≡ length opening.now.fleet.now.hosts }
+    ensures ok { IfOk result (RehearsesFrom opening.now.fleet.now opening.now.play.now opening.now.statuses.now (I.remaining input.old) (I.remaining input.new) (W.contents out.old) (W.contents out.new)) }
+    ensures err { IfErr result (IsFaultFrom (I.is_reliable input.old) opening.now.fleet.now opening.now.play.now opening.now.statuses.now (I.remaining input.old) (I.remaining input.new) (W.contents out.old) (W.contents out.new)) }
+{
+    let Opening {
+        fleet,
+        play,
+        statuses,
+    } = *opening;
+    let caps = match caps(alloc, fleet, play) {
+        Ok(caps) => caps,
+        Err(_refused) => return Err(RehearseFault::Memory),
+    };
+    let rehearsal = match Rehearsal::new(
+        alloc,
+        fleet,
+        statuses,
+        caps.as_slice(),
+        play.max_fail(),
+        play.on_blocked(),
+    ) {
+        Ok(rehearsal) => rehearsal,
+        Err(_refused) => return Err(RehearseFault::Memory),
+    };
+    let mut history = History::new(alloc, rehearsal);
+    match hold_session(alloc, &mut history, prompt, input, out) {
+        Ok(()) => Ok(history.refused()),
+        Err(fault) => Err(fault),
+    }
+}
+
+/// Rehearses the first play of a playbook on the fleet of an inventory, each given as the bytes of its text, as `rehearse_play` does, from where a run of it begins. No command is read,
+/// and nothing goes out, before both texts were accepted: first the inventory's faults are told, then the playbook's,
+/// then the first part of a pattern, of any play, that names nothing.
 pub fn rehearse_text<P: Prompt, I: Input, W: Write>(
     alloc: Global,
     inventory: &[u8],
@@ -30,24 +70,14 @@ pub fn rehearse_text<P: Prompt, I: Input, W: Write>(
     ensures ok { IfOk result (Rehearses inventory.now playbook.now (I.remaining input.old) (I.remaining input.new) (W.contents out.old) (W.contents out.new)) }
     ensures err { IfErr result (IsTrueFault (I.is_reliable input.old) inventory.now playbook.now (I.remaining input.old) (I.remaining input.new) (W.contents out.old) (W.contents out.new)) }
 {
-    let opening = match read_opening(alloc, inventory, playbook) {
-        Ok(opening) => opening,
+    let first = match read_first(alloc, inventory, playbook) {
+        Ok(first) => first,
         Err(fault) => return Err(fault),
     };
-    let rehearsal = match Rehearsal::new(
-        alloc,
-        &opening.fleet,
-        opening.statuses.as_slice(),
-        opening.caps.as_slice(),
-        opening.max_fail,
-        opening.mode,
-    ) {
-        Ok(rehearsal) => rehearsal,
-        Err(_refused) => return Err(RehearseFault::Memory),
+    let opening = Opening {
+        fleet: &first.fleet,
+        play: &first.plays[0],
+        statuses: first.statuses.as_slice(),
     };
-    let mut history = History::new(alloc, rehearsal);
-    match hold_session(alloc, &mut history, prompt, input, out) {
-        Ok(()) => Ok(history.refused()),
-        Err(fault) => Err(fault),
-    }
+    rehearse_play(alloc, &opening, prompt, input, out)
 }

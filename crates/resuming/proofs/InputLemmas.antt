@@ -13,7 +13,7 @@ use Rattle.roll_run.proofs.Following.{known_first}
 use Rattle.running.proofs.PlayLemmas.{known_from}
 use Rattle.running.specs.Inputs.{AreHostsIn}
 use Rattle.resuming.specs.Journals.{IsOwnJournal, RefusesJournal}
-use Rattle.resuming.specs.Resumptions.{IsMended, RefusesBehind, RefusesNamed, RefusesToGoOn, RefusesToResume}
+use Rattle.resuming.specs.Resumptions.{IsMended, RefusesBehind, RefusesNamed, RefusesToBegin, RefusesToGoOn, RefusesToMend, RefusesToResume, begun_state}
 use Rattle.resuming.specs.declared.fault.ResumeFault.{ResumeFault}
 use Rattle.resuming.specs.declared.fault.ResumeFault.TheVariants as fault
 
@@ -52,3 +52,19 @@ module _ (inventory playbook journal names : List ℕ) (takes_others : Bool) (fl
   on_refused state own (fault.Texts texts) is = absurd is
   on_refused state own (fault.Journal found) is = absurd is
   on_refused state own (fault.Mended found) is = absurd is
+
+-- a run that has said which it is, and nothing else, can't go on
+module _ (inventory playbook names : List ℕ) (fleet : FleetView) (vars : List Vars) (plays : List Play) (hosts : AreHostsIn inventory fleet vars)
+    (says : ArePlaysIn fleet playbook plays) (mended : List ℕ) (named : IsMended fleet names mended) where
+  not_mended : (why : ResumeFault) → RefusesToGoOn fleet plays mended (begun_state fleet inventory playbook plays) why → RefusesToMend inventory playbook names why
+  not_mended why refuses =
+      record { fleet = fleet; vars = vars; plays = plays; hosts = hosts; says = says; why = inr (record { mended = mended; named = named; why = refuses }) }
+
+  pub not_begun : (why : ResumeFault) → RefusesToGoOn fleet plays mended (begun_state fleet inventory playbook plays) why → RefusesToBegin inventory playbook names why
+  not_begun fault.OtherInputs is = not_mended fault.OtherInputs is
+  not_begun (fault.NeedsResult name) is = not_mended (fault.NeedsResult name) is
+  not_begun (fault.Over over) is = not_mended (fault.Over over) is
+  not_begun fault.Memory is = is
+  not_begun (fault.Texts texts) is = absurd is
+  not_begun (fault.Journal found) is = absurd is
+  not_begun (fault.Mended found) is = absurd is

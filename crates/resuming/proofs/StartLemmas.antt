@@ -1,5 +1,5 @@
 -- The statuses with which a run goes on.
-use Rattle.std.proofs.Common.{◌≡◌, ℕ, Bool, true, false, cond, Some, Result, Ok, Err, List, [], ◌∷◌, drop, length, sym, ap, ◌∙◌, refl, subst, arith}
+use Rattle.std.proofs.Common.{◌≡◌, ℕ, Bool, true, false, cond, None, Some, Option, Result, Ok, Err, List, [], ◌∷◌, drop, length, sym, ap, ◌∙◌, refl, subst, arith}
 use Rattle.std.specs.Prelude.{IfErr}
 use Rattle.std.specs.Result.{IsErrAnd}
 use Rattle.std.proofs.lemmas.List.{length-map}
@@ -17,8 +17,8 @@ use Rattle.batch_plan.specs.Beginnings.{IsReady, restart_status, restart_statuse
 use Rattle.play_model.specs.declared.play.Play.{Play}
 use Rattle.play_course.specs.PlayPlans.{targets}
 use Rattle.batch_plan.specs.Inside.{awaited}
-use Rattle.journal.specs.Entries.{Entry}
-use Rattle.journal.specs.States.{JournalState, at_rest, follow, is_under_way, mended, rested, resumes, start, state_after, stood_up}
+use Rattle.journal.specs.Entries.{Entry, Head}
+use Rattle.journal.specs.States.{JournalState, at_rest, begins, follow, is_under_way, mended, rested, resumes, start, state_after, stood_up}
 use Rattle.journal.specs.Fits.{IsKept}
 use Rattle.journal.proofs.FrontLemmas.{follows}
 use Rattle.journal.proofs.ReadLemmas.{kept_at_start}
@@ -26,7 +26,7 @@ use Rattle.journal.proofs.StateLemmas.{leads}
 use Rattle.keeping.proofs.DownLemmas.{rested_at}
 use Rattle.keeping.specs.Resumings.{plays_before, resumed_start}
 use Rattle.resuming.specs.Overs.{TellsOver}
-use Rattle.resuming.specs.Resumptions.{GoesOnWith, RefusesToGoOn}
+use Rattle.resuming.specs.Resumptions.{GoesOnWith, RefusesToGoOn, has_updated, needed_again, needed_behind}
 use Rattle.resuming.specs.declared.fault.ResumeFault.{ResumeFault}
 use Rattle.resuming.specs.declared.fault.ResumeFault.TheVariants as fault
 
@@ -39,6 +39,10 @@ kept_behind fleet (entry ∷ entries) said later kept is =
 
 pub all_kept : (fleet : FleetView) (entries : List Entry) (later : JournalState) → state_after fleet entries ≡ Some later → length later.statuses ≡ length fleet.hosts
 all_kept fleet entries later is = (kept_behind fleet entries (start fleet) later (kept_at_start fleet) is).all
+
+-- and so it has as a run begins
+pub all_begun : (fleet : FleetView) (head : Head) (state : JournalState) → state ≡ begins (start fleet) head → length state.statuses ≡ length fleet.hosts
+all_begun fleet head state is = ap (λ (s : JournalState). length s.statuses) is ∙ (kept_at_start fleet).all
 
 pub length-rested : (hosts : List ℕ) (statuses : List Status) → length (rested hosts statuses) ≡ length statuses
 length-rested hosts statuses = length-map (mended hosts statuses) at_rest ∙ length-changed stood_up hosts statuses
@@ -115,17 +119,25 @@ ready fleet plays hosts state before first later statuses on all safe =
       safe = safe;
     }
 
+-- what is read of plays that aren't run again, by where the run stands as it is resumed
+pub needed_so : (plays shown : List Play) (hosts : List ℕ) (state said : JournalState) → said ≡ resumes state hosts → (before : ℕ) → before ≡ plays_before said → (is_left : Bool)
+    → is_left ≡ has_updated said → shown ≡ plays → needed_behind shown is_left before ≡ needed_again plays (resumes state hosts)
+needed_so plays shown hosts state said is before stands is_left left same =
+    ap (λ (l : List Play). needed_behind l is_left before) same ∙ ap (λ (b : Bool). needed_behind plays b before) left ∙ ap (needed_behind plays (has_updated said)) stands
+    ∙ ap (needed_again plays) is
+
 -- a group that is over its limit by these statuses is so by those with which it would go on
 pub over_refused : (fleet : FleetView) (plays : List Play) (hosts : List ℕ) (state : JournalState) (before : ℕ) (first : Play) (later : List Play) (statuses : List Status)
-    → GoesOnWith fleet plays hosts state before first later statuses → (why : ResumeFault) → TellsOver fleet statuses why → RefusesToGoOn fleet plays hosts state why
-over_refused fleet plays hosts state before first later statuses on (fault.Over over) tells =
-    record { before = before; first = first; later = later; statuses = statuses; on = on; tells = tells }
-over_refused fleet plays hosts state before first later statuses on fault.Memory tells = tells
-over_refused fleet plays hosts state before first later statuses on (fault.Texts texts) tells = absurd tells
-over_refused fleet plays hosts state before first later statuses on (fault.Journal journal) tells = absurd tells
-over_refused fleet plays hosts state before first later statuses on fault.OtherInputs tells = absurd tells
-over_refused fleet plays hosts state before first later statuses on (fault.Mended names) tells = absurd tells
-over_refused fleet plays hosts state before first later statuses on (fault.NeedsResult name) tells = absurd tells
+    → GoesOnWith fleet plays hosts state before first later statuses → needed_again plays (resumes state hosts) ≡ None → (why : ResumeFault) → TellsOver fleet statuses why
+    → RefusesToGoOn fleet plays hosts state why
+over_refused fleet plays hosts state before first later statuses on nothing (fault.Over over) tells =
+    record { before = before; first = first; later = later; statuses = statuses; on = on; nothing = nothing; tells = tells }
+over_refused fleet plays hosts state before first later statuses on nothing fault.Memory tells = tells
+over_refused fleet plays hosts state before first later statuses on nothing (fault.Texts texts) tells = absurd tells
+over_refused fleet plays hosts state before first later statuses on nothing (fault.Journal journal) tells = absurd tells
+over_refused fleet plays hosts state before first later statuses on nothing fault.OtherInputs tells = absurd tells
+over_refused fleet plays hosts state before first later statuses on nothing (fault.Mended names) tells = absurd tells
+over_refused fleet plays hosts state before first later statuses on nothing (fault.NeedsResult name) tells = absurd tells
 
 -- a fault that is passed on is what is returned
 pub passed_on : {T : Type 0} (result : Result T ResumeFault) (found : ResumeFault) (P : ResumeFault → Type 0) → IsErrAnd result (λ why. why ≡ found) → P found → IfErr result P

@@ -5,17 +5,17 @@ ghost use Rattle.domains.specs.Patterns.{names_nothing};
 ghost use Rattle.play_course.specs.PlayPlans.{named_parts};
 ghost use Rattle.journal.specs.Lines.{max_body};
 ghost use Rattle.journal.specs.Shown.{shown_journal};
-ghost use Rattle.resuming.specs.Resumptions.{CanRun, IsGoneOn, IsMended, IsResumption, RefusesMended, RefusesToGoOn, RefusesToResume};
+ghost use Rattle.resuming.specs.Resumptions.{CanRun, IsGoneOn, IsMended, IsMendedBeginning, IsResumption, RefusesMended, RefusesToBegin, RefusesToGoOn, RefusesToResume, begun_state};
 
 use crate::beginning::{plays_before, start_play};
 use crate::fault::ResumeFault;
 use crate::journals::read_own;
+use crate::needs::{has_updated, needed_behind};
 use crate::over::refuse_over;
 use domains::Fleet;
 use group_tree::HostId;
 use host_vars::Vars;
-use journal::Journal;
-use needed_results::needed_result;
+use journal::{Head, Journal, digest_of};
 use play_model::Play;
 use roll_run::Start;
 use running::{Beginning, Inputs, RunTextFault, read_inputs};
@@ -41,8 +41,8 @@ pub struct Resumption {
     pub goes_on: bool,
 }
 
-/// The hosts that are named as up by now.
-fn mended_hosts(alloc: Global, fleet: &Fleet, mended: &str) -> Result<Vec<HostId>, ResumeFault>
+/// The hosts that are named as up by now. The first part of the names that names nothing refuses them; otherwise only want of memory does.
+pub fn mended_hosts(alloc: Global, fleet: &Fleet, mended: &str) -> Result<Vec<HostId>, ResumeFault>
     ensures ok { IfOk result (λ hosts. IsMended fleet.now mended.now (host_numbers hosts.items)) }
     ensures err { IfErr result (RefusesMended fleet.now mended.now) }
 {
@@ -68,13 +68,16 @@ fn go_on(
     ensures can { IfOk result CanRun }
     ensures err { IfErr result (RefusesToGoOn fleet plays.items (host_numbers mended.items) (shown_journal journal.entry)) }
 {
+    if plays.len() != usize::from(journal.plays()) {
+        return Err(ResumeFault::OtherInputs);
+    }
     let journal = journal.resumed(alloc, mended.as_slice())?;
     let goes_on = journal.is_under_way();
     let before = plays_before(&journal);
     if before >= plays.len() {
         return Err(ResumeFault::OtherInputs);
     }
-    if let Some(name) = needed_result(alloc, plays.as_slice(), before)? {
+    if let Some(name) = needed_behind(alloc, plays.as_slice(), has_updated(&journal), before)? {
         let name = String::from_str(alloc, name)?;
         return Err(ResumeFault::NeedsResult { name });
     }
@@ -90,6 +93,59 @@ fn go_on(
         mended,
         goes_on,
     })
+}
+
+/// Where a run of these texts stands that has said which it is, and nothing else: what a run begins with that has no journal, with these hosts up by now.
+fn begin(
+    alloc: Global,
+    inputs: Inputs,
+    inventory: &[u8],
+    playbook: &[u8],
+    mended: Vec<HostId>,
+) -> Result<Resumption, ResumeFault>
+    requires known { find (names_nothing inputs.fleet) (named_parts inputs.plays.items) ≡ None }
+    requires each { length inputs.start.vars.items ≡ length inputs.fleet.hosts }
+    ensures ok { IfOk result (IsGoneOn inputs.fleet inputs.plays.items inputs.start.vars.items (host_numbers mended.items) (begun_state inputs.fleet inventory.now playbook.now inputs.plays.items)) }
+    ensures can { IfOk result CanRun }
+    ensures err { IfErr result (RefusesToGoOn inputs.fleet inputs.plays.items (host_numbers mended.items) (begun_state inputs.fleet inventory.now playbook.now inputs.plays.items)) }
+{
+    let Inputs {
+        fleet,
+        plays,
+        start,
+    } = inputs;
+    let inventory = digest_of(inventory);
+    let playbook = digest_of(playbook);
+    let head = Head {
+        inventory: &inventory,
+        playbook: &playbook,
+        plays: plays.len().min(65_535) as u16,
+    };
+    let journal = Journal::begun(alloc, &fleet, head)?;
+    go_on(alloc, fleet, plays, start.vars, mended, journal)
+}
+
+/// Reads the texts, and says what a run begins with that has no journal, where hosts are up by now that the inventory has as down. First the inventory's faults are told, then the
+/// playbook's, then the names of these hosts.
+pub fn begin_inputs(
+    alloc: Global,
+    inventory: &[u8],
+    playbook: &[u8],
+    mended: &str,
+) -> Result<Resumption, ResumeFault>
+    ensures ok { IfOk result (IsMendedBeginning inventory.now playbook.now mended.now) }
+    ensures can { IfOk result CanRun }
+    ensures err { IfErr result (RefusesToBegin inventory.now playbook.now mended.now) }
+{
+    let inputs = match read_inputs(alloc, inventory, playbook) {
+        Ok(inputs) => inputs,
+        Err(fault) => return Err(ResumeFault::Texts(fault)),
+    };
+    let mended = match mended_hosts(alloc, &inputs.fleet, mended) {
+        Ok(mended) => mended,
+        Err(fault) => return Err(fault),
+    };
+    begin(alloc, inputs, inventory, playbook, mended)
 }
 
 /// Reads the texts and the journal, and says what the run goes on with. First the inventory's faults are told, then the playbook's, then the names of hosts that are up by

@@ -5,7 +5,8 @@ mod beginning;
 mod fault;
 mod inputs;
 mod journals;
+mod needs;
 mod over;
 
 pub use fault::ResumeFault;
-pub use inputs::{Resumption, Wish, resume_inputs};
+pub use inputs::{Resumption, Wish, begin_inputs, mended_hosts, resume_inputs};

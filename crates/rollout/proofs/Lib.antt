@@ -6,4 +6,5 @@ pub mod Resuming
 pub mod Tables
 mod Starting
 pub mod States
+pub mod Outlooks
 pub mod PlainNames

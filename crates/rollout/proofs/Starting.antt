@@ -1,9 +1,8 @@
 -- What is started is safe, as what is done says what that was.
-use Rattle.std.proofs.Common.{◌≡◌, ◌⊎◌, ℕ, Bool, ◌≤◌, List, [], Option, Some, None, Result, Ok, Err, inl, inr, ap, subst}
+use Rattle.std.proofs.Common.{◌≡◌, ◌⊎◌, ℕ, Bool, ◌≤◌, List, [], ◌∷◌, Option, Some, None, Result, Ok, Err, inl, inr, ap, subst}
 use Rattle.std.specs.Prelude.{drop, is_some}
-use Rattle.command_line.specs.Flags.{is_strict, plain}
 use Rattle.command_line.specs.Operands.{Word}
-use Rattle.command_line.specs.RunFiles.{stop_file}
+use Rattle.command_line.specs.Wishes.{Wish, plain, wished}
 use Rattle.command_line.specs.Words as words
 use Rattle.command_line.specs.declared.command.Line.{Line}
 use Rattle.command_line.specs.declared.command.Line.TheVariants as line
@@ -11,16 +10,17 @@ use Rattle.command_line.specs.declared.command.Source.{Source}
 use Rattle.host_track.specs.Endings.{Ending}
 use Rattle.event_log.specs.Events.{Event}
 use Rattle.event_log.specs.Told.{Work}
+use Rattle.resuming.specs.Resumptions.{IsMendedBeginning, RefusesToBegin}
+use Rattle.resuming.specs.declared.fault.ResumeFault.{ResumeFault}
 use Rattle.resuming.specs.declared.inputs.Resumption.{Resumption}
 use Rattle.running.specs.Beginnings.{AreSafeBehind}
 use Rattle.running.specs.RunTexts.{AreSafeIn, IsTrueFault}
 use Rattle.running.specs.declared.fault.RunTextFault.{RunTextFault}
 use Rattle.running.specs.declared.fault.RunTextFault.TheVariants as running
 use Rattle.running.proofs.SafeRecaps.{broken_recaps_are_of_safe_rolls, faults_from_are_of_safe_rolls, recaps_are_of_safe_rolls, runs_from_are_of_safe_rolls}
-use Rattle.rollout.specs.Groups.{PlanWish}
 use Rattle.rollout.specs.Rolls.{AreSafeFrom, BreaksOff, Rolls, RollsInputs}
-use Rattle.rollout.specs.Resumes.{AreSafeAgain, BreaksRest, GoesOn, GoesOnBy, IsWished, ResumeWish, Resumes, ResumesInputs, RollsBy}
-use Rattle.rollout.specs.Runs.{AreSafeOrAgain, Attempts, Does, Performs, StartsSafely, plan_wish, resume_wish}
+use Rattle.rollout.specs.Resumes.{AreSafeAgain, AreSafeMended, BeginsBy, BeginsMended, BreaksRest, GoesOn, GoesOnBy, IsNoneWished, IsWished, MendsInputs, ResumeWish, Resumes, ResumesInputs, RollsFrom, RollsMended, resume_wish}
+use Rattle.rollout.specs.Runs.{AreSafeBegun, AreSafeOrAgain, Attempts, Does, Performs, StartsSafely}
 use Rattle.rollout.specs.Systems.{Gives, Known, Sources}
 use Rattle.rollout.specs.declared.fault.Fault.{Fault}
 use Rattle.rollout.specs.declared.status.Status.{Status}
@@ -59,16 +59,32 @@ module _ (may : Work → Ending → Type 0) where
         by (inl none) = inl none
         by (inr rolls) = inr (record { first = is.first; second = is.second; texts = is.texts; workers = workers; few = few; rolls = rolls })
 
+  -- what is so of whatever goes on: with it the logs are of safe rolls, or nothing was started
+  module _ (Is : Resumption → Type 0) (Refuses : ResumeFault → Type 0) (Safe : Type 0) (workers : ℕ) (out_old out_new : Option (List ℕ)) (logs : List (List Event))
+      (safe : (resumption : Resumption) → Is resumption → AreSafeBehind may resumption.fleet workers resumption.plays.items resumption.beginning logs → Safe) where
+    pub going_is_safe : (result : Result Status Fault) → GoesOnBy may Is Refuses workers out_old out_new result logs → (logs ≡ []) ⊎ Safe
+    going_is_safe (Ok status) is =
+        inr (safe is.resumption is.wished (runs_from_are_of_safe_rolls may is.resumption.fleet workers is.resumption.plays.items is.resumption.beginning out_old out_new is.prints.end logs is.prints.recap))
+    going_is_safe (Err fault) (inl none) = inl none.none
+    going_is_safe (Err fault) (inr is) = inr (safe is.resumption is.wished (broken is.breaks))
+      where
+        broken : BreaksRest may is.resumption.fleet is.resumption.plays.items is.resumption.beginning workers out_old out_new fault logs
+            → AreSafeBehind may is.resumption.fleet workers is.resumption.plays.items is.resumption.beginning logs
+        broken (inl fails) = faults_from_are_of_safe_rolls may is.resumption.fleet workers is.resumption.plays.items is.resumption.beginning out_old out_new fails.cause logs fails.is_true
+        broken (inr loses) = runs_from_are_of_safe_rolls may is.resumption.fleet workers is.resumption.plays.items is.resumption.beginning out_old out_new loses.prints.end logs loses.prints.recap
+
   module _ (given : Known (List Word)) (sources : Sources) (input_old input_new out_old out_new : Option (List ℕ)) where
-    rolls_are_safe : (asks : Option (List ℕ)) (inventory playbook : Source) (forks : ℕ) (result : Result Status Fault) (logs : List (List Event))
-        → Rolls may (is_some asks) sources inventory playbook forks input_old input_new out_old out_new result logs → (logs ≡ []) ⊎ AreSafeFrom may sources inventory playbook forks input_old input_new logs
+    rolls_are_safe : (asks : Bool) (inventory playbook : Source) (forks : ℕ) (result : Result Status Fault) (logs : List (List Event))
+        → Rolls may asks sources inventory playbook forks input_old input_new out_old out_new result logs → (logs ≡ []) ⊎ AreSafeFrom may sources inventory playbook forks input_old input_new logs
     rolls_are_safe asks inventory playbook forks result logs (inl refuses) = inl refuses.none
     rolls_are_safe asks inventory playbook forks result logs (inr on) =
         inputs_are_safe sources inventory playbook forks on.workers on.few input_old input_new out_old out_new result logs on.rolls
 
     rest_is_safe : (inventory playbook : Source) (wish : ResumeWish) (workers forks : ℕ) → workers ≤ forks → (result : Result Status Fault) (logs : List (List Event))
         → GoesOn may sources inventory playbook wish workers input_old input_new out_old out_new result logs → (logs ≡ []) ⊎ AreSafeAgain may sources inventory playbook wish forks input_old input_new logs
-    rest_is_safe inventory playbook wish workers forks few result logs on = by result on.goes
+    rest_is_safe inventory playbook wish workers forks few result logs on =
+        going_is_safe (IsWished on.first on.second on.third wish) (IsNoneWished on.first on.second on.third wish)
+        (AreSafeAgain may sources inventory playbook wish forks input_old input_new logs) workers out_old out_new logs safe result on.goes
       where
         safe : (resumption : Resumption) → IsWished on.first on.second on.third wish resumption → AreSafeBehind may resumption.fleet workers resumption.plays.items resumption.beginning logs
             → AreSafeAgain may sources inventory playbook wish forks input_old input_new logs
@@ -85,20 +101,36 @@ module _ (may : Work → Ending → Type 0) where
           rolls = rolls;
         }
 
-        by : (result : Result Status Fault) → GoesOnBy may on.first on.second on.third wish workers out_old out_new result logs
-            → (logs ≡ []) ⊎ AreSafeAgain may sources inventory playbook wish forks input_old input_new logs
-        by (Ok status) is =
-            inr (safe is.resumption is.wished (runs_from_are_of_safe_rolls may is.resumption.fleet workers is.resumption.plays.items is.resumption.beginning out_old out_new is.prints.end logs is.prints.recap))
-        by (Err fault) (inl none) = inl none.none
-        by (Err fault) (inr is) = inr (safe is.resumption is.wished (broken is.breaks))
-          where
-            broken : BreaksRest may is.resumption workers out_old out_new fault logs → AreSafeBehind may is.resumption.fleet workers is.resumption.plays.items is.resumption.beginning logs
-            broken (inl fails) = faults_from_are_of_safe_rolls may is.resumption.fleet workers is.resumption.plays.items is.resumption.beginning out_old out_new fails.cause logs fails.is_true
-            broken (inr loses) =
-                runs_from_are_of_safe_rolls may is.resumption.fleet workers is.resumption.plays.items is.resumption.beginning out_old out_new loses.prints.end logs loses.prints.recap
+    mended_is_safe : (inventory playbook : Source) (names : List ℕ) (workers forks : ℕ) → workers ≤ forks → (result : Result Status Fault) (logs : List (List Event))
+        → BeginsMended may sources inventory playbook names workers input_old input_new out_old out_new result logs → (logs ≡ []) ⊎ AreSafeMended may sources inventory playbook names forks input_old input_new logs
+    mended_is_safe inventory playbook names workers forks few result logs on =
+        going_is_safe (IsMendedBeginning on.first on.second names) (RefusesToBegin on.first on.second names) (AreSafeMended may sources inventory playbook names forks input_old input_new logs)
+        workers out_old out_new logs safe result on.goes
+      where
+        safe : (resumption : Resumption) → IsMendedBeginning on.first on.second names resumption → AreSafeBehind may resumption.fleet workers resumption.plays.items resumption.beginning logs
+            → AreSafeMended may sources inventory playbook names forks input_old input_new logs
+        safe resumption wished rolls = record {
+          first = on.first;
+          second = on.second;
+          texts = on.texts;
+          resumption = resumption;
+          wished = wished;
+          workers = workers;
+          few = few;
+          rolls = rolls;
+        }
 
-    resumes_are_safe : (asks : Option (List ℕ)) (inventory playbook : Source) (wish : ResumeWish) (forks : ℕ) (result : Result Status Fault) (logs : List (List Event))
-        → Resumes may (is_some asks) sources inventory playbook wish forks input_old input_new out_old out_new result logs → (logs ≡ []) ⊎ AreSafeAgain may sources inventory playbook wish forks input_old input_new logs
+    mends_are_safe : (asks : Bool) (inventory playbook : Source) (names : List ℕ) (forks : ℕ) (result : Result Status Fault) (logs : List (List Event))
+        → RollsMended may asks sources inventory playbook names forks input_old input_new out_old out_new result logs → (logs ≡ []) ⊎ AreSafeMended may sources inventory playbook names forks input_old input_new logs
+    mends_are_safe asks inventory playbook names forks result logs (inl refuses) = inl refuses.none
+    mends_are_safe asks inventory playbook names forks result logs (inr on) = by on.mends
+      where
+        by : MendsInputs may sources inventory playbook names on.workers input_old input_new out_old out_new result logs → (logs ≡ []) ⊎ AreSafeMended may sources inventory playbook names forks input_old input_new logs
+        by (inl lacks) = inl lacks.none
+        by (inr begins) = mended_is_safe inventory playbook names on.workers forks on.few result logs begins
+
+    resumes_are_safe : (asks : Bool) (inventory playbook : Source) (wish : ResumeWish) (forks : ℕ) (result : Result Status Fault) (logs : List (List Event))
+        → Resumes may asks sources inventory playbook wish forks input_old input_new out_old out_new result logs → (logs ≡ []) ⊎ AreSafeAgain may sources inventory playbook wish forks input_old input_new logs
     resumes_are_safe asks inventory playbook wish forks result logs (inl refuses) = inl refuses.none
     resumes_are_safe asks inventory playbook wish forks result logs (inr on) = by on.resumes
       where
@@ -106,22 +138,26 @@ module _ (may : Work → Ending → Type 0) where
         by (inl lacks) = inl lacks.none
         by (inr goes) = rest_is_safe inventory playbook wish on.workers forks on.few result logs goes
 
-    either_is_safe : (asks : Option (List ℕ)) (resume : Option ResumeWish) (inventory playbook : Source) (forks : ℕ) (result : Result Status Fault) (logs : List (List Event))
-        → RollsBy may (is_some asks) resume sources inventory playbook forks input_old input_new out_old out_new result logs → (logs ≡ []) ⊎ AreSafeOrAgain may resume sources inventory playbook forks input_old input_new logs
-    either_is_safe asks None inventory playbook forks result logs = rolls_are_safe asks inventory playbook forks result logs
-    either_is_safe asks (Some wish) inventory playbook forks result logs = resumes_are_safe asks inventory playbook wish forks result logs
+    begun_is_safe : (asks : Bool) (names : List ℕ) (inventory playbook : Source) (forks : ℕ) (result : Result Status Fault) (logs : List (List Event))
+        → BeginsBy may asks names sources inventory playbook forks input_old input_new out_old out_new result logs → (logs ≡ []) ⊎ AreSafeBegun may names sources inventory playbook forks input_old input_new logs
+    begun_is_safe asks [] inventory playbook forks result logs = rolls_are_safe asks inventory playbook forks result logs
+    begun_is_safe asks (byte ∷ names) inventory playbook forks result logs = mends_are_safe asks inventory playbook (byte ∷ names) forks result logs
 
-    lines_are_safe : (args : List Word) → Gives given args → (asked : Line) → words.Says (plain (drop 1 args)) asked
-        → (asks : Option (List ℕ)) (wish : PlanWish) (resume : Option ResumeWish) (strict : Bool) (result : Result Status Fault) (logs : List (List Event)) → resume ≡ resume_wish (drop 1 args)
-        → Does may (is_some asks) wish resume strict sources asked input_old input_new out_old out_new result logs → StartsSafely may given sources input_old input_new logs
-    lines_are_safe args gives (line.Limits inventory) says asks wish resume strict result logs is does = inl does.1
-    lines_are_safe args gives (line.Plan inventory playbook) says asks wish resume strict result logs is does = inl does.1
-    lines_are_safe args gives (line.Rehearse inventory playbook) says asks wish resume strict result logs is does = inl does.1
-    lines_are_safe args gives (line.State inventory journal) says asks wish resume strict result logs is does = inl does.1
-    lines_are_safe args gives (line.Print message) says asks wish resume strict result logs is does = inl does.2
-    lines_are_safe args gives (line.Run inventory playbook forks) says asks wish resume strict result logs is does = by (either_is_safe asks resume inventory playbook forks result logs does)
+    either_is_safe : (asks : Bool) (from : Option (List ℕ)) (wish : Wish) (inventory playbook : Source) (forks : ℕ) (result : Result Status Fault) (logs : List (List Event))
+        → RollsFrom may asks from wish sources inventory playbook forks input_old input_new out_old out_new result logs → (logs ≡ []) ⊎ AreSafeOrAgain may from wish sources inventory playbook forks input_old input_new logs
+    either_is_safe asks None wish inventory playbook forks result logs = begun_is_safe asks wish.mended inventory playbook forks result logs
+    either_is_safe asks (Some journal) wish inventory playbook forks result logs = resumes_are_safe asks inventory playbook (resume_wish journal wish) forks result logs
+
+    lines_are_safe : (args : List Word) → Gives given args → (asked : Line) → words.Says (plain (drop 1 args)) asked → (asks : Bool) (wish : Wish) (result : Result Status Fault) (logs : List (List Event))
+        → wish ≡ wished (drop 1 args) → Does may asks wish sources asked input_old input_new out_old out_new result logs → StartsSafely may given sources input_old input_new logs
+    lines_are_safe args gives (line.Limits inventory) says asks wish result logs is does = inl does.1
+    lines_are_safe args gives (line.Plan inventory playbook) says asks wish result logs is does = inl does.1
+    lines_are_safe args gives (line.Rehearse inventory playbook) says asks wish result logs is does = inl does.1
+    lines_are_safe args gives (line.State inventory journal) says asks wish result logs is does = inl does.1
+    lines_are_safe args gives (line.Print message) says asks wish result logs is does = inl does.2
+    lines_are_safe args gives (line.Run inventory playbook forks) says asks wish result logs is does = by (either_is_safe asks wish.from wish inventory playbook forks result logs does)
       where
-        by : (logs ≡ []) ⊎ AreSafeOrAgain may resume sources inventory playbook forks input_old input_new logs → StartsSafely may given sources input_old input_new logs
+        by : (logs ≡ []) ⊎ AreSafeOrAgain may wish.from wish sources inventory playbook forks input_old input_new logs → StartsSafely may given sources input_old input_new logs
         by (inl none) = inl none
         by (inr safe) = inr (record {
           args = args;
@@ -130,7 +166,7 @@ module _ (may : Work → Ending → Type 0) where
           playbook = playbook;
           forks = forks;
           says = says;
-          safe = subst (λ (r : Option ResumeWish). AreSafeOrAgain may r sources inventory playbook forks input_old input_new logs) is safe;
+          safe = subst (λ (w : Wish). AreSafeOrAgain may w.from w sources inventory playbook forks input_old input_new logs) is safe;
         })
 
     pub performs_safely : (result : Result Status Fault) (logs : List (List Event)) → Performs may given sources input_old input_new out_old out_new result logs → StartsSafely may given sources input_old input_new logs
@@ -141,4 +177,4 @@ module _ (may : Work → Ending → Type 0) where
         by behind are (inr refuses) = inl refuses.none
         by behind are (inl follows) =
             lines_are_safe takes.args takes.gives follows.line (subst (λ (w : List Word). words.Says (plain w) follows.line) are follows.says)
-            (stop_file behind) (plan_wish behind) (resume_wish behind) (is_strict behind) result logs (ap resume_wish are) follows.does
+            (is_some (wished behind).stop_file) (wished behind) result logs (ap wished are) follows.does

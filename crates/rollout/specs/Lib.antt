@@ -22,3 +22,6 @@ pub mod StateTexts
 pub mod ResumeFaults
 pub mod Resumes
 pub mod Runs
+pub mod JournalFaults
+pub mod OutlookFaults
+pub mod Outlooks

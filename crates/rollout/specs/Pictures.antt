@@ -23,17 +23,17 @@ abbrev pub IsOfPicture : Fault → Type 0
 IsOfPicture fault = is_of_picture fault ≡ true
 
 -- what was asked for was printed, and the picture isn't drawn
-pub record LosesPicture (groups : Bool) (course : Option (List ℕ)) (sources : Sources) (inventory playbook : Source) (input_old input_new out_old out_new : Option (List ℕ)) (result : Result Status Fault) : Type 0 where
+pub record LosesPicture (groups : Bool) (color course : Option (List ℕ)) (sources : Sources) (inventory playbook : Source) (input_old input_new out_old out_new : Option (List ℕ)) (result : Result Status Fault) : Type 0 where
   pub status : Status
-  pub prints : PlansBy groups course sources inventory playbook input_old input_new out_old out_new (Ok status)
+  pub prints : PlansBy groups color course sources inventory playbook input_old input_new out_old out_new (Ok status)
   pub fault : Fault
   pub is : result ≡ Err fault
   pub why : IsOfPicture fault
 
 -- the command `plan`, which draws a picture where one is asked for
-abbrev pub PlansDrawn : Option (List ℕ) → Bool → Option (List ℕ) → Sources → Source → Source → Option (List ℕ) → Option (List ℕ) → Option (List ℕ) → Option (List ℕ) → Result Status Fault → Type 0
-PlansDrawn None groups course sources inventory playbook input_old input_new out_old out_new result =
-    PlansBy groups course sources inventory playbook input_old input_new out_old out_new result
-PlansDrawn (Some file) groups course sources inventory playbook input_old input_new out_old out_new result =
-    PlansBy groups course sources inventory playbook input_old input_new out_old out_new result
-    ⊎ LosesPicture groups course sources inventory playbook input_old input_new out_old out_new result
+abbrev pub PlansDrawn : Option (List ℕ) → Bool → Option (List ℕ) → Option (List ℕ) → Sources → Source → Source → Option (List ℕ) → Option (List ℕ) → Option (List ℕ) → Option (List ℕ) → Result Status Fault → Type 0
+PlansDrawn None groups color course sources inventory playbook input_old input_new out_old out_new result =
+    PlansBy groups color course sources inventory playbook input_old input_new out_old out_new result
+PlansDrawn (Some file) groups color course sources inventory playbook input_old input_new out_old out_new result =
+    PlansBy groups color course sources inventory playbook input_old input_new out_old out_new result
+    ⊎ LosesPicture groups color course sources inventory playbook input_old input_new out_old out_new result

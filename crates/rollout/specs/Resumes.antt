@@ -1,18 +1,24 @@
 -- What the command `run` does that is to go on with a run which broke off.
-use Rattle.std.specs.Prelude.{◌≡◌, ◌⊎◌, ◌<◌, ◌≤◌, ℕ, Bool, true, false, List, [], Option, None, Some, Result, Ok, Err, string_bytes}
+use Rattle.std.specs.Prelude.{◌≡◌, ◌⊎◌, ◌<◌, ◌≤◌, ℕ, Bool, true, false, List, [], ◌∷◌, Option, None, Some, Result, Ok, Err}
 use Rattle.std.specs.Io.KnownBytes.{Keeps}
+use Rattle.command_line.specs.Answers.{IsFile}
+use Rattle.command_line.specs.Wishes.{Wish}
 use Rattle.command_line.specs.declared.command.Source.{Source}
+use Rattle.domains.specs.FleetViews.{FleetView}
 use Rattle.host_track.specs.Endings.{Ending}
 use Rattle.event_log.specs.Events.{Event}
 use Rattle.event_log.specs.Told.{Work}
+use Rattle.play_model.specs.declared.play.Play.{Play}
 use Rattle.resuming.specs.Resumptions.{IsResumption, RefusesToResume}
 use Rattle.resuming.specs.declared.fault.ResumeFault.{ResumeFault}
 use Rattle.resuming.specs.declared.inputs.Resumption.{Resumption}
 use Rattle.running.specs.Beginnings.{AreSafeBehind, IsTrueFaultFrom, WritesFrom}
+use Rattle.running.specs.declared.beginning.Beginning.{Beginning}
 use Rattle.rollout.specs.Children.{IsAnswerOf}
 use Rattle.rollout.specs.Inputs.{IsFaultOfFile, IsTextOfFile, LacksInput, ReadsBoth}
 use Rattle.rollout.specs.ResumeFaults as refusals
 use Rattle.rollout.specs.Rolls.{Breaks, Prints, RefusesToRoll, Rolls}
+use Rattle.resuming.specs.Resumptions.{IsMendedBeginning, RefusesToBegin}
 use Rattle.rollout.specs.Systems.{Files, Sources}
 use Rattle.rollout.specs.declared.fault.Fault.{Fault}
 use Rattle.rollout.specs.declared.fault.Fault.TheVariants.{Input, JournalWrite, Memory, Stopped}
@@ -27,53 +33,60 @@ pub record ResumeWish : Type 0 where
 
 -- what is wished for, as the program has it
 abbrev pub wished : declared.ResumeWish → ResumeWish
-wished wish = record { journal = string_bytes wish.journal; mended = string_bytes wish.mended; takes_others = wish.takes_others }
+wished wish = record { journal = wish.journal.now; mended = wish.mended.now; takes_others = wish.takes_others }
+
+-- what the words ask for that name its journal
+abbrev pub resume_wish : List ℕ → Wish → ResumeWish
+resume_wish journal wish = record { journal = journal; mended = wish.mended; takes_others = wish.others }
 
 -- what both texts and the journal say, and what the run goes on with
 abbrev pub IsWished : List ℕ → List ℕ → List ℕ → ResumeWish → Resumption → Type 0
 IsWished inventory playbook journal wish resumption = IsResumption inventory playbook journal wish.mended wish.takes_others resumption
 
+-- why none goes on with them
+abbrev pub IsNoneWished : List ℕ → List ℕ → List ℕ → ResumeWish → ResumeFault → Type 0
+IsNoneWished inventory playbook journal wish cause = RefusesToResume inventory playbook journal wish.mended wish.takes_others cause
+
 -- the plays were run from there with so many workers, and their recap went out
-abbrev pub PrintsRest : (Work → Ending → Type 0) → Resumption → ℕ → Option (List ℕ) → Option (List ℕ) → Status → List (List Event) → Type 0
-PrintsRest may resumption forks old new = Prints (WritesFrom may resumption.fleet forks resumption.plays.items resumption.beginning old new)
+abbrev pub PrintsRest : (Work → Ending → Type 0) → FleetView → List Play → Beginning → ℕ → Option (List ℕ) → Option (List ℕ) → Status → List (List Event) → Type 0
+PrintsRest may fleet plays beginning forks old new = Prints (WritesFrom may fleet forks plays beginning old new)
 
 -- the fault is true of a run of the plays from there, or of where its recap broke off; or the journal did not take its end
-abbrev pub BreaksRest : (Work → Ending → Type 0) → Resumption → ℕ → Option (List ℕ) → Option (List ℕ) → Fault → List (List Event) → Type 0
-BreaksRest may resumption forks old new =
-    Breaks (WritesFrom may resumption.fleet forks resumption.plays.items resumption.beginning old new) (IsTrueFaultFrom may resumption.fleet forks resumption.plays.items resumption.beginning old new)
+abbrev pub BreaksRest : (Work → Ending → Type 0) → FleetView → List Play → Beginning → ℕ → Option (List ℕ) → Option (List ℕ) → Fault → List (List Event) → Type 0
+BreaksRest may fleet plays beginning forks old new = Breaks (WritesFrom may fleet forks plays beginning old new) (IsTrueFaultFrom may fleet forks plays beginning old new)
 
--- the run went on, and its recap went out
-pub record PrintsOn (may : Work → Ending → Type 0) (inventory playbook journal : List ℕ) (wish : ResumeWish) (forks : ℕ) (old new : Option (List ℕ)) (status : Status) (logs : List (List Event)) : Type 0 where
+-- the run went on with what is wished, and its recap went out
+pub record PrintsOn (may : Work → Ending → Type 0) (Is : Resumption → Type 0) (forks : ℕ) (old new : Option (List ℕ)) (status : Status) (logs : List (List Event)) : Type 0 where
   pub resumption : Resumption
-  pub wished : IsWished inventory playbook journal wish resumption
-  pub prints : PrintsRest may resumption forks old new status logs
+  pub wished : Is resumption
+  pub prints : PrintsRest may resumption.fleet resumption.plays.items resumption.beginning forks old new status logs
 
 -- the run went on, and broke off
-pub record BreaksOn (may : Work → Ending → Type 0) (inventory playbook journal : List ℕ) (wish : ResumeWish) (forks : ℕ) (old new : Option (List ℕ)) (fault : Fault) (logs : List (List Event)) : Type 0 where
+pub record BreaksOn (may : Work → Ending → Type 0) (Is : Resumption → Type 0) (forks : ℕ) (old new : Option (List ℕ)) (fault : Fault) (logs : List (List Event)) : Type 0 where
   pub resumption : Resumption
-  pub wished : IsWished inventory playbook journal wish resumption
-  pub breaks : BreaksRest may resumption forks old new fault logs
+  pub wished : Is resumption
+  pub breaks : BreaksRest may resumption.fleet resumption.plays.items resumption.beginning forks old new fault logs
 
--- nothing was started, and nothing went out: the run can't go on, or its journal can't be written
-pub record CanNotGoOn (inventory playbook journal : List ℕ) (wish : ResumeWish) (fault : Fault) : Type 0 where
+-- the run can't go on, as is refused so
+pub record CanNotGoOn (Refuses : ResumeFault → Type 0) (fault : Fault) : Type 0 where
   pub cause : ResumeFault
   pub is : fault ≡ refusals.fault_of cause
-  pub refuses : RefusesToResume inventory playbook journal wish.mended wish.takes_others cause
+  pub refuses : Refuses cause
 
-pub record IsNoGoingOn (inventory playbook journal : List ℕ) (wish : ResumeWish) (old new : Option (List ℕ)) (fault : Fault) (logs : List (List Event)) : Type 0 where
-  pub why : CanNotGoOn inventory playbook journal wish fault ⊎ (fault ≡ JournalWrite)
+-- nothing was started, and nothing went out: the run can't go on, or its journal can't be written
+pub record IsNoGoingOn (Refuses : ResumeFault → Type 0) (old new : Option (List ℕ)) (fault : Fault) (logs : List (List Event)) : Type 0 where
+  pub why : CanNotGoOn Refuses fault ⊎ (fault ≡ JournalWrite)
   pub unwritten : Keeps old new
   pub none : logs ≡ []
 
--- what comes of both texts and the journal
-abbrev pub GoesOnBy : (Work → Ending → Type 0) → List ℕ → List ℕ → List ℕ → ResumeWish → ℕ → Option (List ℕ) → Option (List ℕ) → Result Status Fault → List (List Event) → Type 0
-GoesOnBy may inventory playbook journal wish forks old new (Ok status) logs = PrintsOn may inventory playbook journal wish forks old new status logs
-GoesOnBy may inventory playbook journal wish forks old new (Err fault) logs =
-    IsNoGoingOn inventory playbook journal wish old new fault logs ⊎ BreaksOn may inventory playbook journal wish forks old new fault logs
+-- what comes of a run that goes on with what is wished, or is refused so
+abbrev pub GoesOnBy : (Work → Ending → Type 0) → (Resumption → Type 0) → (ResumeFault → Type 0) → ℕ → Option (List ℕ) → Option (List ℕ) → Result Status Fault → List (List Event) → Type 0
+GoesOnBy may Is Refuses forks old new (Ok status) logs = PrintsOn may Is forks old new status logs
+GoesOnBy may Is Refuses forks old new (Err fault) logs = IsNoGoingOn Refuses old new fault logs ⊎ BreaksOn may Is forks old new fault logs
 
 -- the journal's file can't be read
 abbrev pub LacksJournal : Files → List ℕ → Fault → Type 0
-LacksJournal files name (Input source fault) = IsFaultOfFile (files name) fault
+LacksJournal files name (Input source fault) = IsFile name source × IsFaultOfFile (files name) fault
 LacksJournal files name Memory = Unit {0}
 LacksJournal files name fault = ⊥
 
@@ -84,7 +97,7 @@ pub record GoesOn (may : Work → Ending → Type 0) (sources : Sources) (invent
   pub third : List ℕ
   pub texts : ReadsBoth sources inventory playbook input_old input_new first second
   pub journal : IsTextOfFile (sources.files wish.journal) third
-  pub goes : GoesOnBy may first second third wish forks out_old out_new result logs
+  pub goes : GoesOnBy may (IsWished first second third wish) (IsNoneWished first second third wish) forks out_old out_new result logs
 
 -- an input, or the journal, can't be read
 pub record LacksAny (sources : Sources) (inventory playbook : Source) (wish : ResumeWish) (input_old input_new out_old out_new : Option (List ℕ)) (result : Result Status Fault) (logs : List (List Event)) : Type 0 where
@@ -116,13 +129,74 @@ Resumes may asks sources inventory playbook wish forks input_old input_new out_o
     RefusesToRoll sources input_old input_new out_old out_new result logs
     ⊎ ResumesOn may asks sources inventory playbook wish forks input_old input_new out_old out_new result logs
 
--- the command `run`, where a run is to go on or one is to begin
-abbrev pub RollsBy : (Work → Ending → Type 0) → Bool → Option ResumeWish → Sources → Source → Source → ℕ → Option (List ℕ) → Option (List ℕ) → Option (List ℕ) → Option (List ℕ)
+-- both inputs were read, and a run of theirs began in which these hosts are up by now
+pub record BeginsMended (may : Work → Ending → Type 0) (sources : Sources) (inventory playbook : Source) (names : List ℕ) (forks : ℕ) (input_old input_new out_old out_new : Option (List ℕ)) (result : Result Status Fault) (logs : List (List Event)) : Type 0 where
+  pub first : List ℕ
+  pub second : List ℕ
+  pub texts : ReadsBoth sources inventory playbook input_old input_new first second
+  pub goes : GoesOnBy may (IsMendedBeginning first second names) (RefusesToBegin first second names) forks out_old out_new result logs
+
+-- an input can't be read
+pub record LacksEither (sources : Sources) (inventory playbook : Source) (input_old input_new out_old out_new : Option (List ℕ)) (result : Result Status Fault) (logs : List (List Event)) : Type 0 where
+  pub fault : Fault
+  pub is : result ≡ Err fault
+  pub why : LacksInput sources inventory playbook input_old input_new fault
+  pub unwritten : Keeps out_old out_new
+  pub none : logs ≡ []
+
+abbrev pub MendsInputs : (Work → Ending → Type 0) → Sources → Source → Source → List ℕ → ℕ → Option (List ℕ) → Option (List ℕ) → Option (List ℕ) → Option (List ℕ)
     → Result Status Fault → List (List Event) → Type 0
-RollsBy may asks None sources inventory playbook forks input_old input_new out_old out_new result logs =
+MendsInputs may sources inventory playbook names forks input_old input_new out_old out_new result logs =
+    LacksEither sources inventory playbook input_old input_new out_old out_new result logs
+    ⊎ BeginsMended may sources inventory playbook names forks input_old input_new out_old out_new result logs
+
+-- the ends of children are not ignored, and the run began, by as many workers as were asked for or fewer; that it was stopped is told only where it may be
+pub record MendsOn (may : Work → Ending → Type 0) (asks : Bool) (sources : Sources) (inventory playbook : Source) (names : List ℕ) (forks : ℕ) (input_old input_new out_old out_new : Option (List ℕ)) (result : Result Status Fault) (logs : List (List Event)) : Type 0 where
+  pub kept : IsAnswerOf sources.files false
+  pub workers : ℕ
+  pub some : 0 < workers
+  pub few : workers ≤ forks
+  pub mends : MendsInputs may sources inventory playbook names workers input_old input_new out_old out_new result logs
+  pub stops : result ≡ Err Stopped → asks ≡ true
+
+-- the command `run` where hosts are named that are up by now, and the logs of all that it started
+abbrev pub RollsMended : (Work → Ending → Type 0) → Bool → Sources → Source → Source → List ℕ → ℕ → Option (List ℕ) → Option (List ℕ) → Option (List ℕ) → Option (List ℕ)
+    → Result Status Fault → List (List Event) → Type 0
+RollsMended may asks sources inventory playbook names forks input_old input_new out_old out_new result logs =
+    RefusesToRoll sources input_old input_new out_old out_new result logs
+    ⊎ MendsOn may asks sources inventory playbook names forks input_old input_new out_old out_new result logs
+
+-- the command `run`, where one is to begin: hosts that are named are up by now
+abbrev pub BeginsBy : (Work → Ending → Type 0) → Bool → List ℕ → Sources → Source → Source → ℕ → Option (List ℕ) → Option (List ℕ) → Option (List ℕ) → Option (List ℕ)
+    → Result Status Fault → List (List Event) → Type 0
+BeginsBy may asks [] sources inventory playbook forks input_old input_new out_old out_new result logs =
     Rolls may asks sources inventory playbook forks input_old input_new out_old out_new result logs
-RollsBy may asks (Some wish) sources inventory playbook forks input_old input_new out_old out_new result logs =
-    Resumes may asks sources inventory playbook wish forks input_old input_new out_old out_new result logs
+BeginsBy may asks (byte ∷ names) sources inventory playbook forks input_old input_new out_old out_new result logs =
+    RollsMended may asks sources inventory playbook (byte ∷ names) forks input_old input_new out_old out_new result logs
+
+-- the command `run`, where a run is to go on or one is to begin
+abbrev pub RollsFrom : (Work → Ending → Type 0) → Bool → Option (List ℕ) → Wish → Sources → Source → Source → ℕ → Option (List ℕ) → Option (List ℕ) → Option (List ℕ) → Option (List ℕ)
+    → Result Status Fault → List (List Event) → Type 0
+RollsFrom may asks None wish sources inventory playbook forks input_old input_new out_old out_new result logs =
+    BeginsBy may asks wish.mended sources inventory playbook forks input_old input_new out_old out_new result logs
+RollsFrom may asks (Some journal) wish sources inventory playbook forks input_old input_new out_old out_new result logs =
+    Resumes may asks sources inventory playbook (resume_wish journal wish) forks input_old input_new out_old out_new result logs
+
+abbrev pub RollsBy : (Work → Ending → Type 0) → Bool → Wish → Sources → Source → Source → ℕ → Option (List ℕ) → Option (List ℕ) → Option (List ℕ) → Option (List ℕ)
+    → Result Status Fault → List (List Event) → Type 0
+RollsBy may asks wish sources inventory playbook forks input_old input_new out_old out_new result logs =
+    RollsFrom may asks wish.from wish sources inventory playbook forks input_old input_new out_old out_new result logs
+
+-- both inputs were read, and these are the logs of rolls of the plays of a run that begins with these hosts up by now: at no moment of any of them is a group over its limit
+pub record AreSafeMended (may : Work → Ending → Type 0) (sources : Sources) (inventory playbook : Source) (names : List ℕ) (forks : ℕ) (input_old input_new : Option (List ℕ)) (logs : List (List Event)) : Type 0 where
+  pub first : List ℕ
+  pub second : List ℕ
+  pub texts : ReadsBoth sources inventory playbook input_old input_new first second
+  pub resumption : Resumption
+  pub wished : IsMendedBeginning first second names resumption
+  pub workers : ℕ
+  pub few : workers ≤ forks
+  pub rolls : AreSafeBehind may resumption.fleet workers resumption.plays.items resumption.beginning logs
 
 -- both inputs and the journal of a run were read, and these are the logs of rolls of the plays with which that run goes on, from how its journal leaves its hosts: at no moment
 -- of any of them is a group over its limit

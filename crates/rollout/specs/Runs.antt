@@ -1,13 +1,11 @@
 -- What a run of the program does, from the words that the system gives to the exit status.
-use Rattle.std.specs.Prelude.{◌≡◌, ◌≢◌, ◌⊎◌, ℕ, Bool, List, [], Option, None, Some, option_map, Result, Err, drop, is_some}
+use Rattle.std.specs.Prelude.{◌≡◌, ◌≢◌, ◌⊎◌, ℕ, Bool, List, [], ◌∷◌, Option, None, Some, Result, Err, drop, is_some}
 use Rattle.std.specs.declared.io.ErrorKind.{ErrorKind}
 use Rattle.std.specs.declared.io.ErrorKind.TheVariants.{OutOfMemory}
 use Rattle.std.specs.Io.KnownBytes.{Keeps}
 use Rattle.command_line.specs.Messages as messages
 use Rattle.command_line.specs.Operands.{Word}
-use Rattle.command_line.specs.RunFiles.{mended, resume, stop_file}
-use Rattle.command_line.specs.Flags.{course, is_grouped, is_strict, plain, takes_others}
-use Rattle.command_line.specs.PlanOptions.{picture}
+use Rattle.command_line.specs.Wishes.{Wish, plain, wished}
 use Rattle.command_line.specs.Words as words
 use Rattle.command_line.specs.declared.command.Line as declared_line
 use Rattle.command_line.specs.declared.command.Source.{Source}
@@ -19,10 +17,10 @@ use Rattle.event_log.specs.Events.{Event}
 use Rattle.event_log.specs.Told.{Work}
 use Rattle.rollout.specs.Commands.{TabulatesLimits, Prints}
 use Rattle.rollout.specs.Endings.{Reports, status_of}
-use Rattle.rollout.specs.Groups.{PlanWish}
+use Rattle.rollout.specs.Outlooks.{PlansRest, RehearsesFrom, TabulatesStanding}
 use Rattle.rollout.specs.Pictures.{PlansDrawn}
 use Rattle.rollout.specs.Rehearsals.{RehearsesInputs}
-use Rattle.rollout.specs.Resumes.{AreSafeAgain, ResumeWish, RollsBy}
+use Rattle.rollout.specs.Resumes.{AreSafeAgain, AreSafeMended, RollsBy, resume_wish}
 use Rattle.rollout.specs.Rolls.{AreSafeFrom}
 use Rattle.rollout.specs.StateTexts.{TellsState}
 use Rattle.rollout.specs.Status.{code_of}
@@ -31,37 +29,46 @@ use Rattle.rollout.specs.declared.fault.Fault.{Fault}
 use Rattle.rollout.specs.declared.fault.Fault.TheVariants.{Line, Memory}
 use Rattle.rollout.specs.declared.status.Status.{Status}
 
--- what the words ask of a plan
-abbrev pub plan_wish : List Word → PlanWish
-plan_wish words_given = record { course = course words_given; groups = is_grouped words_given; picture = picture words_given }
+-- the command `limits`, at the start or where the run of a journal stands
+abbrev pub TabulatesBy : Option (List ℕ) → Wish → Sources → Source → Option (List ℕ) → Option (List ℕ) → Option (List ℕ) → Option (List ℕ) → Result Status Fault → Type 0
+TabulatesBy None wish sources inventory input_old input_new out_old out_new result = TabulatesLimits sources inventory input_old input_new out_old out_new result
+TabulatesBy (Some journal) wish sources inventory input_old input_new out_old out_new result =
+    TabulatesStanding sources inventory (resume_wish journal wish) input_old input_new out_old out_new result
 
--- the run that the words ask to go on, if they do
-abbrev pub resume_wish : List Word → Option ResumeWish
-resume_wish words_given =
-    option_map (λ journal. record { journal = journal; mended = mended words_given; takes_others = takes_others words_given }) (resume words_given)
+-- the command `plan`, from the start or from where the run of a journal would go on
+abbrev pub PlansFrom : Option (List ℕ) → Wish → Sources → Source → Source → Option (List ℕ) → Option (List ℕ) → Option (List ℕ) → Option (List ℕ) → Result Status Fault → Type 0
+PlansFrom None wish sources inventory playbook input_old input_new out_old out_new result =
+    PlansDrawn wish.picture wish.groups wish.color wish.course sources inventory playbook input_old input_new out_old out_new result
+PlansFrom (Some journal) wish sources inventory playbook input_old input_new out_old out_new result =
+    PlansRest wish.course sources inventory playbook (resume_wish journal wish) input_old input_new out_old out_new result
 
--- what a line asks for was done, or its fault is true; and these are the logs of all that was started: `run` alone starts anything. A plan may be asked for its course, in which
--- named hosts fail, and for its groups
-abbrev pub Does : (Work → Ending → Type 0) → Bool → PlanWish → Option ResumeWish → Bool → Sources → declared_line.Line → Option (List ℕ) → Option (List ℕ) → Option (List ℕ) → Option (List ℕ) → Result Status Fault → List (List Event) → Type 0
-Does may asks wish resume strict sources (Limits inventory) input_old input_new out_old out_new result logs =
-    TabulatesLimits sources inventory input_old input_new out_old out_new result × (logs ≡ [])
-Does may asks wish resume strict sources (Plan inventory playbook) input_old input_new out_old out_new result logs =
-    PlansDrawn wish.picture wish.groups wish.course sources inventory playbook input_old input_new out_old out_new result × (logs ≡ [])
-Does may asks wish resume strict sources (Run inventory playbook forks) input_old input_new out_old out_new result logs =
-    RollsBy may asks resume sources inventory playbook forks input_old input_new out_old out_new result logs
-Does may asks wish resume strict sources (Rehearse inventory playbook) input_old input_new out_old out_new result logs =
-    RehearsesInputs strict sources inventory playbook input_old input_new out_old out_new result × (logs ≡ [])
-Does may asks wish resume strict sources (State inventory journal) input_old input_new out_old out_new result logs =
-    TellsState sources inventory journal input_old input_new out_old out_new result × (logs ≡ [])
-Does may asks wish resume strict sources (Print message) input_old input_new out_old out_new result logs =
+-- the command `rehearse`, likewise
+abbrev pub RehearsesBy : Option (List ℕ) → Wish → Sources → Source → Source → Option (List ℕ) → Option (List ℕ) → Option (List ℕ) → Option (List ℕ) → Result Status Fault → Type 0
+RehearsesBy None wish sources inventory playbook input_old input_new out_old out_new result = RehearsesInputs wish.strict sources inventory playbook input_old input_new out_old out_new result
+RehearsesBy (Some journal) wish sources inventory playbook input_old input_new out_old out_new result =
+    RehearsesFrom wish.strict sources inventory playbook (resume_wish journal wish) input_old input_new out_old out_new result
+
+-- what a line asks for was done, with what is asked for beside it, or its fault is true; and these are the logs of all that was started: `run` alone starts anything
+abbrev pub Does : (Work → Ending → Type 0) → Bool → Wish → Sources → declared_line.Line → Option (List ℕ) → Option (List ℕ) → Option (List ℕ) → Option (List ℕ) → Result Status Fault → List (List Event) → Type 0
+Does may asks wish sources (Limits inventory) input_old input_new out_old out_new result logs =
+    TabulatesBy wish.from wish sources inventory input_old input_new out_old out_new result × (logs ≡ [])
+Does may asks wish sources (Plan inventory playbook) input_old input_new out_old out_new result logs =
+    PlansFrom wish.from wish sources inventory playbook input_old input_new out_old out_new result × (logs ≡ [])
+Does may asks wish sources (Run inventory playbook forks) input_old input_new out_old out_new result logs =
+    RollsBy may asks wish sources inventory playbook forks input_old input_new out_old out_new result logs
+Does may asks wish sources (Rehearse inventory playbook) input_old input_new out_old out_new result logs =
+    RehearsesBy wish.from wish sources inventory playbook input_old input_new out_old out_new result × (logs ≡ [])
+Does may asks wish sources (State inventory journal) input_old input_new out_old out_new result logs =
+    TellsState wish.others sources inventory journal input_old input_new out_old out_new result × (logs ≡ [])
+Does may asks wish sources (Print message) input_old input_new out_old out_new result logs =
     Keeps input_old input_new × Prints (messages.text_of message) out_old out_new result × (logs ≡ [])
 
--- the words, but for the flags and the stop file of a run and those of a plan, are a line, and what it asks for was done: whether a run tells of itself while it goes on makes no
--- difference, it may be stopped where they name a file for that, and a plan prints its course and its groups where they ask for them
+-- the words without their options are a line, and what it asks for was done as they ask: whether a run tells of itself while it goes on makes no difference, and it may be stopped where they
+-- name a file for that
 pub record FollowsLine (may : Work → Ending → Type 0) (sources : Sources) (words_given : List Word) (input_old input_new out_old out_new : Option (List ℕ)) (result : Result Status Fault) (logs : List (List Event)) : Type 0 where
   pub line : declared_line.Line
   pub says : words.Says (plain words_given) line
-  pub does : Does may (is_some (stop_file words_given)) (plan_wish words_given) (resume_wish words_given) (is_strict words_given) sources line input_old input_new out_old out_new result logs
+  pub does : Does may (is_some (wished words_given).stop_file) (wished words_given) sources line input_old input_new out_old out_new result logs
 
 -- the words are no line, and nothing was read or written
 pub record RefusesWords (words_given : List Word) (input_old input_new out_old out_new : Option (List ℕ)) (result : Result Status Fault) (logs : List (List Event)) : Type 0 where
@@ -113,10 +120,16 @@ pub record Runs (may : Work → Ending → Type 0) (given : Known (List Word)) (
   pub reports : Reports outcome errors_old errors_new
   pub ends : status ≡ code_of (status_of outcome)
 
+-- these are the logs of the rolls of a run that begins, or of one in which hosts are up by now
+abbrev pub AreSafeBegun : (Work → Ending → Type 0) → List ℕ → Sources → Source → Source → ℕ → Option (List ℕ) → Option (List ℕ) → List (List Event) → Type 0
+AreSafeBegun may [] sources inventory playbook forks input_old input_new logs = AreSafeFrom may sources inventory playbook forks input_old input_new logs
+AreSafeBegun may (byte ∷ names) sources inventory playbook forks input_old input_new logs = AreSafeMended may sources inventory playbook (byte ∷ names) forks input_old input_new logs
+
 -- these are the logs of the rolls of a run that begins, or of one that goes on
-abbrev pub AreSafeOrAgain : (Work → Ending → Type 0) → Option ResumeWish → Sources → Source → Source → ℕ → Option (List ℕ) → Option (List ℕ) → List (List Event) → Type 0
-AreSafeOrAgain may None sources inventory playbook forks input_old input_new logs = AreSafeFrom may sources inventory playbook forks input_old input_new logs
-AreSafeOrAgain may (Some wish) sources inventory playbook forks input_old input_new logs = AreSafeAgain may sources inventory playbook wish forks input_old input_new logs
+abbrev pub AreSafeOrAgain : (Work → Ending → Type 0) → Option (List ℕ) → Wish → Sources → Source → Source → ℕ → Option (List ℕ) → Option (List ℕ) → List (List Event) → Type 0
+AreSafeOrAgain may None wish sources inventory playbook forks input_old input_new logs = AreSafeBegun may wish.mended sources inventory playbook forks input_old input_new logs
+AreSafeOrAgain may (Some journal) wish sources inventory playbook forks input_old input_new logs =
+    AreSafeAgain may sources inventory playbook (resume_wish journal wish) forks input_old input_new logs
 
 -- these are the logs of the rolls that a line `run` of these words asks for
 pub record AreSafeByWords (may : Work → Ending → Type 0) (given : Known (List Word)) (sources : Sources) (input_old input_new : Option (List ℕ)) (logs : List (List Event)) : Type 0 where
@@ -126,7 +139,7 @@ pub record AreSafeByWords (may : Work → Ending → Type 0) (given : Known (Lis
   pub playbook : Source
   pub forks : ℕ
   pub says : words.Says (plain (drop 1 args)) (Run inventory playbook forks)
-  pub safe : AreSafeOrAgain may (resume_wish (drop 1 args)) sources inventory playbook forks input_old input_new logs
+  pub safe : AreSafeOrAgain may (wished (drop 1 args)).from (wished (drop 1 args)) sources inventory playbook forks input_old input_new logs
 
 -- nothing was started, or the words are a line `run`, and at no moment of what was started is a group of its inventory over its limit
 abbrev pub StartsSafely : (Work → Ending → Type 0) → Known (List Word) → Sources → Option (List ℕ) → Option (List ℕ) → List (List Event) → Type 0

@@ -12,12 +12,12 @@ use std::sync::Wait;
 pub struct Attendant<'a, S> {
     system: &'a S,
     notes: &'a Notes,
-    stop_file: Option<String>,
+    stop_file: &'a Option<String>,
 }
 
 impl<'a, S> Attendant<'a, S> {
-    pub fn new(system: &'a S, notes: &'a Notes, stop_file: Option<String>) -> Attendant<'a, S>
-        ensures { result.stop_file ≡ stop_file }
+    pub fn new(system: &'a S, notes: &'a Notes, stop_file: &'a Option<String>) -> Attendant<'a, S>
+        ensures { result.stop_file.now ≡ stop_file.now }
     {
         Attendant {
             system,
@@ -28,10 +28,10 @@ impl<'a, S> Attendant<'a, S> {
 }
 
 impl<S: System> Attend for Attendant<'_, S> {
-    ghost asks = { λ attendant. is_some attendant.stop_file };
+    ghost asks = { λ attendant. is_some attendant.stop_file.now };
 
     fn goes_on<H: Wait>(&self, _rt: &H) -> bool {
-        match &self.stop_file {
+        match self.stop_file {
             Some(name) => !self.system.is_there(name.as_str()),
             None => true,
         }

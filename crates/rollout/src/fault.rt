@@ -9,6 +9,7 @@ use domains::{FleetFault, PatternFault};
 use fork_pool::StepFault;
 use inventory_read::ReadFault;
 use journal::JournalFault;
+use outlook::{OutlookFault, RestFault};
 use planning::PlanFault;
 use play_rules::PlayFault;
 use rehearsing::RehearseFault;
@@ -183,7 +184,7 @@ impl From<RunTextFault> for Fault {
 
 impl From<JournalFault> for Fault {
     ghost use Rattle.std.specs.Prelude.{◌≡◌};
-    ghost use Rattle.rollout.specs.StateTexts.{fault_of};
+    ghost use Rattle.rollout.specs.JournalFaults.{fault_of};
 
     ghost from_gives = { λ cause fault. fault ≡ fault_of cause };
 
@@ -210,6 +211,35 @@ impl From<ResumeFault> for Fault {
             ResumeFault::Over(fault) => Fault::Fleet(fault),
             ResumeFault::NeedsResult { name } => Fault::NeedsResult { name },
             ResumeFault::Memory => Fault::Memory,
+        }
+    }
+}
+
+impl From<OutlookFault> for Fault {
+    ghost use Rattle.std.specs.Prelude.{◌≡◌};
+    ghost use Rattle.rollout.specs.OutlookFaults.{fault_of};
+
+    ghost from_gives = { λ cause fault. fault ≡ fault_of cause };
+
+    fn from(fault: OutlookFault) -> Fault {
+        match fault {
+            OutlookFault::Resume(why) => Fault::from(why),
+            OutlookFault::Failing(fault) => Fault::Pattern(fault),
+            OutlookFault::Write(fault) => Fault::Write(fault),
+        }
+    }
+}
+
+impl From<RestFault> for Fault {
+    ghost use Rattle.std.specs.Prelude.{◌≡◌};
+    ghost use Rattle.rollout.specs.OutlookFaults.{fault_of_rest};
+
+    ghost from_gives = { λ cause fault. fault ≡ fault_of_rest cause };
+
+    fn from(fault: RestFault) -> Fault {
+        match fault {
+            RestFault::Resume(why) => Fault::from(why),
+            RestFault::Session(fault) => Fault::from(fault),
         }
     }
 }

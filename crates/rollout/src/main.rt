@@ -38,7 +38,7 @@ fn main(rt: HostRuntime) -> ExitCode {
     let mut teller = Teller::new(&rt, rt.alloc(), &notes, io::writer(&errors));
     let prompts = prompts_of(rt.stdin(), rt.stdout(), errors);
     let (code, _history) = run(
-        &Host::new(&rt, errors, prompts),
+        &Host::new(&rt, rt.stdout(), errors, prompts),
         &rt,
         rt.alloc(),
         &programs,

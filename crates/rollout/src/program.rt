@@ -1,20 +1,17 @@
 //! A run of the program: its words, what they ask for, and the end.
-ghost use Rattle.std.specs.Prelude.{◌≡◌, Err, IfErr, IfOk, OnOk, map, string_bytes};
-ghost use Rattle.std.specs.Option.{option_map};
+ghost use Rattle.std.specs.Prelude.{◌≡◌, map, string_bytes};
 ghost use Rattle.std.specs.Process.{exit_status};
 ghost use Rattle.roll_run.specs.Histories.{Gains};
-ghost use Rattle.rollout.specs.Courses.{PlansOrForesees};
-ghost use Rattle.rollout.specs.Groups.{PlansBy};
-ghost use Rattle.rollout.specs.Pictures.{PlansDrawn};
 ghost use Rattle.rollout.specs.Resumes as model;
-ghost use Rattle.rollout.specs.Resumes.{RollsBy};
-ghost use Rattle.rollout.specs.Runs.{Attempts, Does, Performs, Runs, StartsSafely};
+ghost use Rattle.rollout.specs.Resumes.{BeginsBy, RollsBy};
+ghost use Rattle.command_line.specs.Wishes.{wish_as};
+ghost use Rattle.rollout.specs.Runs.{Attempts, Does, Performs, PlansFrom, RehearsesBy, Runs, StartsSafely, TabulatesBy};
 ghost use Rattle.rollout.specs.Systems.{sources_of};
 
 use crate::attendant::Attendant;
 use crate::commands::{
-    Drawing, PlanWish, ResumeWish, course, groups, limits, plan, print, rehearse, resume, roll,
-    state,
+    ResumeWish, StartWish, limits, limits_standing, plan_by, plan_rest, print, rehearse,
+    rehearse_rest, resume, roll, roll_mended, state,
 };
 use crate::ending::{conclude, exit_code};
 use crate::fault::Fault;
@@ -23,7 +20,7 @@ use crate::system::System;
 use crate::words::{words_fault, words_of};
 use bounded_io::Input;
 use command_line::command::Line;
-use command_line::{Forks, Request, Source, request_of};
+use command_line::{Forks, Request, Source, Wishes, request_of};
 use local_programs::Notes;
 use roll_core::{History, Runner, Watch};
 use roll_run::{Attend, Coordinator};
@@ -130,24 +127,9 @@ fn attempt<
         (I.remaining input.old) (I.remaining input.new) (O.contents out.old) (O.contents out.new) result.0) }
 {
     match request_of(alloc, words) {
-        Ok(
-            Request {
-                line,
-                is_verbose,
-                is_quiet,
-                stop_file,
-                journal,
-                resume,
-                mended,
-                takes_others,
-                course,
-                is_grouped,
-                picture,
-                is_strict,
-            },
-        ) => {
-            begin_telling(system, tell, &line, is_verbose, is_quiet);
-            let attend = Attendant::new(system, notes, stop_file);
+        Ok(Request { line, wishes }) => {
+            begin_telling(system, tell, &line, &wishes);
+            let attend = Attendant::new(system, notes, &wishes.stop_file);
             let coordinator = Coordinator {
                 rt,
                 alloc,
@@ -159,16 +141,7 @@ fn attempt<
                 runner,
                 tell,
                 line,
-                PlanWish {
-                    course,
-                    is_grouped,
-                    picture,
-                },
-                RunWish {
-                    journal,
-                    resume: resume_wish(resume, mended, takes_others),
-                },
-                is_strict,
+                &wishes,
                 input,
                 out,
                 history,
@@ -179,145 +152,16 @@ fn attempt<
 }
 
 /// From now on a run is told of, and a plan, which has more to tell of than what it prints.
-fn begin_telling<S: System, T: Tell>(
-    system: &S,
-    tell: &mut T,
-    line: &Line,
-    is_verbose: bool,
-    is_quiet: bool,
-) {
+fn begin_telling<S: System, T: Tell>(system: &S, tell: &mut T, line: &Line, wishes: &Wishes) {
+    let Wishes {
+        is_verbose,
+        is_quiet,
+        ..
+    } = wishes;
     match line {
-        Line::Run { .. } => tell.run_begins(system.seen(is_verbose, is_quiet, true)),
-        Line::Plan { .. } => tell.run_begins(system.seen(is_verbose, is_quiet, false)),
+        Line::Run { .. } => tell.run_begins(system.seen(*is_verbose, *is_quiet, true)),
+        Line::Plan { .. } => tell.run_begins(system.seen(*is_verbose, *is_quiet, false)),
         Line::Limits { .. } | Line::Rehearse { .. } | Line::State { .. } | Line::Print(_) => {}
-    }
-}
-
-/// Does what a line of `plan` asks for: the plan, or the course where hosts to fail are given, be it nobody.
-#[allow(clippy::too_many_arguments)]
-fn plan_or_course<S: System, T: Watch, I: Input, O: Write>(
-    system: &S,
-    alloc: Global,
-    watch: &mut T,
-    drawing: &mut Drawing<'_, '_, S>,
-    inventory: Source,
-    playbook: Source,
-    failing: &Option<String>,
-    input: &mut I,
-    out: &mut O,
-) -> Result<Status, Fault>
-    ensures { PlansOrForesees (option_map string_bytes failing.now) (sources_of (S.files system.now) (I.is_reliable input.old)) inventory playbook
-        (I.remaining input.old) (I.remaining input.new) (O.contents out.old) (O.contents out.new) result }
-{
-    match failing {
-        Some(failing) => course(
-            system,
-            alloc,
-            watch,
-            drawing,
-            inventory,
-            playbook,
-            failing.as_str(),
-            input,
-            out,
-        ),
-        None => plan(
-            system, alloc, watch, drawing, inventory, playbook, input, out,
-        ),
-    }
-}
-
-/// Does what a line of `plan` asks for but for its picture: with the groups, where it is asked for them.
-#[allow(clippy::too_many_arguments)]
-fn print_plan<S: System, T: Watch, I: Input, O: Write>(
-    system: &S,
-    alloc: Global,
-    watch: &mut T,
-    drawing: &mut Drawing<'_, '_, S>,
-    inventory: Source,
-    playbook: Source,
-    wish: &PlanWish,
-    input: &mut I,
-    out: &mut O,
-) -> Result<Status, Fault>
-    ensures { PlansBy wish.now.is_grouped (option_map string_bytes wish.now.course) (sources_of (S.files system.now) (I.is_reliable input.old)) inventory playbook
-        (I.remaining input.old) (I.remaining input.new) (O.contents out.old) (O.contents out.new) result }
-{
-    let course = &wish.course;
-    if wish.is_grouped {
-        groups(
-            system, alloc, watch, drawing, inventory, playbook, course, input, out,
-        )
-    } else {
-        plan_or_course(
-            system, alloc, watch, drawing, inventory, playbook, course, input, out,
-        )
-    }
-}
-
-/// Does what a line of `plan` asks for, and draws its picture behind that, where it is asked for one.
-#[allow(clippy::too_many_arguments)]
-fn plan_by<S: System, T: Watch, I: Input, O: Write>(
-    system: &S,
-    alloc: Global,
-    watch: &mut T,
-    inventory: Source,
-    playbook: Source,
-    wish: PlanWish,
-    input: &mut I,
-    out: &mut O,
-) -> Result<Status, Fault>
-    ensures { PlansDrawn (option_map string_bytes wish.picture) wish.is_grouped (option_map string_bytes wish.course) (sources_of (S.files system.now) (I.is_reliable input.old)) inventory playbook
-        (I.remaining input.old) (I.remaining input.new) (O.contents out.old) (O.contents out.new) result }
-{
-    let mut drawing = Drawing::new(system, &wish);
-    let printed = print_plan(
-        system,
-        alloc,
-        watch,
-        &mut drawing,
-        inventory,
-        playbook,
-        &wish,
-        input,
-        out,
-    );
-    match &wish.picture {
-        Some(_file) => drawn(printed, drawing.outcome()),
-        None => printed,
-    }
-}
-
-/// How a plan ends that was printed so, and behind which its picture was drawn or not.
-fn drawn(printed: Result<Status, Fault>, drawn: Result<(), Fault>) -> Result<Status, Fault>
-    ensures ok { OnOk drawn (result ≡ printed) }
-    ensures lost { IfErr drawn (λ fault. IfOk printed (λ _. result ≡ Err fault)) }
-    ensures err { IfErr printed (λ fault. result ≡ Err fault) }
-{
-    match (printed, drawn) {
-        (Ok(_), Err(fault)) => Err(fault),
-        (printed, _) => printed,
-    }
-}
-
-/// What a line of `run` is asked for.
-#[derive(Drop)]
-struct RunWish {
-    journal: Option<String>,
-    resume: Option<ResumeWish>,
-}
-
-/// The run that is to go on, where a journal of one is named.
-fn resume_wish(resume: Option<String>, mended: String, takes_others: bool) -> Option<ResumeWish>
-    ensures { option_map model.wished result ≡ option_map (λ journal. record { journal = string_bytes journal; mended = string_bytes mended; takes_others = takes_others }) resume }
-{
-    match resume {
-        Some(journal) => Some(ResumeWish {
-            journal,
-            mended,
-            takes_others,
-        }),
-        None => None,
     }
 }
 
@@ -339,20 +183,16 @@ fn run_by<
     inventory: Source,
     playbook: Source,
     forks: Forks,
-    wish: RunWish,
+    wishes: &Wishes,
     input: &mut I,
     out: &mut O,
     history: History,
 ) -> (Result<Status, Fault>, History)
-    ensures { Gains history result.1 (RollsBy (R.may runner.now) (A.asks coordinator.now.attend.now) (option_map model.wished wish.resume) (sources_of (S.files system.now) (I.is_reliable input.old)) inventory playbook forks
+    ensures { Gains history result.1 (RollsBy (R.may runner.now) (A.asks coordinator.now.attend.now) (wish_as wishes.now) (sources_of (S.files system.now) (I.is_reliable input.old)) inventory playbook forks
         (I.remaining input.old) (I.remaining input.new) (O.contents out.old) (O.contents out.new) result.0) }
 {
-    let RunWish {
-        journal,
-        resume: again,
-    } = wish;
-    match again {
-        Some(wish) => resume(
+    match &wishes.from {
+        Some(journal) => resume(
             system,
             coordinator,
             runner,
@@ -360,12 +200,12 @@ fn run_by<
             inventory,
             playbook,
             forks,
-            &wish,
+            &resume_wish(journal, wishes),
             input,
             out,
             history,
         ),
-        None => roll(
+        None => begin_by(
             system,
             coordinator,
             runner,
@@ -373,7 +213,7 @@ fn run_by<
             inventory,
             playbook,
             forks,
-            journal,
+            wishes,
             input,
             out,
             history,
@@ -381,6 +221,163 @@ fn run_by<
     }
 }
 
+/// Does what a line of `limits` asks for: the table at the start, or where the run of a journal stands.
+fn limits_by<S: System, I: Input, O: Write>(
+    system: &S,
+    alloc: Global,
+    inventory: Source,
+    wishes: &Wishes,
+    input: &mut I,
+    out: &mut O,
+) -> Result<Status, Fault>
+    ensures { TabulatesBy (wish_as wishes.now).from (wish_as wishes.now) (sources_of (S.files system.now) (I.is_reliable input.old)) inventory
+        (I.remaining input.old) (I.remaining input.new) (O.contents out.old) (O.contents out.new) result }
+{
+    match &wishes.from {
+        Some(journal) => {
+            let wish = resume_wish(journal, wishes);
+            limits_standing(system, alloc, inventory, wish, input, out)
+        }
+        None => limits(system, alloc, inventory, input, out),
+    }
+}
+
+/// Does what a line of `plan` asks for: from the start, or from where the run of a journal would go on.
+#[allow(clippy::too_many_arguments)]
+fn plan_or_rest<S: System, T: Watch, I: Input, O: Write>(
+    system: &S,
+    alloc: Global,
+    watch: &mut T,
+    inventory: Source,
+    playbook: Source,
+    wishes: &Wishes,
+    input: &mut I,
+    out: &mut O,
+) -> Result<Status, Fault>
+    ensures { PlansFrom (wish_as wishes.now).from (wish_as wishes.now) (sources_of (S.files system.now) (I.is_reliable input.old)) inventory playbook
+        (I.remaining input.old) (I.remaining input.new) (O.contents out.old) (O.contents out.new) result }
+{
+    match &wishes.from {
+        Some(journal) => plan_rest(
+            system,
+            alloc,
+            inventory,
+            playbook,
+            resume_wish(journal, wishes),
+            &wishes.course,
+            input,
+            out,
+        ),
+        None => plan_by(
+            system, alloc, watch, inventory, playbook, wishes, input, out,
+        ),
+    }
+}
+
+/// Does what a line of `rehearse` asks for: from the start, or from where the run of a journal would go on.
+fn rehearse_by<S: System, I: Input, O: Write>(
+    system: &S,
+    alloc: Global,
+    inventory: Source,
+    playbook: Source,
+    wishes: &Wishes,
+    input: &mut I,
+    out: &mut O,
+) -> Result<Status, Fault>
+    ensures { RehearsesBy (wish_as wishes.now).from (wish_as wishes.now) (sources_of (S.files system.now) (I.is_reliable input.old)) inventory playbook
+        (I.remaining input.old) (I.remaining input.new) (O.contents out.old) (O.contents out.new) result }
+{
+    let is_strict = wishes.is_strict;
+    match &wishes.from {
+        Some(journal) => {
+            let wish = resume_wish(journal, wishes);
+            rehearse_rest(
+                system, alloc, inventory, playbook, wish, is_strict, input, out,
+            )
+        }
+        None => rehearse(system, alloc, inventory, playbook, is_strict, input, out),
+    }
+}
+
+/// The run that is to go on, or from which something begins.
+fn resume_wish<'w>(journal: &'w String, wishes: &'w Wishes) -> ResumeWish<'w>
+    ensures { model.wished result ≡ model.resume_wish (string_bytes journal.now) (wish_as wishes.now) }
+{
+    ResumeWish {
+        journal: journal.as_str(),
+        mended: wishes.mended.as_str(),
+        takes_others: wishes.takes_others,
+    }
+}
+
+/// What a run is that begins, beside its inputs.
+fn start_wish(wishes: &Wishes) -> StartWish<'_> {
+    StartWish {
+        journal: &wishes.journal,
+        locks: wishes.locks,
+    }
+}
+
+/// Begins a run, as one that goes on where hosts are named that are up by now.
+#[allow(clippy::too_many_arguments)]
+fn begin_by<
+    S: System,
+    H: Threads + Wait + Processes<Started = SystemProcess> + Sync,
+    R: Runner,
+    A: Attend,
+    T: Watch,
+    I: Input,
+    O: Write,
+>(
+    system: &S,
+    coordinator: &Coordinator<'_, H, A>,
+    runner: &R,
+    watch: &mut T,
+    inventory: Source,
+    playbook: Source,
+    forks: Forks,
+    wishes: &Wishes,
+    input: &mut I,
+    out: &mut O,
+    history: History,
+) -> (Result<Status, Fault>, History)
+    ensures { Gains history result.1 (BeginsBy (R.may runner.now) (A.asks coordinator.now.attend.now) (wish_as wishes.now).mended (sources_of (S.files system.now) (I.is_reliable input.old)) inventory playbook forks
+        (I.remaining input.old) (I.remaining input.new) (O.contents out.old) (O.contents out.new) result.0) }
+{
+    let mended = wishes.mended.as_str();
+    if mended.is_empty() {
+        roll(
+            system,
+            coordinator,
+            runner,
+            watch,
+            inventory,
+            playbook,
+            forks,
+            start_wish(wishes),
+            input,
+            out,
+            history,
+        )
+    } else {
+        roll_mended(
+            system,
+            coordinator,
+            runner,
+            watch,
+            inventory,
+            playbook,
+            forks,
+            start_wish(wishes),
+            mended,
+            input,
+            out,
+            history,
+        )
+    }
+}
+
+/// Does what the line asks for.
 #[allow(clippy::too_many_arguments)]
 fn follow<
     S: System,
@@ -396,24 +393,27 @@ fn follow<
     runner: &R,
     watch: &mut T,
     line: Line,
-    wish: PlanWish,
-    run_wish: RunWish,
-    is_strict: bool,
+    wishes: &Wishes,
     input: &mut I,
     out: &mut O,
     history: History,
 ) -> (Result<Status, Fault>, History)
-    ensures { Gains history result.1 (Does (R.may runner.now) (A.asks coordinator.now.attend.now) (record { course = option_map string_bytes wish.course; groups = wish.is_grouped; picture = option_map string_bytes wish.picture }) (option_map model.wished run_wish.resume) is_strict (sources_of (S.files system.now) (I.is_reliable input.old)) line
+    ensures { Gains history result.1 (Does (R.may runner.now) (A.asks coordinator.now.attend.now) (wish_as wishes.now) (sources_of (S.files system.now) (I.is_reliable input.old)) line
         (I.remaining input.old) (I.remaining input.new) (O.contents out.old) (O.contents out.new) result.0) }
 {
     let alloc = coordinator.alloc;
     match line {
-        Line::Limits { inventory } => (limits(system, alloc, inventory, input, out), history),
+        Line::Limits { inventory } => (
+            limits_by(system, alloc, inventory, wishes, input, out),
+            history,
+        ),
         Line::Plan {
             inventory,
             playbook,
         } => (
-            plan_by(system, alloc, watch, inventory, playbook, wish, input, out),
+            plan_or_rest(
+                system, alloc, watch, inventory, playbook, wishes, input, out,
+            ),
             history,
         ),
         Line::Run {
@@ -428,7 +428,7 @@ fn follow<
             inventory,
             playbook,
             forks,
-            run_wish,
+            wishes,
             input,
             out,
             history,
@@ -437,11 +437,19 @@ fn follow<
             inventory,
             playbook,
         } => (
-            rehearse(system, alloc, inventory, playbook, is_strict, input, out),
+            rehearse_by(system, alloc, inventory, playbook, wishes, input, out),
             history,
         ),
         Line::State { inventory, journal } => (
-            state(system, alloc, inventory, journal, input, out),
+            state(
+                system,
+                alloc,
+                inventory,
+                journal,
+                wishes.takes_others,
+                input,
+                out,
+            ),
             history,
         ),
         Line::Print(message) => (print(message.as_str(), out), history),

@@ -7,9 +7,9 @@ use crate::folder::folder_of;
 use bounded_io::{Fallible, Input};
 use keeping::{Disk, Shelf};
 use rehearsing::Prompt;
-use std::env::Env;
+use std::env::{Env, FillError};
 use std::fs::OpenFile;
-use std::io::{IsTerminal, Stderr, Write};
+use std::io::{IsTerminal, Stderr, Stdout, Write};
 use std::os::unix::fs::OpenOptionsExt;
 use std::process::{Processes, SystemProcess};
 use std::{env, fs, io};
@@ -51,21 +51,26 @@ pub trait System: Prompt + Shelf {
     /// How what is told is seen, where it is to be told by its lines or not at all, or neither was asked for. How wide the lines may be is asked
     /// for where one may be drawn.
     fn seen(&self, is_verbose: bool, is_quiet: bool, draws: bool) -> Seen;
+
+    /// Whether what is printed is coloured where it isn't said whether it is to be: a terminal shows it, and nobody has asked programs not to.
+    fn shows_colours(&self) -> bool;
 }
 
-/// The system that runs the program; standard error; and the same where somebody types commands and is to see on it that the next one is
+/// The system that runs the program; standard output; standard error; and the same where somebody types commands and is to see on it that the next one is
 /// awaited.
 #[derive(Drop)]
 pub struct Host<'a, R> {
     rt: &'a R,
+    out: Stdout,
     errors: Stderr,
     prompts: Option<Stderr>,
 }
 
 impl<'a, R> Host<'a, R> {
-    pub fn new(rt: &'a R, errors: Stderr, prompts: Option<Stderr>) -> Host<'a, R> {
+    pub fn new(rt: &'a R, out: Stdout, errors: Stderr, prompts: Option<Stderr>) -> Host<'a, R> {
         Host {
             rt,
+            out,
             errors,
             prompts,
         }
@@ -105,18 +110,27 @@ impl<F: Write + OpenFile + Drop> Disk for OnDisk<F> {
     }
 }
 
-impl<R: fs::Files> Shelf for Host<'_, R> {
+/// Locks a file that nobody else has opened; where its file system has no locks it stays without one.
+fn lock_new(file: &fs::File) -> io::Result<()> {
+    match file.try_lock() {
+        Ok(()) | Err(fs::TryLockError::Error(_)) => Ok(()),
+        Err(fs::TryLockError::WouldBlock) => Err(io::ErrorKind::WouldBlock.into()),
+    }
+}
+
+impl<R: fs::Files<File = fs::File>> Shelf for Host<'_, R> {
     type Journal = OnDisk<R::File>;
 
     ghost is_new = { λ _ _. Unit {0} };
 
     ghost is_cut = { λ _ _ _. Unit {0} };
 
-    /// Its folder is on the disk too, so that the file is found there.
+    /// Its folder is on the disk too, so that the file is found there. It is locked while it is there: a run that is to go on with it is refused meanwhile.
     fn create(&self, name: &str) -> io::Result<OnDisk<R::File>> {
         let mut how = fs::OpenOptions::new();
-        how.write(true).create_new(true).mode(0o600);
+        how.append(true).create_new(true).mode(0o600);
         let file = how.open(self.rt, name)?;
+        lock_new(&file)?;
         fs::open(self.rt, folder_of(name))?.sync_all()?;
         Ok(OnDisk(file))
     }
@@ -190,6 +204,10 @@ impl<R: Env + fs::Files<File = fs::File> + AllocGlobal + Processes<Started = Sys
             width,
         }
     }
+
+    fn shows_colours(&self) -> bool {
+        self.out.is_terminal() && !is_dumb(self.rt) && !refuses_colours(self.rt)
+    }
 }
 
 /// Whether `TERM` says that the terminal can't go back in a line.
@@ -198,5 +216,14 @@ fn is_dumb<R: Env>(rt: &R) -> bool {
     match rt.var("TERM", &mut bytes) {
         Ok(len) => &bytes[..len] == b"dumb".as_slice(),
         Err(_) => false,
+    }
+}
+
+/// Whether `NO_COLOR` is set, and not to an empty text.
+fn refuses_colours<R: Env>(rt: &R) -> bool {
+    match rt.var("NO_COLOR", &mut [0; 8]) {
+        Ok(len) => len > 0,
+        Err(FillError::TooLong) => true,
+        Err(FillError::NotPresent) => false,
     }
 }

@@ -2,7 +2,6 @@
 use Rattle.std.proofs.Common.{◌≡◌, ℕ, ◌+◌, Some, List, [], ◌∷◌, map, refl, subst}
 use Rattle.domains.specs.FleetViews.{FleetView}
 use Rattle.fleet_states.specs.Batches.{Fails}
-use Rattle.fleet_states.specs.Starts.{start_statuses}
 use Rattle.fleet_states.specs.declared.status.Status.{Status}
 use Rattle.batch_plan.specs.Beginnings.{restart_statuses}
 use Rattle.host_vars.specs.declared.vars.Vars.{Vars}
@@ -22,7 +21,7 @@ use Rattle.roll_run.proofs.FileCourses.{runs_are_courses}
 use Rattle.roll_run.specs.Files.{course_of, roll_after, settings_after}
 use Rattle.roll_run.specs.Runs.{roll_by, setting_of}
 use Rattle.roll_run.specs.declared.run.Run.{Run}
-use Rattle.rehearsing.proofs.SameTextLemmas.{same_text}
+use Rattle.rehearsing.proofs.SameTextLemmas.{same_text_from}
 use Rattle.rehearsing.specs.CourseTexts.{play_by, setting_by}
 use Rattle.run_laws.proofs.EndLemmas.{all_leave, end_so}
 use Rattle.run_laws.specs.Courses.{FailLater, FailTheirs, RunsOpenTheirCourses}
@@ -79,14 +78,13 @@ module _ (may : Work → Ending → Type 0) (columns : ℕ → Columns) (fails :
           }
 
 pub runs_open_their_courses : (may : Work → Ending → Type 0) → RunsOpenTheirCourses may
-runs_open_their_courses may columns fails fleet forks first later vars run rest logs are tell fail courses foreseen =
-    let start : List Status = start_statuses fleet (targets fleet first) in
+runs_open_their_courses may columns fails fleet forks first later start vars run rest logs are tell fail courses foreseen =
     let took = by_these may columns fails fleet forks first later start vars run rest fail (runs_are_courses may columns fleet forks first later start vars run rest logs are tell) in
     let same : AreSameCourses courses (map course_of (run ∷ rest)) =
     one_file_course (setting_by fleet fails first) (map (play_by fleet fails) later) start courses (map course_of (run ∷ rest)) foreseen took in
     let leave = all_leave may columns fleet forks first later start vars run rest logs are tell in
     record {
       same = same;
-      text = λ several. same_text fleet several courses (map course_of (run ∷ rest)) same;
+      text = λ before several. same_text_from fleet before several courses (map course_of (run ∷ rest)) same;
       ends = λ end. end_so courses (run ∷ rest) end same leave;
     }

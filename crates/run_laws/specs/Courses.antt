@@ -2,14 +2,12 @@
 use Rattle.std.specs.Prelude.{◌≡◌, ℕ, ◌+◌, Bool, List, [], ◌∷◌, ◌++◌, map}
 use Rattle.domains.specs.FleetViews.{FleetView}
 use Rattle.fleet_states.specs.Batches.{Fails}
-use Rattle.fleet_states.specs.Starts.{start_statuses}
 use Rattle.fleet_states.specs.declared.status.Status.{Status}
 use Rattle.host_vars.specs.declared.vars.Vars.{Vars}
 use Rattle.host_track.specs.Endings.{Ending}
 use Rattle.play_model.specs.declared.play.Play.{Play}
 use Rattle.play_course.specs.Files.{Course}
 use Rattle.play_course.specs.Laws.{AgreeOnEach, AreSameCourses}
-use Rattle.play_course.specs.PlayPlans.{targets}
 use Rattle.event_log.specs.Columns.{Columns, fails_by}
 use Rattle.event_log.specs.Events.{Event}
 use Rattle.event_log.specs.Told.{Work}
@@ -17,7 +15,7 @@ use Rattle.roll_run.specs.Files.{TellTheirs, course_of, roll_after}
 use Rattle.roll_run.specs.Plays.{AreRuns}
 use Rattle.roll_run.specs.Runs.{roll_by}
 use Rattle.roll_run.specs.declared.run.Run.{Run}
-use Rattle.rehearsing.specs.CourseTexts.{AreCoursesBy, IsEndOf, courses_text, end_of}
+use Rattle.rehearsing.specs.CourseTexts.{AreCoursesFrom, IsEndOf, courses_text_from, end_of}
 use Rattle.rehearsing.specs.declared.course_end.CourseEnd.{CourseEnd}
 
 -- in each of the plays after one with this run, the hosts whose batch is behind it failed as `fails` says: each at that step, or at none
@@ -44,15 +42,16 @@ pub record EndSo (runs : List Run) (end : CourseEnd) : Type 0 where
 -- the courses are those that the runs took, boundary by boundary, and so is their text: the boundary lines and the ends of the recaps; and the runs end as they do
 pub record AreForeseen (fleet : FleetView) (courses : List Course) (runs : List Run) : Type 0 where
   pub same : AreSameCourses courses (map course_of runs)
-  pub text : (several : Bool) → courses_text fleet several courses ≡ courses_text fleet several (map course_of runs)
+  pub text : (before : ℕ) (several : Bool) → courses_text_from before fleet several courses ≡ courses_text_from before fleet several (map course_of runs)
   pub ends : (end : CourseEnd) → IsEndOf courses end → EndSo runs end
 
--- runs of a file of plays from its beginning, with any number of workers, in which the hosts of each batch that is behind a run failed as `fails` says, open what the courses say
--- in which they fail so; what the logs tell of programs may be any way in which those end, and what hosts do whose batch was not opened, or did not end, doesn't matter
+-- runs of plays the first of which begins with these statuses, as a file's first play does or one that goes on, with any number of workers, in which the hosts of each batch that is behind
+-- a run failed as `fails` says, open what the courses say in which they fail so; what the logs tell of programs may be any way in which those end, and what hosts do whose batch was not
+-- opened, or did not end, doesn't matter
 abbrev pub RunsOpenTheirCourses : (Work → Ending → Type 0) → Type 0
 RunsOpenTheirCourses may =
-    (columns : ℕ → Columns) (fails : Fails) (fleet : FleetView) (forks : ℕ) (first : Play) (later : List Play) (vars : List Vars) (run : Run) (rest : List Run) (logs : List (List Event))
-    → AreRuns may fleet forks (first ∷ later) (start_statuses fleet (targets fleet first)) vars (run ∷ rest) logs
-    → TellTheirs columns fleet forks (first ∷ later) (start_statuses fleet (targets fleet first)) vars (run ∷ rest) logs
-    → FailTheirs columns fails fleet forks (first ∷ later) (start_statuses fleet (targets fleet first)) vars (run ∷ rest)
-    → (courses : List Course) → AreCoursesBy fleet fails (first ∷ later) courses → AreForeseen fleet courses (run ∷ rest)
+    (columns : ℕ → Columns) (fails : Fails) (fleet : FleetView) (forks : ℕ) (first : Play) (later : List Play) (statuses : List Status) (vars : List Vars) (run : Run) (rest : List Run)
+    (logs : List (List Event)) → AreRuns may fleet forks (first ∷ later) statuses vars (run ∷ rest) logs
+    → TellTheirs columns fleet forks (first ∷ later) statuses vars (run ∷ rest) logs
+    → FailTheirs columns fails fleet forks (first ∷ later) statuses vars (run ∷ rest)
+    → (courses : List Course) → AreCoursesFrom fleet fails (first ∷ later) statuses courses → AreForeseen fleet courses (run ∷ rest)

@@ -8,4 +8,3 @@ pub mod FirstLemmas
 pub mod LeftLemmas
 pub mod SafeRecaps
 pub mod PlayLemmas
-pub mod RecapLemmas

@@ -9,13 +9,14 @@ use Rattle.roll_run.specs.declared.run.Run.{Run}
 use Rattle.running.specs.declared.end.RunEnd.{RunEnd}
 use Rattle.running.specs.declared.end.RunEnd.TheVariants.{Done, Failed, Blocked, Stopped}
 
+-- the host is down by the run: it has failed, or was at work when it, or one that it goes on with, was stopped
 abbrev pub is_failed : Status → Bool
 is_failed status.Idle = false
 is_failed status.Waiting = false
 is_failed status.Running = false
 is_failed status.Updated = false
 is_failed status.Failed = true
-is_failed status.Halted = false
+is_failed status.Halted = true
 is_failed status.Off = false
 is_failed status.Held = false
 

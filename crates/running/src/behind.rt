@@ -1,4 +1,5 @@
 //! What is told beside the recap.
+use crate::beginning::Beginning;
 use crate::down::down_lines;
 use crate::left::Left;
 use aftermath::{has_why, left_out_lines, why_lines};
@@ -7,19 +8,20 @@ use play_model::Play;
 use roll_core::Watch;
 use std::alloc::{AllocError, Global};
 
-/// Tells of the hosts that the plays of a file name and that stay down, where anybody is told anything and there is memory for it. Where plays of the file were
-/// run before, it was told with the first.
+/// Tells of the hosts that the plays of a file name and that are off by the statuses with which the first of them begins, where anybody is told anything and there is memory
+/// for it. Where plays of the file were run before, it was told with the first.
 pub(crate) fn tell_left_out<T: Watch>(
     alloc: Global,
     watch: &mut T,
     fleet: &Fleet,
     plays: &[Play],
-    plays_before: usize,
+    beginning: &Beginning,
 ) {
-    if plays_before > 0 || !watch.is_told() {
+    if beginning.plays_before > 0 || !watch.is_told() {
         return;
     }
-    if let Ok(lines) = left_out_lines(alloc, fleet, plays) {
+    let statuses = beginning.start.statuses.as_slice();
+    if let Ok(lines) = left_out_lines(alloc, fleet, statuses, plays) {
         watch.note(lines.as_slice());
     }
 }

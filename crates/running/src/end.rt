@@ -10,9 +10,9 @@ use roll_run::{End, Run};
 /// What the recap of a run tells at its end.
 #[derive(Clone, Copy, Debug, PartialEq, Eq)]
 pub enum RunEnd {
-    /// All plays finished, and no host has failed.
+    /// All plays finished, and no host has failed or was stopped at work.
     Done,
-    /// All plays finished, and a host has failed.
+    /// All plays finished, and a host has failed, or was stopped at work where a run broke off.
     Failed,
     /// Hosts wait in a group that has no room, or were set aside.
     Blocked,
@@ -20,11 +20,12 @@ pub enum RunEnd {
     Stopped,
 }
 
+/// Whether the host is down by the run: it has failed, or was at work when it, or one that it goes on with, was stopped.
 fn is_failed(status: Status) -> bool
     ensures { result ≡ model.is_failed status }
 {
     match status {
-        Status::Failed => true,
+        Status::Failed | Status::Halted => true,
         _ => false,
     }
 }

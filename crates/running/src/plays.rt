@@ -115,6 +115,7 @@ pub fn run_from<
     ensures ahead { IfErr result.0 (λ _. Gains history result.1 (KeepsAheadFrom K.keeps fleet.now (plays_from beginning plays.now) keeper result.2)) }
 {
     let alloc = coordinator.alloc;
+    tell_left_out(alloc, watch, fleet, plays, &beginning);
     let Beginning {
         plays_before,
         start,
@@ -122,7 +123,6 @@ pub fn run_from<
     let rolls = history.rolls();
     let several = are_several(plays);
     let coming = behind(plays, plays_before);
-    tell_left_out(alloc, watch, fleet, plays, plays_before);
     watch.plays_begin(coming.len());
     keeper.plays_begin(fleet, coming.len());
     let setup = Setup {

@@ -12,7 +12,7 @@ ghost use Rattle.rollout.specs.Pictures.{IsOfPicture, boundaries_of};
 use crate::fault::Fault;
 use crate::system::System;
 use bounded_io::{InputFault, TextWriter, WriteFault};
-use command_line::Source;
+use command_line::{Source, Wishes};
 use course_picture::{Picture, list_limited, write_picture};
 use domains::Fleet;
 use group_tree::GroupId;
@@ -22,21 +22,11 @@ use rehearsing::{PlayCourse, foresee};
 use std::alloc::{AllocError, Global};
 use std::io::Write;
 
-/// What a line of `plan` is asked for.
-#[derive(Drop)]
-pub struct PlanWish {
-    pub course: Option<String>,
-    pub is_grouped: bool,
-    pub picture: Option<String>,
-}
-
-impl PlanWish {
-    /// The names of the hosts that fail in the course.
-    fn failing(&self) -> &str {
-        match &self.course {
-            Some(failing) => failing.as_str(),
-            None => "",
-        }
+/// The names of the hosts that fail in the course.
+fn failing_of(wishes: &Wishes) -> &str {
+    match &wishes.course {
+        Some(failing) => failing.as_str(),
+        None => "",
     }
 }
 
@@ -44,25 +34,24 @@ impl PlanWish {
 #[derive(Drop)]
 pub struct Drawing<'s, 'w, S> {
     system: &'s S,
-    wish: &'w PlanWish,
+    wishes: &'w Wishes,
     outcome: Result<(), Fault>,
     ghost told: { ForErr outcome IsOfPicture },
 }
 
 impl<'s, 'w, S: System> Drawing<'s, 'w, S> {
-    pub fn new(system: &'s S, wish: &'w PlanWish) -> Drawing<'s, 'w, S> {
+    pub fn new(system: &'s S, wishes: &'w Wishes) -> Drawing<'s, 'w, S> {
         Drawing {
             system,
-            wish,
+            wishes,
             outcome: Ok(()),
         }
     }
 
     /// Draws the course of two texts that were accepted, where a file is named.
     pub(crate) fn draw(&mut self, alloc: Global, inventory: &[u8], playbook: &[u8]) {
-        let wish = self.wish;
-        if let Some(name) = &wish.picture {
-            let failing = wish.failing();
+        if let Some(name) = &self.wishes.picture {
+            let failing = failing_of(self.wishes);
             self.outcome = draw(
                 self.system,
                 alloc,

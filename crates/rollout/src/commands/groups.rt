@@ -1,7 +1,7 @@
 //! The command `plan`, asked for the groups too: from the files of an inventory and a playbook to the plan or the course, with how full each group is while each batch runs.
 ghost use Rattle.std.specs.Prelude.{IfOk, IfErr, string_bytes};
 ghost use Rattle.std.specs.Option.{option_map};
-ghost use Rattle.rollout.specs.Groups.{PrintsGroups, RefusesGroups, Surveys};
+ghost use Rattle.rollout.specs.Groups.{IsPaintOf, PrintsGroups, RefusesGroups, SurveysIn};
 ghost use Rattle.rollout.specs.Systems.{sources_of};
 
 use crate::commands::drawing::Drawing;
@@ -11,14 +11,15 @@ use crate::inputs::read_both;
 use crate::status::Status;
 use crate::system::System;
 use bounded_io::Input;
-use command_line::Source;
+use command_line::{Source, Wishes};
+use group_table::Paint;
 use plan_groups::{surveyed_course, surveyed_plan};
 use roll_core::Watch;
 use std::alloc::Global;
 use std::io::Write;
 
 /// Reads the inventory and the playbook, and writes the plan of the first play, or the course of all where the names of the hosts that fail in it are given, each play with its
-/// groups. `watch` is told of the hosts that are left out.
+/// groups, those that are full in colours where it is asked for. `watch` is told of the hosts that are left out.
 #[allow(clippy::too_many_arguments)]
 pub fn groups<S: System, T: Watch, I: Input, W: Write>(
     system: &S,
@@ -27,18 +28,20 @@ pub fn groups<S: System, T: Watch, I: Input, W: Write>(
     drawing: &mut Drawing<'_, '_, S>,
     inventory: Source,
     playbook: Source,
-    failing: &Option<String>,
+    wishes: &Wishes,
     input: &mut I,
     out: &mut W,
 ) -> Result<Status, Fault>
-    ensures { Surveys (option_map string_bytes failing.now) (sources_of (S.files system.now) (I.is_reliable input.old)) inventory playbook
+    ensures { SurveysIn (option_map string_bytes wishes.now.color) (option_map string_bytes wishes.now.course) (sources_of (S.files system.now) (I.is_reliable input.old)) inventory playbook
         (I.remaining input.old) (I.remaining input.new) (W.contents out.old) (W.contents out.new) result }
 {
+    let paint = paint_of(system, &wishes.color);
+    let failing = &wishes.course;
     match read_both(system, alloc, inventory, playbook, input) {
         Ok((inventory, playbook)) => {
             let inventory = inventory.as_slice();
             let playbook = playbook.as_slice();
-            let printed = print_groups(alloc, inventory, playbook, failing, out);
+            let printed = print_groups(alloc, inventory, playbook, failing, paint, out);
             if printed.is_ok() {
                 let plays = if failing.is_some() { usize::MAX } else { 1 };
                 tell_behind(alloc, watch, plays, inventory, playbook);
@@ -56,19 +59,51 @@ fn print_groups<W: Write>(
     inventory: &[u8],
     playbook: &[u8],
     failing: &Option<String>,
+    paint: Paint,
     out: &mut W,
 ) -> Result<Status, Fault>
-    ensures ok { IfOk result (PrintsGroups (option_map string_bytes failing.now) inventory.now playbook.now (W.contents out.old) (W.contents out.new)) }
-    ensures err { IfErr result (RefusesGroups (option_map string_bytes failing.now) inventory.now playbook.now (W.contents out.old) (W.contents out.new)) }
+    ensures ok { IfOk result (PrintsGroups paint (option_map string_bytes failing.now) inventory.now playbook.now (W.contents out.old) (W.contents out.new)) }
+    ensures err { IfErr result (RefusesGroups paint (option_map string_bytes failing.now) inventory.now playbook.now (W.contents out.old) (W.contents out.new)) }
 {
     match failing {
-        Some(failing) => match surveyed_course(alloc, inventory, playbook, failing.as_str(), out) {
+        Some(failing) => match surveyed_course(
+            alloc,
+            inventory,
+            playbook,
+            failing.as_str(),
+            paint,
+            out,
+        ) {
             Ok(end) => Ok(Status::from(end)),
             Err(fault) => Err(Fault::from(fault)),
         },
-        None => match surveyed_plan(alloc, inventory, playbook, out) {
+        None => match surveyed_plan(alloc, inventory, playbook, paint, out) {
             Ok(end) => Ok(Status::from(end)),
             Err(fault) => Err(Fault::from(fault)),
         },
+    }
+}
+
+/// How tables are written: with colours always, never, or where the system shows them.
+fn paint_of<S: System>(system: &S, color: &Option<String>) -> Paint
+    ensures { IsPaintOf (option_map string_bytes color.now) result }
+{
+    let Some(when) = color else {
+        return shown_paint(system);
+    };
+    if when.as_str() == "always" {
+        Paint::Coloured
+    } else if when.as_str() == "never" {
+        Paint::Plain
+    } else {
+        shown_paint(system)
+    }
+}
+
+fn shown_paint<S: System>(system: &S) -> Paint {
+    if system.shows_colours() {
+        Paint::Coloured
+    } else {
+        Paint::Plain
     }
 }

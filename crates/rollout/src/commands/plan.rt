@@ -9,6 +9,7 @@ use crate::inputs::read_both;
 use crate::status::Status;
 use crate::system::System;
 use aftermath::left_out_lines;
+use batch_plan::start;
 use bounded_io::Input;
 use command_line::Source;
 use planning::{plan_text, read_fleet, read_known_plays};
@@ -87,8 +88,11 @@ fn tell_left_out<T: Watch>(
     let Ok(plays) = read_known_plays(alloc, &fleet, playbook) else {
         return;
     };
+    let Ok(statuses) = start(alloc, &fleet, &[]) else {
+        return;
+    };
     let first = &plays.as_slice()[..plays.len().min(count)];
-    if let Ok(lines) = left_out_lines(alloc, &fleet, first) {
+    if let Ok(lines) = left_out_lines(alloc, &fleet, statuses.as_slice(), first) {
         watch.note(lines.as_slice());
     }
 }

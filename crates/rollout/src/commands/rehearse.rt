@@ -59,7 +59,7 @@ fn answer_all<P: Prompt, I: Input, W: Write>(
 }
 
 /// How a session ends all of whose commands were answered.
-fn status_of(is_strict: bool, is_refused: bool) -> Status
+pub(crate) fn status_of(is_strict: bool, is_refused: bool) -> Status
     ensures { result ≡ status_of_session is_strict is_refused }
 {
     if is_strict && is_refused {

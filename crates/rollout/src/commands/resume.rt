@@ -1,16 +1,19 @@
 //! The command `run` that goes on: from the files of an inventory, a playbook and the journal of a run that broke off to the recap of its rest.
-ghost use Rattle.std.specs.Prelude.{◌≡◌, ◌<◌, ◌≤◌, Err, IfErr, IfOk, length, true};
+ghost use Rattle.std.specs.Prelude.{◌≡◌, ◌<◌, ◌≤◌, Err, IfErr, IfOk, None, find, length, true};
+ghost use Rattle.domains.specs.Patterns.{names_nothing};
 ghost use Rattle.journal.specs.Lines.{max_body};
+ghost use Rattle.play_course.specs.PlayPlans.{named_parts};
 ghost use Rattle.roll_run.specs.Histories.{Gains};
+ghost use Rattle.roll_run.specs.Plays.{MayStart};
 ghost use Rattle.resuming.specs.Resumptions.{CanRun};
 ghost use Rattle.rollout.specs.Inputs.{IsTextOfFile};
-ghost use Rattle.rollout.specs.Resumes.{BreaksRest, GoesOnBy, LacksJournal, PrintsRest, Resumes, ResumesInputs};
+ghost use Rattle.rollout.specs.Resumes.{BreaksRest, GoesOnBy, IsNoneWished, IsWished, LacksJournal, PrintsRest, Resumes, ResumesInputs};
 ghost use Rattle.rollout.specs.Resumes as model;
 ghost use Rattle.rollout.specs.Systems.{sources_of};
-ghost use Rattle.rollout.specs.declared.fault.Fault.TheVariants.{Locked, Stopped};
+ghost use Rattle.rollout.specs.declared.fault.Fault.TheVariants.{Stopped};
 
 use crate::children::refusal;
-use crate::commands::run::{ended, lock_file};
+use crate::commands::run::{ended, lock_file, lock_source};
 use crate::fault::Fault;
 use crate::inputs::read_both;
 use crate::source::read_file;
@@ -18,13 +21,15 @@ use crate::status::Status;
 use crate::system::System;
 use bounded_io::Input;
 use command_line::{Forks, Source};
+use domains::Fleet;
 use journal::whole_length;
 use keeping::{Continuer, Disk, Holds};
 use local_programs::workers;
+use play_model::Play;
 use resuming::{Resumption, Wish, resume_inputs};
 use roll_core::{History, Runner, Watch};
 use roll_run::{Attend, Coordinator};
-use running::run_from;
+use running::{Beginning, run_from};
 use std::alloc::Global;
 use std::io::Write;
 use std::process::{Processes, SystemProcess};
@@ -32,10 +37,10 @@ use std::sync::Wait;
 use std::thread::Threads;
 
 /// The run that is to go on: its journal's file, the names of the hosts that are up by now, and whether the inputs may be others than those with which it began.
-#[derive(Debug, Drop)]
-pub struct ResumeWish {
-    pub journal: String,
-    pub mended: String,
+#[derive(Clone, Copy)]
+pub struct ResumeWish<'w> {
+    pub journal: &'w str,
+    pub mended: &'w str,
     pub takes_others: bool,
 }
 
@@ -58,7 +63,7 @@ pub fn resume<
     inventory: Source,
     playbook: Source,
     forks: Forks,
-    wish: &ResumeWish,
+    wish: &ResumeWish<'_>,
     input: &mut I,
     out: &mut W,
     history: History,
@@ -69,11 +74,11 @@ pub fn resume<
     if let Some(fault) = refusal(system, coordinator.alloc) {
         return (Err(fault), history);
     }
-    let _inventory = match lock_source(system, &inventory) {
+    let _inventory = match lock_source(system, watch, &inventory) {
         Ok(lock) => lock,
         Err(fault) => return (Err(fault), history),
     };
-    let _journal = match lock_file(system, wish.journal.as_str()) {
+    let _journal = match lock_file(system, wish.journal) {
         Ok(lock) => lock,
         Err(fault) => return (Err(fault), history),
     };
@@ -91,16 +96,6 @@ pub fn resume<
         out,
         history,
     )
-}
-
-/// The lock of the inventory's file, where it is one.
-fn lock_source<S: System>(system: &S, source: &Source) -> Result<Option<S::Lock>, Fault>
-    ensures { IfErr result (λ fault. fault ≡ Locked) }
-{
-    match source {
-        Source::File(name) => lock_file(system, name.as_str()),
-        Source::StandardInput => Ok(None),
-    }
 }
 
 /// Reads the inventory, the playbook and the journal, and goes on with its run.
@@ -121,7 +116,7 @@ fn resume_sources<
     inventory: Source,
     playbook: Source,
     forks: usize,
-    wish: &ResumeWish,
+    wish: &ResumeWish<'_>,
     input: &mut I,
     out: &mut W,
     history: History,
@@ -142,7 +137,7 @@ fn resume_sources<
         Ok(texts) => texts,
         Err(fault) => return (Err(fault), history),
     };
-    match read_journal_file(system, coordinator.alloc, wish.journal.as_str()) {
+    match read_journal_file(system, coordinator.alloc, wish.journal) {
         Ok(journal) => resume_texts(
             system,
             coordinator,
@@ -160,7 +155,11 @@ fn resume_sources<
     }
 }
 
-fn read_journal_file<S: System>(system: &S, alloc: Global, name: &str) -> Result<Vec<u8>, Fault>
+pub(crate) fn read_journal_file<S: System>(
+    system: &S,
+    alloc: Global,
+    name: &str,
+) -> Result<Vec<u8>, Fault>
     ensures ok { IfOk result (λ text. IsTextOfFile (S.files system.now name.now) text.items) }
     ensures err { IfErr result (LacksJournal (S.files system.now) name.now) }
 {
@@ -191,27 +190,28 @@ fn resume_texts<
     playbook: &[u8],
     journal: &[u8],
     forks: usize,
-    wish: &ResumeWish,
+    wish: &ResumeWish<'_>,
     out: &mut W,
     history: History,
 ) -> (Result<Status, Fault>, History)
     requires some { 0 < forks }
     requires few { forks ≤ 64 }
     requires short { length journal.now ≤ max_body }
-    ensures goes { Gains history result.1 (GoesOnBy (R.may runner.now) inventory.now playbook.now journal.now (model.wished wish.now) forks (W.contents out.old) (W.contents out.new) result.0) }
+    ensures goes { Gains history result.1 (GoesOnBy (R.may runner.now) (IsWished inventory.now playbook.now journal.now (model.wished wish.now))
+        (IsNoneWished inventory.now playbook.now journal.now (model.wished wish.now)) forks (W.contents out.old) (W.contents out.new) result.0) }
     ensures stops { result.0 ≡ Err Stopped → A.asks coordinator.now.attend.now ≡ true }
 {
     let wished = Wish {
         journal,
-        mended: wish.mended.as_str(),
+        mended: wish.mended,
         takes_others: wish.takes_others,
     };
     let resumption = match resume_inputs(coordinator.alloc, inventory, playbook, wished) {
         Ok(resumption) => resumption,
         Err(fault) => return (Err(Fault::from(fault)), history),
     };
-    match system.reopen(wish.journal.as_str(), whole_length(journal) as u64) {
-        Ok(file) => run_rest(
+    match system.reopen(wish.journal, whole_length(journal) as u64) {
+        Ok(file) => keep_rest(
             coordinator,
             runner,
             watch,
@@ -225,9 +225,9 @@ fn resume_texts<
     }
 }
 
-/// Runs the rest of the plays, and keeps it in the journal. The status tells how they ended.
+/// Runs the rest of the plays, and keeps it in this journal.
 #[allow(clippy::too_many_arguments)]
-fn run_rest<
+pub(crate) fn keep_rest<
     H: Threads + Wait + Processes<Started = SystemProcess> + Sync,
     R: Runner,
     A: Attend,
@@ -247,8 +247,8 @@ fn run_rest<
     requires some { 0 < forks }
     requires few { forks ≤ 64 }
     requires rest { CanRun resumption }
-    ensures ok { IfOk result.0 (λ status. Gains history result.1 (PrintsRest (R.may runner.now) resumption forks (W.contents out.old) (W.contents out.new) status)) }
-    ensures err { IfErr result.0 (λ fault. Gains history result.1 (BreaksRest (R.may runner.now) resumption forks (W.contents out.old) (W.contents out.new) fault)) }
+    ensures ok { IfOk result.0 (λ status. Gains history result.1 (PrintsRest (R.may runner.now) resumption.fleet resumption.plays.items resumption.beginning forks (W.contents out.old) (W.contents out.new) status)) }
+    ensures err { IfErr result.0 (λ fault. Gains history result.1 (BreaksRest (R.may runner.now) resumption.fleet resumption.plays.items resumption.beginning forks (W.contents out.old) (W.contents out.new) fault)) }
     ensures stops { result.0 ≡ Err Stopped → A.asks coordinator.now.attend.now ≡ true }
 {
     let Resumption {
@@ -259,12 +259,56 @@ fn run_rest<
         goes_on,
     } = resumption;
     let keeper = Continuer::new(coordinator.alloc, file, mended.as_slice(), goes_on);
-    let (ran, history, keeper) = run_from(
+    run_rest(
         coordinator,
+        runner,
         watch,
         keeper,
         &fleet,
         plays.as_slice(),
+        beginning,
+        forks,
+        out,
+        history,
+    )
+}
+
+/// Runs the rest of the plays, which this keeper keeps. The status tells how they ended.
+#[allow(clippy::too_many_arguments)]
+pub(crate) fn run_rest<
+    H: Threads + Wait + Processes<Started = SystemProcess> + Sync,
+    R: Runner,
+    A: Attend,
+    T: Watch,
+    K: Holds,
+    W: Write,
+>(
+    coordinator: &Coordinator<'_, H, A>,
+    runner: &R,
+    watch: &mut T,
+    keeper: K,
+    fleet: &Fleet,
+    plays: &[Play],
+    beginning: Beginning,
+    forks: usize,
+    out: &mut W,
+    history: History,
+) -> (Result<Status, Fault>, History)
+    requires some { 0 < forks }
+    requires few { forks ≤ 64 }
+    requires play { beginning.plays_before < length plays.now }
+    requires known { find (names_nothing fleet.now) (named_parts plays.now) ≡ None }
+    requires starts { MayStart fleet.now beginning.start }
+    ensures ok { IfOk result.0 (λ status. Gains history result.1 (PrintsRest (R.may runner.now) fleet.now plays.now beginning forks (W.contents out.old) (W.contents out.new) status)) }
+    ensures err { IfErr result.0 (λ fault. Gains history result.1 (BreaksRest (R.may runner.now) fleet.now plays.now beginning forks (W.contents out.old) (W.contents out.new) fault)) }
+    ensures stops { result.0 ≡ Err Stopped → A.asks coordinator.now.attend.now ≡ true }
+{
+    let (ran, history, keeper) = run_from(
+        coordinator,
+        watch,
+        keeper,
+        fleet,
+        plays,
         beginning,
         forks,
         runner,

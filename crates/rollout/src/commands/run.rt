@@ -1,7 +1,8 @@
 //! The command `run`: from the files of an inventory and a playbook to the recap of a run.
-ghost use Rattle.std.specs.Prelude.{◌≡◌, ◌<◌, ◌≤◌, Err, IfOk, IfErr, Ok, false, true};
+ghost use Rattle.std.specs.Prelude.{◌≡◌, ◌<◌, ◌≤◌, Err, IfOk, IfErr, Ok, OnOk, false, true};
 ghost use Rattle.roll_run.specs.Histories.{Gains};
-ghost use Rattle.rollout.specs.Rolls.{BreaksOff, PrintsRecap, Rolls, RollsInputs};
+ghost use Rattle.rollout.specs.Children.{IsAnswerOf};
+ghost use Rattle.rollout.specs.Rolls.{BreaksOff, IsRefusedBy, PrintsRecap, Rolls, RollsInputs};
 ghost use Rattle.rollout.specs.Systems.{sources_of};
 ghost use Rattle.rollout.specs.RollFaults.{fault_of};
 ghost use Rattle.rollout.specs.Status.{status_of_run};
@@ -19,10 +20,48 @@ use local_programs::workers;
 use roll_core::{History, Runner, Unwatched, Watch};
 use roll_run::{Attend, Coordinator};
 use running::{RunEnd, RunTextFault, run_text};
+use std::alloc::Global;
 use std::io::Write;
 use std::process::{Processes, SystemProcess};
 use std::sync::Wait;
 use std::thread::Threads;
+
+/// What a run that begins is asked for: the new file in which it is kept, and whether it holds the lock of its inventory without one.
+#[derive(Clone, Copy)]
+pub struct StartWish<'w> {
+    pub journal: &'w Option<String>,
+    pub locks: bool,
+}
+
+impl StartWish<'_> {
+    fn wants_lock(&self) -> bool {
+        self.locks || self.journal.is_some()
+    }
+}
+
+/// Whether a run may begin: the ends of programs can be had, and no file of the journal's name is there; and the lock of its inventory, where it asks for one and the file has it.
+/// `watch` is told where it hasn't.
+pub(crate) fn may_begin<S: System, T: Watch>(
+    system: &S,
+    alloc: Global,
+    watch: &mut T,
+    inventory: &Source,
+    wish: StartWish<'_>,
+) -> Result<Option<S::Lock>, Fault>
+    ensures ok { OnOk result (IsAnswerOf (S.files system.now) false) }
+    ensures err { IfErr result (IsRefusedBy (S.files system.now)) }
+{
+    if let Some(fault) = refusal(system, alloc) {
+        return Err(fault);
+    }
+    if is_there(system, wish.journal) {
+        return Err(Fault::JournalThere);
+    }
+    match lock_inventory(system, watch, inventory, wish) {
+        Ok(lock) => Ok(lock),
+        Err(_locked) => Err(Fault::Locked),
+    }
+}
 
 /// Runs the playbook's plays with so many workers, where the ends of programs can be had, and writes the recap of the run. `watch` is told of
 /// it while it goes on, and `attend` may have it end before a batch. The history has the log of each roll that was started then.
@@ -43,7 +82,7 @@ pub fn roll<
     inventory: Source,
     playbook: Source,
     forks: Forks,
-    journal: Option<String>,
+    wish: StartWish<'_>,
     input: &mut I,
     out: &mut W,
     history: History,
@@ -51,16 +90,8 @@ pub fn roll<
     ensures { Gains history result.1 (Rolls (R.may runner.now) (A.asks coordinator.now.attend.now) (sources_of (S.files system.now) (I.is_reliable input.old)) inventory playbook forks
         (I.remaining input.old) (I.remaining input.new) (W.contents out.old) (W.contents out.new) result.0) }
 {
-    match refusal(system, coordinator.alloc) {
-        Some(fault) => (Err(fault), history),
-        None => {
-            if is_there(system, &journal) {
-                return (Err(Fault::JournalThere), history);
-            }
-            let _lock = match lock_inventory(system, &inventory, &journal) {
-                Ok(lock) => lock,
-                Err(fault) => return (Err(fault), history),
-            };
+    match may_begin(system, coordinator.alloc, watch, &inventory, wish) {
+        Ok(_lock) => {
             let forks = workers(coordinator.rt, forks.number());
             roll_inputs(
                 system,
@@ -70,28 +101,48 @@ pub fn roll<
                 inventory,
                 playbook,
                 forks,
-                journal,
+                wish.journal,
                 input,
                 out,
                 history,
             )
         }
+        Err(fault) => (Err(fault), history),
     }
 }
 
-/// The lock of the inventory's file, where the run is kept in a journal and the file has a lock: two runs that know nothing of each other would together take more hosts down than a group
-/// may lose.
-fn lock_inventory<S: System>(
+/// The lock of the inventory's file, where it is asked for: two runs that know nothing of each other would together take more hosts down than a group may lose.
+fn lock_inventory<S: System, T: Watch>(
     system: &S,
+    watch: &mut T,
     inventory: &Source,
-    journal: &Option<String>,
+    wish: StartWish<'_>,
 ) -> Result<Option<S::Lock>, Fault>
     ensures { IfErr result (λ fault. fault ≡ Locked) }
 {
-    let (Source::File(name), Some(_journal)) = (inventory, journal) else {
+    if wish.wants_lock() {
+        lock_source(system, watch, inventory)
+    } else {
+        Ok(None)
+    }
+}
+
+/// The lock of the inventory's file, where it has one. `watch` is told where it hasn't: a pipe hasn't, and no file of some file systems.
+pub(crate) fn lock_source<S: System, T: Watch>(
+    system: &S,
+    watch: &mut T,
+    source: &Source,
+) -> Result<Option<S::Lock>, Fault>
+    ensures { IfErr result (λ fault. fault ≡ Locked) }
+{
+    let Source::File(name) = source else {
         return Ok(None);
     };
-    lock_file(system, name.as_str())
+    let locked = lock_file(system, name.as_str());
+    if let Ok(None) = &locked {
+        watch.note(b"note: the inventory's file has no lock: another run of it is not kept out\n");
+    }
+    locked
 }
 
 /// The lock of a file, where it has one.
@@ -131,7 +182,7 @@ fn roll_inputs<
     inventory: Source,
     playbook: Source,
     forks: usize,
-    journal: Option<String>,
+    journal: &Option<String>,
     input: &mut I,
     out: &mut W,
     history: History,
@@ -180,7 +231,7 @@ fn roll_texts<
     inventory: &[u8],
     playbook: &[u8],
     forks: usize,
-    journal: Option<String>,
+    journal: &Option<String>,
     out: &mut W,
     history: History,
 ) -> (Result<Status, Fault>, History)

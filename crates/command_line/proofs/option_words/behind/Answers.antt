@@ -31,4 +31,4 @@ stripped start word None h = lacks start word (bytes_eq (take (length start) wor
 
 pub returns : goal.returns
 returns c =
-    stripped c.args.start.now c.as_str.result.now c.strip_prefix.result c.strip_prefix.ensures.cases ∙ ap (spec.behind c.args.start.now) c.as_str.ensures.value
+    stripped c.args.start.now c.args.word.now c.strip_prefix.result c.strip_prefix.ensures.cases

@@ -6,6 +6,8 @@ use Rattle.clap.specs.Simple.{app_of_fields}
 use Rattle.clap.specs.declared.builder.command.Command.{Command}
 use Rattle.clap.specs.declared.builder.command.Command.TheOpen.{Command-F}
 use Rattle.clap.specs.declared.builder.command.Command.TheViews.{out-Command as fields_of}
+use Rattle.command_line.specs.OptionsOf.{options_of}
+use Rattle.command_line.specs.Syntax.{with_options}
 use Rattle.command_line.proofs.syntax.plan.Goals as goal
 
 pub returns-clause-app : goal.returns-clause-app
@@ -13,20 +15,12 @@ returns-clause-app c =
     let new : App = new_app (codes "plan") in
     let described : app_of c.about.result ≡ new = ap app_of_fields c.about.ensures ∙ c.new.ensures.app in
     let first = c.in_ok-arg.ensures.shape c.inventory.ensures.local ∙ ap₂ with_rule described c.inventory.ensures.rule in
-    let second = c.in_ok-arg-2.ensures.shape c.playbook.ensures.local ∙ ap₂ with_rule first c.playbook.ensures.rule in
-    let third = c.in_ok-arg-3.ensures.shape c.course.ensures.local ∙ ap₂ with_rule second c.course.ensures.rule in
-    let fourth = c.in_ok-arg-4.ensures.shape c.failing.ensures.local ∙ ap₂ with_rule third c.failing.ensures.rule in
-    let fifth = c.in_ok-arg-5.ensures.shape c.groups.ensures.local ∙ ap₂ with_rule fourth c.groups.ensures.rule in
-    let sixth = c.in_ok-arg-6.ensures.shape c.picture.ensures.local ∙ ap₂ with_rule fifth c.picture.ensures.rule in
-    IfOk-weaker c.arg-7.result _ _ (λ r h. h.shape c.verbose.ensures.local ∙ ap₂ with_rule sixth c.verbose.ensures.rule) c.arg-7.ensures
+    let second = c.in_ok-bare.ensures.shape c.playbook.ensures.local ∙ ap₂ with_rule first c.playbook.ensures.rule in
+    IfOk-weaker c.with_options.result _ _ (λ r is. is ∙ ap (λ (app : App). with_options app (options_of (codes "plan"))) second) c.with_options.ensures.app
 
 pub returns-clause-local : goal.returns-clause-local
 returns-clause-local c =
     let described : (fields_of c.about.result).has_globals ≡ false = ap (λ (f : Command-F Command). f.has_globals) c.about.ensures ∙ c.new.ensures.local in
     let first = c.in_ok-arg.ensures.globals ∙ ap₂ (λ (a b : Bool). a || b) described c.inventory.ensures.local in
-    let second = c.in_ok-arg-2.ensures.globals ∙ ap₂ (λ (a b : Bool). a || b) first c.playbook.ensures.local in
-    let third = c.in_ok-arg-3.ensures.globals ∙ ap₂ (λ (a b : Bool). a || b) second c.course.ensures.local in
-    let fourth = c.in_ok-arg-4.ensures.globals ∙ ap₂ (λ (a b : Bool). a || b) third c.failing.ensures.local in
-    let fifth = c.in_ok-arg-5.ensures.globals ∙ ap₂ (λ (a b : Bool). a || b) fourth c.groups.ensures.local in
-    let sixth = c.in_ok-arg-6.ensures.globals ∙ ap₂ (λ (a b : Bool). a || b) fifth c.picture.ensures.local in
-    IfOk-weaker c.arg-7.result _ _ (λ r h. h.globals ∙ ap₂ (λ (a b : Bool). a || b) sixth c.verbose.ensures.local) c.arg-7.ensures
+    let second = c.in_ok-bare.ensures.globals ∙ ap₂ (λ (a b : Bool). a || b) first c.playbook.ensures.local in
+    IfOk-weaker c.with_options.result _ _ (λ r is. is ∙ second) c.with_options.ensures.local

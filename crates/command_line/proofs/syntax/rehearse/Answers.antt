@@ -6,6 +6,8 @@ use Rattle.clap.specs.Simple.{app_of_fields}
 use Rattle.clap.specs.declared.builder.command.Command.{Command}
 use Rattle.clap.specs.declared.builder.command.Command.TheOpen.{Command-F}
 use Rattle.clap.specs.declared.builder.command.Command.TheViews.{out-Command as fields_of}
+use Rattle.command_line.specs.OptionsOf.{options_of}
+use Rattle.command_line.specs.Syntax.{with_options}
 use Rattle.command_line.proofs.syntax.rehearse.Goals as goal
 
 pub returns-clause-app : goal.returns-clause-app
@@ -13,13 +15,13 @@ returns-clause-app c =
     let new : App = new_app (codes "rehearse") in
     let described : app_of c.after_help.result ≡ new = ap app_of_fields c.after_help.ensures ∙ ap app_of_fields c.about.ensures ∙ c.new.ensures.app in
     let first = c.in_ok-arg.ensures.shape c.inventory.ensures.local ∙ ap₂ with_rule described c.inventory.ensures.rule in
-    let second = c.in_ok-arg-2.ensures.shape c.playbook.ensures.local ∙ ap₂ with_rule first c.playbook.ensures.rule in
-    IfOk-weaker c.arg-3.result _ _ (λ r h. h.shape c.strict.ensures.local ∙ ap₂ with_rule second c.strict.ensures.rule) c.arg-3.ensures
+    let second = c.in_ok-bare.ensures.shape c.playbook.ensures.local ∙ ap₂ with_rule first c.playbook.ensures.rule in
+    IfOk-weaker c.with_options.result _ _ (λ r is. is ∙ ap (λ (app : App). with_options app (options_of (codes "rehearse"))) second) c.with_options.ensures.app
 
 pub returns-clause-local : goal.returns-clause-local
 returns-clause-local c =
     let told : (fields_of c.about.result).has_globals ≡ false = ap (λ (f : Command-F Command). f.has_globals) c.about.ensures ∙ c.new.ensures.local in
     let described : (fields_of c.after_help.result).has_globals ≡ false = ap (λ (f : Command-F Command). f.has_globals) c.after_help.ensures ∙ told in
     let first = c.in_ok-arg.ensures.globals ∙ ap₂ (λ (a b : Bool). a || b) described c.inventory.ensures.local in
-    let second = c.in_ok-arg-2.ensures.globals ∙ ap₂ (λ (a b : Bool). a || b) first c.playbook.ensures.local in
-    IfOk-weaker c.arg-3.result _ _ (λ r h. h.globals ∙ ap₂ (λ (a b : Bool). a || b) second c.strict.ensures.local) c.arg-3.ensures
+    let second = c.in_ok-bare.ensures.globals ∙ ap₂ (λ (a b : Bool). a || b) first c.playbook.ensures.local in
+    IfOk-weaker c.with_options.result _ _ (λ r is. is ∙ second) c.with_options.ensures.local

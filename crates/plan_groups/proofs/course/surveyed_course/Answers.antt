@@ -18,7 +18,7 @@ use Rattle.plan_groups.proofs.course.surveyed_course.Goals as goal
 
 pub returns-in-Err-read_known_plays-clause-err : goal.returns-in-Err-read_known_plays-clause-err
 returns-in-Err-read_known_plays-clause-err g c =
-    refused_course_beside c.args.inventory.now c.args.playbook.now c.args.failing.now _ _ c.in-Ok.fleet c.in-Ok.ensures.ok c.in-Err-read_known_plays.fault
+    refused_course_beside c.args.inventory.now c.args.playbook.now c.args.failing.now c.args.paint _ _ c.in-Ok.fleet c.in-Ok.ensures.ok c.in-Err-read_known_plays.fault
     (Keeps-refl (g.W.Write.contents c.args.out.now)) c.in-Err-read_known_plays.ensures.err
 
 pub foresee-requires : goal.foresee-requires
@@ -62,6 +62,7 @@ returns-clause-err g c =
     let old = g.W.Write.contents c.args.out.now in
     let new = g.W.Write.contents c.send_courses.new.out in
     let count = c.in-Err-send_courses.fault.written in
-    let written = subst (λ (l : List PlayCourse). SendsFirst old new (surveyed_text fleet several (map course_of l)) count) c.as_slice-courses.ensures.value c.in-Err-send_courses.ensures in
-    breaks_course c.args.inventory.now c.args.playbook.now c.args.failing.now old new fleet plays courses several count c.in-Ok.ensures.ok c.in-Ok-read_known_plays.ensures.ok said.known are
-    (ap (nat_lt 1) long) written
+    let paint = c.args.paint in
+    let written = subst (λ (l : List PlayCourse). SendsFirst old new (surveyed_text paint fleet several (map course_of l)) count) c.as_slice-courses.ensures.value c.in-Err-send_courses.ensures in
+    breaks_course c.args.inventory.now c.args.playbook.now c.args.failing.now paint old new fleet plays courses several count c.in-Ok.ensures.ok c.in-Ok-read_known_plays.ensures.ok said.known
+    are (ap (nat_lt 1) long) written

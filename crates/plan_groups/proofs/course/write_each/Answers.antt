@@ -12,7 +12,7 @@ write_one-requires g c =
 
 pub loop-place-preserved : goal.loop-place-preserved
 loop-place-preserved g c =
-    let piece : ℕ → Course → List ℕ = surveyed_lines c.args.fleet.now c.args.several in
+    let piece : ℕ → Course → List ℕ = surveyed_lines c.args.manner.paint c.args.fleet.now c.args.manner.several in
     let i : ℕ = c.loop-place.place in
     writes_two _ c.args.text.now c.loop-place.text c.write_one.new.text _ (piece i (course_of c.index-courses-place.result)) _ c.loop-place.invariant c.write_one.ensures
     (line_more piece c.args.courses.now i c.index-courses-place.result c.loop-place-test.true c.index-courses-place.is)

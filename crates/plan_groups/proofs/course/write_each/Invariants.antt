@@ -7,4 +7,4 @@ use Rattle.plan_groups.proofs.course.write_each.Given as goal
 
 abbrev pub invariant-loop-place : goal.invariant-loop-place
 invariant-loop-place g l =
-    Writes g.W.Write.contents l.initial.text l.text (text_by_place (surveyed_lines l.fleet l.several) 0 (map course_of (take l.place l.courses)))
+    Writes g.W.Write.contents l.initial.text l.text (text_by_place (surveyed_lines l.manner.paint l.fleet l.manner.several) 0 (map course_of (take l.place l.courses)))

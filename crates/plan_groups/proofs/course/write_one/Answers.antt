@@ -12,6 +12,6 @@ returns g c =
     let fleet = c.args.fleet.now in
     let course = course_of c.args.course.now in
     let told = subst (λ (l : List ℕ). Writes g.W.Write.contents c.write_course.new.text c.write_survey.new.text l)
-    (written_is fleet (course_outlook course) c.args.survey.now c.requires.told) c.write_survey.ensures in
-    writes_two _ c.args.text.now c.write_course.new.text c.write_survey.new.text (numbered c.args.several c.args.number (course_lines fleet course)) (survey_text fleet (course_outlook course)) _
-    c.write_course.ensures told refl
+    (written_is c.args.manner.paint fleet (course_outlook course) c.args.survey.now c.requires.told) c.write_survey.ensures in
+    writes_two _ c.args.text.now c.write_course.new.text c.write_survey.new.text (numbered c.args.manner.several c.args.number (course_lines fleet course))
+    (survey_text c.args.manner.paint fleet (course_outlook course)) _ c.write_course.ensures told refl

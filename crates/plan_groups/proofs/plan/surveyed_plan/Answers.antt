@@ -15,7 +15,7 @@ pub returns-in-Err-read_known_plays-clause-err : goal.returns-in-Err-read_known_
 returns-in-Err-read_known_plays-clause-err g c =
     let keeps = Keeps-refl (g.W.Write.contents c.args.out.now) in
     let fault = c.in-Err-read_known_plays.fault in
-    refused_beside c.args.inventory.now c.args.playbook.now _ _ c.in-Ok.fleet c.in-Ok.ensures.ok fault keeps c.in-Err-read_known_plays.ensures.err
+    refused_beside c.args.inventory.now c.args.playbook.now c.args.paint _ _ c.in-Ok.fleet c.in-Ok.ensures.ok fault keeps c.in-Err-read_known_plays.ensures.err
 
 pub index-requires : goal.index-requires
 index-requires g c =
@@ -32,10 +32,10 @@ returns-in-Ok-send_plan-clause-ok g c =
     let ends = c.end_of.ensures ∙ ap (λ (l : List HostId). end_of plan.planned.answer (host_numbers l)) c.as_slice.ensures.value in
     let play = c.index.result.now in
     let read = c.in-Ok-read_known_plays.ensures.ok in
-    let is = is_surveyed c.args.inventory.now c.args.playbook.now fleet plays play plan c.in-Ok.ensures.ok read some c.index.ensures c.in-Ok-survey_play.ensures in
+    let is = is_surveyed c.args.inventory.now c.args.playbook.now c.args.paint fleet plays play plan c.in-Ok.ensures.ok read some c.index.ensures c.in-Ok-survey_play.ensures in
     record {
-      text = planned_text fleet plan;
-      is = subst (λ (end : End). IsSurveyedPlan c.args.inventory.now c.args.playbook.now (planned_text fleet plan) end) (sym ends) is;
+      text = planned_text c.args.paint fleet plan;
+      is = subst (λ (end : End). IsSurveyedPlan c.args.inventory.now c.args.playbook.now c.args.paint (planned_text c.args.paint fleet plan) end) (sym ends) is;
       written = c.in-Ok-send_plan.ensures;
     }
 
@@ -48,8 +48,8 @@ returns-clause-err g c =
     let play = c.index.result.now in
     let read = c.in-Ok-read_known_plays.ensures.ok in
     record {
-      text = planned_text fleet plan;
+      text = planned_text c.args.paint fleet plan;
       end = end_of plan.planned.answer (host_numbers plan.planned.held.items);
-      is = is_surveyed c.args.inventory.now c.args.playbook.now fleet plays play plan c.in-Ok.ensures.ok read some c.index.ensures c.in-Ok-survey_play.ensures;
+      is = is_surveyed c.args.inventory.now c.args.playbook.now c.args.paint fleet plays play plan c.in-Ok.ensures.ok read some c.index.ensures c.in-Ok-survey_play.ensures;
       written = c.in-Err-send_plan.ensures;
     }

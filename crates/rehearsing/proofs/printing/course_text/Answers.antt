@@ -30,7 +30,10 @@ send_courses-requires g c =
     let within = subst (λ (l : List Play). batches ≤ length l * length c.in-Ok.fleet.hosts) c.as_slice.ensures.value c.in-Ok-foresee.ensures.few in
     let least = subst (λ (fleet : FleetView). length fleet.hosts ≤ 4096) c.fleet.view_is c.fleet.invariant.sound.few_hosts in
     let fits = counted (length plays) (length c.in-Ok.fleet.hosts) _ few least within in
-    record { few = subst (λ (l : List PlayCourse). sum_by batches_opened (map course_of l) < 2 ^ 64) (sym c.as_slice-2.ensures.value) fits }
+    record {
+      before = omega (arith, ap length c.as_slice-2.ensures.value, c.in-Ok-foresee.courses.ok);
+      few = subst (λ (l : List PlayCourse). sum_by batches_opened (map course_of l) < 2 ^ 64) (sym c.as_slice-2.ensures.value) fits;
+    }
 
 pub returns-clause-err : goal.returns-clause-err
 returns-clause-err g c =

@@ -1,10 +1,10 @@
-use Rattle.std.proofs.Common.{List, refl, rules, inl, map, ap, sym, ◌∙◌}
-use Rattle.std.specs.Prelude.{is_some, option_map, string_bytes}
+use Rattle.std.proofs.Common.{List, ap, refl, rules, inl, map, sym, ◌∙◌}
+use Rattle.std.specs.Prelude.{is_some, string_bytes}
 use Rattle.command_line.specs.Operands.{Word}
+use Rattle.command_line.specs.Wishes.{wish_as}
 use Rattle.roll_run.proofs.Following.{gains_as, gains_none}
-use Rattle.rollout.specs.Resumes as model
 use Rattle.rollout.specs.Systems.{sources_of}
-use Rattle.rollout.proofs.Asking.{follows_line, mapped_some, wishes_so}
+use Rattle.rollout.proofs.Asking.{follows_line, mapped_some}
 use Rattle.rollout.proofs.program.attempt.Goals as goal
 
 pub returns-in-Ok : goal.returns-in-Ok
@@ -12,13 +12,11 @@ returns-in-Ok g c =
     let given : List Word = map string_bytes c.args.words.now in
     let found = c.in-Ok.field-0 in
     let asked = c.in-Ok.ensures in
-    let asks = ap is_some c.new-attend.ensures ∙ sym (mapped_some string_bytes found.stop_file) ∙ ap is_some asked.stop_file in
-    let again = c.resume_wish.ensures ∙ wishes_so string_bytes (string_bytes found.mended) found.takes_others found.resume given asked.resume asked.mended asked.others in
     gains_as c.args.history c.follow.result.1
     (λ logs does. inl (follows_line (g.R.Runner.may c.args.runner.now) (sources_of (g.S.System.files c.args.system.now) (g.I.Input.is_reliable c.args.input.now)) given found.line
     (g.I.Read.remaining c.args.input.now) (g.I.Read.remaining c.follow.new.input) (g.O.Write.contents c.args.out.now) (g.O.Write.contents c.follow.new.out) c.follow.result.0 logs
-    _ (option_map string_bytes found.course) found.is_grouped (option_map string_bytes found.picture) (option_map model.wished c.resume_wish.result) found.is_strict asked.ok
-    asks asked.course asked.groups asked.picture again asked.strict does))
+    _ (wish_as found.wishes) asked.ok asked.wishes
+    (ap is_some c.new-attend.ensures ∙ sym (mapped_some string_bytes found.wishes.stop_file)) does))
     c.follow.ensures
 
 pub returns-in-Err : goal.returns-in-Err

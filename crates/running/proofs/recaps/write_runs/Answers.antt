@@ -2,9 +2,9 @@ use Rattle.std.proofs.Common.{ℕ, ◌+◌, List, subst}
 use Rattle.std.proofs.lemmas.List.{take_all}
 use Rattle.bounded_io.specs.Writing.{Writes}
 use Rattle.bounded_io.proofs.WritingLemmas.{writes_two}
+use Rattle.recap.proofs.PlaceLemmas.{text_more_from}
 use Rattle.roll_run.specs.declared.run.Run.{Run}
 use Rattle.running.specs.Recaps.{headed, run_text, runs_text_from}
-use Rattle.running.proofs.RecapLemmas.{text_more_from}
 use Rattle.running.proofs.recaps.write_runs.Goals as goal
 
 pub loop-place-preserved : goal.loop-place-preserved

@@ -18,7 +18,7 @@ returns-clause-resumes g c =
     gains_none c.args.history c.args.history refl (inl (record {
       fault = c.in-Err-read_journal_file.fault;
       is = refl;
-      why = inr (rw c.as_str.ensures.value at c.in-Err-read_journal_file.ensures.err);
+      why = inr c.in-Err-read_journal_file.ensures.err;
       unwritten = Keeps-refl (g.W.Write.contents c.args.out.now);
       none = refl;
     }))

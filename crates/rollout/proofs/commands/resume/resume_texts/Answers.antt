@@ -1,7 +1,8 @@
-use Rattle.std.proofs.Common.{inl, inr, refl, sym}
+use Rattle.std.proofs.Common.{inl, inr, refl}
 use Rattle.std.proofs.KnownBytes.{Keeps-refl}
 use Rattle.roll_run.proofs.Following.{gains_none}
 use Rattle.rollout.specs.Resumes as model
+use Rattle.rollout.specs.Resumes.{IsNoneWished, IsWished}
 use Rattle.rollout.proofs.Resuming.{GoesOnBy-of_rest, refusals_stop_nothing}
 use Rattle.rollout.proofs.Rolling.{fault_in}
 use Rattle.rollout.proofs.commands.resume.resume_texts.Goals as goal
@@ -9,17 +10,17 @@ use Rattle.rollout.proofs.commands.resume.resume_texts.Goals as goal
 pub returns-in-Err-clause-goes : goal.returns-in-Err-clause-goes
 returns-in-Err-clause-goes g c =
     gains_none c.args.history c.args.history refl (inl (record {
-      why = inl (record { cause = c.in-Err.fault; is = c.from.ensures; refuses = rw c.as_str.ensures.value at c.in-Err.ensures.err });
+      why = inl (record { cause = c.in-Err.fault; is = c.from.ensures; refuses = c.in-Err.ensures.err });
       unwritten = Keeps-refl (g.W.Write.contents c.args.out.now);
       none = refl;
     }))
 
 pub returns-in-Ok-reopen-clause-goes : goal.returns-in-Ok-reopen-clause-goes
 returns-in-Ok-reopen-clause-goes g c =
-    let wished = rw c.as_str.ensures.value at c.in-Ok.ensures.ok in
-    GoesOnBy-of_rest (g.R.Runner.may c.args.runner.now) c.args.inventory.now c.args.playbook.now c.args.journal.now (model.wished c.args.wish.now) c.args.forks
-    (g.W.Write.contents c.args.out.now) (g.W.Write.contents c.run_rest.new.out) c.in-Ok.resumption c.run_rest.result.0 c.args.history c.run_rest.result.1 wished
-    c.run_rest.ensures.ok c.run_rest.ensures.err
+    let wish = model.wished c.args.wish.now in
+    GoesOnBy-of_rest (g.R.Runner.may c.args.runner.now) (IsWished c.args.inventory.now c.args.playbook.now c.args.journal.now wish) (IsNoneWished c.args.inventory.now c.args.playbook.now c.args.journal.now wish)
+    c.args.forks (g.W.Write.contents c.args.out.now) (g.W.Write.contents c.keep_rest.new.out) c.in-Ok.resumption c.keep_rest.result.0 c.args.history c.keep_rest.result.1 c.in-Ok.ensures.ok
+    c.keep_rest.ensures.ok c.keep_rest.ensures.err
 
 pub returns-in-Err-reopen-clause-goes : goal.returns-in-Err-reopen-clause-goes
 returns-in-Err-reopen-clause-goes g c =

@@ -7,28 +7,23 @@ returns-clause-ok g c =
     let may = g.R.Runner.may c.args.runner.now in
     let old = g.W.Write.contents c.args.out.now in
     let new = g.W.Write.contents c.run_from-ran.new.out in
-    let resumption = c.args.resumption in
     let ran = c.run_from-ran.result.0 in
     let so = ended_so ran c.is_whole.result c.ended.result c.ended.ensures.ok c.ended.ensures.err in
-    told_ok (WritesFrom may resumption.fleet c.args.forks resumption.plays.items resumption.beginning old new)
-    (IsTrueFaultFrom may resumption.fleet c.args.forks resumption.plays.items resumption.beginning old new)
-    c.args.history c.run_from-ran.result.1 ran c.is_whole.result c.ended.result so (rw c.as_slice-2.ensures.value at c.run_from-ran.ensures.ok)
+    told_ok (WritesFrom may c.args.fleet.now c.args.forks c.args.plays.now c.args.beginning old new) (IsTrueFaultFrom may c.args.fleet.now c.args.forks c.args.plays.now c.args.beginning old new)
+    c.args.history c.run_from-ran.result.1 ran c.is_whole.result c.ended.result so c.run_from-ran.ensures.ok
 
 pub returns-clause-err : goal.returns-clause-err
 returns-clause-err g c =
     let may = g.R.Runner.may c.args.runner.now in
     let old = g.W.Write.contents c.args.out.now in
     let new = g.W.Write.contents c.run_from-ran.new.out in
-    let resumption = c.args.resumption in
     let ran = c.run_from-ran.result.0 in
     let so = ended_so ran c.is_whole.result c.ended.result c.ended.ensures.ok c.ended.ensures.err in
-    told_err (WritesFrom may resumption.fleet c.args.forks resumption.plays.items resumption.beginning old new)
-    (IsTrueFaultFrom may resumption.fleet c.args.forks resumption.plays.items resumption.beginning old new)
-    c.args.history c.run_from-ran.result.1 ran c.is_whole.result c.ended.result so (rw c.as_slice-2.ensures.value at c.run_from-ran.ensures.ok)
-    (rw c.as_slice-2.ensures.value at c.run_from-ran.ensures.err)
+    told_err (WritesFrom may c.args.fleet.now c.args.forks c.args.plays.now c.args.beginning old new) (IsTrueFaultFrom may c.args.fleet.now c.args.forks c.args.plays.now c.args.beginning old new)
+    c.args.history c.run_from-ran.result.1 ran c.is_whole.result c.ended.result so c.run_from-ran.ensures.ok c.run_from-ran.ensures.err
 
 pub returns-clause-stops : goal.returns-clause-stops
 returns-clause-stops g c same =
     let ran = c.run_from-ran.result.0 in
     let so = ended_so ran c.is_whole.result c.ended.result c.ended.ensures.ok c.ended.ensures.err in
-    told_stops (g.A.Attend.asks c.args.coordinator.now.attend.now) _ ran c.is_whole.result c.ended.result so c.run_from-ran.ensures.asked same
+    told_stops (g.A.Attend.asks c.args.coordinator.now.attend.now) g.K.Keep.refuses ran c.is_whole.result c.ended.result so c.run_from-ran.ensures.asked same

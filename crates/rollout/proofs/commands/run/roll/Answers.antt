@@ -1,38 +1,14 @@
-use Rattle.std.proofs.Common.{Err, ap, inl, inr, refl, subst, ◌≤◌}
+use Rattle.std.proofs.Common.{inl, refl}
 use Rattle.std.proofs.KnownBytes.{Keeps-refl}
-use Rattle.roll_run.proofs.Following.{gains_as, gains_none}
-use Rattle.rollout.specs.declared.fault.Fault.{Fault}
-use Rattle.rollout.specs.declared.fault.Fault.TheVariants.{JournalThere, Locked}
+use Rattle.roll_run.proofs.Following.{gains_none}
 use Rattle.rollout.proofs.commands.run.roll.Goals as goal
-
-pub returns-in-Some : goal.returns-in-Some
-returns-in-Some g c =
-    gains_none c.args.history c.args.history refl (inl (record {
-      fault = c.in-Some.fault;
-      because = c.in-Some.ensures.some;
-      is = refl;
-      unread = Keeps-refl (g.I.Read.remaining c.args.input.now);
-      unwritten = Keeps-refl (g.W.Write.contents c.args.out.now);
-      none = refl;
-    }))
-
-pub returns-then-is_there : goal.returns-then-is_there
-returns-then-is_there g c =
-    gains_none c.args.history c.args.history refl (inl (record {
-      fault = JournalThere;
-      because = tt;
-      is = refl;
-      unread = Keeps-refl (g.I.Read.remaining c.args.input.now);
-      unwritten = Keeps-refl (g.W.Write.contents c.args.out.now);
-      none = refl;
-    }))
 
 pub returns-in-Err : goal.returns-in-Err
 returns-in-Err g c =
     gains_none c.args.history c.args.history refl (inl (record {
-      fault = Locked;
-      because = tt;
-      is = ap (λ (f : Fault). Err f) c.in-Err.ensures;
+      fault = c.in-Err.fault;
+      because = c.in-Err.ensures.err;
+      is = refl;
       unread = Keeps-refl (g.I.Read.remaining c.args.input.now);
       unwritten = Keeps-refl (g.W.Write.contents c.args.out.now);
       none = refl;

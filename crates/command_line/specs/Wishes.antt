@@ -1,0 +1,145 @@
+-- What the words of a line ask for beside it, by their options.
+use Rattle.std.specs.Prelude.{Bool, true, false, ◌&&◌, ◌||◌, not, if◌then◌else◌, List, [], ◌∷◌, ◌++◌, Option, Some, None, option_map, codes, flat_map, map, string_bytes}
+use Rattle.std.specs.List.{last_or, list_all, list_any}
+use Rattle.std.specs.Option.{option_or}
+use Rattle.std.specs.Str.{bytes_eq}
+use Rattle.command_line.specs.declared.option_name.OptionName.{OptionName}
+use Rattle.command_line.specs.declared.option_name.OptionName.TheVariants.{ChangedInputs, Color, Course, Failing, From, Groups, Journal, Lock, Mended, Picture, Quiet, Resume, StopFile, Strict, Verbose}
+use Rattle.command_line.specs.declared.wishes.Wishes as declared
+use Rattle.command_line.specs.Operands.{Word}
+use Rattle.command_line.specs.OptionNames.{is_same}
+use Rattle.command_line.specs.OptionsOf.{options_of}
+use Rattle.command_line.specs.OptionReads.{Given, Reading, read}
+
+abbrev pub is_given : OptionName → Given → Bool
+is_given option one = is_same option one.option
+
+-- the option was given
+abbrev pub has : OptionName → List Given → Bool
+has option given = list_any (is_given option) given
+
+-- the value, where it is one of the option
+abbrev pub value_of : OptionName → Given → List Word
+value_of option one = if is_given option one then one.value ∷ [] else []
+
+-- the values of the option, in their order
+abbrev pub values : OptionName → List Given → List Word
+values option given = flat_map (value_of option) given
+
+abbrev pub last_value : OptionName → List Given → Option Word
+last_value option given = last_or None (values option given)
+
+-- values in one text, a comma behind each
+abbrev pub joined : List Word → Word
+joined words = flat_map (λ word. word ++ codes ",") words
+
+abbrev pub joined_values : OptionName → List Given → Word
+joined_values option given = joined (values option given)
+
+-- a journal is named from which what is asked for begins
+abbrev pub begins_from : List Given → Bool
+begins_from given = has Resume given || has From given
+
+-- a table of groups or a picture is asked for
+abbrev pub tells_groups : List Given → Bool
+tells_groups given = has Groups given || has Picture given
+
+-- when tables are coloured: at a terminal, always, or never
+abbrev pub is_when : Word → Bool
+is_when word = bytes_eq word (codes "auto") || bytes_eq word (codes "always") || bytes_eq word (codes "never")
+
+-- where it is the option for colours, its value is one of these
+abbrev pub says_when : Given → Bool
+says_when one = not (is_given Color one) || is_when one.value
+
+abbrev pub are_colours : List Given → Bool
+are_colours given = list_all says_when given
+
+-- an option goes only with what holds
+abbrev goes_with : Bool → Bool → Bool
+goes_with given holds = not given || holds
+
+-- these options go together: failing hosts with a course; a run that goes on is kept where it was; and where nothing begins from a journal or tells of one, no inputs are others than its own,
+-- and of a run alone hosts are up by now. What begins from a journal has no table of its groups and no picture.
+abbrev pub go_together : Word → List Given → Bool
+go_together command given =
+    goes_with (has Failing given) (has Course given)
+    && (goes_with (has Journal given) (not (has Resume given))
+    && (goes_with (has ChangedInputs given) (begins_from given || bytes_eq command (codes "state"))
+    && (goes_with (has Mended given) (begins_from given || bytes_eq command (codes "run"))
+    && (goes_with (has From given) (not (tells_groups given)) && are_colours given))))
+
+-- the words are taken as they are where their options don't go together: they are no line then
+abbrev pub kept : Bool → List Word → Reading → Reading
+kept true words reading = reading
+kept false words reading = record { plain = words; given = [] }
+
+abbrev pub reading_of : Word → List Word → Reading
+reading_of command words = kept (go_together command (read (options_of command) words).given) words (read (options_of command) words)
+
+-- the words of a line without their options
+abbrev pub plain : List Word → List Word
+plain [] = []
+plain (command ∷ words) = command ∷ (reading_of command words).plain
+
+-- the options of a line
+abbrev pub given_in : List Word → List Given
+given_in [] = []
+given_in (command ∷ words) = (reading_of command words).given
+
+-- what is asked for beside a line: to tell of itself, or nothing; to refuse; to hold the lock; the file that ends a run; the new one in which it is kept; the journal from which a run
+-- goes on, or a plan, a rehearsal or limits begin; the hosts that are up by now, a comma behind each name; whether the inputs may be others than those of that journal; the names of the
+-- hosts that fail in the course, where it is asked for; the table of groups, and when that is coloured; and the file of the picture
+pub record Wish : Type 0 where
+  pub verbose : Bool
+  pub quiet : Bool
+  pub strict : Bool
+  pub locks : Bool
+  pub stop_file : Option Word
+  pub journal : Option Word
+  pub from : Option Word
+  pub mended : Word
+  pub others : Bool
+  pub course : Option Word
+  pub groups : Bool
+  pub color : Option Word
+  pub picture : Option Word
+
+abbrev pub wish_of : List Given → Wish
+wish_of given = record {
+  verbose = has Verbose given;
+  quiet = has Quiet given;
+  strict = has Strict given;
+  locks = has Lock given;
+  stop_file = last_value StopFile given;
+  journal = last_value Journal given;
+  from = option_or (last_value Resume given) (last_value From given);
+  mended = joined_values Mended given;
+  others = has ChangedInputs given;
+  course = if has Course given then Some (joined_values Failing given) else None;
+  groups = has Groups given;
+  color = last_value Color given;
+  picture = last_value Picture given;
+}
+
+-- what the words of a line ask for beside it
+abbrev pub wished : List Word → Wish
+wished words = wish_of (given_in words)
+
+-- the same as the program has it
+abbrev pub wish_as : declared.Wishes → Wish
+wish_as wishes = record {
+  verbose = wishes.is_verbose;
+  quiet = wishes.is_quiet;
+  strict = wishes.is_strict;
+  locks = wishes.locks;
+  stop_file = option_map string_bytes wishes.stop_file;
+  journal = option_map string_bytes wishes.journal;
+  from = option_map string_bytes wishes.from;
+  mended = string_bytes wishes.mended;
+  others = wishes.takes_others;
+  course = option_map string_bytes wishes.course;
+  groups = wishes.is_grouped;
+  color = option_map string_bytes wishes.color;
+  picture = option_map string_bytes wishes.picture;
+}

@@ -1,0 +1,135 @@
+//! Which options a command has, and which of them go together.
+ghost use Rattle.std.specs.Prelude.{◌≡◌, ◌||◌, map, not, string_bytes};
+ghost use Rattle.std.specs.List.{list_all};
+ghost use Rattle.command_line.specs.OptionReads.{given_as};
+ghost use Rattle.command_line.specs.OptionsOf as options;
+ghost use Rattle.command_line.specs.Wishes as spec;
+
+use crate::given::has;
+use crate::option_name::OptionName;
+use crate::option_reading::Given;
+use crate::words::is_word;
+
+pub(crate) const OF_RUN: &[OptionName] = &[
+    OptionName::Verbose,
+    OptionName::Quiet,
+    OptionName::StopFile,
+    OptionName::Journal,
+    OptionName::Resume,
+    OptionName::Mended,
+    OptionName::ChangedInputs,
+    OptionName::Lock,
+];
+
+pub(crate) const OF_PLAN: &[OptionName] = &[
+    OptionName::Course,
+    OptionName::Failing,
+    OptionName::Groups,
+    OptionName::Color,
+    OptionName::Picture,
+    OptionName::From,
+    OptionName::Mended,
+    OptionName::ChangedInputs,
+    OptionName::Verbose,
+];
+
+pub(crate) const OF_REHEARSAL: &[OptionName] = &[
+    OptionName::Strict,
+    OptionName::From,
+    OptionName::Mended,
+    OptionName::ChangedInputs,
+];
+
+pub(crate) const OF_LIMITS: &[OptionName] = &[
+    OptionName::From,
+    OptionName::Mended,
+    OptionName::ChangedInputs,
+];
+
+pub(crate) const OF_STATE: &[OptionName] = &[OptionName::ChangedInputs];
+
+/// The options that a command has beside those that clap reads.
+pub(crate) fn options_of(command: &String) -> &'static [OptionName]
+    ensures { result.now ≡ options.options_of (string_bytes command.now) }
+{
+    if is_word(command, "run") {
+        OF_RUN
+    } else if is_word(command, "plan") {
+        OF_PLAN
+    } else if is_word(command, "rehearse") {
+        OF_REHEARSAL
+    } else if is_word(command, "limits") {
+        OF_LIMITS
+    } else if is_word(command, "state") {
+        OF_STATE
+    } else {
+        &[]
+    }
+}
+
+/// Whether these options of the command go together.
+pub(crate) fn go_together(command: &String, given: &[Given]) -> bool
+    ensures { result ≡ spec.go_together (string_bytes command.now) (map given_as given.now) }
+{
+    let from = begins_from(given);
+    goes_with(
+        has(given, OptionName::Failing),
+        has(given, OptionName::Course),
+    ) && goes_with(
+        has(given, OptionName::Journal),
+        !has(given, OptionName::Resume),
+    ) && goes_with(
+        has(given, OptionName::ChangedInputs),
+        from || is_word(command, "state"),
+    ) && goes_with(
+        has(given, OptionName::Mended),
+        from || is_word(command, "run"),
+    ) && goes_with(has(given, OptionName::From), !tells_groups(given))
+        && are_colours(given)
+}
+
+/// Whether each value of the option for colours is one that it has.
+fn are_colours(given: &[Given]) -> bool
+    ensures { result ≡ spec.are_colours (map given_as given.now) }
+{
+    all_say_when(given)
+}
+
+fn all_say_when(given: &[Given]) -> bool
+    ensures { result ≡ list_all (λ one. spec.says_when (given_as one)) given.now }
+{
+    given.iter().all(|one| says_when(one))
+}
+
+fn says_when(one: &Given) -> bool
+    ensures { result ≡ spec.says_when (given_as one.now) }
+{
+    !one.option.is(OptionName::Color) || is_when(&one.value)
+}
+
+fn is_when(word: &String) -> bool
+    ensures { result ≡ spec.is_when (string_bytes word.now) }
+{
+    is_word(word, "auto") || is_word(word, "always") || is_word(word, "never")
+}
+
+/// Whether a journal is named from which what is asked for begins.
+fn begins_from(given: &[Given]) -> bool
+    ensures { result ≡ spec.begins_from (map given_as given.now) }
+{
+    has(given, OptionName::Resume) || has(given, OptionName::From)
+}
+
+/// Whether a table of groups or a picture is asked for.
+fn tells_groups(given: &[Given]) -> bool
+    ensures { result ≡ spec.tells_groups (map given_as given.now) }
+{
+    has(given, OptionName::Groups) || has(given, OptionName::Picture)
+}
+
+/// Whether an option that is given or not goes with what holds or not.
+fn goes_with(is_given: bool, holds: bool) -> bool
+    ensures { result ≡ (not is_given || holds) }
+{
+    !is_given || holds
+}

@@ -1,0 +1,109 @@
+//! What the words of a line ask for beside it, by their options.
+ghost use Rattle.std.specs.Prelude.{◌≡◌, [], IfOk, Some, None, if◌then◌else◌, map, string_bytes};
+ghost use Rattle.std.specs.Option.{option_map, option_or};
+ghost use Rattle.command_line.specs.OptionReads.{given_as};
+ghost use Rattle.command_line.specs.Wishes as spec;
+ghost use Rattle.command_line.specs.declared.option_name.OptionName.TheVariants as option;
+
+use crate::given::{has, joined, last};
+use crate::option_name::OptionName;
+use crate::option_reading::Given;
+use std::alloc::{AllocError, Global};
+
+/// What is asked for beside a line. What a command isn't asked for it is as if it had not been said.
+#[derive(Debug, Drop)]
+pub struct Wishes {
+    /// Whether a run is told of while it goes on, and of a plan who is left out of it.
+    pub is_verbose: bool,
+    /// Whether a run tells nothing unasked, also at a terminal. Where it is verbose too, that goes before.
+    pub is_quiet: bool,
+    /// Whether a rehearsal in which a command is refused ends as refused.
+    pub is_strict: bool,
+    /// Whether a run holds the lock of its inventory.
+    pub locks: bool,
+    /// The file that ends a run before its next batch, once it is there.
+    pub stop_file: Option<String>,
+    /// The new file in which a run is kept.
+    pub journal: Option<String>,
+    /// The journal of the run that is to go on, or from which a plan, a rehearsal or the table of limits begins.
+    pub from: Option<String>,
+    /// The names of the hosts that are up by now, a comma behind each.
+    pub mended: String,
+    /// Whether the inputs may be others than those with which the run of that journal began.
+    pub takes_others: bool,
+    /// Where a plan is asked for its course, the names of the hosts that are to fail in it, a comma behind each.
+    pub course: Option<String>,
+    /// Whether a plan, or its course, tells how full its groups are.
+    pub is_grouped: bool,
+    /// When the tables of groups are coloured: `auto`, `always` or `never`; `auto` where it is not said.
+    pub color: Option<String>,
+    /// The file into which the course of a plan is drawn.
+    pub picture: Option<String>,
+}
+
+impl Wishes {
+    /// Where nothing is asked for.
+    pub(crate) fn none(alloc: Global) -> Wishes
+        ensures { spec.wish_as result ≡ spec.wish_of [] }
+    {
+        Wishes {
+            is_verbose: false,
+            is_quiet: false,
+            is_strict: false,
+            locks: false,
+            stop_file: None,
+            journal: None,
+            from: None,
+            mended: String::new(alloc),
+            takes_others: false,
+            course: None,
+            is_grouped: false,
+            color: None,
+            picture: None,
+        }
+    }
+}
+
+/// What these options ask for.
+pub(crate) fn wishes_of(alloc: Global, given: &[Given]) -> Result<Wishes, AllocError>
+    ensures { IfOk result (λ wishes. spec.wish_as wishes ≡ spec.wish_of (map given_as given.now)) }
+{
+    Ok(Wishes {
+        is_verbose: has(given, OptionName::Verbose),
+        is_quiet: has(given, OptionName::Quiet),
+        is_strict: has(given, OptionName::Strict),
+        locks: has(given, OptionName::Lock),
+        stop_file: last(alloc, given, OptionName::StopFile)?,
+        journal: last(alloc, given, OptionName::Journal)?,
+        from: begins_from(alloc, given)?,
+        mended: joined(alloc, given, OptionName::Mended)?,
+        takes_others: has(given, OptionName::ChangedInputs),
+        course: course_of(alloc, given)?,
+        is_grouped: has(given, OptionName::Groups),
+        color: last(alloc, given, OptionName::Color)?,
+        picture: last(alloc, given, OptionName::Picture)?,
+    })
+}
+
+/// The journal from which what is asked for begins.
+fn begins_from(alloc: Global, given: &[Given]) -> Result<Option<String>, AllocError>
+    ensures { IfOk result (λ journal. option_map string_bytes journal
+        ≡ option_or (spec.last_value option.Resume (map given_as given.now)) (spec.last_value option.From (map given_as given.now))) }
+{
+    match last(alloc, given, OptionName::Resume)? {
+        Some(journal) => Ok(Some(journal)),
+        None => last(alloc, given, OptionName::From),
+    }
+}
+
+/// The names of the hosts that are to fail in the course, where one is asked for.
+fn course_of(alloc: Global, given: &[Given]) -> Result<Option<String>, AllocError>
+    ensures { IfOk result (λ course. option_map string_bytes course
+        ≡ (if spec.has option.Course (map given_as given.now) then Some (spec.joined_values option.Failing (map given_as given.now)) else None)) }
+{
+    if has(given, OptionName::Course) {
+        Ok(Some(joined(alloc, given, OptionName::Failing)?))
+    } else {
+        Ok(None)
+    }
+}

@@ -1,0 +1,4 @@
+pub mod TableLemmas
+pub mod RestLemmas
+pub mod CourseLemmas
+pub mod LawLemmas

@@ -1,0 +1,45 @@
+-- What a run that goes on has to do with what was told of it.
+use Rattle.std.specs.Prelude.{ℕ, List, [], ◌∷◌}
+use Rattle.host_track.specs.Endings.{Ending}
+use Rattle.play_course.specs.Files.{Course}
+use Rattle.play_course.specs.Laws.{IsSameBoundary}
+use Rattle.play_course.specs.declared.boundary.Boundary.{Boundary}
+use Rattle.event_log.specs.Columns.{Columns, Tells}
+use Rattle.event_log.specs.Events.{Event}
+use Rattle.event_log.specs.Told.{Work}
+use Rattle.rehearsing.specs.CourseTexts.{failing_by}
+use Rattle.resuming.specs.declared.inputs.Resumption.{Resumption}
+use Rattle.roll_run.specs.Files.{TellTheirs}
+use Rattle.roll_run.specs.Plays.{AreRuns}
+use Rattle.roll_run.specs.Runs.{roll_by}
+use Rattle.roll_run.specs.declared.run.Run.{Run}
+use Rattle.run_laws.specs.Courses.{AreForeseen, FailTheirs}
+use Rattle.running.specs.Beginnings.{IsRecapFrom, plays_from}
+use Rattle.outlook.specs.Asked.{Question}
+use Rattle.outlook.specs.Courses.{AreNextCourses}
+use Rattle.outlook.specs.Plans.{IsNextBoundary}
+
+-- the first of these is that boundary: the same hosts are set aside, with the same statuses, and the same is planned
+abbrev pub BeginWith : List Boundary → Boundary → Type 0
+BeginWith [] boundary = ⊥
+BeginWith (first ∷ rest) boundary = IsSameBoundary first boundary
+
+-- the runs that go on with what both texts and the journal say, with any number of workers, begin at the boundary whose plan is told
+abbrev pub RunsGoOnAsPlanned : (Work → Ending → Type 0) → Type 0
+RunsGoOnAsPlanned may =
+    (asked : Question) (resumption : Resumption) (boundary : Boundary) → IsNextBoundary asked resumption boundary
+    → (forks : ℕ) (runs : List Run) (logs : List (List Event)) (text : List ℕ) (columns : Columns)
+    (recap : IsRecapFrom may resumption.fleet forks resumption.plays.items resumption.beginning runs logs text)
+    → Tells columns (roll_by resumption.fleet recap.are.first forks resumption.beginning.start.statuses.items resumption.beginning.start.vars.items) recap.are.log
+    → BeginWith recap.are.run.boundaries.items boundary
+
+-- and open what the courses say that are told, where just the named hosts fail in them, each at its first step
+abbrev pub RunsGoOnAsForeseen : (Work → Ending → Type 0) → Type 0
+RunsGoOnAsForeseen may =
+    (asked : Question) (failing : List ℕ) (resumption : Resumption) (courses : List Course) → AreNextCourses asked failing resumption courses
+    → (forks : ℕ) (run : Run) (rest : List Run) (logs : List (List Event)) (columns : ℕ → Columns)
+    → AreRuns may resumption.fleet forks (plays_from resumption.beginning resumption.plays.items) resumption.beginning.start.statuses.items resumption.beginning.start.vars.items (run ∷ rest) logs
+    → TellTheirs columns resumption.fleet forks (plays_from resumption.beginning resumption.plays.items) resumption.beginning.start.statuses.items resumption.beginning.start.vars.items (run ∷ rest) logs
+    → FailTheirs columns (failing_by resumption.fleet failing) resumption.fleet forks (plays_from resumption.beginning resumption.plays.items) resumption.beginning.start.statuses.items
+    resumption.beginning.start.vars.items (run ∷ rest)
+    → AreForeseen resumption.fleet courses (run ∷ rest)

@@ -1,0 +1,20 @@
+//! What a run that broke off would go on with: who is down now, and the plan, the course and a rehearsal of the rest.
+#![tactic(auto)]
+
+mod asked;
+mod begun;
+mod course;
+mod fault;
+mod laws;
+mod limits;
+mod plan;
+mod rehearse;
+
+pub use asked::Asked;
+pub use begun::read_begun;
+pub use course::course_from;
+pub use fault::{OutlookFault, RestFault};
+pub use laws::{runs_go_on_as_foreseen, runs_go_on_as_planned};
+pub use limits::limits_from;
+pub use plan::plan_from;
+pub use rehearse::rehearse_from;

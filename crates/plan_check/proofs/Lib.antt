@@ -1,0 +1,10 @@
+pub mod ListingLemmas
+pub mod LawLemmas
+pub mod NamingLemmas
+pub mod HostLemmas
+pub mod JudgeLemmas
+pub mod GroupLemmas
+pub mod OpeningLemmas
+pub mod VerdictLemmas
+pub mod CheckLemmas
+pub mod ValidLemmas

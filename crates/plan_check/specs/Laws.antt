@@ -1,0 +1,47 @@
+-- What holds of every plan that is checked.
+use Rattle.std.specs.Prelude.{◌≡◌, ◌≤◌, ◌↔◌, ℕ, Option, None, List, length}
+use Rattle.group_tree.specs.Names.{Name}
+use Rattle.domains.specs.FleetViews.{FleetView, IsSound}
+use Rattle.fleet_states.specs.declared.status.Status.{Status}
+use Rattle.fleet_states.specs.Groups.{groups_of}
+use Rattle.batch_plan.specs.Plans.{IsPlan}
+use Rattle.play_course.specs.PlayPlans.{first_cap, first_statuses}
+use Rattle.plan_check.specs.CheckTexts.{IsCheckText, IsVerdictIn}
+use Rattle.plan_check.specs.Listings.{batches_of}
+use Rattle.plan_check.specs.Names.{batches_named, nobody_in}
+use Rattle.plan_check.specs.Verdicts.{Verdict, valid}
+use Rattle.plan_check.specs.Wrongs.{wrong_with}
+use Rattle.plan_check.specs.declared.end.CheckEnd.{CheckEnd}
+
+-- nothing is wrong with batches exactly where they are a plan
+abbrev pub NothingIsWrongWithPlans : Type 0
+NothingIsWrongWithPlans =
+    (fleet : FleetView) (statuses : List Status) (cap : Option ℕ) (batches : List (List ℕ)) → IsSound fleet → length statuses ≡ length fleet.hosts
+    → (wrong_with fleet statuses cap batches ≡ None) ↔ IsPlan (groups_of fleet) statuses cap batches
+
+-- what `valid` tells: each name is a host's, the batches are a plan, and so many; no plan has fewer batches than the least number, and one has so many
+pub record IsValid (fleet : FleetView) (statuses : List Status) (cap : Option ℕ) (batches : List (List Name)) (count least : ℕ) : Type 0 where
+  pub known : nobody_in fleet batches ≡ None
+  pub plan : IsPlan (groups_of fleet) statuses cap (batches_named fleet batches)
+  pub count_is : count ≡ length batches
+  pub least_is : (others : List (List ℕ)) → IsPlan (groups_of fleet) statuses cap others → least ≤ length others
+  pub reached : (others : List (List ℕ)) × IsPlan (groups_of fleet) statuses cap others × (length others ≡ least)
+
+-- `valid` is told of plans alone
+abbrev pub ValidIsOfPlans : Type 0
+ValidIsOfPlans =
+    (inventory playbook plan : List ℕ) (fleet : FleetView) (count least : ℕ) → (told : IsVerdictIn inventory playbook plan fleet (valid count least))
+    → IsValid fleet (first_statuses fleet told.planned.plan.plan.first) (first_cap fleet told.planned.plan.plan.first) (batches_of plan) count least
+
+-- and of each
+abbrev pub PlansAreValid : Type 0
+PlansAreValid =
+    (inventory playbook plan : List ℕ) (fleet : FleetView) (verdict : Verdict) → (told : IsVerdictIn inventory playbook plan fleet verdict) → nobody_in fleet (batches_of plan) ≡ None
+    → IsPlan (groups_of fleet) (first_statuses fleet told.planned.plan.plan.first) (first_cap fleet told.planned.plan.plan.first) (batches_named fleet (batches_of plan))
+    → (least : ℕ) × (verdict ≡ valid (length (batches_of plan)) least)
+
+-- the texts of an inventory, a playbook and a plan have one text that tells of the plan at most, and one end
+abbrev pub OneCheckText : Type 0
+OneCheckText =
+    (inventory playbook plan text other : List ℕ) (end otherwise : CheckEnd) → IsCheckText inventory playbook plan text end → IsCheckText inventory playbook plan other otherwise
+    → (text ≡ other) × (end ≡ otherwise)

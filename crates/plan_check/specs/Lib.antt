@@ -1,0 +1,10 @@
+pub mod Listings
+pub mod Names
+pub mod Wrongs
+pub mod Verdicts
+pub mod VerdictText
+pub mod CheckTexts
+pub mod Laws
+pub mod Shown
+pub mod Openings
+pub mod Inside

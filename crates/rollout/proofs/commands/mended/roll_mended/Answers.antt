@@ -1,0 +1,15 @@
+use Rattle.std.proofs.Common.{inl, refl}
+use Rattle.std.proofs.KnownBytes.{Keeps-refl}
+use Rattle.roll_run.proofs.Following.{gains_none}
+use Rattle.rollout.proofs.commands.mended.roll_mended.Goals as goal
+
+pub returns-in-Err : goal.returns-in-Err
+returns-in-Err g c =
+    gains_none c.args.history c.args.history refl (inl (record {
+      fault = c.in-Err.fault;
+      because = c.in-Err.ensures.err;
+      is = refl;
+      unread = Keeps-refl (g.I.Read.remaining c.args.input.now);
+      unwritten = Keeps-refl (g.W.Write.contents c.args.out.now);
+      none = refl;
+    }))
