@@ -223,6 +223,10 @@ rm -f ran
 run run inventory one --mended e
 check 'the same without a journal' 0 "$(cat out)$newline" ''
 [ "$(sort ran | tr '\n' ' ')" = 'a b c d e ' ] && pass || fail "other hosts ran: $(cat ran)"
+rm -f journal
+run run inventory two --mended e --journal journal
+run state inventory journal
+[ "$status" -eq 0 ] && [ "$(tail -n 1 out)" = 'end finished' ] && pass || fail "a run of two plays that begins so is read back: $status, $(cat out errors)"
 # It breaks off in its second batch.
 head -n 6 kept-journal >journal
 rm -f ran
@@ -305,6 +309,7 @@ written one HEAD 'play: a' 'open: b'
 refused 'a line that no run writes' '912 BadJournal line=3' one
 : >journal
 refused 'an empty file' '912 BadJournal line=1' one
+refused 'a name that nothing has, before an empty file' '304 NoSuchName name=z' one --mended z
 printf '%s' '[{"hosts":"a","tasks":[{"command":"true","register":"r"}]},{"hosts":"a","tasks":[{"command":"echo {{ r.rc }}"}]}]' >needs
 written needs HEAD 'play: a' 'open: a' 'closed: updated:a' 'end finished'
 refused 'a step reads what an earlier play registered' '914 NeedsResult name=r' needs
