@@ -122,6 +122,7 @@ run_refused() {
     rm -rf "$work/compared"
     mkdir "$work/compared"
     cd "$work" || exit 1
+    rm -f kept
     run run "$@"
     answered=$status
     mv "$work/out" "$work/out.answered"
