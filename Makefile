@@ -1,5 +1,5 @@
 # `make` builds the program and runs it. The gate is `make check`: every proof, test and edit of must-fail/, then the scripts on the program that this built.
-.PHONY: build check drawn drifts edits install look pages planted scripts test touched uninstall
+.PHONY: build check deb drawn drifts edits install look pages planted scripts test touched uninstall
 
 build:
 	@sh tests/build.sh
@@ -46,10 +46,16 @@ test:
 # The program that `make` built, its manual page, completions, pages and examples. `make install`, `make install PREFIX=/opt/rollout DESTDIR=/tmp/stage`. What the
 # environment has of PREFIX and PROGRAM is another's.
 install uninstall: export PREFIX = /usr/local
-install: export PROGRAM = crates/rollout/out/rollout
+install deb: export PROGRAM = crates/rollout/out/rollout
 install:
 	@sh tests/install.sh install
 
 # What `make install` wrote, given the same PREFIX and DESTDIR.
 uninstall:
 	@sh tests/install.sh uninstall
+
+# The same as a Debian package, beside the program. `make deb`, `make deb TO=/tmp MAINTAINER='Ops <ops@example.net>'`
+deb: export TO = crates/rollout/out
+deb: export MAINTAINER = nobody <nobody@localhost>
+deb:
+	@sh tests/package.sh

@@ -53,19 +53,22 @@ _rollout() {
     if [[ ${#words[@]} -le 2 ]]; then
         case $current in
         -*) _rollout_offer -h --help -V --version ;;
-        *) _rollout_offer limits plan run rehearse state help ;;
+        *) _rollout_offer limits plan run rehearse state check lint explain help ;;
         esac
         return
     fi
     command=${words[1]}
     case $command in
-    limits) most=1 options=(--from --mended --changed-inputs -h --help) ;;
-    plan) most=2 options=(--course --failing --groups --color --picture --from --mended --changed-inputs -v --verbose -h --help) ;;
+    limits) most=1 options=(--expect --from --mended --changed-inputs -h --help) ;;
+    plan) most=2 options=(--course --failing --groups --color --picture --words --expect --from --mended --changed-inputs -v --verbose -h --help) ;;
     run) most=2 options=(--forks -v --verbose --quiet --stop-file --journal --resume --mended --changed-inputs --lock -h --help) ;;
     rehearse) most=2 options=(--strict --from --mended --changed-inputs -h --help) ;;
     state) most=2 options=(--changed-inputs -h --help) ;;
+    check) most=3 options=(-h --help) ;;
+    lint) most=2 options=(--allow -h --help) ;;
+    explain) most=0 options=(-h --help) ;;
     help)
-        [[ ${#words[@]} -gt 3 ]] || _rollout_offer limits plan run rehearse state help
+        [[ ${#words[@]} -gt 3 ]] || _rollout_offer limits plan run rehearse state check lint explain help
         return
         ;;
     *) return ;;
@@ -78,12 +81,12 @@ _rollout() {
             files=$((files + 1))
         elif [[ ${words[i]} == -- ]]; then
             ends=yes
-        elif [[ " ${options[*]} " == *" ${words[i]} "* && ${words[i]} == --@(forks|stop-file|journal|resume|mended|failing|color|picture|from) ]]; then
+        elif [[ " ${options[*]} " == *" ${words[i]} "* && ${words[i]} == --@(forks|stop-file|journal|resume|mended|failing|color|picture|expect|allow|from) ]]; then
             wants=${words[i]}
         fi
     done
     # The value may stand in the word of its option.
-    if [[ -z $ends$wants && " ${options[*]} " == *" ${current%%=*} "* && $current == --@(forks|stop-file|journal|resume|mended|failing|color|picture|from)=* ]]; then
+    if [[ -z $ends$wants && " ${options[*]} " == *" ${current%%=*} "* && $current == --@(forks|stop-file|journal|resume|mended|failing|color|picture|expect|allow|from)=* ]]; then
         wants=${current%%=*}
         option=$wants=
         current=${current#*=}
@@ -96,10 +99,21 @@ _rollout() {
     --stop-file | --journal | --resume | --from) _rollout_files ;;
     --picture) _rollout_files '*.svg' ;;
     --color) _rollout_offer always never auto ;;
-    --failing | --mended) ;;
+    --allow)
+        # The last name of the list.
+        if [[ $current == *[,:]* ]]; then
+            option+=${current%"${current##*[,:]}"}
+            current=${current##*[,:]}
+        fi
+        compopt -o nospace 2>/dev/null
+        _rollout_offer zero-limit empty-limit no-hosts down-hosts unknown-name missing-name shell-word idle-handler
+        ;;
+    --failing | --mended | --expect) ;;
     *)
         if [[ -z $ends && $current == -* ]]; then
             _rollout_offer "${options[@]}"
+        elif [[ $command == check && $files -eq 2 ]]; then
+            _rollout_files
         elif [[ $files -lt $most ]]; then
             _rollout_files '*.json'
         fi

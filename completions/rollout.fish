@@ -28,9 +28,13 @@ function __rollout_lacks
             set ends 1
         else if test $words[2] = run; and contains -- $word --forks --stop-file --journal --resume --mended
             set wants 1
-        else if test $words[2] = plan; and contains -- $word --failing --color --picture --from --mended
+        else if test $words[2] = plan; and contains -- $word --failing --color --picture --expect --from --mended
             set wants 1
-        else if contains -- $words[2] limits rehearse; and contains -- $word --from --mended
+        else if test $words[2] = limits; and contains -- $word --expect --from --mended
+            set wants 1
+        else if test $words[2] = lint; and test $word = --allow
+            set wants 1
+        else if test $words[2] = rehearse; and contains -- $word --from --mended
             set wants 1
         end
     end
@@ -45,8 +49,12 @@ complete -c rollout -n __rollout_of -a plan -d 'Prints the fewest batches that u
 complete -c rollout -n __rollout_of -a run -d 'Updates the hosts of each play batch by batch, and prints what came of them'
 complete -c rollout -n __rollout_of -a rehearse -d 'Answers what a run of a play would come to if these hosts failed, command by command'
 complete -c rollout -n __rollout_of -a state -d "Prints how each host stands by a run's journal, and whether the run has ended"
+complete -c rollout -n __rollout_of -a check -d 'Tells whether a text is a plan of a play, and how many batches the least one has'
+complete -c rollout -n __rollout_of -a lint -d 'Prints what is accepted and probably not meant, one note a line'
+complete -c rollout -n __rollout_of -a explain -d 'Prints what the fault of this number means, with an example, and what to do'
 complete -c rollout -n __rollout_of -a help -d 'Prints the help of the program, or that of a command'
 
+complete -c rollout -n '__rollout_of limits' -l expect -x -d "Ends with status 1 where a number isn't as this list says: NAME=NUMBER or NAME<=NUMBER, parted by commas"
 complete -c rollout -n '__rollout_of limits' -l from -r -F -d 'Begins where the run of this journal stands, as --resume would have it go on'
 complete -c rollout -n '__rollout_of limits' -l mended -x -d 'Beside --from these hosts and groups, parted by commas, are up by now'
 complete -c rollout -n '__rollout_of limits' -l changed-inputs -d 'The inputs may be others than those with which the run of the journal began'
@@ -58,6 +66,8 @@ complete -c rollout -n '__rollout_of plan' -l failing -x -d 'Beside --course the
 complete -c rollout -n '__rollout_of plan' -l groups -d 'Prints below it how many hosts of each limited group are down while each batch runs'
 complete -c rollout -n '__rollout_of plan' -l color -x -k -a "always never auto" -d 'Colours groups that are full: auto (at a terminal, unless NO_COLOR is set), always or never'
 complete -c rollout -n '__rollout_of plan' -l picture -r -F -d 'Writes the course as a picture, in SVG, into this file'
+complete -c rollout -n '__rollout_of plan' -l words -d 'Prints in its place which words each step would run on which host'
+complete -c rollout -n '__rollout_of plan' -l expect -x -d "Ends with status 1 where a number isn't as this list says: NAME=NUMBER or NAME<=NUMBER, parted by commas"
 complete -c rollout -n '__rollout_of plan' -l from -r -F -d 'Begins where the run of this journal stands, as --resume would have it go on'
 complete -c rollout -n '__rollout_of plan' -l mended -x -d 'Beside --from these hosts and groups, parted by commas, are up by now'
 complete -c rollout -n '__rollout_of plan' -l changed-inputs -d 'The inputs may be others than those with which the run of the journal began'
@@ -84,5 +94,13 @@ complete -c rollout -n '__rollout_of rehearse' -s h -l help -d 'Print help'
 complete -c rollout -n '__rollout_of state' -l changed-inputs -d 'The inputs may be others than those with which the run of the journal began'
 complete -c rollout -n '__rollout_of state' -s h -l help -d 'Print help'
 
-complete -c rollout -n '__rollout_lacks 2 plan run rehearse state' -k -a '(__fish_complete_suffix .json)'
-complete -c rollout -n '__rollout_lacks 1 help' -a 'limits plan run rehearse state help'
+complete -c rollout -n '__rollout_of check' -s h -l help -d 'Print help'
+
+complete -c rollout -n '__rollout_of lint' -l allow -x -a "(__fish_append , zero-limit empty-limit no-hosts down-hosts unknown-name missing-name shell-word idle-handler)" -d 'These kinds of notes, parted by commas, are not told'
+complete -c rollout -n '__rollout_of lint' -s h -l help -d 'Print help'
+
+complete -c rollout -n '__rollout_of explain' -s h -l help -d 'Print help'
+
+complete -c rollout -n '__rollout_lacks 2 plan run rehearse state check lint' -k -a '(__fish_complete_suffix .json)'
+complete -c rollout -n 'not __rollout_lacks 2 check; and __rollout_lacks 3 check' -F
+complete -c rollout -n '__rollout_lacks 1 help' -a 'limits plan run rehearse state check lint explain help'

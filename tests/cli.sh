@@ -484,6 +484,9 @@ Commands:
   run       Updates the hosts of each play batch by batch, and prints what came of them
   rehearse  Answers what a run of a play would come to if these hosts failed, command by command
   state     Prints how each host stands by a run'\''s journal, and whether the run has ended
+  check     Tells whether a text is a plan of a play, and how many batches the least one has
+  lint      Prints what is accepted and probably not meant, one note a line
+  explain   Prints what the fault of this number means, with an example, and what to do
   help      Print this message or the help of the given subcommand(s)
 
 Options:
@@ -515,6 +518,7 @@ Arguments:
   <INV>  The inventory: a file of JSON that lists groups with their hosts, children and variables
 
 Options:
+      --expect <LIST>   Ends with status 1 where a number isn'\''t as this list says: NAME=NUMBER or NAME<=NUMBER, parted by commas
       --from <JOURNAL>  Begins where the run of this journal stands, as --resume would have it go on
       --mended <HOSTS>  Beside --from these hosts and groups, parted by commas, are up by now
       --changed-inputs  The inputs may be others than those with which the run of the journal began
@@ -539,6 +543,8 @@ Options:
       --groups           Prints below it how many hosts of each limited group are down while each batch runs
       --color <WHEN>     Colours groups that are full: auto (at a terminal, unless NO_COLOR is set), always or never
       --picture <FILE>   Writes the course as a picture, in SVG, into this file
+      --words            Prints in its place which words each step would run on which host
+      --expect <LIST>    Ends with status 1 where a number isn'\''t as this list says: NAME=NUMBER or NAME<=NUMBER, parted by commas
       --from <JOURNAL>   Begins where the run of this journal stands, as --resume would have it go on
       --mended <HOSTS>   Beside --from these hosts and groups, parted by commas, are up by now
       --changed-inputs   The inputs may be others than those with which the run of the journal began
@@ -618,6 +624,55 @@ for words in 'state --help' 'state -h' 'help state'; do
     check "the help by $words" 0 "$state_help" ''
 done
 
+check_help='Tells whether a text is a plan of a play, and how many batches the least one has
+
+Usage: rollout check <INV> <PLAY> <PLAN>
+
+Arguments:
+  <INV>   The inventory: a file of JSON that lists groups with their hosts, children and variables
+  <PLAY>  The playbook: a file of JSON that lists plays with their hosts and tasks
+  <PLAN>  The plan: a file with a batch a line, as rollout plan prints it
+
+Options:
+  -h, --help  Print help
+'
+for words in 'check --help' 'check -h' 'help check'; do
+    run $words
+    check "the help by $words" 0 "$check_help" ''
+done
+
+lint_help='Prints what is accepted and probably not meant, one note a line
+
+Usage: rollout lint [OPTIONS] <INV> [PLAY]
+
+Arguments:
+  <INV>   The inventory: a file of JSON that lists groups with their hosts, children and variables
+  [PLAY]  The playbook: a file of JSON that lists plays with their hosts and tasks
+
+Options:
+      --allow <NAMES>  These kinds of notes, parted by commas, are not told
+  -h, --help           Print help
+'
+for words in 'lint --help' 'lint -h' 'help lint'; do
+    run $words
+    check "the help by $words" 0 "$lint_help" ''
+done
+
+explain_help='Prints what the fault of this number means, with an example, and what to do
+
+Usage: rollout explain <NUMBER>
+
+Arguments:
+  <NUMBER>  The number of a fault
+
+Options:
+  -h, --help  Print help
+'
+for words in 'explain --help' 'explain -h' 'help explain'; do
+    run $words
+    check "the help by $words" 0 "$explain_help" ''
+done
+
 # bad WORDS USAGE EXPLANATION: the words are no line
 bad() {
     run $1
@@ -663,6 +718,8 @@ lacks picture FILE 'plan a b'
 lacks from JOURNAL 'plan a b'
 lacks from JOURNAL 'rehearse a b'
 lacks from JOURNAL 'limits a'
+lacks expect LIST 'limits a'
+lacks expect LIST 'plan a b --expect batches=1'
 # The word behind such an option is its value, so nothing is left for the last one.
 lacks mended HOSTS 'limits a --from --mended'
 lacks journal FILE 'run a b --resume --journal'
@@ -678,6 +735,11 @@ done
 for words in '--failing c' '--failing c --from d' '--mended c' '--changed-inputs' '--course --mended c' '--from c --groups' '--from c --picture d' '--course --groups --from c' '--groups --picture d --from=c'; do
     apart "plan a b $words"
 done
+for words in '--words --course' '--words --groups' '--words --picture c' '--from c --words' '--words --expect batches=1' '--expect batches=1 --course' '--expect x --groups' '--expect batches=1 --picture c' \
+    '--from c --expect=batches=1'; do
+    apart "plan a b $words"
+done
+apart 'limits a --expect hosts=1 --from c'
 for words in --color= --color=red '--color Always' '--groups --color on'; do
     apart "plan a b $words"
 done
@@ -710,6 +772,11 @@ read_by 'rehearse --from --strict a b --strict' a
 read_by 'limits --from --changed-inputs a' a
 read_by 'limits --from=b --mended= --changed-inputs --changed-inputs a' a
 read_by 'limits -- --from' --from
+read_by 'limits --expect hosts=1 --expect=limited=1 a' a
+read_by 'plan --words a --color never b --words -v' a
+read_by 'plan a --expect batches=1 b' a
+read_by 'check a b c' a
+read_by 'check -- --words b c' --words
 read_by 'state --changed-inputs --changed-inputs a b' a
 read_by 'state -- --changed-inputs b' --changed-inputs
 bad 'run --journal --resume c a b' 'rollout run [OPTIONS] <INV> <PLAY>' "unexpected argument 'b' found"
@@ -735,6 +802,17 @@ bad 'rehears a b' 'rollout <COMMAND>' "unrecognized subcommand 'rehears'$newline
 bad state 'rollout state <INV> <JOURNAL>' "the following required arguments were not provided:$newline  <INV>$newline  <JOURNAL>"
 bad 'state a' 'rollout state <INV> <JOURNAL>' "the following required arguments were not provided:$newline  <JOURNAL>"
 bad 'state a b c' 'rollout state [OPTIONS] <INV> <JOURNAL>' "unexpected argument 'c' found"
+bad check 'rollout check <INV> <PLAY> <PLAN>' "the following required arguments were not provided:$newline  <INV>$newline  <PLAY>$newline  <PLAN>"
+bad 'check a b' 'rollout check <INV> <PLAY> <PLAN>' "the following required arguments were not provided:$newline  <PLAN>"
+bad 'check a b c d' 'rollout check <INV> <PLAY> <PLAN>' "unexpected argument 'd' found"
+bad 'check a b c --words' 'rollout check <INV> <PLAY> <PLAN>' "unexpected argument '--words' found$newline$newline  tip: to pass '--words' as a value, use '-- --words'"
+bad explain 'rollout explain <NUMBER>' "the following required arguments were not provided:$newline  <NUMBER>"
+bad 'explain 1 2' 'rollout explain <NUMBER>' "unexpected argument '2' found"
+apart 'explain 1'
+bad 'rehearse a b --expect batches=1' 'rollout rehearse <INV> <PLAY>' "unexpected argument '--expect' found$newline$newline  tip: to pass '--expect' as a value, use '-- --expect'"
+bad 'plan -- a b --words' 'rollout plan [OPTIONS] <INV> <PLAY>' "unexpected argument '--words' found"
+bad 'limits -- a --expect b' 'rollout limits [OPTIONS] <INV>' "unexpected argument '--expect' found"
+bad 'plan a b --words=all' 'rollout plan --words <INV> <PLAY>' "unexpected value 'all' for '--words' found; no more were expected"
 bad '--forks 3' 'rollout <COMMAND>' "unexpected argument '--forks' found"
 run "$(printf '\377')"
 check 'a word that is no text' 1 '' "rollout: 901 BadLine$newline"

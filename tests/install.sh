@@ -32,9 +32,11 @@ each() {
     "$1" 644 completions/rollout.bash share/bash-completion/completions/rollout
     "$1" 644 completions/_rollout share/zsh/site-functions/_rollout
     "$1" 644 completions/rollout.fish share/fish/vendor_completions.d/rollout.fish
-    # All pages, so that their links lead somewhere.
-    for file in README.md docs/*.md bench/README.md tests/*/README.md examples/* examples/*/*; do
-        [ ! -f "$file" ] || "$1" 644 "$file" "share/doc/rollout/$file"
+    # All pages and pictures, so that their links lead somewhere.
+    for file in README.md docs/* bench/README.md tests/*/README.md examples/* examples/*/*; do
+        mode=644
+        [ ! -x "$file" ] || mode=755
+        [ ! -f "$file" ] || "$1" "$mode" "$file" "share/doc/rollout/$file"
     done
 }
 

@@ -83,7 +83,9 @@ holds 'make install' put_in
     echo "644 $stage/$share/zsh/site-functions/_rollout"
     echo "644 $stage/$share/fish/vendor_completions.d/rollout.fish"
     echo "644 $stage/$share/doc/rollout/installed"
-    find README.md docs bench/README.md tests/*/README.md examples -type f | sed "s|^|644 $stage/$share/doc/rollout/|"
+    # Scripts among the examples may be run where they stand.
+    find README.md docs bench/README.md tests/*/README.md examples -type f ! -perm -100 | sed "s|^|644 $stage/$share/doc/rollout/|"
+    find examples -type f -perm -100 | sed "s|^|755 $stage/$share/doc/rollout/|"
 } | LC_ALL=C sort >"$work/expected"
 find "$stage" -type f -exec stat -c '%a %n' {} + | LC_ALL=C sort >"$work/found"
 same 'the files that are installed, with their modes'
@@ -135,7 +137,7 @@ while [ -e "$work/command.$number" ]; do
     same "the example $number of the manual page"
     number=$((number + 1))
 done
-for command in limits plan run rehearse state; do
+for command in limits plan run rehearse state check lint explain; do
     holds "the manual page has an example of $command" grep -q "rollout $command" "$work"/command.*
 done
 
@@ -216,7 +218,7 @@ listed() {
     echo "rollout re>rehearse"
     echo "rollout help re>rehearse"
     echo "rollout ->$(listed '' Options)"
-    for command in limits plan run rehearse state; do
+    for command in limits plan run rehearse state check lint explain; do
         echo "rollout $command ->$(listed $command Options)"
     done
     echo "rollout run --forks >$(seq -s / 64)"
@@ -246,6 +248,18 @@ listed() {
     echo 'rollout rehearse --from n>notes.txt'
     echo 'rollout rehearse --mended a --strict inv.json p>play.json'
     echo 'rollout state --changed-inputs i>inv.json'
+    echo 'rollout limits --expect a i>inv.json'
+    echo 'rollout plan --words --expect a inv.json p>play.json'
+    echo 'rollout check i>inv.json'
+    echo 'rollout check inv.json p>play.json'
+    echo 'rollout check inv.json play.json n>notes.txt'
+    echo 'rollout check inv.json play.json notes.txt i>'
+    echo 'rollout lint i>inv.json'
+    echo 'rollout lint --allow a inv.json p>play.json'
+    echo 'rollout lint inv.json play.json i>'
+    echo 'rollout lint --allow >zero-limit/empty-limit/no-hosts/down-hosts/unknown-name/missing-name/shell-word/idle-handler'
+    echo 'rollout lint inv.json --allow n>no-hosts'
+    echo 'rollout explain i>'
     echo 'rollout run -- ->'
     echo 'rollout run inv.json play.json i>'
     echo 'rollout limits inv.json p>'
@@ -297,6 +311,9 @@ asked 'rollout run --forks=7' rollout run --forks = 7
 asked 'rollout run --stop-file=no' rollout run --stop-file = no
 asked 'rollout limits --from=no' rollout limits --from = no
 asked 'rollout plan --color=a' rollout plan --color = a
+asked 'rollout lint --allow=n' rollout lint --allow = n
+asked 'rollout lint --allow=shell-word,n' rollout lint --allow = shell-word,n
+asked 'rollout lint --allow no-hosts,shell-word:d' rollout lint --allow no-hosts,shell-word : d
 asked 'rollout run --from=no' rollout run --from = no
 asked 'rollout limits a:' rollout limits a :
 asked 'rollout limits a:b' rollout limits a : b
@@ -313,6 +330,9 @@ rollout run --forks=7>7
 rollout run --stop-file=no>notes.txt
 rollout limits --from=no>notes.txt
 rollout plan --color=a>always auto
+rollout lint --allow=n>no-hosts
+rollout lint --allow=shell-word,n>shell-word,no-hosts
+rollout lint --allow no-hosts,shell-word:d>down-hosts
 rollout run --from=no>
 rollout limits a:>b.json
 rollout limits a:b>b.json
@@ -362,7 +382,7 @@ ASK
         timeout 30 zsh -f -c 'zmodload zsh/zpty; zpty asked "zsh -d -i"; while zpty -r asked line; do :; done'
     ) </dev/null >/dev/null 2>&1
     # Behind the last file it offers options, which may stand there too.
-    grep -v '^rollout \(run inv.json play.json i\|limits inv.json p\)>-' "$work/answers.zsh" >"$work/answers"
+    grep -v '^rollout \(run inv.json play.json i\|limits inv.json p\|check inv.json play.json notes.txt i\|lint inv.json play.json i\|explain i\)>-' "$work/answers.zsh" >"$work/answers"
     offered zsh
 fi
 

@@ -95,6 +95,11 @@ refusing() {
     [ -e "$work/refused" ]
 }
 
+# Whether nothing went out; of a text that is written as it is made, marked by `fronts`, its first bytes may have.
+unwritten() {
+    [ ! -s "$work/out" ] || { [ -n "${fronts:-}" ] && head -c "$(wc -c <"$work/out")" "$work/out.answered" | cmp -s - "$work/out"; }
+}
+
 # each_refused WORDS: the program's answer is the same, or want of memory
 each_refused() {
     run "$@"
@@ -103,7 +108,7 @@ each_refused() {
     mv "$work/errors" "$work/errors.answered"
     number=1
     while refusing "$number" "$rollout" "$@"; do
-        if [ "$status" -eq 5 ] && [ ! -s "$work/out" ] && [ "$(cat "$work/errors")" = 'rollout: memory' ]; then
+        if [ "$status" -eq 5 ] && unwritten && [ "$(cat "$work/errors")" = 'rollout: memory' ]; then
             pass
         # what is refused may be asked for again in another way
         elif [ "$status" -eq "$answered" ] && cmp -s "$work/out" "$work/out.answered" && cmp -s "$work/errors" "$work/errors.answered"; then
@@ -229,6 +234,22 @@ printf '{"all":{"children":{"eu":{"vars":{"max_down":3},"children":{"r1":{"vars"
 printf '[{"hosts":["eu","r1:d"],"serial":[1,"50%%"],"on_blocked":"hold","tasks":[{"name":"t","command":"echo {{ v }}","when":"v is defined","notify":"h"}],"handlers":[{"name":"h","command":"true"}]}]' >"$work/held.json"
 each_refused plan "$work/racks.json" "$work/held.json"
 each_refused plan "$work/racks.json" "$work/held.json" --course --groups --failing d
+# numbers that are expected, a plan from elsewhere, notes, and the words of the steps
+each_refused limits "$top/examples/two-racks.json" --expect 'hosts=5,limited<=3' --expect web=2
+each_refused limits "$top/examples/two-racks.json" --expect 'hosts=5,rack1=2'
+each_refused limits "$top/examples/two-racks.json" --expect 'hosts,web=2'
+each_refused plan "$work/racks.json" "$work/held.json" --expect 'batches<=7'
+"$rollout" plan "$work/racks.json" "$work/held.json" >"$work/plan.txt"
+each_refused check "$work/racks.json" "$work/held.json" "$work/plan.txt"
+printf 'batch 1: b x\n' >"$work/plan.txt"
+each_refused check "$work/racks.json" "$work/held.json" "$work/plan.txt"
+each_refused lint "$work/racks.json"
+each_refused lint "$work/racks.json" "$work/held.json"
+each_refused lint "$work/racks.json" "$work/held.json" --allow 'missing-name,down-hosts'
+printf '[{"hosts":["eu","r1:d"],"tasks":[{"command":"echo {{ v }}","when":"v is defined","notify":"h"},{"command":"make it","register":"r"},{"command":"echo {{ r.stdout }}{{ n }}"}],"handlers":[{"name":"h","command":"true"}]},{"hosts":"d","tasks":[{"command":"true","when":"r is changed"}]}]' >"$work/worded.json"
+fronts=yes
+each_refused plan "$work/racks.json" "$work/worded.json" --words
+fronts=
 # each key of a play and of a step, and faults that are told late
 while IFS= read -r playbook; do
     printf '%s' "$playbook" >"$work/playbook.json"

@@ -3,7 +3,8 @@
 # prints, both outputs together, with the lines behind it, up to the next `$ ` or the end of the block (fenced, or indented by four
 # blanks). A command that ends in a backslash goes on in the next line. `rollout` is the built program, or ROLLOUT; the commands of one block run in
 # one shell. A block whose first line is a comment `# needs NAME` is run only where NAME is among the script's words, as in
-# `tests/readme.sh ansible-core`; one that bounds memory is left out where UNPROVED is set, as tests/common.sh has it. Then it looks for the files that the pages link to.
+# `tests/readme.sh ansible-core`; one that bounds memory is left out where UNPROVED is set, as tests/common.sh has it. Then it looks for the files that the pages link to, and draws
+# the picture that README shows.
 # Under another shell, as `sh tests/readme.sh`, it starts itself again.
 [ -n "${BASH_VERSION:-}" ] || exec bash "$0" "$@"
 set -u
@@ -145,6 +146,10 @@ check_links() {
         [ -e "$(dirname "$page")/${link%%#*}" ] && judge yes || judge no "$page: no file $link"
     done < <(grep -o '](\([^)]*\))' "$page" | sed 's/^](//; s/)$//' | sort -u)
 }
+
+# The picture that README shows is the one that the program draws.
+"$rollout" plan examples/two-racks.json examples/restart-web.json --picture "$work/two-racks.svg" >/dev/null 2>&1
+cmp -s docs/two-racks.svg "$work/two-racks.svg" && judge yes || judge no 'docs/two-racks.svg: the program draws another picture'
 
 for page in README.md docs/*.md examples/README.md bench/README.md; do
     run_page "$page"

@@ -10,6 +10,7 @@ import re
 import sys
 
 import contracts
+import explained
 import made
 import tree
 import usage
@@ -23,7 +24,7 @@ CITES = re.compile(r"(?<!\w)(?:R(?:1[0-6]|[1-9])|T[1-5]|D(?:1[0-9]|2[01]|[1-9])|
 # What ran at some time, under the names of that time.
 HISTORY = "docs/TRIED.md"
 # Scripts that others share, or that a target of the Makefile is for.
-NOT_IN_THE_GATE = {"all", "build", "common", "contracts", "crates", "edits", "gate", "install", "test", "touched"}
+NOT_IN_THE_GATE = {"all", "build", "common", "contracts", "crates", "edits", "gate", "install", "package", "test", "touched"}
 
 
 class Count:
@@ -67,6 +68,14 @@ def compare_made_parts(count):
                 count.row(all(cells), f"{path}: the row '{cells[0]}' of {name} has an empty cell")
             for line in re.findall(r"^- .*", body, re.M):
                 count.row(re.match(r"- \S+: \S", line), f"{path}: of {line[2:]} in {name} nothing is said")
+
+
+def compare_entries(count):
+    """Each fault with a number that FAULTS lists has an entry there, below its row's heading, which is what `rollout explain` prints."""
+    entries = explained.entries_of_page()
+    for front in made.faults_of_page():
+        number = front.split(" ")[0]
+        count.row(not number.isdigit() or int(number) in entries, f"docs/FAULTS.md: fault {number} has no heading to which its row leads")
 
 
 def compare_edits(count):
@@ -401,9 +410,9 @@ def compare_scripts(count):
 def compare_folders(count):
     """Examples and measurements are named by the pages that list them."""
     examples = tree.read("examples/README.md")
-    for path in tree.found("examples/*", "examples/ansible/*"):
+    for path in tree.found("examples/*", "examples/*/*"):
         name = path[len("examples/") :]
-        if name not in ("README.md", "ansible"):
+        if name != "README.md" and os.path.isfile(os.path.join(tree.TOP, path)):
             count.row(name in examples, f"examples/README.md doesn't name {name}")
     speed = "".join(tree.read(path) for path in tree.pages())
     for path in tree.found("bench/*"):
@@ -442,6 +451,7 @@ def main():
     count, crates = Count(), tree.crates()
     named = {name: tree.Crate(name) for name in crates}
     compare_made_parts(count)
+    compare_entries(count)
     compare_edits(count)
     compare_crates(count, crates)
     compare_rules(count)

@@ -15,6 +15,7 @@ import tempfile
 from concurrent.futures import ThreadPoolExecutor
 
 import compare
+import explained
 import made
 import tree
 
@@ -273,6 +274,14 @@ def a_fault_that_nothing_says(copy):
 
 def a_status_told_otherwise_in_the_man_page(copy):
     copy.change("man/rollout.1", "\n.B 4\n", "\n.B 6\n")
+
+
+def a_fault_explained_otherwise_than_on_its_page(copy):
+    copy.change(explained.ENTRIES, "the text is no JSON", "the text is JSON")
+
+
+def a_fault_that_is_explained_nowhere(copy):
+    copy.change(explained.FAULTS, "\n### 102 TwicePlaced\n", "\n### 102 Twice\n")
 
 
 def other_handles(copy):

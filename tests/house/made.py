@@ -4,7 +4,7 @@
     <!-- made by `make pages`: NAME -->
     <!-- end of NAME -->
 
-of a page, and the exit statuses and faults of the man page, which are those of FAULTS. Words that only somebody who tried it can say (who refused an edit, which row told a bug) are taken over from the rows that stand there, wherever in
+of a page, the exit statuses and faults of the man page, which are those of FAULTS, and what `rollout explain` prints of each fault, in a file of the crate fault_pages. Words that only somebody who tried it can say (who refused an edit, which row told a bug) are taken over from the rows that stand there, wherever in
 the made parts of the pages a row of that name is, so that they follow an edit to another crate. What nobody said yet is left empty, and tests/house.sh asks for it.
 
     make pages
@@ -13,6 +13,7 @@ the made parts of the pages a row of that name is, so that they follow an edit t
 import re
 import sys
 
+import explained
 import tree
 
 MAN, FAULTS = "man/rollout.1", "docs/FAULTS.md"
@@ -173,7 +174,7 @@ def made_man():
 
 
 def made_pages():
-    """The text of each page that has a made part, as it should be; and which parts stand on which page."""
+    """The text of each page that has a made part, and of the other files that are made, as it should be; and which parts stand on which page."""
     texts = {path: tree.read(path) for path in tree.pages()}
     said, parts = {}, {}
     for path, text in texts.items():
@@ -183,7 +184,7 @@ def made_pages():
     # A part is made once, from all that was said in parts of its name.
     bodies = {name: MAKERS[name](said[name]) for name in said if name in MAKERS}
     made = {path: PART.sub(lambda part: part[1] + "\n" + bodies.get(part[2], part[3]).strip("\n") + "\n\n" + part[4], text) for path, text in texts.items()}
-    return {**{path: text for path, text in made.items() if PART.search(text)}, MAN: made_man()}, parts
+    return {**{path: text for path, text in made.items() if PART.search(text)}, MAN: made_man(), explained.ENTRIES: explained.made_entries(), explained.ANSWERS: explained.made_answers()}, parts
 
 
 def main():

@@ -3,7 +3,7 @@
 import subprocess
 from pathlib import Path
 
-from cases import INVENTORY, JOURNAL, PLAYBOOK, Case
+from cases import INVENTORY, JOURNAL, PLAN, PLAYBOOK, Case
 from commands import Said
 from telling import in_order, timeless
 
@@ -31,11 +31,13 @@ def _told(case, errors):
 
 
 def put_files(case, folder):
-    """Writes the inventory and the playbook of a case, and its journal, where it has one."""
+    """Writes the inventory and the playbook of a case, and its journal or its plan, where it has one."""
     (Path(folder) / INVENTORY).write_bytes(case.inventory)
     (Path(folder) / PLAYBOOK).write_bytes(case.playbook)
     if case.journal is not None:
         (Path(folder) / JOURNAL).write_bytes(case.journal)
+    if case.plan is not None:
+        (Path(folder) / PLAN).write_bytes(case.plan)
 
 
 def _text(raw):
@@ -45,6 +47,6 @@ def _text(raw):
 
 def knows(program, kind, folder):
     """Whether the program has a command: a line of it is answered by something else than that it is none."""
-    words = (kind, INVENTORY) if kind == "limits" else (kind, INVENTORY, PLAYBOOK)
+    files = {"limits": (INVENTORY,), "check": (INVENTORY, PLAYBOOK, PLAN)}.get(kind, (INVENTORY, PLAYBOOK))
     # The inventory is refused, so that nothing is started.
-    return not call(program, Case(words, b"[]"), folder).errors.startswith("rollout: 901 ")
+    return not call(program, Case((kind, *files), b"[]", plan=b""), folder).errors.startswith("rollout: 901 ")

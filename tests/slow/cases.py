@@ -25,23 +25,25 @@ INVENTORY = "inventory.json"
 PLAYBOOK = "playbook.json"
 FORKS = (1, 2, 5, 64)
 JOURNAL = "journal"
-KINDS = ("limits", "plan", "run", "rehearse", "state")
+PLAN = "plan.txt"
+KINDS = ("limits", "plan", "run", "rehearse", "state", "check", "lint")
 MISSING = ["missing.json", "inventory.json/", ".", "./", "", "caf\u00e9 \x7f", "no/such/folder"]
 
 
 @dataclass(frozen=True)
 class Case:
-    """One call of the program in a folder with two files, or three. `words` are the arguments; `typed` is standard input."""
+    """One call of the program in a folder with two files, or three: a journal, or a plan that is checked. `words` are the arguments; `typed` is standard input."""
 
     words: tuple
     inventory: bytes
     playbook: bytes = b""
     typed: bytes = b""
     journal: bytes | None = None
+    plan: bytes | None = None
 
     @property
     def kind(self):
-        """The command: limits (also without words), plan, run, rehearse or state."""
+        """The command: limits (also without words), plan, run, rehearse, state, check or lint."""
         return self.words[0] if self.words else "limits"
 
     @property
@@ -51,7 +53,11 @@ class Case:
 
     def said(self):
         """What the slow program says."""
-        files = {INVENTORY: self.inventory, PLAYBOOK: self.playbook, JOURNAL: self.journal}
+        files = {INVENTORY: self.inventory, PLAYBOOK: self.playbook, JOURNAL: self.journal, PLAN: self.plan}
+        try:
+            commands.check_line(self.words)
+        except Fault as fault:
+            return commands.refused(fault)
         named = commands.named_files(self.words)
         for name in named:
             if name not in files:

@@ -3,12 +3,16 @@
 from dataclasses import dataclass
 
 from aftermath import left_out, why
+from checking import judged, read_batches
 from course import next_boundary
 from entries import digest, entries_of, line, whole_of
+from expecting import number_in_plan, number_in_table, read_expectations, unmet
 from faults import Fault
 from fleet import Fleet, parts_of
 from foreseen import foresee, foreseen_text
+from foretold import foretold
 from inventory import read_inventory
+from linting import lint_lines, read_allowed
 from planning import Blocked, start
 from playbook import read_playbook
 from plays import end_line, recaps, run_plays, status_of
@@ -35,12 +39,22 @@ class Said:
 
 def command(words, files, typed):
     """What is said to a line of words, its files having been read; `typed` is standard input."""
+    try:
+        expectations, allowed = expected_in(words), allowed_in(words)
+    except Fault as fault:
+        return refused(fault)
     if not words or words[0] == "limits":
-        return limits(*files)
+        return limits(*files, expectations)
+    if words[0] == "check":
+        return check(*files)
+    if words[0] == "lint":
+        return lint(*files, allowed=allowed)
+    if words[0] == "plan" and "--words" in words:
+        return words_of_plays(*files, "-v" in words)
     if words[0] == "plan" and "--course" in words:
         return course(*files, names_to_fail(words), "--groups" in words, wants_colours(words))
     if words[0] == "plan":
-        return plan(*files, "--groups" in words, wants_colours(words))
+        return plan(*files, "--groups" in words, wants_colours(words), expectations)
     if words[0] == "run" and "--resume" in words:
         return resume(*files, mended_names(words), "--changed-inputs" in words)
     if words[0] == "run":
@@ -52,16 +66,18 @@ def command(words, files, typed):
     return refused(Fault(901, "BadLine"))
 
 
-def limits(inventory):
-    """The table of limits."""
+def limits(inventory, expectations=()):
+    """The table of limits, and the first expectation that it doesn't meet."""
     try:
-        return Said(limits_text(Fleet(read_inventory(inventory))), "", 0)
+        fleet = Fleet(read_inventory(inventory))
     except Fault as fault:
         return refused(fault)
+    return as_expected(Said(limits_text(fleet), "", 0), expectations, lambda name: number_in_table(fleet, name))
 
 
-def plan(inventory, playbook, is_grouped=False, is_coloured=False):
-    """The plan of the first play, once all plays were accepted; below it its groups, where they are asked for, and the full ones coloured where that is."""
+def plan(inventory, playbook, is_grouped=False, is_coloured=False, expectations=()):
+    """The plan of the first play, once all plays were accepted; below it its groups, where they are asked for, and the full ones coloured where that is; and the first expectation that it
+    doesn't meet."""
     try:
         fleet, plays, targets = accepted(inventory, playbook)
     except Fault as fault:
@@ -70,13 +86,78 @@ def plan(inventory, playbook, is_grouped=False, is_coloured=False):
     boundary = next_boundary(fleet, plays[0], state, cap(plays[0].sizes, targeted(fleet, targets[0]), 0))
     left_out = boundary.aside and not turned("held-hosts-make-status-three")
     groups = as_text(groups_lines(fleet, sight_of_plan(state, boundary.answer, boundary.aside), is_coloured)) if is_grouped else ""
-    return Said(plan_text(boundary.answer, boundary.aside) + groups, "", 3 if isinstance(boundary.answer, Blocked) or left_out else 0)
+    said = Said(plan_text(boundary.answer, boundary.aside) + groups, "", 3 if isinstance(boundary.answer, Blocked) or left_out else 0)
+    return as_expected(said, expectations, lambda name: number_in_plan(boundary.answer, name))
+
+
+def as_expected(said, expectations, number_of):
+    """What is said, and behind it the first expectation that isn't met, if one isn't."""
+    fault = unmet(expectations, number_of)
+    return said if fault is None else Said(said.out, fault.line(), said.status if turned("expect-unmet-makes-status-one") else 1)
+
+
+def words_of_plays(inventory, playbook, is_verbose=False):
+    """Which words would run on which host, step by step, of all plays; and with `-v` who is left out."""
+    try:
+        fleet, plays, targets = accepted(inventory, playbook)
+    except Fault as fault:
+        return refused(fault)
+    lines, is_sure = foretold(fleet, plays, targets)
+    return Said(as_text(lines), left_out(fleet, targets) if is_verbose else "", 0 if is_sure or turned("foretold-failures-show-in-the-status") else 2)
+
+
+def check(inventory, playbook, text):
+    """Whether the text is a plan with which the first play begins, or what is wrong with it."""
+    try:
+        if turned("check-inputs-before-the-plan"):
+            read_batches(text)
+        fleet, plays, targets = accepted(inventory, playbook)
+        batches = read_batches(text)
+    except Fault as fault:
+        return refused(fault)
+    state = start(fleet, targets[0])
+    bound = cap(plays[0].sizes, targeted(fleet, targets[0]), 1 if turned("check-first-size-counts") else 0)
+    begun = dict(state)
+    boundary = next_boundary(fleet, plays[0], state, bound)
+    line, status = judged(fleet, begun if turned("check-held-hosts-do-not-wait") else state, bound, boundary.answer, batches)
+    return Said(f"{line}\n", "", status)
+
+
+def lint(inventory, playbook=None, allowed=()):
+    """What is accepted and probably not meant, of the inventory, and of the playbook where there is one; kinds of notes that are allowed aren't told."""
+    try:
+        fleet, plays, targets = (Fleet(read_inventory(inventory)), [], []) if playbook is None else accepted(inventory, playbook)
+    except Fault as fault:
+        return refused(fault)
+    lines, count = lint_lines(fleet, plays, targets, allowed)
+    return Said(as_text([*lines, f"notes={count}"]), "", 1 if count and not turned("lint-notes-make-status-one") else 0)
+
+
+def check_line(words):
+    """Refuses what of a line of words is refused before any file is read: a list of expectations, or of kinds of notes, that is none."""
+    if not turned("expect-lists-before-files"):
+        expected_in(words)
+    if not turned("lint-lists-before-files"):
+        allowed_in(words)
+
+
+def expected_in(words):
+    """The expectations that a line of words lists, if any."""
+    lists = _values_behind("--expect", words)
+    return read_expectations(",".join(lists[-1:] if turned("expect-all-lists-count") else lists)) if lists else []
+
+
+def allowed_in(words):
+    """The kinds of notes that a line of words switches off."""
+    lists = _values_behind("--allow", words)
+    return read_allowed(",".join(lists[-1:] if turned("lint-all-lists-count") else lists))
 
 
 def named_files(words):
     """The names of the files that a line of words gives, in the order in which they are read."""
     journal = [value for word, value in zip(words, words[1:]) if word == "--resume"]
-    return [*words[1:3], *journal]
+    most = {"limits": 1, "check": 3, "lint": 2 if len(words) > 2 and not words[2].startswith("--") else 1}.get("".join(words[:1]), 2)
+    return [*words[1 : 1 + most], *journal]
 
 
 def wants_colours(words):
@@ -96,10 +177,20 @@ def mended_names(words):
 
 
 def _names_behind(option, words):
-    """The names that an option gives, as a word of its own or behind a `=`, in their order."""
-    apart = [value for word, value in zip(words, words[1:]) if word == option]
-    attached = [word.removeprefix(f"{option}=") for word in words if word.startswith(f"{option}=")]
-    return [name for value in apart + attached for name in parts_of(value)]
+    """The names that an option gives, in their order."""
+    return [name for value in _values_behind(option, words) for name in parts_of(value)]
+
+
+def _values_behind(option, words):
+    """The values that an option gives, as words of their own or behind a `=`, in their order."""
+    values, is_value = [], False
+    for word in words:
+        if is_value:
+            values.append(word)
+        elif word.startswith(f"{option}="):
+            values.append(word.removeprefix(f"{option}="))
+        is_value = word == option and not is_value
+    return values
 
 
 def course(inventory, playbook, names, is_grouped=False, is_coloured=False):

@@ -1,5 +1,6 @@
-"""The seed and the numbers of the cases that the gate draws: of all commands, of runs that tell of themselves, of courses, of groups, of runs that go on, and of runs that begin with hosts that are
-up though they are marked as down."""
+"""The seed and the numbers of the cases that the gate draws: of all commands, of runs that tell of themselves, of courses, of groups, of runs that go on, of runs that begin with hosts that are
+up though they are marked as down, of words that are told beforehand, of plans that are checked, of expectations,
+and of what `lint` notes."""
 
 SEED = "1"
 CASES = 5_000
@@ -8,3 +9,7 @@ FORESEEN = 3_000
 GROUPED = 1_000
 RESUMED = 1_000
 MENDED = 500
+WORDED = 500
+CHECKED = 500
+EXPECTED = 500
+LINTED = 500

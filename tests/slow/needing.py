@@ -31,20 +31,20 @@ def _registered(play, place):
 
 def _needed_by(step, earlier, own):
     """A step looks up `when`, then its words; and behind its program, where its own result is there, `changed_when` and `failed_when`."""
-    before = [*_in_conditions(step.when), *_in_words(step.words)]
+    before = [*in_conditions(step.when), *in_words(step.words)]
     if turned("needs-when-before-words"):
-        before = [*_in_words(step.words), *_in_conditions(step.when)]
-    behind = [*_in_conditions(step.changed_when), *_in_conditions(step.failed_when)]
+        before = [*in_words(step.words), *in_conditions(step.when)]
+    behind = [*in_conditions(step.changed_when), *in_conditions(step.failed_when)]
     itself = set() if turned("needs-own-result-of-the-step") else {step.register}
     names = [name for name in before if name not in own] + [name for name in behind if name not in own | itself]
     return next((name for name in names if name in earlier), None)
 
 
-def _in_words(words):
+def in_words(words):
     return [part.name for word in words for part in parts(word) if isinstance(part, Ref)]
 
 
-def _in_conditions(conditions):
+def in_conditions(conditions):
     return [name for tree in conditions or [] for name in _in_tree(tree)]
 
 
@@ -59,4 +59,6 @@ def _in_tree(tree):
         return _in_tree(rest[0])
     if kind == "result":
         return [rest[0]]
+    if kind == "defined" and turned("mentioned-is-read"):
+        return []
     return [operand.name for operand in rest if isinstance(operand, Ref)]

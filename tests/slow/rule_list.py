@@ -1,6 +1,8 @@
 """All rules that can be turned, by name, each with what it says while it isn't turned."""
 
 import rules_of_inputs as inputs
+import rules_of_notes as notes
+import rules_of_plans as plans
 import rules_of_runs as runs
 
 RULES = {
@@ -21,4 +23,8 @@ RULES = {
     **runs.GROUPS,
     **runs.JOURNALS,
     **runs.RESUMES,
+    **plans.FORETOLD,
+    **plans.CHECKS,
+    **plans.EXPECTATIONS,
+    **notes.NOTES,
 }

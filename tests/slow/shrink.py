@@ -10,7 +10,7 @@ LONGEST_CUT = 2_000
 def smallest(case, differs):
     """A case that differs and from which no single part can be taken, as far as so many tries go."""
     shrinker = _Shrinker(differs)
-    for part in ("typed", "journal", "playbook", "inventory"):
+    for part in ("typed", "journal", "plan", "playbook", "inventory"):
         case = shrinker.shrunk(case, part)
     return case
 
@@ -32,8 +32,8 @@ class _Shrinker:
             return case
         if text and still(b""):
             return case.put(part, b"")
-        spans = _runs_of_lines if part == "journal" else _members
-        text = self.without(text, spans, _cut_out if part == "journal" else _cut_member, still)
+        has_lines = part in ("journal", "plan")
+        text = self.without(text, _runs_of_lines if has_lines else _members, _cut_out if has_lines else _cut_member, still)
         if case.kind != "run":
             text = self.without(text, _runs_of_bytes, _cut_out, still)
         return case.put(part, text)

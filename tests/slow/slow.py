@@ -15,6 +15,7 @@ def main(words):
         turn(words[1])
         words = words[2:]
     try:
+        commands.check_line(words)
         files = [_read(name) for name in commands.named_files(words)] if words else [_whole(sys.stdin.buffer, "-")]
     except Fault as fault:
         return commands.refused(fault)

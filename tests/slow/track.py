@@ -53,7 +53,7 @@ def _due(handlers, notified):
 
 def _taken(step, host, rows, notified):
     """Adds a step's row; whether the host goes on behind it."""
-    words = _asked(step, host)
+    words = asked(step, host)
     ended = words if isinstance(words, Outcome) else outcome(words)
     result, judged, wanted = judge(step, ended, lambda conditions, seen: _evaluated(conditions, step, host, seen))
     rows.append(Row(step.number, judged, result, step, None if ended is words else words, ended, wanted))
@@ -77,10 +77,10 @@ def _register(step, host, result, judged):
     host.results[step.register] = result
 
 
-def _asked(step, host):
+def asked(step, host):
     """Skipped where `when` is false, undefined where it has no value; else the first word that can't be made decides; else the words of the program."""
     if turned("when-before-words"):
-        unrendered = _rendered(step, host)
+        unrendered = rendered(step, host)
         if not isinstance(unrendered, list):
             return unrendered
     try:
@@ -88,10 +88,10 @@ def _asked(step, host):
             return SKIPPED
     except Undefined as undefined:
         return SKIPPED if turned("undefined-when-fails") else Outcome("undefined", name=undefined.name)
-    return _rendered(step, host)
+    return rendered(step, host)
 
 
-def _rendered(step, host):
+def rendered(step, host):
     """The words, or how the step ends for want of them."""
     words, too_long = [], False
     for word in step.words:

@@ -1,4 +1,5 @@
 pub mod AcceptedLemmas
+pub mod AskedLemmas
 pub mod GivenLemmas
 pub mod ReadingLemmas
 pub mod ForksLemmas

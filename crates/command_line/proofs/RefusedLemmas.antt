@@ -7,7 +7,7 @@ use Rattle.clap.specs.declared.error.kind.ErrorKind.TheVariants.{DisplayHelp, Di
 use Rattle.clap.proofs.OnLiterals.{clap_on_literals}
 use Rattle.std.specs.Prelude.{Result, Ok, Err, IfOk, IfErr}
 use Rattle.command_line.specs.declared.command.Line.{Line}
-use Rattle.command_line.specs.declared.command.Line.TheVariants.{Limits, Plan, Run, Rehearse, State, Print}
+use Rattle.command_line.specs.declared.command.Line.TheVariants.{Limits, Plan, Run, Rehearse, State, Check, Lint, Explain, Print}
 use Rattle.command_line.specs.declared.fault.LineFault.{LineFault}
 use Rattle.command_line.specs.declared.fault.LineFault.TheVariants.{BadLine, Unexplained, Memory}
 use Rattle.command_line.specs.Answers.{AnswersFor, Disagrees, FindsOthers}
@@ -16,10 +16,9 @@ use Rattle.command_line.specs.Messages.{IsAskedFor}
 use Rattle.command_line.specs.declared.message.Message.{Message}
 use Rattle.command_line.specs.Syntax.{rollout}
 use Rattle.command_line.specs.Operands.{Word}
-use Rattle.command_line.specs.Runs.{run_request}
-use Rattle.command_line.specs.Words.{is_empty, is_command, limits_file, plan_files, rehearse_files, state_files, IsNoneOf, requests, IsTextFor, Explains, Refuses, Says}
-use Rattle.command_line.proofs.AcceptedLemmas.{accepted, accepted_plan, accepted_rehearsal, accepted_state}
-use Rattle.command_line.proofs.RunLemmas.{accepted_run}
+use Rattle.command_line.specs.Asked.{Asked, asked_by}
+use Rattle.command_line.specs.Words.{is_empty, is_command, IsNoneOf, requests, IsTextFor, Explains, Refuses, Says}
+use Rattle.command_line.proofs.AskedLemmas.{accepted}
 
 -- clap answers a request with its text
 answers_help : fault_of rollout (codes "--help" ∷ []) ≡ DisplayHelp ∷ []
@@ -78,39 +77,103 @@ answers_state_short_help : fault_of rollout (codes "state" ∷ codes "-h" ∷ []
 unfolding clap_on_literals
 answers_state_short_help = refl
 
+answers_check_help : fault_of rollout (codes "check" ∷ codes "--help" ∷ []) ≡ DisplayHelp ∷ []
+unfolding clap_on_literals
+answers_check_help = refl
+
+answers_check_short_help : fault_of rollout (codes "check" ∷ codes "-h" ∷ []) ≡ DisplayHelp ∷ []
+unfolding clap_on_literals
+answers_check_short_help = refl
+
+answers_lint_help : fault_of rollout (codes "lint" ∷ codes "--help" ∷ []) ≡ DisplayHelp ∷ []
+unfolding clap_on_literals
+answers_lint_help = refl
+
+answers_lint_short_help : fault_of rollout (codes "lint" ∷ codes "-h" ∷ []) ≡ DisplayHelp ∷ []
+unfolding clap_on_literals
+answers_lint_short_help = refl
+
+answers_explain_help : fault_of rollout (codes "explain" ∷ codes "--help" ∷ []) ≡ DisplayHelp ∷ []
+unfolding clap_on_literals
+answers_explain_help = refl
+
+answers_explain_short_help : fault_of rollout (codes "explain" ∷ codes "-h" ∷ []) ≡ DisplayHelp ∷ []
+unfolding clap_on_literals
+answers_explain_short_help = refl
+
 -- the words are no request, where they are none of those that get one kind of answer
 no_request : (words : List Word) → ((request : List Word) (kind : ErrorKind) → fault_of rollout request ≡ kind ∷ [] → (kind ≡ DisplayHelp) ⊎ (kind ≡ DisplayVersion) → words ≢ request)
     → IsNoneOf words requests
-no_request words other = (other _ _ answers_help (inl refl), (other _ _ answers_short_help (inl refl), (other _ _ answers_version (inr refl), (other _ _ answers_short_version (inr refl), (other _ _ answers_limits_help (inl refl), (other _ _ answers_limits_short_help (inl refl), (other _ _ answers_plan_help (inl refl), (other _ _ answers_plan_short_help (inl refl), (other _ _ answers_run_help (inl refl), (other _ _ answers_run_short_help (inl refl), (other _ _ answers_rehearse_help (inl refl), (other _ _ answers_rehearse_short_help (inl refl), (other _ _ answers_state_help (inl refl), (other _ _ answers_state_short_help (inl refl), tt))))))))))))))
-
--- the words say no command that clap would have to take
-abbrev SayNothing : List Word → Type 0
-SayNothing words =
-    ((file : Word) → limits_file words ≢ Some file) × ((files : Word × Word) → plan_files words ≢ Some files)
-    × ((files : Word × Word) → rehearse_files words ≢ Some files) × ((files : Word × Word) → state_files words ≢ Some files) × ((run : Word × Word × ℕ) → run_request words ≢ Some run)
-
-no_line_by : (words : List Word) (file : Option Word) (files rehearsed told : Option (Word × Word)) (run : Option (Word × Word × ℕ)) → limits_file words ≡ file → plan_files words ≡ files
-    → rehearse_files words ≡ rehearsed → state_files words ≡ told → run_request words ≡ run → is_empty words ≡ false → SayNothing words → is_command words ≡ false
-no_line_by words None None None None None no_limits no_plan no_rehearsal no_state no_run some nothing = rw (some, no_limits, no_plan, no_rehearsal, no_state, no_run) refl
-no_line_by words None None None None (Some run) no_limits no_plan no_rehearsal no_state wanted some nothing = absurd (nothing.4 run wanted)
-no_line_by words None None None (Some files) run no_limits no_plan no_rehearsal wanted is some nothing = absurd (nothing.3 files wanted)
-no_line_by words None None (Some files) told run no_limits no_plan wanted state is some nothing = absurd (nothing.2 files wanted)
-no_line_by words None (Some files) rehearsed told run no_limits wanted rehearsal state is some nothing = absurd (nothing.1 files wanted)
-no_line_by words (Some file) files rehearsed told run wanted plan rehearsal state is some nothing = absurd (nothing.0 file wanted)
-
-no_line : (words : List Word) → is_empty words ≡ false → SayNothing words → is_command words ≡ false
-no_line words some nothing =
-    no_line_by words (limits_file words) (plan_files words) (rehearse_files words) (state_files words) (run_request words) refl refl refl refl refl some nothing
-
--- words that clap does not take say no command
-untaken : (words : List Word) → (takes rollout words ≡ true → ⊥) → SayNothing words
-untaken words never = (
-  λ file wanted. never (accepted words file wanted).taken,
-  λ files wanted. never (accepted_plan words files wanted).taken,
-  λ files wanted. never (accepted_rehearsal words files wanted).taken,
-  λ files wanted. never (accepted_state words files wanted).taken,
-  λ run wanted. never (accepted_run words run wanted).taken,
+no_request words other = (
+  other _ _ answers_help (inl refl),
+  (
+    other _ _ answers_short_help (inl refl),
+    (
+      other _ _ answers_version (inr refl),
+      (
+        other _ _ answers_short_version (inr refl),
+        (
+          other _ _ answers_limits_help (inl refl),
+          (
+            other _ _ answers_limits_short_help (inl refl),
+            (
+              other _ _ answers_plan_help (inl refl),
+              (
+                other _ _ answers_plan_short_help (inl refl),
+                (
+                  other _ _ answers_run_help (inl refl),
+                  (
+                    other _ _ answers_run_short_help (inl refl),
+                    (
+                      other _ _ answers_rehearse_help (inl refl),
+                      (
+                        other _ _ answers_rehearse_short_help (inl refl),
+                        (
+                          other _ _ answers_state_help (inl refl),
+                          (
+                            other _ _ answers_state_short_help (inl refl),
+                            (
+                              other _ _ answers_check_help (inl refl),
+                              (
+                                other _ _ answers_check_short_help (inl refl),
+                                (
+                                  other _ _ answers_lint_help (inl refl),
+                                  (
+                                    other _ _ answers_lint_short_help (inl refl),
+                                    (other _ _ answers_explain_help (inl refl), (other _ _ answers_explain_short_help (inl refl), tt)),
+                                  ),
+                                ),
+                              ),
+                            ),
+                          ),
+                        ),
+                      ),
+                    ),
+                  ),
+                ),
+              ),
+            ),
+          ),
+        ),
+      ),
+    ),
+  ),
 )
+
+-- the words ask for nothing that clap would have to take
+abbrev AskNothing : List Word → Type 0
+AskNothing words = (wanted : Asked) → asked_by words ≢ Some wanted
+
+no_line_by : (words : List Word) (wanted : Option Asked) → asked_by words ≡ wanted → is_empty words ≡ false → AskNothing words → is_command words ≡ false
+no_line_by words None is some nothing = rw (some, is) refl
+no_line_by words (Some wanted) is some nothing = absurd (nothing wanted is)
+
+no_line : (words : List Word) → is_empty words ≡ false → AskNothing words → is_command words ≡ false
+no_line words some nothing = no_line_by words (asked_by words) refl some nothing
+
+-- words that clap does not take ask for nothing
+untaken : (words : List Word) → (takes rollout words ≡ true → ⊥) → AskNothing words
+untaken words never wanted is = never (accepted words wanted is).taken
 
 -- clap's error is of the one kind that it has for these words
 kind_among : (words : List Word) (e : Error) (kind : ErrorKind) → kind ≢ OutOfMemory → HasKind (fault_of rollout words) e → kind_of e ≡ kind → IsAmong kind (fault_of rollout words)
@@ -167,26 +230,19 @@ requested words e (Ok (Plan inventory playbook)) some taken has answers = absurd
 requested words e (Ok (Run inventory playbook forks)) some taken has answers = absurd answers
 requested words e (Ok (Rehearse inventory playbook)) some taken has answers = absurd answers
 requested words e (Ok (State inventory journal)) some taken has answers = absurd answers
+requested words e (Ok (Check inventory playbook plan)) some taken has answers = absurd answers
+requested words e (Ok (Lint inventory playbook)) some taken has answers = absurd answers
+requested words e (Ok (Explain number)) some taken has answers = absurd answers
 requested words e (Ok (Print message)) some taken has answers = (
   no_line words some (untaken words (λ takes. is_no_memory e answers.1 (taken takes))),
   subst IsAskedFor (sym answers.0) answers.1,
   of_error words e message answers.0 (is_no_memory e answers.1) has,
 )
 
--- clap finds the files that the words say, so where it finds others the words are no command
-others_by : (words : List Word) (file : Option Word) (files rehearsed told : Option (Word × Word)) (run : Option (Word × Word × ℕ)) → limits_file words ≡ file → plan_files words ≡ files
-    → rehearse_files words ≡ rehearsed → state_files words ≡ told → run_request words ≡ run → is_empty words ≡ false → FindsOthers file files rehearsed told run (subcommand_of rollout words)
-    → is_command words ≡ false
-others_by words (Some file) files rehearsed told run wanted plan rehearsal state is some others = absurd (others (accepted words file wanted).read)
-others_by words None (Some files) rehearsed told run limits wanted rehearsal state is some others =
-    let read = accepted_plan words files wanted in absurd (others (read.inventory, read.playbook))
-others_by words None None (Some files) told run limits plan wanted state is some others =
-    let read = accepted_rehearsal words files wanted in absurd (others (read.inventory, read.playbook))
-others_by words None None None (Some files) run limits plan rehearsal wanted is some others =
-    let read = accepted_state words files wanted in absurd (others (read.inventory, read.journal))
-others_by words None None None None (Some run) limits plan rehearsal state wanted some others =
-    let read = accepted_run words run wanted in absurd (others ((read.inventory, read.playbook), read.forks))
-others_by words None None None None None limits plan rehearsal state is some others = rw (some, limits, plan, rehearsal, state, is) refl
+-- clap finds what the words ask for, so where it finds something else they ask for nothing
+others_by : (words : List Word) (wanted : Option Asked) → asked_by words ≡ wanted → is_empty words ≡ false → FindsOthers wanted (subcommand_of rollout words) → is_command words ≡ false
+others_by words (Some wanted) is some others = absurd (others (accepted words wanted is).found)
+others_by words None is some others = rw (some, is) refl
 
 -- words that clap took
 pub mismatched : (words : List Word) (fault : LineFault) → is_empty words ≡ false → fault_of rollout words ≡ []
@@ -194,7 +250,7 @@ pub mismatched : (words : List Word) (fault : LineFault) → is_empty words ≡ 
 mismatched words Memory some taken disagrees = some
 mismatched words (BadLine message) some taken disagrees = absurd disagrees
 mismatched words Unexplained some taken disagrees = (
-  others_by words (limits_file words) (plan_files words) (rehearse_files words) (state_files words) (run_request words) refl refl refl refl refl some disagrees,
+  others_by words (asked_by words) refl some disagrees,
   no_request words (λ request kind faults which is. let none : [] ≡ kind ∷ [] = sym taken ∙ ap (fault_of rollout) is ∙ faults in cc),
   taken,
 )

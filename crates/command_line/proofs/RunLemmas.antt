@@ -7,7 +7,7 @@ use Rattle.clap.specs.Words.{subcommand_of, takes}
 use Rattle.clap.specs.declared.builder.value_parser.ValueParser.TheVariants.{Unsigned}
 use Rattle.command_line.specs.Forks.{default_text, forks_in}
 use Rattle.command_line.specs.Operands.{Word, dashes, is_end, is_operand, lone_operand, two_operands}
-use Rattle.command_line.specs.Runs.{run_of, run_request, without_option}
+use Rattle.command_line.specs.Runs.{run_of, without_option}
 use Rattle.command_line.specs.Syntax.{file_in, forks_found, rollout}
 use Rattle.command_line.proofs.AcceptedLemmas.{IsValue, of_operands, of_two_operands, value_of_operand}
 use Rattle.command_line.proofs.RunLevel.{Passes, ReadsText, reads}
@@ -165,7 +165,8 @@ run_parts left run (Some files) (Some forks) at read wanted =
     let parts : (files.0, files.1, forks) ≡ run = cc in
     (ap (λ (r : Word × Word × ℕ). Some (r.0, r.1)) parts, ap (λ (r : Word × Word × ℕ). Some r.2) parts)
 
-run_behind : (words : List Word) (run : Word × Word × ℕ) → run_of (without_option words) ≡ Some run → ReadsRun (codes "run" ∷ words) run
+-- clap takes the words behind the command, and reads the same files and forks
+pub run_behind : (words : List Word) (run : Word × Word × ℕ) → run_of (without_option words) ≡ Some run → ReadsRun (codes "run" ∷ words) run
 run_behind words run wanted =
     let left = without_option words in
     let parts = run_parts left run (two_operands left.0) (forks_in (text_of left)) refl refl wanted in
@@ -176,13 +177,3 @@ run_behind words run wanted =
       playbook = read.playbook;
       forks = ap (option_and_then forks_in) read.forks ∙ parts.1;
     }
-
-run_by : (command : Word) (words : List Word) (run : Word × Word × ℕ) (named : Bool) → bytes_eq command (codes "run") ≡ named
-    → cond named (run_of (without_option words)) None ≡ Some run → ReadsRun (command ∷ words) run
-run_by command words run true at wanted = subst (λ w. ReadsRun (w ∷ words) run) (sym ((bytes_eq-Decides command (codes "run")).0 at)) (run_behind words run wanted)
-run_by command words run false at wanted = cc
-
--- clap takes the words that ask for a run, and reads the same files and forks
-pub accepted_run : (words : List Word) (run : Word × Word × ℕ) → run_request words ≡ Some run → ReadsRun words run
-accepted_run [] run wanted = cc
-accepted_run (command ∷ words) run wanted = run_by command words run (bytes_eq command (codes "run")) refl wanted

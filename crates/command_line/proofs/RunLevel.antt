@@ -14,7 +14,7 @@ use Rattle.clap.specs.declared.builder.value_parser.ValueParser.TheVariants.{Str
 use Rattle.clap.specs.declared.builder.value_parser.ValueParser.TheVariants as parsers
 use Rattle.clap.proofs.OnLiterals.{clap_on_literals}
 use Rattle.clap.proofs.WalkLemmas.{walk_stopped}
-use Rattle.command_line.specs.Syntax.{argument_of, file_in, forks_argument, inventory_argument, limits_command, plan_command, playbook_argument, rehearse_command, rollout, run_command_by, state_command, text_in}
+use Rattle.command_line.specs.Syntax.{argument_of, check_command, explain_command, file_in, forks_argument, inventory_argument, limits_command, lint_command, plan_command, playbook_argument, rehearse_command, rollout, run_command_by, state_command, text_in}
 use Rattle.command_line.specs.OptionNames.{has_value}
 use Rattle.command_line.specs.OptionsOf.{options_of}
 use Rattle.command_line.specs.declared.option_name.OptionName.{OptionName}
@@ -31,7 +31,7 @@ pub record ReadsText (app : App) (words : List Word) (first second text : Word) 
 abbrev pub program : ValueParser → App
 program parser = record rollout {
   subs = limits_command.top ∷ plan_command.top
-      ∷ (run_command_by (record forks_argument { parser = Some parser })).top ∷ rehearse_command.top ∷ state_command.top ∷ [];
+      ∷ (run_command_by (record forks_argument { parser = Some parser })).top ∷ rehearse_command.top ∷ state_command.top ∷ check_command.top ∷ lint_command.top ∷ explain_command.top ∷ [];
 }
 
 abbrev with_one_value : Rule → Rule

@@ -1,4 +1,5 @@
 pub mod Answers
+pub mod Asked
 pub mod Faults
 pub mod Forks
 pub mod Messages

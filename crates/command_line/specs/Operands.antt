@@ -40,6 +40,20 @@ two_operands [] = None
 two_operands (first ∷ rest) =
     if bytes_eq first dashes then two_words rest else (if is_operand first then operand_and first rest else None)
 
+abbrev pub three_words : List Word → Option (Word × Word × Word)
+three_words (first ∷ second ∷ third ∷ []) = Some (first, second, third)
+three_words words = None
+
+-- a first operand with the two operands of the other words
+abbrev pub operand_and_two : Word → List Word → Option (Word × Word × Word)
+operand_and_two first rest = option_map (λ others. (first, others.0, others.1)) (two_operands rest)
+
+-- the three operands of the words, where there are just three
+abbrev pub three_operands : List Word → Option (Word × Word × Word)
+three_operands [] = None
+three_operands (first ∷ rest) =
+    if bytes_eq first dashes then three_words rest else (if is_operand first then operand_and_two first rest else None)
+
 -- no words, or the one that ends options
 abbrev pub is_end : List Word → Bool
 is_end [] = true

@@ -32,8 +32,3 @@ no_operand left = if is_end left.0 then Some left.1 else None
 abbrev pub run_of : List Word × Option Word → Option (Word × Word × ℕ)
 run_of left = option_and_then (λ found. option_map (λ forks. (found.0, found.1, forks)) (forks_in (unwrap_or found.2 default_text)))
     (two_and_value left)
-
--- the inventory's and the playbook's file of which the words ask a run, and its forks
-abbrev pub run_request : List Word → Option (Word × Word × ℕ)
-run_request [] = None
-run_request (command ∷ words) = if bytes_eq command (codes "run") then run_of (without_option words) else None

@@ -73,14 +73,37 @@ journal_argument = record (new_rule (codes "JOURNAL")) { required = true }
 abbrev pub state_command : App
 state_command = with_options (with_rule (with_rule (new_app (codes "state")) inventory_argument) journal_argument) (options_of (codes "state"))
 
+-- the argument for the playbook's file that need not be there
+abbrev pub any_playbook_argument : Rule
+any_playbook_argument = new_rule (codes "PLAY")
+
+-- the argument for the plan's file
+abbrev pub plan_argument : Rule
+plan_argument = record (new_rule (codes "PLAN")) { required = true }
+
+-- the argument for the number of a fault
+abbrev pub number_argument : Rule
+number_argument = record (new_rule (codes "NUMBER")) { required = true }
+
+abbrev pub check_command : App
+check_command = with_rule (with_rule (with_rule (new_app (codes "check")) inventory_argument) playbook_argument) plan_argument
+
+abbrev pub lint_command : App
+lint_command = with_options (with_rule (with_rule (new_app (codes "lint")) inventory_argument) any_playbook_argument) (options_of (codes "lint"))
+
+abbrev pub explain_command : App
+explain_command = with_rule (new_app (codes "explain")) number_argument
+
 abbrev settings : Shape → Shape
 settings shape = record shape { has_version = true; no_binary_name = true; subcommand_required = true }
 
 abbrev pub rollout : App
-rollout = with_subcommand
+rollout = with_subcommand (with_subcommand (with_subcommand
+    (with_subcommand
     (with_subcommand (with_subcommand (with_subcommand (with_subcommand (on_top settings (new_app (codes "rollout"))) limits_command.top) plan_command.top) run_command.top)
     rehearse_command.top)
-    state_command.top
+    state_command.top)
+    check_command.top) lint_command.top) explain_command.top
 
 -- the file that a parse found for an argument of a command
 abbrev pub file_in : Text → Text → Option (Text × List Row) → Option Text

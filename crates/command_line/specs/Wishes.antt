@@ -4,7 +4,7 @@ use Rattle.std.specs.List.{last_or, list_all, list_any}
 use Rattle.std.specs.Option.{option_or}
 use Rattle.std.specs.Str.{bytes_eq}
 use Rattle.command_line.specs.declared.option_name.OptionName.{OptionName}
-use Rattle.command_line.specs.declared.option_name.OptionName.TheVariants.{ChangedInputs, Color, Course, Failing, From, Groups, Journal, Lock, Mended, Picture, Quiet, Resume, StopFile, Strict, Verbose}
+use Rattle.command_line.specs.declared.option_name.OptionName.TheVariants.{Allow, ChangedInputs, Color, Course, Expect, Failing, From, Groups, Journal, Lock, Mended, Picture, Quiet, Resume, StopFile, Strict, Verbose, Words}
 use Rattle.command_line.specs.declared.wishes.Wishes as declared
 use Rattle.command_line.specs.Operands.{Word}
 use Rattle.command_line.specs.OptionNames.{is_same}
@@ -44,6 +44,14 @@ begins_from given = has Resume given || has From given
 abbrev pub tells_groups : List Given → Bool
 tells_groups given = has Groups given || has Picture given
 
+-- more is asked of a plan, or of the table of limits, than how things stand at the start
+abbrev pub tells_beyond : List Given → Bool
+tells_beyond given = has Course given || (tells_groups given || has From given)
+
+-- nothing else is asked of a plan than its words; when tables are coloured may be said of any plan
+abbrev pub stand_alone : List Given → Bool
+stand_alone given = not (tells_beyond given) && not (has Expect given)
+
 -- when tables are coloured: at a terminal, always, or never
 abbrev pub is_when : Word → Bool
 is_when word = bytes_eq word (codes "auto") || bytes_eq word (codes "always") || bytes_eq word (codes "never")
@@ -60,14 +68,17 @@ abbrev goes_with : Bool → Bool → Bool
 goes_with given holds = not given || holds
 
 -- these options go together: failing hosts with a course; a run that goes on is kept where it was; and where nothing begins from a journal or tells of one, no inputs are others than its own,
--- and of a run alone hosts are up by now. What begins from a journal has no table of its groups and no picture.
+-- and of a run alone hosts are up by now. What begins from a journal has no table of its groups and no picture. Numbers are expected of the table of limits
+-- and of the plan at the start, and words are told in place of all else.
 abbrev pub go_together : Word → List Given → Bool
 go_together command given =
     goes_with (has Failing given) (has Course given)
     && (goes_with (has Journal given) (not (has Resume given))
     && (goes_with (has ChangedInputs given) (begins_from given || bytes_eq command (codes "state"))
     && (goes_with (has Mended given) (begins_from given || bytes_eq command (codes "run"))
-    && (goes_with (has From given) (not (tells_groups given)) && are_colours given))))
+    && (goes_with (has From given) (not (tells_groups given))
+    && (goes_with (has Expect given) (not (tells_beyond given))
+    && (goes_with (has Words given) (stand_alone given) && are_colours given))))))
 
 -- the words are taken as they are where their options don't go together: they are no line then
 abbrev pub kept : Bool → List Word → Reading → Reading
@@ -89,7 +100,8 @@ given_in (command ∷ words) = (reading_of command words).given
 
 -- what is asked for beside a line: to tell of itself, or nothing; to refuse; to hold the lock; the file that ends a run; the new one in which it is kept; the journal from which a run
 -- goes on, or a plan, a rehearsal or limits begin; the hosts that are up by now, a comma behind each name; whether the inputs may be others than those of that journal; the names of the
--- hosts that fail in the course, where it is asked for; the table of groups, and when that is coloured; and the file of the picture
+-- hosts that fail in the course, where it is asked for; the table of groups, and when that is coloured; the file of the picture; the words of the steps; what is expected, a
+-- comma behind each list; and the kinds of notes that are allowed, likewise
 pub record Wish : Type 0 where
   pub verbose : Bool
   pub quiet : Bool
@@ -104,6 +116,9 @@ pub record Wish : Type 0 where
   pub groups : Bool
   pub color : Option Word
   pub picture : Option Word
+  pub words : Bool
+  pub expected : Option Word
+  pub allowed : Word
 
 abbrev pub wish_of : List Given → Wish
 wish_of given = record {
@@ -120,6 +135,9 @@ wish_of given = record {
   groups = has Groups given;
   color = last_value Color given;
   picture = last_value Picture given;
+  words = has Words given;
+  expected = if has Expect given then Some (joined_values Expect given) else None;
+  allowed = joined_values Allow given;
 }
 
 -- what the words of a line ask for beside it
@@ -142,4 +160,7 @@ wish_as wishes = record {
   groups = wishes.is_grouped;
   color = option_map string_bytes wishes.color;
   picture = option_map string_bytes wishes.picture;
+  words = wishes.tells_words;
+  expected = option_map string_bytes wishes.expected;
+  allowed = string_bytes wishes.allowed;
 }

@@ -14,6 +14,10 @@ pub(crate) const PLAYBOOK: &str = "PLAY";
 
 pub(crate) const JOURNAL: &str = "JOURNAL";
 
+pub(crate) const PLAN: &str = "PLAN";
+
+pub(crate) const NUMBER: &str = "NUMBER";
+
 pub(crate) const FORKS: &str = "forks";
 
 const INVENTORY_HELP: &str =
@@ -23,6 +27,10 @@ const PLAYBOOK_HELP: &str =
     "The playbook: a file of JSON that lists plays with their hosts and tasks";
 
 const JOURNAL_HELP: &str = "The journal: what a run has written of itself";
+
+const PLAN_HELP: &str = "The plan: a file with a batch a line, as rollout plan prints it";
+
+const NUMBER_HELP: &str = "The number of a fault";
 
 const FORKS_HELP: &str = "How many hosts are worked on at once, 1 to 64";
 
@@ -47,6 +55,28 @@ pub(crate) fn journal<'a>(alloc: Global) -> Arg<'a>
     ensures local { result.global ≡ false }
 {
     Arg::new(alloc, JOURNAL).required(true).help(JOURNAL_HELP)
+}
+
+/// The playbook's file, which need not be there.
+pub(crate) fn any_playbook<'a>(alloc: Global) -> Arg<'a>
+    ensures rule { rule_of result ≡ spec.any_playbook_argument }
+    ensures local { result.global ≡ false }
+{
+    Arg::new(alloc, PLAYBOOK).help(PLAYBOOK_HELP)
+}
+
+pub(crate) fn plan<'a>(alloc: Global) -> Arg<'a>
+    ensures rule { rule_of result ≡ spec.plan_argument }
+    ensures local { result.global ≡ false }
+{
+    Arg::new(alloc, PLAN).required(true).help(PLAN_HELP)
+}
+
+pub(crate) fn number<'a>(alloc: Global) -> Arg<'a>
+    ensures rule { rule_of result ≡ spec.number_argument }
+    ensures local { result.global ≡ false }
+{
+    Arg::new(alloc, NUMBER).required(true).help(NUMBER_HELP)
 }
 
 pub(crate) fn forks<'a>(alloc: Global) -> Arg<'a>

@@ -31,6 +31,21 @@ pub enum Line {
         inventory: Source,
         journal: Source,
     },
+    /// Tells whether a text says a plan with which the playbook's first play begins.
+    Check {
+        inventory: Source,
+        playbook: Source,
+        plan: Source,
+    },
+    /// Prints what an inventory and a playbook say that is accepted and probably not meant.
+    Lint {
+        inventory: Source,
+        playbook: Option<Source>,
+    },
+    /// Prints what a fault means whose number is written so, and what to do.
+    Explain {
+        number: String,
+    },
     /// Prints this text: the help or the version.
     Print(Message),
 }

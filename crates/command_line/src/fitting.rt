@@ -27,6 +27,8 @@ pub(crate) const OF_PLAN: &[OptionName] = &[
     OptionName::Groups,
     OptionName::Color,
     OptionName::Picture,
+    OptionName::Words,
+    OptionName::Expect,
     OptionName::From,
     OptionName::Mended,
     OptionName::ChangedInputs,
@@ -41,12 +43,15 @@ pub(crate) const OF_REHEARSAL: &[OptionName] = &[
 ];
 
 pub(crate) const OF_LIMITS: &[OptionName] = &[
+    OptionName::Expect,
     OptionName::From,
     OptionName::Mended,
     OptionName::ChangedInputs,
 ];
 
 pub(crate) const OF_STATE: &[OptionName] = &[OptionName::ChangedInputs];
+
+pub(crate) const OF_LINT: &[OptionName] = &[OptionName::Allow];
 
 /// The options that a command has beside those that clap reads.
 pub(crate) fn options_of(command: &String) -> &'static [OptionName]
@@ -62,6 +67,8 @@ pub(crate) fn options_of(command: &String) -> &'static [OptionName]
         OF_LIMITS
     } else if is_word(command, "state") {
         OF_STATE
+    } else if is_word(command, "lint") {
+        OF_LINT
     } else {
         &[]
     }
@@ -85,6 +92,8 @@ pub(crate) fn go_together(command: &String, given: &[Given]) -> bool
         has(given, OptionName::Mended),
         from || is_word(command, "run"),
     ) && goes_with(has(given, OptionName::From), !tells_groups(given))
+        && goes_with(has(given, OptionName::Expect), !tells_beyond(given))
+        && goes_with(has(given, OptionName::Words), stand_alone(given))
         && are_colours(given)
 }
 
@@ -125,6 +134,20 @@ fn tells_groups(given: &[Given]) -> bool
     ensures { result ≡ spec.tells_groups (map given_as given.now) }
 {
     has(given, OptionName::Groups) || has(given, OptionName::Picture)
+}
+
+/// Whether more is asked of a plan, or of the table of limits, than how things stand at the start.
+fn tells_beyond(given: &[Given]) -> bool
+    ensures { result ≡ spec.tells_beyond (map given_as given.now) }
+{
+    has(given, OptionName::Course) || tells_groups(given) || has(given, OptionName::From)
+}
+
+/// Whether nothing else is asked of a plan than its words. When tables are coloured may be said of any plan.
+fn stand_alone(given: &[Given]) -> bool
+    ensures { result ≡ spec.stand_alone (map given_as given.now) }
+{
+    !tells_beyond(given) && !has(given, OptionName::Expect)
 }
 
 /// Whether an option that is given or not goes with what holds or not.

@@ -4,7 +4,7 @@ ghost use Rattle.std.specs.Option.{option_map};
 ghost use Rattle.clap.specs.Words.{subcommand_rows_of};
 ghost use Rattle.command_line.specs.Syntax as spec;
 
-use crate::arguments::{FORKS, INVENTORY, JOURNAL, PLAYBOOK};
+use crate::arguments::{FORKS, INVENTORY, JOURNAL, NUMBER, PLAN, PLAYBOOK};
 use crate::forks::Forks;
 use clap::ArgMatches;
 
@@ -69,6 +69,48 @@ pub(crate) fn run_playbook<'a>(matches: &ArgMatches<'a>) -> Option<&'a str>
     ensures { option_map (λ s. s.now) result ≡ spec.file_in (codes "run") (codes "PLAY") (subcommand_rows_of matches.now) }
 {
     matches.subcommand_matches("run")?.get_str(PLAYBOOK)
+}
+
+/// The inventory's file, where the command is `check`.
+pub(crate) fn check_inventory<'a>(matches: &ArgMatches<'a>) -> Option<&'a str>
+    ensures { option_map (λ s. s.now) result ≡ spec.file_in (codes "check") (codes "INV") (subcommand_rows_of matches.now) }
+{
+    matches.subcommand_matches("check")?.get_str(INVENTORY)
+}
+
+/// The playbook's file, where the command is `check`.
+pub(crate) fn check_playbook<'a>(matches: &ArgMatches<'a>) -> Option<&'a str>
+    ensures { option_map (λ s. s.now) result ≡ spec.file_in (codes "check") (codes "PLAY") (subcommand_rows_of matches.now) }
+{
+    matches.subcommand_matches("check")?.get_str(PLAYBOOK)
+}
+
+/// The plan's file, where the command is `check`.
+pub(crate) fn check_plan<'a>(matches: &ArgMatches<'a>) -> Option<&'a str>
+    ensures { option_map (λ s. s.now) result ≡ spec.file_in (codes "check") (codes "PLAN") (subcommand_rows_of matches.now) }
+{
+    matches.subcommand_matches("check")?.get_str(PLAN)
+}
+
+/// The inventory's file, where the command is `lint`.
+pub(crate) fn lint_inventory<'a>(matches: &ArgMatches<'a>) -> Option<&'a str>
+    ensures { option_map (λ s. s.now) result ≡ spec.file_in (codes "lint") (codes "INV") (subcommand_rows_of matches.now) }
+{
+    matches.subcommand_matches("lint")?.get_str(INVENTORY)
+}
+
+/// The playbook's file, where the command is `lint`.
+pub(crate) fn lint_playbook<'a>(matches: &ArgMatches<'a>) -> Option<&'a str>
+    ensures { option_map (λ s. s.now) result ≡ spec.file_in (codes "lint") (codes "PLAY") (subcommand_rows_of matches.now) }
+{
+    matches.subcommand_matches("lint")?.get_str(PLAYBOOK)
+}
+
+/// The number, where the command is `explain`.
+pub(crate) fn explain_number<'a>(matches: &ArgMatches<'a>) -> Option<&'a str>
+    ensures { option_map (λ s. s.now) result ≡ spec.file_in (codes "explain") (codes "NUMBER") (subcommand_rows_of matches.now) }
+{
+    matches.subcommand_matches("explain")?.get_str(NUMBER)
 }
 
 /// The forks, where the command is `run`.

@@ -2,12 +2,14 @@
 #![tactic(auto)]
 
 mod arguments;
+mod asked;
 pub mod command;
 mod fault;
 mod fitting;
 mod forks;
 mod found;
 mod given;
+mod making;
 mod message;
 mod option_help;
 mod option_name;

@@ -8,6 +8,8 @@ impl OptionName {
         match self {
             OptionName::Color => "WHEN",
             OptionName::Failing | OptionName::Mended => "HOSTS",
+            OptionName::Expect => "LIST",
+            OptionName::Allow => "NAMES",
             OptionName::From | OptionName::Resume => "JOURNAL",
             _ => "FILE",
         }
@@ -65,6 +67,13 @@ impl OptionName {
                 "Colours groups that are full: auto (at a terminal, unless NO_COLOR is set), always or never"
             }
             OptionName::Picture => "Writes the course as a picture, in SVG, into this file",
+            OptionName::Words => {
+                "Prints in its place which words each step would run on which host"
+            }
+            OptionName::Expect => {
+                "Ends with status 1 where a number isn't as this list says: NAME=NUMBER or NAME<=NUMBER, parted by commas"
+            }
+            OptionName::Allow => "These kinds of notes, parted by commas, are not told",
             OptionName::Strict => "Ends with status 1 where a command was refused",
             OptionName::Verbose => {
                 "Tells on standard error which hosts of the play are down already, and left out"

@@ -8,9 +8,11 @@ use crate::words::is_word;
 /// An option of a command. It may stand anywhere before the word that ends options, and more than once.
 #[derive(Clone, Copy, Debug)]
 pub(crate) enum OptionName {
+    Allow,
     ChangedInputs,
     Color,
     Course,
+    Expect,
     Failing,
     From,
     Groups,
@@ -23,6 +25,7 @@ pub(crate) enum OptionName {
     StopFile,
     Strict,
     Verbose,
+    Words,
 }
 
 impl OptionName {
@@ -31,9 +34,11 @@ impl OptionName {
         ensures { result.now ≡ spec.text_of self }
     {
         match self {
+            OptionName::Allow => "--allow",
             OptionName::ChangedInputs => "--changed-inputs",
             OptionName::Color => "--color",
             OptionName::Course => "--course",
+            OptionName::Expect => "--expect",
             OptionName::Failing => "--failing",
             OptionName::From => "--from",
             OptionName::Groups => "--groups",
@@ -46,6 +51,7 @@ impl OptionName {
             OptionName::StopFile => "--stop-file",
             OptionName::Strict => "--strict",
             OptionName::Verbose => "--verbose",
+            OptionName::Words => "--words",
         }
     }
 
@@ -61,7 +67,9 @@ impl OptionName {
         ensures { result ≡ spec.has_value self }
     {
         match self {
-            OptionName::Color
+            OptionName::Allow
+            | OptionName::Color
+            | OptionName::Expect
             | OptionName::Failing
             | OptionName::From
             | OptionName::Journal
@@ -75,7 +83,8 @@ impl OptionName {
             | OptionName::Lock
             | OptionName::Quiet
             | OptionName::Strict
-            | OptionName::Verbose => false,
+            | OptionName::Verbose
+            | OptionName::Words => false,
         }
     }
 

@@ -9,18 +9,8 @@ use crate::option_words::leading_value;
 use crate::words;
 use crate::words::{is_operand, is_word};
 
-/// The inventory's and the playbook's file of which the words ask a run, and its forks.
-pub(crate) fn run_request(words: &[String]) -> Option<(&str, &str, Forks)>
-    ensures { option_map (λ run. (run.0.now, run.1.now, run.2)) result ≡ spec.run_request (map string_bytes words.now) }
-{
-    match words {
-        [command, rest @ ..] if is_word(command, "run") => run_of(rest),
-        _ => None,
-    }
-}
-
-/// The two files that the words name, and the forks.
-fn run_of(words: &[String]) -> Option<(&str, &str, Forks)>
+/// The inventory's and the playbook's file that the words of a run name, and its forks.
+pub(crate) fn run_of(words: &[String]) -> Option<(&str, &str, Forks)>
     ensures { option_map (λ run. (run.0.now, run.1.now, run.2)) result ≡ spec.run_of (spec.without_option (map string_bytes words.now)) }
 {
     let (inventory, playbook, value) = two_operands(words)?;

@@ -4,8 +4,9 @@ ghost use Rattle.clap.specs.Words.{FailsBy, app_of, fault_of, kind_of, subcomman
 ghost use Rattle.clap.specs.declared.builder.command.Command.TheViews.{out-Command as fields_of};
 ghost use Rattle.command_line.specs.Syntax as spec;
 
-use crate::arguments::{forks, inventory, journal, option, playbook};
-use crate::fitting::{OF_LIMITS, OF_PLAN, OF_REHEARSAL, OF_RUN, OF_STATE};
+use crate::arguments;
+use crate::arguments::{any_playbook, forks, inventory, journal, number, option, playbook};
+use crate::fitting::{OF_LIMITS, OF_LINT, OF_PLAN, OF_REHEARSAL, OF_RUN, OF_STATE};
 use crate::option_name::OptionName;
 use clap::error::ErrorKind;
 use clap::{ArgMatches, Command, Error};
@@ -48,7 +49,10 @@ fn rollout<'a>(alloc: Global) -> Result<Command<'a>, AllocError>
         .subcommand(plan(alloc)?)?
         .subcommand(run(alloc)?)?
         .subcommand(rehearse(alloc)?)?
-        .subcommand(state(alloc)?)
+        .subcommand(state(alloc)?)?
+        .subcommand(check(alloc)?)?
+        .subcommand(lint(alloc)?)?
+        .subcommand(explain(alloc)?)
 }
 
 /// The command with this option, which stands in its help alone.
@@ -141,6 +145,37 @@ fn state<'a>(alloc: Global) -> Result<Command<'a>, AllocError>
         .arg(inventory(alloc))?
         .arg(journal(alloc))?;
     with_options(alloc, bare, OF_STATE, false)
+}
+
+fn check<'a>(alloc: Global) -> Result<Command<'a>, AllocError>
+    ensures app { IfOk result (λ c. app_of c ≡ spec.check_command) }
+    ensures local { IfOk result (λ c. (fields_of c).has_globals ≡ false) }
+{
+    Command::new(alloc, "check")
+        .about("Tells whether a text is a plan of a play, and how many batches the least one has")
+        .arg(inventory(alloc))?
+        .arg(playbook(alloc))?
+        .arg(arguments::plan(alloc))
+}
+
+fn lint<'a>(alloc: Global) -> Result<Command<'a>, AllocError>
+    ensures app { IfOk result (λ c. app_of c ≡ spec.lint_command) }
+    ensures local { IfOk result (λ c. (fields_of c).has_globals ≡ false) }
+{
+    let bare = Command::new(alloc, "lint")
+        .about("Prints what is accepted and probably not meant, one note a line")
+        .arg(inventory(alloc))?
+        .arg(any_playbook(alloc))?;
+    with_options(alloc, bare, OF_LINT, false)
+}
+
+fn explain<'a>(alloc: Global) -> Result<Command<'a>, AllocError>
+    ensures app { IfOk result (λ c. app_of c ≡ spec.explain_command) }
+    ensures local { IfOk result (λ c. (fields_of c).has_globals ≡ false) }
+{
+    Command::new(alloc, "explain")
+        .about("Prints what the fault of this number means, with an example, and what to do")
+        .arg(number(alloc))
 }
 
 /// What clap reads of the words.

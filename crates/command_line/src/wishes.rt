@@ -39,6 +39,12 @@ pub struct Wishes {
     pub color: Option<String>,
     /// The file into which the course of a plan is drawn.
     pub picture: Option<String>,
+    /// Whether a plan is asked for the words of its steps.
+    pub tells_words: bool,
+    /// Where numbers are expected of the table of limits or of a plan, their lists, a comma behind each.
+    pub expected: Option<String>,
+    /// The kinds of notes that are not told, a comma behind each list of them.
+    pub allowed: String,
 }
 
 impl Wishes {
@@ -60,6 +66,9 @@ impl Wishes {
             is_grouped: false,
             color: None,
             picture: None,
+            tells_words: false,
+            expected: None,
+            allowed: String::new(alloc),
         }
     }
 }
@@ -82,7 +91,26 @@ pub(crate) fn wishes_of(alloc: Global, given: &[Given]) -> Result<Wishes, AllocE
         is_grouped: has(given, OptionName::Groups),
         color: last(alloc, given, OptionName::Color)?,
         picture: last(alloc, given, OptionName::Picture)?,
+        tells_words: has(given, OptionName::Words),
+        expected: joined_if_given(alloc, given, OptionName::Expect)?,
+        allowed: joined(alloc, given, OptionName::Allow)?,
     })
+}
+
+/// The values of the option in one text, a comma behind each, if it was given.
+fn joined_if_given(
+    alloc: Global,
+    given: &[Given],
+    option: OptionName,
+) -> Result<Option<String>, AllocError>
+    ensures { IfOk result (λ text. option_map string_bytes text
+        ≡ (if spec.has option (map given_as given.now) then Some (spec.joined_values option (map given_as given.now)) else None)) }
+{
+    if has(given, option) {
+        Ok(Some(joined(alloc, given, option)?))
+    } else {
+        Ok(None)
+    }
 }
 
 /// The journal from which what is asked for begins.

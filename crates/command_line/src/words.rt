@@ -1,49 +1,8 @@
 //! The words of a line, read as they stand.
-ghost use Rattle.std.specs.Prelude.{◌≡◌, map, string_bytes, codes};
+ghost use Rattle.std.specs.Prelude.{◌≡◌, map, string_bytes};
 ghost use Rattle.std.specs.Option.{option_map};
 ghost use Rattle.std.specs.Str.{bytes_eq};
 ghost use Rattle.command_line.specs.Operands as operands;
-ghost use Rattle.command_line.specs.Words as spec;
-
-/// The file of which the words ask the limits.
-pub(crate) fn limits_file(words: &[String]) -> Option<&str>
-    ensures { option_map (λ s. s.now) result ≡ spec.limits_file (map string_bytes words.now) }
-{
-    match words {
-        [command, operands @ ..] if is_word(command, "limits") => lone_operand(operands),
-        _ => None,
-    }
-}
-
-/// The inventory's and the playbook's file of which the words ask the plan.
-pub(crate) fn plan_files(words: &[String]) -> Option<(&str, &str)>
-    ensures { option_map (λ files. (files.0.now, files.1.now)) result ≡ spec.plan_files (map string_bytes words.now) }
-{
-    match words {
-        [command, operands @ ..] if is_word(command, "plan") => two_operands(operands),
-        _ => None,
-    }
-}
-
-/// The inventory's and the playbook's file of which the words ask a rehearsal.
-pub(crate) fn rehearse_files(words: &[String]) -> Option<(&str, &str)>
-    ensures { option_map (λ files. (files.0.now, files.1.now)) result ≡ spec.rehearse_files (map string_bytes words.now) }
-{
-    match words {
-        [command, operands @ ..] if is_word(command, "rehearse") => two_operands(operands),
-        _ => None,
-    }
-}
-
-/// The inventory's and the journal's file of which the words ask where a run stands.
-pub(crate) fn state_files(words: &[String]) -> Option<(&str, &str)>
-    ensures { option_map (λ files. (files.0.now, files.1.now)) result ≡ spec.state_files (map string_bytes words.now) }
-{
-    match words {
-        [command, operands @ ..] if is_word(command, "state") => two_operands(operands),
-        _ => None,
-    }
-}
 
 /// The two operands of the words, where there are just two.
 pub(crate) fn two_operands(words: &[String]) -> Option<(&str, &str)>
@@ -72,6 +31,35 @@ fn operand_and<'a>(first: &'a String, rest: &'a [String]) -> Option<(&'a str, &'
 {
     let second = lone_operand(rest)?;
     Some((first.as_str(), second))
+}
+
+/// The three operands of the words, where there are just three.
+pub(crate) fn three_operands(words: &[String]) -> Option<(&str, &str, &str)>
+    ensures { option_map (λ found. (found.0.now, found.1.now, found.2.now)) result ≡ operands.three_operands (map string_bytes words.now) }
+{
+    match words {
+        [first, rest @ ..] if is_word(first, "--") => three_words(rest),
+        [first, rest @ ..] if is_operand(first) => operand_and_two(first, rest),
+        _ => None,
+    }
+}
+
+/// The three words that these are.
+fn three_words(words: &[String]) -> Option<(&str, &str, &str)>
+    ensures { option_map (λ found. (found.0.now, found.1.now, found.2.now)) result ≡ operands.three_words (map string_bytes words.now) }
+{
+    match words {
+        [first, second, third] => Some((first.as_str(), second.as_str(), third.as_str())),
+        _ => None,
+    }
+}
+
+/// A first operand with the two operands of the other words.
+fn operand_and_two<'a>(first: &'a String, rest: &'a [String]) -> Option<(&'a str, &'a str, &'a str)>
+    ensures { option_map (λ found. (found.0.now, found.1.now, found.2.now)) result ≡ operands.operand_and_two (string_bytes first.now) (map string_bytes rest.now) }
+{
+    let (second, third) = two_operands(rest)?;
+    Some((first.as_str(), second, third))
 }
 
 /// The only word that there is.

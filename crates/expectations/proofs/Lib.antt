@@ -1,1 +1,2 @@
 pub mod UnmetLemmas
+pub mod ExpectingLemmas

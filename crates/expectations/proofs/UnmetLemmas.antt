@@ -1,5 +1,5 @@
 -- Expectations, one after the other, and what ends a name.
-use Rattle.std.proofs.Common.{◌≡◌, ℕ, ◌+◌, ◌-◌, ◌≤◌, ◌<◌, ◌++◌, Bool, true, false, not, cond, Option, None, Some}
+use Rattle.std.proofs.Common.{◌≡◌, ℕ, ◌+◌, ◌-◌, ◌≤◌, ◌<◌, ◌++◌, Bool, true, false, not, cond, eqb, Option, None, Some}
 use Rattle.std.proofs.Common.{List, [], ◌∷◌, length, get_or, take, drop, map, refl, sym, ap, ◌∙◌, arith, append_assoc, append-nil}
 use Rattle.std.specs.Prelude.{is_some, option_and_then, option_map}
 use Rattle.std.specs.List.{find}
@@ -25,18 +25,22 @@ module _ (facts : Name → Option ℕ) (xs : List Expectation) (i : ℕ) (x d : 
   pub unmet_later : is_met x (facts x.name) ≡ true → first_unmet facts (drop i xs) ≡ first_unmet facts (drop (i + 1) xs)
   unmet_later e = ap (first_unmet facts) left_here ∙ ap told e
 
--- bytes that don't end in `<`
-pub not_below : (bytes : List ℕ) → ((front : List ℕ) → bytes ≡ front ++ 60 ∷ [] → ⊥) → ends_below bytes ≡ false
-not_below [] other = refl
-not_below (b ∷ bs) other = false_from_ne_true (ends_below (b ∷ bs)) ends
+-- bytes that don't end in this byte
+pub not_ending : (byte : ℕ) → eqb 0 byte ≡ false → (bytes : List ℕ) → ((front : List ℕ) → bytes ≡ front ++ byte ∷ [] → ⊥) → eqb (get_or bytes (length bytes - 1) 0) byte ≡ false
+not_ending byte some [] other = some
+not_ending byte some (b ∷ bs) other = false_from_ne_true (eqb (get_or (b ∷ bs) (length (b ∷ bs) - 1) 0) byte) ends
   where
-    ends : ends_below (b ∷ bs) ≡ true → ⊥
+    ends : eqb (get_or (b ∷ bs) (length (b ∷ bs) - 1) 0) byte ≡ true → ⊥
     ends e =
         let bytes : List ℕ = b ∷ bs in
-        let last : get_or bytes (length bytes - 1) 0 ≡ 60 = eqb-true (get_or bytes (length bytes - 1) 0) 60 e in
+        let last : get_or bytes (length bytes - 1) 0 ≡ byte = eqb-true (get_or bytes (length bytes - 1) 0) byte e in
         let whole : take (length bytes - 1 + 1) bytes ≡ bytes = take_all (length bytes - 1 + 1) bytes (omega arith) in
         other (take (length bytes - 1) bytes)
         (sym whole ∙ take_more bytes (length bytes - 1) 0 (omega arith) ∙ ap (λ n. take (length bytes - 1) bytes ++ n ∷ []) last)
+
+-- bytes that don't end in `<`
+pub not_below : (bytes : List ℕ) → ((front : List ℕ) → bytes ≡ front ++ 60 ∷ [] → ⊥) → ends_below bytes ≡ false
+not_below = not_ending 60 refl
 
 -- what is read so far stands before what is left
 abbrev pub IsReadTo : List ℕ → List Expectation → List ℕ → Type 0

@@ -41,7 +41,7 @@ fn read_part(part: &str) -> Option<Expectation<'_>>
     with_front(front, number_in_digits(digits, 5, 65535)?)
 }
 
-/// The expectations that a text lists, in their order: parts `NAME=NUMBER` and `NAME<=NUMBER`, with commas between. It is refused where some part is something else or there is none;
+/// The expectations that a text lists, in their order: parts `NAME=NUMBER` and `NAME<=NUMBER`, with commas or colons between. It is refused where some part is something else or there is none;
 /// otherwise only want of memory refuses it.
 pub fn read_expectations(alloc: Global, text: &str) -> Result<Vec<Expectation<'_>>, ListFault>
     ensures ok { IfOk result (λ expectations. expectations_in text.now ≡ Some (all_shown expectations.items)) }

@@ -1,4 +1,4 @@
-//! Whether a plan from elsewhere is one, and a least one, or the first thing that is wrong with it. No command asks for it yet.
+//! Whether a plan from elsewhere is one, and a least one, or the first thing that is wrong with it.
 #![tactic(auto)]
 
 mod batches;

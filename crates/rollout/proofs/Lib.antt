@@ -8,3 +8,4 @@ mod Starting
 pub mod States
 pub mod Outlooks
 pub mod PlainNames
+pub mod OverTexts

@@ -3,7 +3,7 @@ use Rattle.std.specs.Prelude.{ℕ, ◌&&◌, ◌||◌, ◌==◌, not, nat_lt, if
 use Rattle.command_line.specs.Messages as messages
 use Rattle.command_line.specs.declared.fault.LineFault.TheVariants as line_fault
 use Rattle.rollout.specs.declared.fault.Fault.{Fault}
-use Rattle.rollout.specs.declared.fault.Fault.TheVariants.{Line, Input, Read, Fleet, Playbook, Pattern, Mixed, LongLine, JournalThere, JournalWrite, ChildrenIgnored, Stopped, Locked, BadJournal, OtherInputs, NeedsResult, Write, Memory}
+use Rattle.rollout.specs.declared.fault.Fault.TheVariants.{Line, Input, Read, Fleet, Playbook, Pattern, Mixed, LongLine, JournalThere, JournalWrite, ChildrenIgnored, Stopped, Locked, BadJournal, OtherInputs, NeedsResult, BadPlan, Unexpected, BadList, Write, Memory}
 
 -- a byte of a text in which words of somebody else stand: a control character but for the line feed and the tabulator is a question mark
 abbrev pub told : ℕ → ℕ
@@ -36,5 +36,8 @@ explanation_of Locked = []
 explanation_of (BadJournal line) = []
 explanation_of OtherInputs = []
 explanation_of (NeedsResult name) = []
+explanation_of (BadPlan line) = []
+explanation_of (Unexpected found) = []
+explanation_of (BadList list) = []
 explanation_of (Write fault) = []
 explanation_of Memory = []

@@ -15,6 +15,9 @@ use Rattle.domains.specs.declared.fault.FleetFault.{FleetFault}
 use Rattle.domains.specs.declared.fault.FleetFault.TheVariants as fleet_fault
 use Rattle.domains.specs.declared.pattern_fault.PatternFault.{PatternFault}
 use Rattle.domains.specs.declared.pattern_fault.PatternFault.TheVariants as pattern_fault
+use Rattle.expectations.specs.declared.expectation.Relation.{Relation}
+use Rattle.expectations.specs.declared.expectation.Relation.TheVariants.{Equal, AtMost}
+use Rattle.expectations.specs.declared.unexpected.Unexpected as declared_unexpected
 use Rattle.inventory_read.specs.Faults as read
 use Rattle.inventory_read.specs.declared.fault.ReadFault.{ReadFault}
 use Rattle.inventory_read.specs.declared.fault.ReadFault.TheVariants as read_fault
@@ -26,7 +29,7 @@ use Rattle.play_rules.specs.declared.key.ConditionKey.{ConditionKey}
 use Rattle.recap.specs.Printable.{printed}
 use Rattle.rollout.specs.FaultLines.{Row, ShownDetail}
 use Rattle.rollout.specs.declared.fault.Fault.{Fault}
-use Rattle.rollout.specs.declared.fault.Fault.TheVariants.{Line, Input, Read, Fleet, Playbook, Pattern, Mixed, LongLine, JournalThere, JournalWrite, ChildrenIgnored, Stopped, Locked, BadJournal, OtherInputs, NeedsResult, Write, Memory}
+use Rattle.rollout.specs.declared.fault.Fault.TheVariants.{Line, Input, Read, Fleet, Playbook, Pattern, Mixed, LongLine, JournalThere, JournalWrite, ChildrenIgnored, Stopped, Locked, BadJournal, OtherInputs, NeedsResult, BadPlan, Unexpected, BadList, Write, Memory}
 
 abbrev row : List ℕ → List ShownDetail → Row
 row name details = record { name = name; details = details }
@@ -118,6 +121,20 @@ playbook_row (play_fault.BadCondition play step key fault) = cond_row play step 
 playbook_row (play_fault.BadBraces play step) = braces_row play step
 playbook_row play_fault.Memory = no_row
 
+-- what is expected of the number
+abbrev pub relation_key : Relation → List ℕ
+relation_key Equal = codes "expected"
+relation_key AtMost = codes "most"
+
+-- the number that stands there, if one does
+abbrev pub found_detail : Option ℕ → ShownDetail
+found_detail None = text (codes "found") (codes "none")
+found_detail (Some found) = number (codes "found") found
+
+abbrev pub unexpected_row : declared_unexpected.Unexpected → Row
+unexpected_row unexpected =
+    row (codes "Unexpected") (text (codes "name") (string_bytes unexpected.name) ∷ number (relation_key unexpected.relation) unexpected.number ∷ found_detail unexpected.found ∷ [])
+
 abbrev pub number_of : Fault → Option ℕ
 number_of (Line fault) = line.number_of fault
 number_of (Input source fault) = input.number_of fault
@@ -135,6 +152,9 @@ number_of Locked = Some 918
 number_of (BadJournal line) = Some 912
 number_of OtherInputs = Some 913
 number_of (NeedsResult name) = Some 914
+number_of (BadPlan line) = Some 908
+number_of (Unexpected found) = Some 907
+number_of (BadList list) = Some 909
 number_of (Write fault) = Some 904
 number_of Memory = None
 
@@ -155,5 +175,8 @@ row_of Locked = row (codes "Locked") []
 row_of (BadJournal line) = row (codes "BadJournal") (number (codes "line") line ∷ [])
 row_of OtherInputs = row (codes "OtherInputs") []
 row_of (NeedsResult name) = name_row (codes "NeedsResult") (string_bytes name)
+row_of (BadPlan line) = row (codes "BadPlan") (number (codes "line") line ∷ [])
+row_of (Unexpected found) = unexpected_row found
+row_of (BadList list) = name_row (codes "BadList") (string_bytes list)
 row_of (Write fault) = row (codes "Write") (number (codes "written") fault.written ∷ [])
 row_of Memory = no_row

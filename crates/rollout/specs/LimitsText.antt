@@ -13,7 +13,7 @@ use Rattle.domains.specs.FleetViews.{FleetView}
 use Rattle.domains.specs.Fleets.{IsFleetOf}
 use Rattle.recap.specs.LimitsTable.{limits_table}
 use Rattle.rollout.specs.declared.fault.Fault.{Fault}
-use Rattle.rollout.specs.declared.fault.Fault.TheVariants.{Line, Input, Read, Fleet, Playbook, Pattern, Mixed, LongLine, JournalThere, JournalWrite, ChildrenIgnored, Stopped, Locked, BadJournal, OtherInputs, NeedsResult, Write, Memory}
+use Rattle.rollout.specs.declared.fault.Fault.TheVariants.{Line, Input, Read, Fleet, Playbook, Pattern, Mixed, LongLine, JournalThere, JournalWrite, ChildrenIgnored, Stopped, Locked, BadJournal, OtherInputs, NeedsResult, BadPlan, Unexpected, BadList, Write, Memory}
 
 -- the text says this inventory, which has no more hosts than a fleet may have; its limited groups lie inside each other
 -- wherever they share a host, and none has more hosts down than its limit when a run starts
@@ -59,6 +59,9 @@ IsTrueFault text old new Locked = ⊥
 IsTrueFault text old new (BadJournal line) = ⊥
 IsTrueFault text old new OtherInputs = ⊥
 IsTrueFault text old new (NeedsResult name) = ⊥
+IsTrueFault text old new (BadPlan line) = ⊥
+IsTrueFault text old new (Unexpected found) = ⊥
+IsTrueFault text old new (BadList list) = ⊥
 IsTrueFault text old new (Line fault) = ⊥
 IsTrueFault text old new (Input source fault) = ⊥
 
@@ -86,5 +89,8 @@ IsUnread text Locked = ⊥
 IsUnread text (BadJournal line) = ⊥
 IsUnread text OtherInputs = ⊥
 IsUnread text (NeedsResult name) = ⊥
+IsUnread text (BadPlan line) = ⊥
+IsUnread text (Unexpected found) = ⊥
+IsUnread text (BadList list) = ⊥
 IsUnread text (Line fault) = ⊥
 IsUnread text (Input source fault) = ⊥

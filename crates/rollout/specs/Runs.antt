@@ -1,5 +1,5 @@
 -- What a run of the program does, from the words that the system gives to the exit status.
-use Rattle.std.specs.Prelude.{◌≡◌, ◌≢◌, ◌⊎◌, ℕ, Bool, List, [], ◌∷◌, Option, None, Some, Result, Err, drop, is_some}
+use Rattle.std.specs.Prelude.{◌≡◌, ◌≢◌, ◌⊎◌, ℕ, Bool, true, false, List, [], ◌∷◌, Option, None, Some, Result, Err, drop, is_some, string_bytes}
 use Rattle.std.specs.declared.io.ErrorKind.{ErrorKind}
 use Rattle.std.specs.declared.io.ErrorKind.TheVariants.{OutOfMemory}
 use Rattle.std.specs.Io.KnownBytes.{Keeps}
@@ -9,15 +9,19 @@ use Rattle.command_line.specs.Wishes.{Wish, plain, wished}
 use Rattle.command_line.specs.Words as words
 use Rattle.command_line.specs.declared.command.Line as declared_line
 use Rattle.command_line.specs.declared.command.Source.{Source}
-use Rattle.command_line.specs.declared.command.Line.TheVariants.{Limits, Plan, Run, Rehearse, State, Print}
+use Rattle.command_line.specs.declared.command.Line.TheVariants.{Limits, Plan, Run, Rehearse, State, Check, Lint, Explain, Print}
 use Rattle.command_line.specs.declared.fault.LineFault.{LineFault}
 use Rattle.command_line.specs.declared.fault.LineFault.TheVariants as line_fault
 use Rattle.host_track.specs.Endings.{Ending}
 use Rattle.event_log.specs.Events.{Event}
 use Rattle.event_log.specs.Told.{Work}
+use Rattle.rollout.specs.Checks.{Checks}
 use Rattle.rollout.specs.Commands.{TabulatesLimits, Prints}
 use Rattle.rollout.specs.Endings.{Reports, status_of}
+use Rattle.rollout.specs.Expecting.{ExpectsPlan, ExpectsTable}
+use Rattle.rollout.specs.Notes.{Lints}
 use Rattle.rollout.specs.Outlooks.{PlansRest, RehearsesFrom, TabulatesStanding}
+use Rattle.rollout.specs.Pages.{Explains}
 use Rattle.rollout.specs.Pictures.{PlansDrawn}
 use Rattle.rollout.specs.Rehearsals.{RehearsesInputs}
 use Rattle.rollout.specs.Resumes.{AreSafeAgain, AreSafeMended, RollsBy, resume_wish}
@@ -25,20 +29,38 @@ use Rattle.rollout.specs.Rolls.{AreSafeFrom}
 use Rattle.rollout.specs.StateTexts.{TellsState}
 use Rattle.rollout.specs.Status.{code_of}
 use Rattle.rollout.specs.Systems.{Fails, Sources, Gives, Known}
+use Rattle.rollout.specs.WordTexts.{TellsWords}
 use Rattle.rollout.specs.declared.fault.Fault.{Fault}
 use Rattle.rollout.specs.declared.fault.Fault.TheVariants.{Line, Memory}
 use Rattle.rollout.specs.declared.status.Status.{Status}
 
+-- the command `limits` at the start; numbers may be expected of its table
+abbrev pub TabulatesAtStart : Option (List ℕ) → Sources → Source → Option (List ℕ) → Option (List ℕ) → Option (List ℕ) → Option (List ℕ) → Result Status Fault → Type 0
+TabulatesAtStart None sources inventory input_old input_new out_old out_new result = TabulatesLimits sources inventory input_old input_new out_old out_new result
+TabulatesAtStart (Some list) sources inventory input_old input_new out_old out_new result = ExpectsTable list sources inventory input_old input_new out_old out_new result
+
 -- the command `limits`, at the start or where the run of a journal stands
 abbrev pub TabulatesBy : Option (List ℕ) → Wish → Sources → Source → Option (List ℕ) → Option (List ℕ) → Option (List ℕ) → Option (List ℕ) → Result Status Fault → Type 0
-TabulatesBy None wish sources inventory input_old input_new out_old out_new result = TabulatesLimits sources inventory input_old input_new out_old out_new result
+TabulatesBy None wish sources inventory input_old input_new out_old out_new result = TabulatesAtStart wish.expected sources inventory input_old input_new out_old out_new result
 TabulatesBy (Some journal) wish sources inventory input_old input_new out_old out_new result =
     TabulatesStanding sources inventory (resume_wish journal wish) input_old input_new out_old out_new result
+
+-- the command `plan` from the start; numbers may be expected of the plan
+abbrev pub PlansAtStart : Option (List ℕ) → Wish → Sources → Source → Source → Option (List ℕ) → Option (List ℕ) → Option (List ℕ) → Option (List ℕ) → Result Status Fault → Type 0
+PlansAtStart None wish sources inventory playbook input_old input_new out_old out_new result =
+    PlansDrawn wish.picture wish.groups wish.color wish.course sources inventory playbook input_old input_new out_old out_new result
+PlansAtStart (Some list) wish sources inventory playbook input_old input_new out_old out_new result = ExpectsPlan list sources inventory playbook input_old input_new out_old out_new result
+
+-- the words of the steps, where it is asked for them
+abbrev pub PlansOrTellsWords : Bool → Wish → Sources → Source → Source → Option (List ℕ) → Option (List ℕ) → Option (List ℕ) → Option (List ℕ) → Result Status Fault → Type 0
+PlansOrTellsWords true wish sources inventory playbook input_old input_new out_old out_new result = TellsWords sources inventory playbook input_old input_new out_old out_new result
+PlansOrTellsWords false wish sources inventory playbook input_old input_new out_old out_new result =
+    PlansAtStart wish.expected wish sources inventory playbook input_old input_new out_old out_new result
 
 -- the command `plan`, from the start or from where the run of a journal would go on
 abbrev pub PlansFrom : Option (List ℕ) → Wish → Sources → Source → Source → Option (List ℕ) → Option (List ℕ) → Option (List ℕ) → Option (List ℕ) → Result Status Fault → Type 0
 PlansFrom None wish sources inventory playbook input_old input_new out_old out_new result =
-    PlansDrawn wish.picture wish.groups wish.color wish.course sources inventory playbook input_old input_new out_old out_new result
+    PlansOrTellsWords wish.words wish sources inventory playbook input_old input_new out_old out_new result
 PlansFrom (Some journal) wish sources inventory playbook input_old input_new out_old out_new result =
     PlansRest wish.course sources inventory playbook (resume_wish journal wish) input_old input_new out_old out_new result
 
@@ -60,6 +82,12 @@ Does may asks wish sources (Rehearse inventory playbook) input_old input_new out
     RehearsesBy wish.from wish sources inventory playbook input_old input_new out_old out_new result × (logs ≡ [])
 Does may asks wish sources (State inventory journal) input_old input_new out_old out_new result logs =
     TellsState wish.others sources inventory journal input_old input_new out_old out_new result × (logs ≡ [])
+Does may asks wish sources (Check inventory playbook plan) input_old input_new out_old out_new result logs =
+    Checks sources inventory playbook plan input_old input_new out_old out_new result × (logs ≡ [])
+Does may asks wish sources (Lint inventory playbook) input_old input_new out_old out_new result logs =
+    Lints wish.allowed sources inventory playbook input_old input_new out_old out_new result × (logs ≡ [])
+Does may asks wish sources (Explain number) input_old input_new out_old out_new result logs =
+    Keeps input_old input_new × Explains (string_bytes number) out_old out_new result × (logs ≡ [])
 Does may asks wish sources (Print message) input_old input_new out_old out_new result logs =
     Keeps input_old input_new × Prints (messages.text_of message) out_old out_new result × (logs ≡ [])
 

@@ -6,6 +6,12 @@ use Rattle.running.specs.declared.end.RunEnd.{RunEnd}
 use Rattle.running.specs.declared.end.RunEnd.TheVariants as run_ends
 use Rattle.rehearsing.specs.declared.course_end.CourseEnd.{CourseEnd}
 use Rattle.rehearsing.specs.declared.course_end.CourseEnd.TheVariants as course_ends
+use Rattle.plan_check.specs.declared.end.CheckEnd.{CheckEnd}
+use Rattle.plan_check.specs.declared.end.CheckEnd.TheVariants as check_ends
+use Rattle.step_words.specs.declared.end.WordsEnd.{WordsEnd}
+use Rattle.step_words.specs.declared.end.WordsEnd.TheVariants as words_ends
+use Rattle.lint_notes.specs.declared.end.LintEnd.{LintEnd}
+use Rattle.lint_notes.specs.declared.end.LintEnd.TheVariants as lint_ends
 use Rattle.rollout.specs.declared.status.Status.{Status}
 use Rattle.rollout.specs.declared.status.Status.TheVariants.{Done, Refused, Failed, Blocked, Stopped, Memory, BrokenOff}
 
@@ -36,3 +42,19 @@ status_of_course course_ends.Done = Done
 status_of_course course_ends.Failed = Failed
 status_of_course course_ends.Blocked = Blocked
 status_of_course course_ends.Stopped = Stopped
+
+-- a plan that is checked may be longer than the least, or none, or there is none
+abbrev pub status_of_check : CheckEnd → Status
+status_of_check check_ends.Least = Done
+status_of_check check_ends.Longer = Failed
+status_of_check check_ends.Wrong = Refused
+status_of_check check_ends.Blocked = Blocked
+
+-- words of which some step is sure to fail, or is too long, are told as a run would be
+abbrev pub status_of_words : WordsEnd → Status
+status_of_words words_ends.Sure = Done
+status_of_words words_ends.Fails = Failed
+
+abbrev pub status_of_notes : LintEnd → Status
+status_of_notes lint_ends.Clean = Done
+status_of_notes lint_ends.Noted = Refused

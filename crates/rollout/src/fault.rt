@@ -6,10 +6,12 @@ ghost use Rattle.rollout.specs.RehearsalFaults.{input_of_commands};
 use bounded_io::{InputFault, WriteFault};
 use command_line::{LineFault, Source};
 use domains::{FleetFault, PatternFault};
+use expectations::{ExpectFault, Unexpected};
 use fork_pool::StepFault;
 use inventory_read::ReadFault;
 use journal::JournalFault;
 use outlook::{OutlookFault, RestFault};
+use plan_check::CheckFault;
 use planning::PlanFault;
 use play_rules::PlayFault;
 use rehearsing::RehearseFault;
@@ -53,6 +55,12 @@ pub enum Fault {
     NeedsResult { name: String },
     /// Another run that is kept goes on with the same inventory.
     Locked,
+    /// A text is no plan: this line, counted from 1, is none of one.
+    BadPlan { line: usize },
+    /// All was printed, and a number isn't as expected.
+    Unexpected(Unexpected),
+    /// The value of an option is no list of what the option lists.
+    BadList { list: String },
     /// An output broke off.
     Write(WriteFault),
     Memory,
@@ -80,6 +88,9 @@ impl Fault {
             Fault::BadJournal { line: _ } => Some(912),
             Fault::OtherInputs => Some(913),
             Fault::NeedsResult { name: _ } => Some(914),
+            Fault::BadPlan { line: _ } => Some(908),
+            Fault::Unexpected(_) => Some(907),
+            Fault::BadList { list: _ } => Some(909),
             Fault::Write(fault) => Some(fault.number()),
             Fault::Memory => None,
         }
@@ -132,6 +143,35 @@ impl From<PlanFault> for Fault {
             PlanFault::Playbook(fault) => Fault::Playbook(fault),
             PlanFault::Pattern(fault) => Fault::Pattern(fault),
             PlanFault::Write(fault) => Fault::Write(fault),
+        }
+    }
+}
+
+impl From<CheckFault> for Fault {
+    ghost use Rattle.std.specs.Prelude.{◌≡◌};
+    ghost use Rattle.rollout.specs.PlanFaults.{fault_of_check};
+
+    ghost from_gives = { λ check fault. fault ≡ fault_of_check check };
+
+    fn from(fault: CheckFault) -> Fault {
+        match fault {
+            CheckFault::Plan(fault) => Fault::from(fault),
+            CheckFault::BadPlan { line } => Fault::BadPlan { line },
+        }
+    }
+}
+
+impl From<ExpectFault> for Fault {
+    ghost use Rattle.std.specs.Prelude.{◌≡◌};
+    ghost use Rattle.rollout.specs.PlanFaults.{fault_of_expecting};
+
+    ghost from_gives = { λ expecting fault. fault ≡ fault_of_expecting expecting };
+
+    fn from(fault: ExpectFault) -> Fault {
+        match fault {
+            ExpectFault::Plan(fault) => Fault::from(fault),
+            ExpectFault::Unexpected(unexpected) => Fault::Unexpected(unexpected),
+            ExpectFault::Memory => Fault::Memory,
         }
     }
 }

@@ -14,6 +14,7 @@ use bounded_io::{InputFault, TextWriter};
 use command_line::{LineFault, Source};
 use cond::CondFault;
 use domains::{FleetFault, PatternFault};
+use expectations::{Relation, Unexpected};
 use inventory_read::ReadFault;
 use play_rules::{ConditionKey, PlayFault};
 use std::io::Write;
@@ -64,6 +65,9 @@ fn write_row<W: Write>(text: &mut TextWriter<'_, W>, fault: &Fault)
         Fault::BadJournal { line } => row(text, "BadJournal", &[Number("line", *line)]),
         Fault::OtherInputs => row(text, "OtherInputs", &[]),
         Fault::NeedsResult { name } => row(text, "NeedsResult", &[Text("name", name.as_str())]),
+        Fault::BadPlan { line } => row(text, "BadPlan", &[Number("line", *line as u64)]),
+        Fault::Unexpected(unexpected) => write_unexpected_row(text, unexpected),
+        Fault::BadList { list } => name_row(text, "BadList", list),
         Fault::Write(fault) => row(text, "Write", &[Number("written", fault.written)]),
         Fault::Memory => {}
     }
@@ -149,6 +153,40 @@ fn write_pattern_row<W: Write>(text: &mut TextWriter<'_, W>, fault: &PatternFaul
     match fault {
         PatternFault::NoSuchName { name } => name_row(text, "NoSuchName", name),
         PatternFault::Memory => {}
+    }
+}
+
+#[tactic(auto, using(bounded_io::proofs::Pieces::pieces_of_text))]
+fn write_unexpected_row<W: Write>(text: &mut TextWriter<'_, W>, unexpected: &Unexpected)
+    ensures { Writes W.contents text.old text.new (row_text (rows.unexpected_row unexpected.now)) }
+{
+    let name = Text("name", unexpected.name.as_str());
+    let number = Number(
+        relation_key(unexpected.relation),
+        u64::from(unexpected.number),
+    );
+    row(
+        text,
+        "Unexpected",
+        &[name, number, found_detail(unexpected.found)],
+    );
+}
+
+fn relation_key(relation: Relation) -> &'static str
+    ensures { result.now ≡ rows.relation_key relation }
+{
+    match relation {
+        Relation::Equal => "expected",
+        Relation::AtMost => "most",
+    }
+}
+
+fn found_detail<'d>(found: Option<usize>) -> Detail<'d>
+    ensures { shown result ≡ rows.found_detail found }
+{
+    match found {
+        Some(found) => Number("found", found as u64),
+        None => Text("found", "none"),
     }
 }
 

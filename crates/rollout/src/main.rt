@@ -12,10 +12,12 @@ mod fault;
 mod fault_line;
 mod folder;
 mod inputs;
+mod list;
 mod program;
 mod source;
 mod status;
 mod system;
+mod wished;
 mod words;
 
 use crate::awaited::tell_what_is_awaited;

@@ -2,25 +2,21 @@
 ghost use Rattle.std.specs.Prelude.{◌≡◌, map, string_bytes};
 ghost use Rattle.std.specs.Process.{exit_status};
 ghost use Rattle.roll_run.specs.Histories.{Gains};
-ghost use Rattle.rollout.specs.Resumes as model;
-ghost use Rattle.rollout.specs.Resumes.{BeginsBy, RollsBy};
 ghost use Rattle.command_line.specs.Wishes.{wish_as};
-ghost use Rattle.rollout.specs.Runs.{Attempts, Does, Performs, PlansFrom, RehearsesBy, Runs, StartsSafely, TabulatesBy};
+ghost use Rattle.rollout.specs.Runs.{Attempts, Does, Performs, Runs, StartsSafely};
 ghost use Rattle.rollout.specs.Systems.{sources_of};
 
 use crate::attendant::Attendant;
-use crate::commands::{
-    ResumeWish, StartWish, limits, limits_standing, plan_by, plan_rest, print, rehearse,
-    rehearse_rest, resume, roll, roll_mended, state,
-};
+use crate::commands::{check, explain, lint, print, state};
 use crate::ending::{conclude, exit_code};
 use crate::fault::Fault;
 use crate::status::Status;
 use crate::system::System;
+use crate::wished::{limits_by, plan_or_rest, rehearse_by, run_by};
 use crate::words::{words_fault, words_of};
 use bounded_io::Input;
 use command_line::command::Line;
-use command_line::{Forks, Request, Source, Wishes, request_of};
+use command_line::{Request, Wishes, request_of};
 use local_programs::Notes;
 use roll_core::{History, Runner, Watch};
 use roll_run::{Attend, Coordinator};
@@ -161,219 +157,13 @@ fn begin_telling<S: System, T: Tell>(system: &S, tell: &mut T, line: &Line, wish
     match line {
         Line::Run { .. } => tell.run_begins(system.seen(*is_verbose, *is_quiet, true)),
         Line::Plan { .. } => tell.run_begins(system.seen(*is_verbose, *is_quiet, false)),
-        Line::Limits { .. } | Line::Rehearse { .. } | Line::State { .. } | Line::Print(_) => {}
-    }
-}
-
-/// Does what a line of `run` asks for: a run goes on, or one begins.
-#[allow(clippy::too_many_arguments)]
-fn run_by<
-    S: System,
-    H: Threads + Wait + Processes<Started = SystemProcess> + Sync,
-    R: Runner,
-    A: Attend,
-    T: Watch,
-    I: Input,
-    O: Write,
->(
-    system: &S,
-    coordinator: &Coordinator<'_, H, A>,
-    runner: &R,
-    watch: &mut T,
-    inventory: Source,
-    playbook: Source,
-    forks: Forks,
-    wishes: &Wishes,
-    input: &mut I,
-    out: &mut O,
-    history: History,
-) -> (Result<Status, Fault>, History)
-    ensures { Gains history result.1 (RollsBy (R.may runner.now) (A.asks coordinator.now.attend.now) (wish_as wishes.now) (sources_of (S.files system.now) (I.is_reliable input.old)) inventory playbook forks
-        (I.remaining input.old) (I.remaining input.new) (O.contents out.old) (O.contents out.new) result.0) }
-{
-    match &wishes.from {
-        Some(journal) => resume(
-            system,
-            coordinator,
-            runner,
-            watch,
-            inventory,
-            playbook,
-            forks,
-            &resume_wish(journal, wishes),
-            input,
-            out,
-            history,
-        ),
-        None => begin_by(
-            system,
-            coordinator,
-            runner,
-            watch,
-            inventory,
-            playbook,
-            forks,
-            wishes,
-            input,
-            out,
-            history,
-        ),
-    }
-}
-
-/// Does what a line of `limits` asks for: the table at the start, or where the run of a journal stands.
-fn limits_by<S: System, I: Input, O: Write>(
-    system: &S,
-    alloc: Global,
-    inventory: Source,
-    wishes: &Wishes,
-    input: &mut I,
-    out: &mut O,
-) -> Result<Status, Fault>
-    ensures { TabulatesBy (wish_as wishes.now).from (wish_as wishes.now) (sources_of (S.files system.now) (I.is_reliable input.old)) inventory
-        (I.remaining input.old) (I.remaining input.new) (O.contents out.old) (O.contents out.new) result }
-{
-    match &wishes.from {
-        Some(journal) => {
-            let wish = resume_wish(journal, wishes);
-            limits_standing(system, alloc, inventory, wish, input, out)
-        }
-        None => limits(system, alloc, inventory, input, out),
-    }
-}
-
-/// Does what a line of `plan` asks for: from the start, or from where the run of a journal would go on.
-#[allow(clippy::too_many_arguments)]
-fn plan_or_rest<S: System, T: Watch, I: Input, O: Write>(
-    system: &S,
-    alloc: Global,
-    watch: &mut T,
-    inventory: Source,
-    playbook: Source,
-    wishes: &Wishes,
-    input: &mut I,
-    out: &mut O,
-) -> Result<Status, Fault>
-    ensures { PlansFrom (wish_as wishes.now).from (wish_as wishes.now) (sources_of (S.files system.now) (I.is_reliable input.old)) inventory playbook
-        (I.remaining input.old) (I.remaining input.new) (O.contents out.old) (O.contents out.new) result }
-{
-    match &wishes.from {
-        Some(journal) => plan_rest(
-            system,
-            alloc,
-            inventory,
-            playbook,
-            resume_wish(journal, wishes),
-            &wishes.course,
-            input,
-            out,
-        ),
-        None => plan_by(
-            system, alloc, watch, inventory, playbook, wishes, input, out,
-        ),
-    }
-}
-
-/// Does what a line of `rehearse` asks for: from the start, or from where the run of a journal would go on.
-fn rehearse_by<S: System, I: Input, O: Write>(
-    system: &S,
-    alloc: Global,
-    inventory: Source,
-    playbook: Source,
-    wishes: &Wishes,
-    input: &mut I,
-    out: &mut O,
-) -> Result<Status, Fault>
-    ensures { RehearsesBy (wish_as wishes.now).from (wish_as wishes.now) (sources_of (S.files system.now) (I.is_reliable input.old)) inventory playbook
-        (I.remaining input.old) (I.remaining input.new) (O.contents out.old) (O.contents out.new) result }
-{
-    let is_strict = wishes.is_strict;
-    match &wishes.from {
-        Some(journal) => {
-            let wish = resume_wish(journal, wishes);
-            rehearse_rest(
-                system, alloc, inventory, playbook, wish, is_strict, input, out,
-            )
-        }
-        None => rehearse(system, alloc, inventory, playbook, is_strict, input, out),
-    }
-}
-
-/// The run that is to go on, or from which something begins.
-fn resume_wish<'w>(journal: &'w String, wishes: &'w Wishes) -> ResumeWish<'w>
-    ensures { model.wished result ≡ model.resume_wish (string_bytes journal.now) (wish_as wishes.now) }
-{
-    ResumeWish {
-        journal: journal.as_str(),
-        mended: wishes.mended.as_str(),
-        takes_others: wishes.takes_others,
-    }
-}
-
-/// What a run is that begins, beside its inputs.
-fn start_wish(wishes: &Wishes) -> StartWish<'_> {
-    StartWish {
-        journal: &wishes.journal,
-        locks: wishes.locks,
-    }
-}
-
-/// Begins a run, as one that goes on where hosts are named that are up by now.
-#[allow(clippy::too_many_arguments)]
-fn begin_by<
-    S: System,
-    H: Threads + Wait + Processes<Started = SystemProcess> + Sync,
-    R: Runner,
-    A: Attend,
-    T: Watch,
-    I: Input,
-    O: Write,
->(
-    system: &S,
-    coordinator: &Coordinator<'_, H, A>,
-    runner: &R,
-    watch: &mut T,
-    inventory: Source,
-    playbook: Source,
-    forks: Forks,
-    wishes: &Wishes,
-    input: &mut I,
-    out: &mut O,
-    history: History,
-) -> (Result<Status, Fault>, History)
-    ensures { Gains history result.1 (BeginsBy (R.may runner.now) (A.asks coordinator.now.attend.now) (wish_as wishes.now).mended (sources_of (S.files system.now) (I.is_reliable input.old)) inventory playbook forks
-        (I.remaining input.old) (I.remaining input.new) (O.contents out.old) (O.contents out.new) result.0) }
-{
-    let mended = wishes.mended.as_str();
-    if mended.is_empty() {
-        roll(
-            system,
-            coordinator,
-            runner,
-            watch,
-            inventory,
-            playbook,
-            forks,
-            start_wish(wishes),
-            input,
-            out,
-            history,
-        )
-    } else {
-        roll_mended(
-            system,
-            coordinator,
-            runner,
-            watch,
-            inventory,
-            playbook,
-            forks,
-            start_wish(wishes),
-            mended,
-            input,
-            out,
-            history,
-        )
+        Line::Limits { .. }
+        | Line::Rehearse { .. }
+        | Line::State { .. }
+        | Line::Check { .. }
+        | Line::Lint { .. }
+        | Line::Explain { .. }
+        | Line::Print(_) => {}
     }
 }
 
@@ -452,6 +242,30 @@ fn follow<
             ),
             history,
         ),
+        Line::Check {
+            inventory,
+            playbook,
+            plan,
+        } => (
+            check(system, alloc, inventory, playbook, plan, input, out),
+            history,
+        ),
+        Line::Lint {
+            inventory,
+            playbook,
+        } => (
+            lint(
+                system,
+                alloc,
+                inventory,
+                playbook,
+                wishes.allowed.as_str(),
+                input,
+                out,
+            ),
+            history,
+        ),
+        Line::Explain { number } => (explain(number.as_str(), out), history),
         Line::Print(message) => (print(message.as_str(), out), history),
     }
 }

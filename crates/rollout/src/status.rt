@@ -2,18 +2,21 @@
 ghost use Rattle.std.specs.Prelude.{◌≡◌};
 ghost use Rattle.rollout.specs.Status.{code_of};
 
+use lint_notes::LintEnd;
+use plan_check::CheckEnd;
 use planning::End;
 use rehearsing::CourseEnd;
 use running::RunEnd;
+use step_words::WordsEnd;
 
 /// The end of the program, as its exit status tells it.
 #[derive(Clone, Copy, Debug, PartialEq, Eq)]
 pub enum Status {
     /// What was asked for was done.
     Done,
-    /// The line, an input or a write was refused.
+    /// The line, an input or a write was refused, a text that is checked is no plan, or there are notes.
     Refused,
-    /// A run came to its end, or would, and a host has failed.
+    /// A run came to its end, or would, and a host has failed; or a plan that is checked is longer than the least.
     Failed,
     /// Hosts wait in a group that has no room, or a run set hosts aside.
     Blocked,
@@ -67,6 +70,50 @@ impl From<RunEnd> for Status {
             RunEnd::Failed => Status::Failed,
             RunEnd::Blocked => Status::Blocked,
             RunEnd::Stopped => Status::Stopped,
+        }
+    }
+}
+
+impl From<CheckEnd> for Status {
+    ghost use Rattle.std.specs.Prelude.{◌≡◌};
+    ghost use Rattle.rollout.specs.Status.{status_of_check};
+
+    ghost from_gives = { λ end status. status ≡ status_of_check end };
+
+    fn from(end: CheckEnd) -> Status {
+        match end {
+            CheckEnd::Least => Status::Done,
+            CheckEnd::Longer => Status::Failed,
+            CheckEnd::Wrong => Status::Refused,
+            CheckEnd::Blocked => Status::Blocked,
+        }
+    }
+}
+
+impl From<WordsEnd> for Status {
+    ghost use Rattle.std.specs.Prelude.{◌≡◌};
+    ghost use Rattle.rollout.specs.Status.{status_of_words};
+
+    ghost from_gives = { λ end status. status ≡ status_of_words end };
+
+    fn from(end: WordsEnd) -> Status {
+        match end {
+            WordsEnd::Sure => Status::Done,
+            WordsEnd::Fails => Status::Failed,
+        }
+    }
+}
+
+impl From<LintEnd> for Status {
+    ghost use Rattle.std.specs.Prelude.{◌≡◌};
+    ghost use Rattle.rollout.specs.Status.{status_of_notes};
+
+    ghost from_gives = { λ end status. status ≡ status_of_notes end };
+
+    fn from(end: LintEnd) -> Status {
+        match end {
+            LintEnd::Clean => Status::Done,
+            LintEnd::Noted => Status::Refused,
         }
     }
 }

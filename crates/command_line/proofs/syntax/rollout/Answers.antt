@@ -30,5 +30,11 @@ returns c =
     let third = c.in_ok-subcommand-3.ensures.shape c.in_ok-run.ensures.local ∙ ap₂ with_subcommand second running in
     let rehearsing = ap (λ (app : App). app.top) c.in_ok-rehearse.ensures.app in
     let fourth = c.in_ok-subcommand-4.ensures.shape c.in_ok-rehearse.ensures.local ∙ ap₂ with_subcommand third rehearsing in
-    let last = ap (λ (app : App). app.top) c.in_ok-state.ensures.app in
-    IfOk-weaker c.subcommand-5.result _ _ (λ r h. h.shape c.in_ok-state.ensures.local ∙ ap₂ with_subcommand fourth last) c.subcommand-5.ensures
+    let standing = ap (λ (app : App). app.top) c.in_ok-state.ensures.app in
+    let fifth = c.in_ok-subcommand-5.ensures.shape c.in_ok-state.ensures.local ∙ ap₂ with_subcommand fourth standing in
+    let checking = ap (λ (app : App). app.top) c.in_ok-check.ensures.app in
+    let sixth = c.in_ok-subcommand-6.ensures.shape c.in_ok-check.ensures.local ∙ ap₂ with_subcommand fifth checking in
+    let noting = ap (λ (app : App). app.top) c.in_ok-lint.ensures.app in
+    let seventh = c.in_ok-subcommand-7.ensures.shape c.in_ok-lint.ensures.local ∙ ap₂ with_subcommand sixth noting in
+    let last = ap (λ (app : App). app.top) c.in_ok-explain.ensures.app in
+    IfOk-weaker c.subcommand-8.result _ _ (λ r h. h.shape c.in_ok-explain.ensures.local ∙ ap₂ with_subcommand seventh last) c.subcommand-8.ensures

@@ -5,5 +5,15 @@ use Rattle.rollout.proofs.program.follow.Goals as goal
 
 pub returns-in-Print : goal.returns-in-Print
 returns-in-Print g c =
-    let prints = rw c.as_str.ensures at c.print.ensures in
+    let prints = rw c.as_str-in-Print.ensures at c.print.ensures in
     gains_none c.args.history c.args.history refl (rw c.in-Print.is (Keeps-refl (g.I.Read.remaining c.args.input.now), prints, refl))
+
+pub returns-in-Lint : goal.returns-in-Lint
+returns-in-Lint g c =
+    let lints = rw c.as_str.ensures.value at c.lint.ensures in
+    gains_none c.args.history c.args.history refl (rw c.in-Lint.is (lints, refl))
+
+pub returns-in-Explain : goal.returns-in-Explain
+returns-in-Explain g c =
+    let explains = rw c.as_str-in-Explain.ensures.value at c.explain.ensures in
+    gains_none c.args.history c.args.history refl (rw c.in-Explain.is (Keeps-refl (g.I.Read.remaining c.args.input.now), explains, refl))

@@ -1,0 +1,68 @@
+-- The hosts that a play is for, and the variables that they have.
+use Rattle.std.specs.Prelude.{ℕ, ◌==◌, Bool, true, false, not, is_none, if◌then◌else◌, Option, None, Some, option_map, List, [], ◌∷◌, count_by, filter, length, slice_get, slice_index_or}
+use Rattle.std.specs.List.{find, list_any}
+use Rattle.group_tree.specs.Names.{Name}
+use Rattle.domains.specs.FleetViews.{FleetView}
+use Rattle.domains.specs.Numbered.{host_at}
+use Rattle.host_vars.specs.Layers.{HostView}
+use Rattle.play_model.specs.declared.play.Play.{Play}
+use Rattle.play_course.specs.PlayPlans.{targets}
+use Rattle.lint_notes.specs.Notes.{Note, no_hosts, down_hosts, unknown_name, missing_name}
+use Rattle.lint_notes.specs.declared.step_path.StepPath.{StepPath}
+
+abbrev pub is_off : FleetView → ℕ → Bool
+is_off fleet host = slice_index_or fleet.off host false
+
+-- the hosts of the play that are down at the start, and those that wait for it
+abbrev pub down_for : FleetView → Play → List ℕ
+down_for fleet play = filter (is_off fleet) (targets fleet play)
+
+abbrev pub waiting_for : FleetView → Play → List ℕ
+waiting_for fleet play = filter (λ host. not (is_off fleet host)) (targets fleet play)
+
+-- what is noted of the hosts of the play with this number: that nobody waits, or else that some are down
+abbrev pub hosts_note : FleetView → ℕ → List ℕ → List ℕ → Option Note
+hosts_note fleet number [] down = Some (no_hosts number)
+hosts_note fleet number (host ∷ waiting) [] = None
+hosts_note fleet number (host ∷ waiting) (first ∷ down) = Some (down_hosts number (length (first ∷ down)) (host_at fleet.hosts first))
+
+abbrev pub play_note : FleetView → ℕ → Play → Option Note
+play_note fleet number play = hosts_note fleet number (waiting_for fleet play) (down_for fleet play)
+
+-- there is no such host, or it has no variable of this name, its own or a group's
+abbrev pub has_none : Option HostView → Name → Bool
+has_none None name = true
+has_none (Some host) name = is_none (host.variable name)
+
+abbrev pub lacks_of : List HostView → Name → ℕ → Bool
+lacks_of hosts name host = has_none (slice_get hosts host) name
+
+-- the hosts that wait for a play, and which names each host lacks
+pub record Crowd : Type 0 where
+  pub fleet : FleetView
+  pub lacks : Name → ℕ → Bool
+  pub waiting : List ℕ
+
+abbrev pub crowd_for : FleetView → (Name → ℕ → Bool) → Play → Crowd
+crowd_for fleet lacks play = record { fleet = fleet; lacks = lacks; waiting = waiting_for fleet play }
+
+-- a waiting host has no variable of this name
+abbrev pub is_lacked : Crowd → Name → Bool
+is_lacked crowd name = list_any (crowd.lacks name) crowd.waiting
+
+-- how many they are, and which is the first
+abbrev pub lack_count : Crowd → Name → ℕ
+lack_count crowd name = count_by (crowd.lacks name) crowd.waiting
+
+abbrev pub first_lacking : Crowd → Name → Option ℕ
+first_lacking crowd name = find (crowd.lacks name) crowd.waiting
+
+-- none has the name, or this one and others don't
+abbrev pub lack_note : Crowd → StepPath → Name → ℕ → Note
+lack_note crowd at name first =
+    if lack_count crowd name == length crowd.waiting then unknown_name at name
+    else missing_name at name (lack_count crowd name) (length crowd.waiting) (host_at crowd.fleet.hosts first)
+
+-- what is noted of a name that a step reads: nothing where each waiting host has it
+abbrev pub name_note : Crowd → StepPath → Name → Option Note
+name_note crowd at name = option_map (lack_note crowd at name) (first_lacking crowd name)

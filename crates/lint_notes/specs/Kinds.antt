@@ -1,0 +1,34 @@
+-- The kinds of notes, and which of them aren't told.
+use Rattle.std.specs.Prelude.{ℕ, Bool, List, [], ◌∷◌, codes, map}
+use Rattle.std.specs.List.{list_all}
+use Rattle.group_tree.specs.Names.{Name, is_among}
+use Rattle.text_parts.specs.Patterns.{parts_of}
+use Rattle.lint_notes.specs.declared.kind.Kind.{Kind}
+use Rattle.lint_notes.specs.declared.kind.Kind.TheVariants.{ZeroLimit, EmptyLimit, NoHosts, DownHosts, UnknownName, MissingName, ShellWord, IdleHandler}
+
+-- the word with which the line of such a note begins, and by which it is switched off
+abbrev pub kind_name : Kind → Name
+kind_name ZeroLimit = codes "zero-limit"
+kind_name EmptyLimit = codes "empty-limit"
+kind_name NoHosts = codes "no-hosts"
+kind_name DownHosts = codes "down-hosts"
+kind_name UnknownName = codes "unknown-name"
+kind_name MissingName = codes "missing-name"
+kind_name ShellWord = codes "shell-word"
+kind_name IdleHandler = codes "idle-handler"
+
+abbrev pub all_kinds : List Kind
+all_kinds = ZeroLimit ∷ EmptyLimit ∷ NoHosts ∷ DownHosts ∷ UnknownName ∷ MissingName ∷ ShellWord ∷ IdleHandler ∷ []
+
+-- a kind has this name
+unfoldable pub is_kind_name : Name → Bool
+is_kind_name word = is_among word (map kind_name all_kinds)
+
+-- The text is made of names of kinds. They stand apart as the parts of a pattern of hosts do: a comma, or a colon, is between them, blanks round them don't
+-- count, and where nothing stands between two commas no name is missed.
+abbrev pub are_kind_names : List ℕ → Bool
+are_kind_names text = list_all is_kind_name (parts_of text)
+
+-- the text has the kind's name
+abbrev pub allows : List ℕ → Kind → Bool
+allows text kind = is_among (kind_name kind) (parts_of text)

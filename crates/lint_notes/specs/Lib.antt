@@ -1,0 +1,12 @@
+pub mod Kinds
+pub mod Notes
+pub mod NotesText
+pub mod Hosts
+pub mod NamesRead
+pub mod Steps
+pub mod Playbooks
+pub mod Groups
+pub mod AllNotes
+pub mod LintTexts
+pub mod Laws
+pub mod Inside

@@ -1,0 +1,77 @@
+-- What `lint` writes of the texts of an inventory and a playbook.
+use Rattle.std.specs.Prelude.{◌≡◌, ℕ, Option, List}
+use Rattle.std.specs.Io.KnownBytes.{Appends, Keeps}
+use Rattle.bounded_io.specs.Sending.{SendsFirst}
+use Rattle.group_tree.specs.Places.{Inventory}
+use Rattle.inventory_read.specs.Reads as inventories
+use Rattle.domains.specs.FleetViews.{FleetView}
+use Rattle.domains.specs.Fleets.{IsFleetOf}
+use Rattle.domains.specs.declared.pattern_fault.PatternFault.TheVariants.{NoSuchName, Memory}
+use Rattle.play_model.specs.declared.play.Play.{Play}
+use Rattle.planning.specs.PlanTexts as plans
+use Rattle.planning.specs.PlanTexts.{ArePlaysIn, IsFleetIn, IsUnread}
+use Rattle.planning.specs.declared.fault.PlanFault.{PlanFault}
+use Rattle.planning.specs.declared.fault.PlanFault.TheVariants.{Read, Fleet, Playbook, Pattern, Write}
+use Rattle.lint_notes.specs.Notes.{Note, told}
+use Rattle.lint_notes.specs.NotesText.{end_of, notes_text}
+use Rattle.lint_notes.specs.Groups.{groups_notes}
+use Rattle.lint_notes.specs.AllNotes.{AreNotesOf}
+use Rattle.lint_notes.specs.declared.end.LintEnd.{LintEnd}
+
+-- the notes on the inventory and the playbook that the texts say
+pub record AreNotesIn (inventory playbook : List ℕ) (notes : List Note) : Type 0 where
+  pub says : Inventory
+  pub fleet : FleetView
+  pub plays : List Play
+  pub reads : inventories.IsReadAs inventory says
+  pub built : IsFleetOf says fleet
+  pub are : ArePlaysIn fleet playbook plays
+  pub notes_are : AreNotesOf says fleet plays notes
+
+-- the notes on the inventory alone
+pub record AreFleetNotesIn (inventory : List ℕ) (notes : List Note) : Type 0 where
+  pub fleet : FleetView
+  pub built : IsFleetIn inventory fleet
+  pub notes_are : notes ≡ groups_notes fleet
+
+-- the text of those of these notes that the text of kinds doesn't switch off, and the end with them
+pub record IsTextOf (AreNotes : List Note → Type 0) (allowed text : List ℕ) (end : LintEnd) : Type 0 where
+  pub notes : List Note
+  pub are : AreNotes notes
+  pub text_is : text ≡ notes_text (told allowed notes)
+  pub ends : end ≡ end_of (told allowed notes)
+
+-- that text went out, and nothing else
+pub record WritesNotes (AreNotes : List Note → Type 0) (allowed : List ℕ) (old new : Option (List ℕ)) (end : LintEnd) : Type 0 where
+  pub text : List ℕ
+  pub is : IsTextOf AreNotes allowed text end
+  pub written : Appends old new text
+
+-- it broke off after so many bytes
+pub record BreaksNotes (AreNotes : List Note → Type 0) (allowed : List ℕ) (old new : Option (List ℕ)) (count : ℕ) : Type 0 where
+  pub text : List ℕ
+  pub end : LintEnd
+  pub is : IsTextOf AreNotes allowed text end
+  pub written : SendsFirst old new text count
+
+-- what the fault says is true: the texts are refused as a plan refuses them, and nothing went out; or the text broke off where the fault says
+abbrev pub IsTrueFault : List ℕ → List ℕ → List ℕ → Option (List ℕ) → Option (List ℕ) → PlanFault → Type 0
+IsTrueFault inventory playbook allowed old new (Write fault) = BreaksNotes (AreNotesIn inventory playbook) allowed old new fault.written
+IsTrueFault inventory playbook allowed old new (Read fault) = plans.IsTrueFault inventory playbook old new (Read fault)
+IsTrueFault inventory playbook allowed old new (Fleet fault) = plans.IsTrueFault inventory playbook old new (Fleet fault)
+IsTrueFault inventory playbook allowed old new (Playbook fault) = plans.IsTrueFault inventory playbook old new (Playbook fault)
+IsTrueFault inventory playbook allowed old new (Pattern fault) = plans.IsTrueFault inventory playbook old new (Pattern fault)
+
+-- the inventory is accepted
+pub record IsAccepted (inventory : List ℕ) : Type 0 where
+  pub fleet : FleetView
+  pub built : IsFleetIn inventory fleet
+
+-- The same of an inventory alone. Want of memory for its notes is told as that for a pattern.
+abbrev pub IsTrueFleetFault : List ℕ → List ℕ → Option (List ℕ) → Option (List ℕ) → PlanFault → Type 0
+IsTrueFleetFault inventory allowed old new (Write fault) = BreaksNotes (AreFleetNotesIn inventory) allowed old new fault.written
+IsTrueFleetFault inventory allowed old new (Read fault) = IsUnread inventory (Read fault) × Keeps old new
+IsTrueFleetFault inventory allowed old new (Fleet fault) = IsUnread inventory (Fleet fault) × Keeps old new
+IsTrueFleetFault inventory allowed old new (Playbook fault) = ⊥
+IsTrueFleetFault inventory allowed old new (Pattern (NoSuchName name)) = ⊥
+IsTrueFleetFault inventory allowed old new (Pattern Memory) = IsAccepted inventory × Keeps old new

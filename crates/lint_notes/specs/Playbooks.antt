@@ -1,0 +1,36 @@
+-- What is noted of the plays of a playbook.
+use Rattle.std.specs.Prelude.{ℕ, ◌+◌, Bool, ◌||◌, List, [], ◌∷◌, ◌++◌, take}
+use Rattle.group_tree.specs.Names.{Name}
+use Rattle.domains.specs.FleetViews.{FleetView}
+use Rattle.play_model.specs.declared.play.Play.{Play}
+use Rattle.play_model.specs.declared.step.Step.{Step}
+use Rattle.needed_results.specs.Registers.{is_registered_by, is_registered_in}
+use Rattle.lint_notes.specs.Notes.{Note, noted}
+use Rattle.lint_notes.specs.Hosts.{Crowd, crowd_for, play_note}
+use Rattle.lint_notes.specs.Steps.{notes_at, path_of}
+
+-- what is noted of each element, one behind the other; each is told its place, and the list begins at this one
+abbrev pub all_noted : {X : Type 0} → (ℕ → X → List Note) → ℕ → List X → List Note
+all_noted notes place [] = []
+all_noted notes place (x ∷ xs) = notes place x ++ all_noted notes (place + 1) xs
+
+-- a step of an earlier play registers the name, or one of this play that stands before the place
+abbrev pub is_set_at : (Name → Bool) → Play → ℕ → Name → Bool
+is_set_at is_earlier play place name = is_earlier name || is_registered_by (take place play.steps.items) name
+
+abbrev pub step_notes : (Name → Bool) → Crowd → ℕ → Play → ℕ → Step → List Note
+step_notes is_earlier crowd number play place step =
+    notes_at (is_set_at is_earlier play place) crowd play (path_of number play place) step
+
+-- the notes on its tasks and then its handlers
+abbrev pub steps_notes : (Name → Bool) → Crowd → ℕ → Play → List Note
+steps_notes is_earlier crowd number play = all_noted (step_notes is_earlier crowd number play) 0 play.steps.items
+
+-- the note on its hosts, and those on its steps; notes count plays from 1, and paths from 0
+abbrev pub play_notes : FleetView → (Name → ℕ → Bool) → (Name → Bool) → ℕ → Play → List Note
+play_notes fleet lacks is_earlier number play =
+    noted (play_note fleet (number + 1) play) ++ steps_notes is_earlier (crowd_for fleet lacks play) number play
+
+-- the notes on each play behind those before it
+abbrev pub plays_notes : FleetView → (Name → ℕ → Bool) → List Play → List Note
+plays_notes fleet lacks plays = all_noted (λ number play. play_notes fleet lacks (is_registered_in (take number plays)) number play) 0 plays

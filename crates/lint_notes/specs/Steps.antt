@@ -1,0 +1,47 @@
+-- What is noted of a step.
+use Rattle.std.specs.Prelude.{ℕ, ◌-◌, Bool, true, false, not, ◌&&◌, nat_lt, if◌then◌else◌, Option, None, Some, option_map, List, [], ◌∷◌, ◌++◌, codes, drop, flat_map, take}
+use Rattle.std.specs.List.{find, list_any}
+use Rattle.group_tree.specs.Names.{Name, is_among}
+use Rattle.fleet_numbers.specs.NumberLists.{has_number}
+use Rattle.play_model.specs.declared.play.Play.{Play}
+use Rattle.play_model.specs.declared.step.Step.{Step}
+use Rattle.lint_notes.specs.Notes.{Note, shell_word, idle_handler, noted}
+use Rattle.lint_notes.specs.Hosts.{Crowd, name_note}
+use Rattle.lint_notes.specs.NamesRead.{names_asked}
+use Rattle.lint_notes.specs.declared.step_path.StepPath.{StepPath}
+
+-- where a step stands in the play of this number: among its tasks, or among the handlers behind them
+abbrev pub path_of : ℕ → Play → ℕ → StepPath
+path_of number play place =
+    if nat_lt place play.tasks then record { play = number; is_handler = false; place = place }
+    else record { play = number; is_handler = true; place = place - play.tasks }
+
+-- what a shell would not pass on as it is
+abbrev pub shell_words : List Name
+shell_words =
+    codes "|" ∷ codes "||" ∷ codes "&" ∷ codes "&&" ∷ codes ";" ∷ codes ">" ∷ codes ">>" ∷ codes "<" ∷ codes "2>&1" ∷ []
+
+unfoldable pub is_shell_word : Name → Bool
+is_shell_word word = is_among word shell_words
+
+-- the first such word behind the program
+abbrev pub first_shell_word : List Name → Option Name
+first_shell_word words = find is_shell_word (drop 1 words)
+
+abbrev pub shell_note : StepPath → Step → Option Note
+shell_note at step = option_map (shell_word at) (first_shell_word step.words)
+
+abbrev pub notifies : ℕ → Step → Bool
+notifies handler task = has_number handler task.notify.items
+
+-- a task of the play notifies the handler with this number
+abbrev pub is_notified : Play → ℕ → Bool
+is_notified play handler = list_any (notifies handler) (take play.tasks play.steps.items)
+
+abbrev pub idle_note : Play → StepPath → Option Note
+idle_note play at = if at.is_handler && not (is_notified play at.place) then Some (idle_handler at) else None
+
+-- the notes on the names that it reads, on its words, and on what notifies it
+abbrev pub notes_at : (Name → Bool) → Crowd → Play → StepPath → Step → List Note
+notes_at is_set crowd play at step =
+    flat_map (λ name. noted (name_note crowd at name)) (names_asked is_set crowd step) ++ (noted (shell_note at step) ++ noted (idle_note play at))

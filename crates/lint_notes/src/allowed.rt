@@ -1,0 +1,63 @@
+//! Kinds of notes that aren't told.
+ghost use Rattle.std.specs.Prelude.{◌≡◌, false, true, MatchOption};
+ghost use Rattle.lint_notes.specs.Kinds as model;
+ghost use Rattle.lint_notes.specs.Kinds.{are_kind_names};
+
+use crate::kind::{Kind, is_kind_name};
+use std::marker::Model;
+use text_parts::first_part;
+
+/// The kinds that a text names. It is seen as that text.
+#[derive(Debug, Drop)]
+pub struct Allowed<'a> {
+    text: &'a str,
+}
+
+impl<'a> Model for Allowed<'a> {
+    ghost use Rattle.std.specs.Prelude.{List, ℕ};
+
+    ghost Value = { List ℕ };
+
+    ghost view = { λ allowed. allowed.text.now };
+}
+
+/// Reads the names of kinds, between which commas stand, as the parts of a pattern of hosts; the empty text names none. A name that no kind has refuses the text. It takes no memory.
+pub fn read_allowed(text: &str) -> Option<Allowed<'_>>
+    ensures { MatchOption result (are_kind_names text.now ≡ false) (λ allowed. (allowed ≡ text.now) × (are_kind_names text.now ≡ true)) }
+{
+    if are_kinds(text) {
+        Some(Allowed { text })
+    } else {
+        None
+    }
+}
+
+fn are_kinds(text: &str) -> bool
+    ensures { result ≡ are_kind_names text.now }
+{
+    let mut rest = text;
+    while let Some((part, later)) = first_part(rest) {
+        if !is_kind_name(part) {
+            return false;
+        }
+        rest = later;
+    }
+    true
+}
+
+impl Allowed<'_> {
+    /// Whether notes of this kind aren't told.
+    pub fn allows(&self, kind: Kind) -> bool
+        ensures { result ≡ model.allows self.now kind }
+    {
+        let name = kind.name();
+        let mut rest = self.text;
+        while let Some((part, later)) = first_part(rest) {
+            if name == part {
+                return true;
+            }
+            rest = later;
+        }
+        false
+    }
+}

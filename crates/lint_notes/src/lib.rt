@@ -1,0 +1,28 @@
+//! What is accepted of an inventory and a playbook and probably not meant.
+#![tactic(auto)]
+
+mod allowed;
+mod asked;
+mod blanks;
+mod crowd;
+mod end;
+mod groups;
+mod kind;
+mod laws;
+mod lint;
+mod note;
+mod notes;
+mod playbook;
+mod reading;
+mod registered;
+mod step_path;
+mod steps;
+mod targets;
+mod told;
+mod writing;
+
+pub use allowed::{Allowed, read_allowed};
+pub use end::LintEnd;
+pub use kind::Kind;
+pub use laws::{no_name_is_told_twice, the_names_told_are_those_read};
+pub use lint::{lint_fleet_text, lint_text};

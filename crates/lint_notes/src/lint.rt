@@ -1,0 +1,76 @@
+//! From the bytes of an inventory and a playbook to the notes on them.
+ghost use Rattle.std.specs.Prelude.{IfErr, IfOk};
+ghost use Rattle.lint_notes.specs.LintTexts.{AreFleetNotesIn, AreNotesIn, IsTrueFault, IsTrueFleetFault, WritesNotes};
+
+use crate::allowed::Allowed;
+use crate::end::LintEnd;
+use crate::groups::list_group_notes;
+use crate::playbook::list_notes;
+use crate::told::send_notes;
+use bumpalo::Bump;
+use domains::{Fleet, PatternFault};
+use inventory_read::read_inventory;
+use planning::{PlanFault, read_fleet, read_known_plays};
+use std::alloc::{AllocError, Global};
+use std::io::Write;
+
+/// Writes what is accepted of an inventory and probably not meant, given as the bytes of its text: a line a note on a limited group, but for those of the kinds that are allowed, and how
+/// many they are. An inventory that is refused is refused as for a plan, and nothing goes out then. Where a write fails, exactly the first bytes of the text went out, as many as the fault
+/// says.
+pub fn lint_fleet_text<W: Write>(
+    alloc: Global,
+    inventory: &[u8],
+    allowed: &Allowed<'_>,
+    out: &mut W,
+) -> Result<LintEnd, PlanFault>
+    ensures ok { IfOk result (WritesNotes (AreFleetNotesIn inventory.now) allowed.now (W.contents out.old) (W.contents out.new)) }
+    ensures err { IfErr result (IsTrueFleetFault inventory.now allowed.now (W.contents out.old) (W.contents out.new)) }
+{
+    let fleet = match read_fleet(alloc, inventory) {
+        Ok(fleet) => fleet,
+        Err(fault) => return Err(fault),
+    };
+    let notes = match list_group_notes(alloc, &fleet) {
+        Ok(notes) => notes,
+        Err(AllocError) => return Err(PlanFault::Pattern(PatternFault::Memory)),
+    };
+    match send_notes(&notes, allowed, out) {
+        Ok(end) => Ok(end),
+        Err(fault) => Err(PlanFault::Write(fault)),
+    }
+}
+
+/// The same of an inventory and a playbook: behind the notes on limited groups stand those on each play and its steps, in their order. Nothing goes out before both texts were accepted:
+/// first the inventory's faults are told, then the playbook's, then the first part of a pattern, of any play, that names nothing. Want of memory for the notes is told as that for a pattern.
+pub fn lint_text<W: Write>(
+    alloc: Global,
+    inventory: &[u8],
+    playbook: &[u8],
+    allowed: &Allowed<'_>,
+    out: &mut W,
+) -> Result<LintEnd, PlanFault>
+    ensures ok { IfOk result (WritesNotes (AreNotesIn inventory.now playbook.now) allowed.now (W.contents out.old) (W.contents out.new)) }
+    ensures err { IfErr result (IsTrueFault inventory.now playbook.now allowed.now (W.contents out.old) (W.contents out.new)) }
+{
+    let arena = Bump::new(alloc);
+    let tree = match read_inventory(&arena, alloc, inventory) {
+        Ok(tree) => tree,
+        Err(fault) => return Err(PlanFault::Read(fault)),
+    };
+    let fleet = match Fleet::build(alloc, &tree) {
+        Ok(fleet) => fleet,
+        Err(fault) => return Err(PlanFault::Fleet(fault)),
+    };
+    let plays = match read_known_plays(alloc, &fleet, playbook) {
+        Ok(plays) => plays,
+        Err(fault) => return Err(fault),
+    };
+    let notes = match list_notes(alloc, &tree, &fleet, plays.as_slice()) {
+        Ok(notes) => notes,
+        Err(AllocError) => return Err(PlanFault::Pattern(PatternFault::Memory)),
+    };
+    match send_notes(&notes, allowed, out) {
+        Ok(end) => Ok(end),
+        Err(fault) => Err(PlanFault::Write(fault)),
+    }
+}

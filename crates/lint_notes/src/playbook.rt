@@ -1,0 +1,113 @@
+//! The notes on the plays of a playbook.
+ghost use Rattle.std.specs.Prelude.{◌≡◌, ◌<◌, ◌||◌, ◌++◌, ◌^◌, IfOk, OnOk};
+ghost use Rattle.group_tree.specs.Names.{Name};
+ghost use Rattle.domains.specs.Fleets.{IsFleetOf};
+ghost use Rattle.needed_results.specs.Registers.{is_registered_by};
+ghost use Rattle.lint_notes.specs.Inside.{crowd_of, has_name, lacks_in};
+ghost use Rattle.lint_notes.specs.AllNotes.{AreNotesOf};
+ghost use Rattle.lint_notes.specs.Playbooks.{play_notes, plays_notes, steps_notes};
+
+use crate::asked::Asked;
+use crate::crowd::Crowd;
+use crate::groups::note_groups;
+use crate::notes::Notes;
+use crate::registered::Registered;
+use crate::step_path::{Numbered, StepPath};
+use crate::steps::note_step;
+use crate::targets::{Targets, note_of};
+use domains::Fleet;
+use group_tree::Tree;
+use host_vars::{Vars, layered_all};
+use play_model::Play;
+use std::alloc::{AllocError, Allocator, Global};
+
+/// Adds what is noted of the steps of a play, and the names under which they register results.
+fn note_steps<'a>(
+    alloc: Global,
+    notes: &mut Notes<'a>,
+    crowd: &Crowd<'a, '_>,
+    registered: &mut Registered<'a>,
+    numbered: Numbered<'a>,
+) -> Result<(), AllocError>
+    ensures notes { OnOk result (notes.new ≡ notes.old ++ steps_notes (has_name registered.old) (crowd_of crowd.now) numbered.entry.number numbered.entry.play.now) }
+    ensures registered { OnOk result ((name : Name) → has_name registered.new name
+        ≡ (has_name registered.old name || is_registered_by numbered.entry.play.now.steps.items name)) }
+{
+    let play = numbered.play;
+    let steps = play.steps();
+    for place in 0..steps.len() {
+        let step = &steps[place];
+        let at = StepPath::of(numbered, place);
+        let asked = Asked {
+            registered,
+            crowd: *crowd,
+        };
+        note_step(alloc, notes, &asked, play, at, step)?;
+        registered.add(step)?;
+    }
+    Ok(())
+}
+
+/// Adds what is noted of a play, and the names under which its steps register results.
+fn note_play<'a>(
+    alloc: Global,
+    notes: &mut Notes<'a>,
+    hosts: (&'a Fleet, &[Vars]),
+    registered: &mut Registered<'a>,
+    numbered: Numbered<'a>,
+) -> Result<(), AllocError>
+    requires { numbered.number < 2 ^ 63 }
+    ensures notes { OnOk result (notes.new ≡ notes.old
+        ++ play_notes hosts.entry.0.now (lacks_in hosts.entry.1.now) (has_name registered.old) numbered.entry.number numbered.entry.play.now) }
+    ensures registered { OnOk result ((name : Name) → has_name registered.new name
+        ≡ (has_name registered.old name || is_registered_by numbered.entry.play.now.steps.items name)) }
+{
+    let (fleet, vars) = hosts;
+    let targets = Targets::of(alloc, fleet, numbered.play)?;
+    notes.add(note_of(fleet, numbered.number + 1, &targets))?;
+    let crowd = Crowd {
+        fleet,
+        vars,
+        waiting: targets.waiting.as_slice(),
+    };
+    note_steps(alloc, notes, &crowd, registered, numbered)?;
+    Ok(())
+}
+
+/// Adds what is noted of the plays.
+fn note_plays<'a>(
+    alloc: Global,
+    notes: &mut Notes<'a>,
+    fleet: &'a Fleet,
+    vars: &[Vars],
+    plays: &'a [Play],
+) -> Result<(), AllocError>
+    ensures { OnOk result (notes.new ≡ notes.old ++ plays_notes fleet.now (lacks_in vars.now) plays.now) }
+{
+    let mut registered = Registered::new(alloc);
+    for number in 0..plays.len() {
+        let numbered = Numbered {
+            number,
+            play: &plays[number],
+        };
+        note_play(alloc, notes, (fleet, vars), &mut registered, numbered)?;
+    }
+    Ok(())
+}
+
+/// All notes on a fleet's limited groups and on these plays. They are gathered by the variables of the tree of which the fleet was built. It fails for want of memory alone.
+pub(crate) fn list_notes<'a, A: Allocator>(
+    alloc: Global,
+    tree: &Tree<A>,
+    fleet: &'a Fleet,
+    plays: &'a [Play],
+) -> Result<Notes<'a>, AllocError>
+    requires { IsFleetOf tree.now fleet.now }
+    ensures { IfOk result (AreNotesOf tree.now fleet.now plays.now) }
+{
+    let vars = layered_all(alloc, tree, fleet)?;
+    let mut notes = Notes::new(alloc);
+    note_groups(&mut notes, fleet)?;
+    note_plays(alloc, &mut notes, fleet, vars.as_slice(), plays)?;
+    Ok(notes)
+}

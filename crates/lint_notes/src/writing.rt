@@ -1,0 +1,92 @@
+//! A note as it is written.
+ghost use Rattle.std.specs.Prelude.{◌≡◌};
+ghost use Rattle.bounded_io.specs.Writing.{Writes};
+ghost use Rattle.lint_notes.specs.Notes.{seen};
+ghost use Rattle.lint_notes.specs.NotesText as model;
+ghost use Rattle.lint_notes.specs.NotesText.{at_text, details, list_word, missing_text, named_text, note_line, step_text};
+
+use crate::note::{Missing, Note};
+use crate::step_path::StepPath;
+use bounded_io::TextWriter;
+use recap::write_field;
+use std::io::Write;
+
+fn list_of(at: StepPath) -> &'static str
+    ensures { result.now ≡ list_word at.is_handler }
+{
+    if at.is_handler {
+        "/handlers/"
+    } else {
+        "/tasks/"
+    }
+}
+
+#[tactic(auto, using(bounded_io::proofs::Pieces::pieces_of_text))]
+fn write_at<W: Write>(text: &mut TextWriter<'_, W>, at: StepPath)
+    ensures { Writes W.contents text.old text.new (at_text at) }
+{
+    write_field(text, " at=", at.play as u64);
+    text.write_str(list_of(at));
+    text.write_number(at.place as u64);
+}
+
+#[tactic(auto, using(bounded_io::proofs::Pieces::pieces_of_text))]
+fn write_named<W: Write>(text: &mut TextWriter<'_, W>, word: &str, name: &str)
+    ensures { Writes W.contents text.old text.new (named_text word.now name.now) }
+{
+    text.write_str(word);
+    text.write_str(name);
+}
+
+#[tactic(auto, using(bounded_io::proofs::Pieces::pieces_of_text))]
+fn write_step<W: Write>(text: &mut TextWriter<'_, W>, at: StepPath, word: &str, name: &str)
+    ensures { Writes W.contents text.old text.new (step_text at word.now name.now) }
+{
+    write_at(text, at);
+    write_named(text, word, name);
+}
+
+#[tactic(auto, using(bounded_io::proofs::Pieces::pieces_of_text))]
+fn write_missing<W: Write>(text: &mut TextWriter<'_, W>, missing: &Missing<'_>)
+    ensures { Writes W.contents text.old text.new (missing_text missing.now.hosts missing.now.waiting missing.now.host.now) }
+{
+    write_field(text, " hosts=", missing.hosts as u64);
+    write_field(text, " of=", missing.waiting as u64);
+    write_named(text, " host=", missing.host);
+}
+
+#[tactic(auto, using(bounded_io::proofs::Pieces::pieces_of_text))]
+fn write_details<W: Write>(text: &mut TextWriter<'_, W>, note: &Note<'_>)
+    ensures { Writes W.contents text.old text.new (details (seen note.now)) }
+{
+    match *note {
+        Note::ZeroLimit { group, members } => {
+            write_named(text, " group=", group);
+            write_field(text, " members=", members as u64);
+        }
+        Note::EmptyLimit { group } => write_named(text, " group=", group),
+        Note::NoHosts { play } => write_field(text, " play=", play as u64),
+        Note::DownHosts { play, hosts, host } => {
+            write_field(text, " play=", play as u64);
+            write_field(text, " hosts=", hosts as u64);
+            write_named(text, " host=", host);
+        }
+        Note::UnknownName { at, name } => write_step(text, at, " name=", name),
+        Note::MissingName { at, name, missing } => {
+            write_step(text, at, " name=", name);
+            write_missing(text, &missing);
+        }
+        Note::ShellWord { at, word } => write_step(text, at, " word=", word),
+        Note::IdleHandler { at } => write_at(text, at),
+    }
+}
+
+/// Goes on with the line of a note.
+#[tactic(auto, using(bounded_io::proofs::Pieces::pieces_of_text))]
+pub(crate) fn write_note<W: Write>(text: &mut TextWriter<'_, W>, note: &Note<'_>)
+    ensures { Writes W.contents text.old text.new (note_line (seen note.now)) }
+{
+    text.write_str(note.kind().name());
+    write_details(text, note);
+    text.write_str("\n");
+}

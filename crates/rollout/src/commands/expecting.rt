@@ -1,0 +1,120 @@
+//! The commands `limits` and `plan` where numbers are expected of what they print.
+ghost use Rattle.std.specs.Prelude.{◌≡◌, IfErr, IfOk, None, Some, ⊤};
+ghost use Rattle.expectations.specs.Lists.{expectations_in};
+ghost use Rattle.expectations.specs.Shown.{all_shown};
+ghost use Rattle.rollout.specs.Expecting.{ExpectsPlan, ExpectsTable, PrintsPlan, PrintsTable, RefusesPlan, RefusesTable};
+ghost use Rattle.rollout.specs.Lists.{IsBadList};
+ghost use Rattle.rollout.specs.Systems.{sources_of};
+
+use crate::commands::plan::tell_behind;
+use crate::fault::Fault;
+use crate::inputs::read_both;
+use crate::list::bad_list;
+use crate::source::read_source;
+use crate::status::Status;
+use crate::system::System;
+use bounded_io::Input;
+use command_line::Source;
+use expectations::{Expectation, ListFault, expected_limits, expected_plan, read_expectations};
+use roll_core::Watch;
+use std::alloc::Global;
+use std::io::Write;
+
+/// What the list says.
+fn read_list(alloc: Global, list: &str) -> Result<Vec<Expectation<'_>>, Fault>
+    ensures ok { IfOk result (λ expected. expectations_in list.now ≡ Some (all_shown expected.items)) }
+    ensures err { IfErr result (IsBadList (expectations_in list.now ≡ None) ⊤ list.now) }
+{
+    match read_expectations(alloc, list) {
+        Ok(expected) => Ok(expected),
+        Err(ListFault::Memory) => Err(Fault::Memory),
+        Err(ListFault::NoList) => Err(bad_list(alloc, list)),
+    }
+}
+
+/// Reads the inventory, and writes the table of its limits; then the first number that isn't as the list says is told. The list is read first.
+pub fn limits_expecting<S: System, I: Input, W: Write>(
+    system: &S,
+    alloc: Global,
+    inventory: Source,
+    list: &str,
+    input: &mut I,
+    out: &mut W,
+) -> Result<Status, Fault>
+    ensures { ExpectsTable list.now (sources_of (S.files system.now) (I.is_reliable input.old)) inventory (I.remaining input.old) (I.remaining input.new)
+        (W.contents out.old) (W.contents out.new) result }
+{
+    let expected = match read_list(alloc, list) {
+        Ok(expected) => expected,
+        Err(fault) => return Err(fault),
+    };
+    match read_source(system, alloc, inventory, input) {
+        Ok(text) => print_limits(alloc, text.as_slice(), expected.as_slice(), out),
+        Err(fault) => Err(fault),
+    }
+}
+
+fn print_limits<W: Write>(
+    alloc: Global,
+    inventory: &[u8],
+    expected: &[Expectation<'_>],
+    out: &mut W,
+) -> Result<Status, Fault>
+    ensures ok { IfOk result (PrintsTable inventory.now (all_shown expected.now) (W.contents out.old) (W.contents out.new)) }
+    ensures err { IfErr result (RefusesTable inventory.now (all_shown expected.now) (W.contents out.old) (W.contents out.new)) }
+{
+    match expected_limits(alloc, inventory, expected, out) {
+        Ok(()) => Ok(Status::Done),
+        Err(fault) => Err(Fault::from(fault)),
+    }
+}
+
+/// Reads the inventory and the playbook, and writes the plan of the playbook's first play; then the first number that isn't as the list says is told. The list is read first. `watch` is
+/// told of the hosts that the plan leaves out.
+#[allow(clippy::too_many_arguments)]
+pub fn plan_expecting<S: System, T: Watch, I: Input, W: Write>(
+    system: &S,
+    alloc: Global,
+    watch: &mut T,
+    inventory: Source,
+    playbook: Source,
+    list: &str,
+    input: &mut I,
+    out: &mut W,
+) -> Result<Status, Fault>
+    ensures { ExpectsPlan list.now (sources_of (S.files system.now) (I.is_reliable input.old)) inventory playbook (I.remaining input.old) (I.remaining input.new)
+        (W.contents out.old) (W.contents out.new) result }
+{
+    let expected = match read_list(alloc, list) {
+        Ok(expected) => expected,
+        Err(fault) => return Err(fault),
+    };
+    match read_both(system, alloc, inventory, playbook, input) {
+        Ok((inventory, playbook)) => {
+            let inventory = inventory.as_slice();
+            let playbook = playbook.as_slice();
+            let printed = print_plan(alloc, inventory, playbook, expected.as_slice(), out);
+            if printed.is_ok() {
+                tell_behind(alloc, watch, 1, inventory, playbook);
+            }
+            printed
+        }
+        Err(fault) => Err(fault),
+    }
+}
+
+fn print_plan<W: Write>(
+    alloc: Global,
+    inventory: &[u8],
+    playbook: &[u8],
+    expected: &[Expectation<'_>],
+    out: &mut W,
+) -> Result<Status, Fault>
+    ensures ok { IfOk result (PrintsPlan inventory.now playbook.now (all_shown expected.now) (W.contents out.old) (W.contents out.new)) }
+    ensures err { IfErr result (RefusesPlan inventory.now playbook.now (all_shown expected.now) (W.contents out.old) (W.contents out.new)) }
+{
+    match expected_plan(alloc, inventory, playbook, expected, out) {
+        Ok(end) => Ok(Status::from(end)),
+        Err(fault) => Err(Fault::from(fault)),
+    }
+}

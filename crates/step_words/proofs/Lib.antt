@@ -1,0 +1,8 @@
+pub mod Places
+pub mod Telling
+pub mod Keeping
+pub mod Texts
+pub mod Waiting
+pub mod PlayLines
+pub mod Sent
+pub mod Told

@@ -1,0 +1,9 @@
+pub mod Unsure
+pub mod Foretelling
+pub mod Shell
+pub mod Lines
+pub mod WordTexts
+pub mod Holes
+pub mod Inside
+pub mod Sending
+pub mod Laws

@@ -1,0 +1,21 @@
+//! The dry run of the words: which words would run on which host, step by step, before anything is started.
+#![tactic(auto)]
+
+mod asking;
+mod end;
+mod foreseen;
+mod foretold;
+mod hole;
+mod holes;
+mod hosts;
+mod laws;
+mod lines;
+mod plays;
+mod printing;
+mod reading;
+mod shell;
+mod wording;
+
+pub use end::WordsEnd;
+pub use laws::steps_run_as_told;
+pub use printing::words_text;

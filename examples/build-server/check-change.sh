@@ -1,0 +1,77 @@
+#!/bin/sh
+# What a build server asks of a change of an inventory or a playbook, before anybody runs it:
+#
+#     sh check-change.sh INV PLAY EXPECTED
+#
+# EXPECTED has lines NAME=VALUE. It stands beside the two files and is changed with them, so that whoever reads a change sees what it does to the fleet. A question whose
+# line is missing isn't asked, but for those of `allow` and `one_failure`.
+#
+#     allow         kinds of notes that are meant, parted by commas
+#     limits        what the table of limits has to say, as `--expect` reads it
+#     batches       what the plan has to say, as `--expect` reads it
+#     plan          the file of the plan that was agreed on, from the folder of EXPECTED; `rollout plan` makes it
+#     one_failure   how the roll may end where one host of its first batch fails: 2 it goes on to its end, 3 hosts have no room, 4 it ends there; 2 without this line
+#
+# All is asked, also where something was lost before. It ends with 0 where nothing is lost, with 1 where something is, with 2 where it was called otherwise. Another
+# program than the `rollout` of PATH is called by the name in ROLLOUT.
+set -u
+if [ $# -ne 3 ] || [ ! -r "$3" ]; then
+    echo "usage: sh check-change.sh INV PLAY EXPECTED" >&2
+    exit 2
+fi
+inventory=$1
+playbook=$2
+expected=$3
+rollout=${ROLLOUT:-rollout}
+found=0
+
+# setting NAME: its value, the last one where it stands several times
+setting() {
+    sed -n "s/^$1=//p" "$expected" | tail -n 1
+}
+
+lost() {
+    echo "LOST: $1"
+    found=1
+}
+
+# ask WHAT WORD..: asks the program; whatever it answers otherwise than with status 0 is lost
+ask() {
+    what=$1
+    shift
+    echo "rollout $*"
+    "$rollout" "$@" || lost "$what: status $?"
+}
+
+# What is refused here is refused by each question below, with the same fault.
+echo "rollout lint $inventory $playbook"
+notes=$("$rollout" lint --allow "$(setting allow)" -- "$inventory" "$playbook")
+status=$?
+[ -z "$notes" ] || echo "$notes"
+case $notes in
+*notes=*) [ "$status" -eq 0 ] || lost 'something is probably not meant' ;;
+*)
+    lost 'the change is refused'
+    exit 1
+    ;;
+esac
+
+limits=$(setting limits)
+[ -z "$limits" ] || ask 'the limits' limits --expect "$limits" -- "$inventory"
+batches=$(setting batches)
+[ -z "$batches" ] || ask 'the plan' plan --expect "$batches" -- "$inventory" "$playbook"
+plan=$(setting plan)
+[ -z "$plan" ] || ask 'the plan that was agreed on' check -- "$inventory" "$playbook" "$(dirname "$expected")/$plan"
+ask 'the course' plan --course -- "$inventory" "$playbook"
+
+ends=$(setting one_failure)
+for host in $("$rollout" plan -- "$inventory" "$playbook" | sed -n 's/^batch 1: //p'); do
+    course=$("$rollout" plan --course --failing "$host" -- "$inventory" "$playbook")
+    status=$?
+    echo "if $host fails, $(echo "$course" | sed -n '/^held: /p; /^end /p; /^batches=/p' | paste -s -d ' ' -)"
+    case " ${ends:-2} " in
+    *" $status "*) ;;
+    *) lost "one failure, of $host: status $status" ;;
+    esac
+done
+exit "$found"

@@ -1,0 +1,58 @@
+"""The rules of what is told beforehand of words, of plans that are checked, and of expectations, each as it is while it isn't turned."""
+
+FORETOLD = {
+    "foretold-all-names-of-a-condition-count": "A condition is undecided where it mentions an unsure name, also behind what would decide it.",
+    "foretold-all-plays": "The words of all plays are told.",
+    "foretold-backslashes-within-escapes": "A backslash in a word with control characters is written twice.",
+    "foretold-control-characters-are-escaped": "A word with a control character is written with escapes.",
+    "foretold-delete-is-a-control-character": "The byte 127 is a control character.",
+    "foretold-down-hosts-are-left-out": "Hosts that are down at the start are left out.",
+    "foretold-earlier-plays-are-unsure": "What an earlier play registers is unsure.",
+    "foretold-empty-words-are-quoted": "An empty word stands in quotes.",
+    "foretold-failures-show-in-the-status": "Where a step surely fails, or has a word that is too long, the status is 2.",
+    "foretold-handlers-may-run": "A handler may run, and is never sure to.",
+    "foretold-handlers-register-too": "What a handler registers is unsure behind it.",
+    "foretold-holes-stand-for-themselves": "A hole of an unsure name stands for itself, also where a variable has that name.",
+    "foretold-host-by-host": "The steps are told host by host.",
+    "foretold-may-fail-is-no-failure": "That a step may fail doesn't make the status 2.",
+    "foretold-own-results-are-not-there": "What a step itself registers is not there yet for its own `when` and words.",
+    "foretold-plain-signs-stand": "A word with plain signs such as = stands as it is.",
+    "foretold-quotes-within-quotes": "A quote within quotes is written so that a shell reads it.",
+    "foretold-signs-of-shells-are-quoted": "A word with a sign that shells read, as ~, stands in quotes.",
+    "foretold-unsure-conditions-are-undecided": "A condition that mentions an unsure name is undecided.",
+}
+
+CHECKS = {
+    "check-all-lines-count": "The number of a bad line counts lines that say nothing too.",
+    "check-all-who-wait-are-there": "Each host that waits has to stand in a batch.",
+    "check-blocked-before-names": "That every plan is blocked is told before an unknown name.",
+    "check-carriage-returns-are-cut": "A carriage return at the end of a line doesn't count.",
+    "check-first-group-in-preorder": "Of several groups with too many hosts of a batch the first in preorder is told.",
+    "check-first-size-counts": "The first size of a list bounds all batches.",
+    "check-heading-stands-first": "The plan's first line stands before all batches alone.",
+    "check-held-hosts-do-not-wait": "Hosts that are set aside don't wait.",
+    "check-held-line-is-passed-over": "The line of hosts that were set aside says no batch.",
+    "check-hosts-before-size": "What is wrong with a host is told before the size of its batch.",
+    "check-hosts-once-in-all-batches": "A host stands once in all batches together.",
+    "check-inputs-before-the-plan": "Faults of inventory and playbook come before a bad line of the plan.",
+    "check-labels-count": "The number of a batch's line is the one that it has by its place.",
+    "check-longer-plans-show-in-the-status": "Of a plan with more batches than needed the status is 2.",
+    "check-size-before-groups": "The size of a batch is told before its groups.",
+    "check-tabs-are-blanks": "Names are parted by tabs too.",
+}
+
+EXPECTATIONS = {
+    "expect-all-lists-count": "Of an option that is given several times all lists count.",
+    "expect-at-most": "What is expected to be at most a number may be less.",
+    "expect-blocked-plans-have-no-batches": "A plan that is blocked has no number of batches.",
+    "expect-each-part-is-right": "A list with a part that says nothing is refused.",
+    "expect-first-is-told": "Of several expectations that aren't met the first is told.",
+    "expect-last-line-before-groups": "The numbers of the table's last line go before groups of their names.",
+    "expect-limited-groups-are-counted": "Only groups with a limit are counted as limited.",
+    "expect-limits-as-numbers": "A limit in percent is expected as its number.",
+    "expect-lists-before-files": "A list that is none is told before any file is read.",
+    "expect-lists-say-something": "A list has one part at least.",
+    "expect-no-number-meets-nothing": "Where there is no number no expectation is met.",
+    "expect-numbers-have-a-bound": "A number is 65,535 at most.",
+    "expect-unmet-makes-status-one": "Where an expectation isn't met the status is 1.",
+}
