@@ -32,7 +32,13 @@ limits_before word p = record { taken = rw (p.no_end, p.no_long, p.no_short) ref
 
 plan_alone : (a b : Word) → IsValue a → IsValue b → Accepted (codes "plan" ∷ a ∷ b ∷ []) (plan (a, b))
 unfolding clap_on_literals
-plan_alone a b p q = record { taken = rw (p.no_end, p.no_long, p.no_short, q.no_end, q.no_long, q.no_short) refl; found = (rw (p.no_end, p.no_long, p.no_short, q.no_end, q.no_long, q.no_short) refl, rw (p.no_end, p.no_long, p.no_short, q.no_end, q.no_long, q.no_short) refl) }
+plan_alone a b p q = record {
+  taken = rw (p.no_end, p.no_long, p.no_short, q.no_end, q.no_long, q.no_short) refl;
+  found = (
+    rw (p.no_end, p.no_long, p.no_short, q.no_end, q.no_long, q.no_short) refl,
+    rw (p.no_end, p.no_long, p.no_short, q.no_end, q.no_long, q.no_short) refl,
+  );
+}
 
 plan_behind : (a b : Word) → Accepted (codes "plan" ∷ codes "--" ∷ a ∷ b ∷ []) (plan (a, b))
 unfolding clap_on_literals
@@ -44,11 +50,23 @@ plan_between a b p = record { taken = rw (p.no_end, p.no_long, p.no_short) refl;
 
 plan_before : (a b : Word) → IsValue a → IsValue b → Accepted (codes "plan" ∷ a ∷ b ∷ codes "--" ∷ []) (plan (a, b))
 unfolding clap_on_literals
-plan_before a b p q = record { taken = rw (p.no_end, p.no_long, p.no_short, q.no_end, q.no_long, q.no_short) refl; found = (rw (p.no_end, p.no_long, p.no_short, q.no_end, q.no_long, q.no_short) refl, rw (p.no_end, p.no_long, p.no_short, q.no_end, q.no_long, q.no_short) refl) }
+plan_before a b p q = record {
+  taken = rw (p.no_end, p.no_long, p.no_short, q.no_end, q.no_long, q.no_short) refl;
+  found = (
+    rw (p.no_end, p.no_long, p.no_short, q.no_end, q.no_long, q.no_short) refl,
+    rw (p.no_end, p.no_long, p.no_short, q.no_end, q.no_long, q.no_short) refl,
+  );
+}
 
 rehearse_alone : (a b : Word) → IsValue a → IsValue b → Accepted (codes "rehearse" ∷ a ∷ b ∷ []) (rehearse (a, b))
 unfolding clap_on_literals
-rehearse_alone a b p q = record { taken = rw (p.no_end, p.no_long, p.no_short, q.no_end, q.no_long, q.no_short) refl; found = (rw (p.no_end, p.no_long, p.no_short, q.no_end, q.no_long, q.no_short) refl, rw (p.no_end, p.no_long, p.no_short, q.no_end, q.no_long, q.no_short) refl) }
+rehearse_alone a b p q = record {
+  taken = rw (p.no_end, p.no_long, p.no_short, q.no_end, q.no_long, q.no_short) refl;
+  found = (
+    rw (p.no_end, p.no_long, p.no_short, q.no_end, q.no_long, q.no_short) refl,
+    rw (p.no_end, p.no_long, p.no_short, q.no_end, q.no_long, q.no_short) refl,
+  );
+}
 
 rehearse_behind : (a b : Word) → Accepted (codes "rehearse" ∷ codes "--" ∷ a ∷ b ∷ []) (rehearse (a, b))
 unfolding clap_on_literals
@@ -60,11 +78,23 @@ rehearse_between a b p = record { taken = rw (p.no_end, p.no_long, p.no_short) r
 
 rehearse_before : (a b : Word) → IsValue a → IsValue b → Accepted (codes "rehearse" ∷ a ∷ b ∷ codes "--" ∷ []) (rehearse (a, b))
 unfolding clap_on_literals
-rehearse_before a b p q = record { taken = rw (p.no_end, p.no_long, p.no_short, q.no_end, q.no_long, q.no_short) refl; found = (rw (p.no_end, p.no_long, p.no_short, q.no_end, q.no_long, q.no_short) refl, rw (p.no_end, p.no_long, p.no_short, q.no_end, q.no_long, q.no_short) refl) }
+rehearse_before a b p q = record {
+  taken = rw (p.no_end, p.no_long, p.no_short, q.no_end, q.no_long, q.no_short) refl;
+  found = (
+    rw (p.no_end, p.no_long, p.no_short, q.no_end, q.no_long, q.no_short) refl,
+    rw (p.no_end, p.no_long, p.no_short, q.no_end, q.no_long, q.no_short) refl,
+  );
+}
 
 state_alone : (a b : Word) → IsValue a → IsValue b → Accepted (codes "state" ∷ a ∷ b ∷ []) (state (a, b))
 unfolding clap_on_literals
-state_alone a b p q = record { taken = rw (p.no_end, p.no_long, p.no_short, q.no_end, q.no_long, q.no_short) refl; found = (rw (p.no_end, p.no_long, p.no_short, q.no_end, q.no_long, q.no_short) refl, rw (p.no_end, p.no_long, p.no_short, q.no_end, q.no_long, q.no_short) refl) }
+state_alone a b p q = record {
+  taken = rw (p.no_end, p.no_long, p.no_short, q.no_end, q.no_long, q.no_short) refl;
+  found = (
+    rw (p.no_end, p.no_long, p.no_short, q.no_end, q.no_long, q.no_short) refl,
+    rw (p.no_end, p.no_long, p.no_short, q.no_end, q.no_long, q.no_short) refl,
+  );
+}
 
 state_behind : (a b : Word) → Accepted (codes "state" ∷ codes "--" ∷ a ∷ b ∷ []) (state (a, b))
 unfolding clap_on_literals
@@ -76,11 +106,26 @@ state_between a b p = record { taken = rw (p.no_end, p.no_long, p.no_short) refl
 
 state_before : (a b : Word) → IsValue a → IsValue b → Accepted (codes "state" ∷ a ∷ b ∷ codes "--" ∷ []) (state (a, b))
 unfolding clap_on_literals
-state_before a b p q = record { taken = rw (p.no_end, p.no_long, p.no_short, q.no_end, q.no_long, q.no_short) refl; found = (rw (p.no_end, p.no_long, p.no_short, q.no_end, q.no_long, q.no_short) refl, rw (p.no_end, p.no_long, p.no_short, q.no_end, q.no_long, q.no_short) refl) }
+state_before a b p q = record {
+  taken = rw (p.no_end, p.no_long, p.no_short, q.no_end, q.no_long, q.no_short) refl;
+  found = (
+    rw (p.no_end, p.no_long, p.no_short, q.no_end, q.no_long, q.no_short) refl,
+    rw (p.no_end, p.no_long, p.no_short, q.no_end, q.no_long, q.no_short) refl,
+  );
+}
 
 check_alone : (a b c : Word) → IsValue a → IsValue b → IsValue c → Accepted (codes "check" ∷ a ∷ b ∷ c ∷ []) (check (a, b, c))
 unfolding clap_on_literals
-check_alone a b c p q r = record { taken = rw (p.no_end, p.no_long, p.no_short, q.no_end, q.no_long, q.no_short, r.no_end, r.no_long, r.no_short) refl; found = ((rw (p.no_end, p.no_long, p.no_short, q.no_end, q.no_long, q.no_short, r.no_end, r.no_long, r.no_short) refl, rw (p.no_end, p.no_long, p.no_short, q.no_end, q.no_long, q.no_short, r.no_end, r.no_long, r.no_short) refl), rw (p.no_end, p.no_long, p.no_short, q.no_end, q.no_long, q.no_short, r.no_end, r.no_long, r.no_short) refl) }
+check_alone a b c p q r = record {
+  taken = rw (p.no_end, p.no_long, p.no_short, q.no_end, q.no_long, q.no_short, r.no_end, r.no_long, r.no_short) refl;
+  found = (
+    (
+      rw (p.no_end, p.no_long, p.no_short, q.no_end, q.no_long, q.no_short, r.no_end, r.no_long, r.no_short) refl,
+      rw (p.no_end, p.no_long, p.no_short, q.no_end, q.no_long, q.no_short, r.no_end, r.no_long, r.no_short) refl,
+    ),
+    rw (p.no_end, p.no_long, p.no_short, q.no_end, q.no_long, q.no_short, r.no_end, r.no_long, r.no_short) refl,
+  );
+}
 
 check_behind : (a b c : Word) → Accepted (codes "check" ∷ codes "--" ∷ a ∷ b ∷ c ∷ []) (check (a, b, c))
 unfolding clap_on_literals
@@ -88,15 +133,42 @@ check_behind a b c = record { taken = refl; found = ((refl, refl), refl) }
 
 check_behind_first : (a b c : Word) → IsValue a → Accepted (codes "check" ∷ a ∷ codes "--" ∷ b ∷ c ∷ []) (check (a, b, c))
 unfolding clap_on_literals
-check_behind_first a b c p = record { taken = rw (p.no_end, p.no_long, p.no_short) refl; found = ((rw (p.no_end, p.no_long, p.no_short) refl, rw (p.no_end, p.no_long, p.no_short) refl), rw (p.no_end, p.no_long, p.no_short) refl) }
+check_behind_first a b c p = record {
+  taken = rw (p.no_end, p.no_long, p.no_short) refl;
+  found = (
+    (
+      rw (p.no_end, p.no_long, p.no_short) refl,
+      rw (p.no_end, p.no_long, p.no_short) refl,
+    ),
+    rw (p.no_end, p.no_long, p.no_short) refl,
+  );
+}
 
 check_behind_second : (a b c : Word) → IsValue a → IsValue b → Accepted (codes "check" ∷ a ∷ b ∷ codes "--" ∷ c ∷ []) (check (a, b, c))
 unfolding clap_on_literals
-check_behind_second a b c p q = record { taken = rw (p.no_end, p.no_long, p.no_short, q.no_end, q.no_long, q.no_short) refl; found = ((rw (p.no_end, p.no_long, p.no_short, q.no_end, q.no_long, q.no_short) refl, rw (p.no_end, p.no_long, p.no_short, q.no_end, q.no_long, q.no_short) refl), rw (p.no_end, p.no_long, p.no_short, q.no_end, q.no_long, q.no_short) refl) }
+check_behind_second a b c p q = record {
+  taken = rw (p.no_end, p.no_long, p.no_short, q.no_end, q.no_long, q.no_short) refl;
+  found = (
+    (
+      rw (p.no_end, p.no_long, p.no_short, q.no_end, q.no_long, q.no_short) refl,
+      rw (p.no_end, p.no_long, p.no_short, q.no_end, q.no_long, q.no_short) refl,
+    ),
+    rw (p.no_end, p.no_long, p.no_short, q.no_end, q.no_long, q.no_short) refl,
+  );
+}
 
 check_before : (a b c : Word) → IsValue a → IsValue b → IsValue c → Accepted (codes "check" ∷ a ∷ b ∷ c ∷ codes "--" ∷ []) (check (a, b, c))
 unfolding clap_on_literals
-check_before a b c p q r = record { taken = rw (p.no_end, p.no_long, p.no_short, q.no_end, q.no_long, q.no_short, r.no_end, r.no_long, r.no_short) refl; found = ((rw (p.no_end, p.no_long, p.no_short, q.no_end, q.no_long, q.no_short, r.no_end, r.no_long, r.no_short) refl, rw (p.no_end, p.no_long, p.no_short, q.no_end, q.no_long, q.no_short, r.no_end, r.no_long, r.no_short) refl), rw (p.no_end, p.no_long, p.no_short, q.no_end, q.no_long, q.no_short, r.no_end, r.no_long, r.no_short) refl) }
+check_before a b c p q r = record {
+  taken = rw (p.no_end, p.no_long, p.no_short, q.no_end, q.no_long, q.no_short, r.no_end, r.no_long, r.no_short) refl;
+  found = (
+    (
+      rw (p.no_end, p.no_long, p.no_short, q.no_end, q.no_long, q.no_short, r.no_end, r.no_long, r.no_short) refl,
+      rw (p.no_end, p.no_long, p.no_short, q.no_end, q.no_long, q.no_short, r.no_end, r.no_long, r.no_short) refl,
+    ),
+    rw (p.no_end, p.no_long, p.no_short, q.no_end, q.no_long, q.no_short, r.no_end, r.no_long, r.no_short) refl,
+  );
+}
 
 lint_alone : (word : Word) → IsValue word → Accepted (codes "lint" ∷ word ∷ []) (lint word None)
 unfolding clap_on_literals
@@ -112,7 +184,13 @@ lint_before word p = record { taken = rw (p.no_end, p.no_long, p.no_short) refl;
 
 lint_both_alone : (a b : Word) → IsValue a → IsValue b → Accepted (codes "lint" ∷ a ∷ b ∷ []) (lint a (Some b))
 unfolding clap_on_literals
-lint_both_alone a b p q = record { taken = rw (p.no_end, p.no_long, p.no_short, q.no_end, q.no_long, q.no_short) refl; found = (rw (p.no_end, p.no_long, p.no_short, q.no_end, q.no_long, q.no_short) refl, rw (p.no_end, p.no_long, p.no_short, q.no_end, q.no_long, q.no_short) refl) }
+lint_both_alone a b p q = record {
+  taken = rw (p.no_end, p.no_long, p.no_short, q.no_end, q.no_long, q.no_short) refl;
+  found = (
+    rw (p.no_end, p.no_long, p.no_short, q.no_end, q.no_long, q.no_short) refl,
+    rw (p.no_end, p.no_long, p.no_short, q.no_end, q.no_long, q.no_short) refl,
+  );
+}
 
 lint_both_behind : (a b : Word) → Accepted (codes "lint" ∷ codes "--" ∷ a ∷ b ∷ []) (lint a (Some b))
 unfolding clap_on_literals
@@ -124,7 +202,13 @@ lint_both_between a b p = record { taken = rw (p.no_end, p.no_long, p.no_short) 
 
 lint_both_before : (a b : Word) → IsValue a → IsValue b → Accepted (codes "lint" ∷ a ∷ b ∷ codes "--" ∷ []) (lint a (Some b))
 unfolding clap_on_literals
-lint_both_before a b p q = record { taken = rw (p.no_end, p.no_long, p.no_short, q.no_end, q.no_long, q.no_short) refl; found = (rw (p.no_end, p.no_long, p.no_short, q.no_end, q.no_long, q.no_short) refl, rw (p.no_end, p.no_long, p.no_short, q.no_end, q.no_long, q.no_short) refl) }
+lint_both_before a b p q = record {
+  taken = rw (p.no_end, p.no_long, p.no_short, q.no_end, q.no_long, q.no_short) refl;
+  found = (
+    rw (p.no_end, p.no_long, p.no_short, q.no_end, q.no_long, q.no_short) refl,
+    rw (p.no_end, p.no_long, p.no_short, q.no_end, q.no_long, q.no_short) refl,
+  );
+}
 
 explain_alone : (word : Word) → IsValue word → Accepted (codes "explain" ∷ word ∷ []) (explain word)
 unfolding clap_on_literals
@@ -139,7 +223,8 @@ unfolding clap_on_literals
 explain_before word p = record { taken = rw (p.no_end, p.no_long, p.no_short) refl; found = rw (p.no_end, p.no_long, p.no_short) refl }
 
 -- what holds of each value that is read holds of what is made of one
-mapped : {X : Type 0} (make : X → Asked) (P : Asked → Type 0) (read : Option X) (wanted : Asked) → ((x : X) → read ≡ Some x → P (make x)) → option_map make read ≡ Some wanted → P wanted
+mapped : {X : Type 0} (make : X → Asked) (P : Asked → Type 0) (read : Option X) (wanted : Asked) → ((x : X) → read ≡ Some x → P (make x))
+    → option_map make read ≡ Some wanted → P wanted
 mapped make P None wanted holds is = cc
 mapped make P (Some x) wanted holds is = let same : make x ≡ wanted = cc in subst P same (holds x refl)
 
