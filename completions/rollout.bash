@@ -59,10 +59,10 @@ _rollout() {
     fi
     command=${words[1]}
     case $command in
-    limits) most=1 options=(--expect --from --mended --changed-inputs -h --help) ;;
-    plan) most=2 options=(--course --failing --groups --color --picture --words --expect --from --mended --changed-inputs -v --verbose -h --help) ;;
-    run) most=2 options=(--forks -v --verbose --quiet --stop-file --journal --resume --mended --changed-inputs --lock -h --help) ;;
-    rehearse) most=2 options=(--strict --from --mended --changed-inputs -h --help) ;;
+    limits) most=1 options=(--expect --from --mended --changed-inputs --json -v --verbose -h --help) ;;
+    plan) most=2 options=(--course --failing --groups --color --picture --words --expect --from --mended --changed-inputs --json -v --verbose -h --help) ;;
+    run) most=2 options=(--forks -v --verbose --quiet --stop-file --journal --resume --mended --changed-inputs --lock --strict --json -h --help) ;;
+    rehearse) most=2 options=(--strict --from --mended --changed-inputs -v --verbose -h --help) ;;
     state) most=2 options=(--changed-inputs -h --help) ;;
     check) most=3 options=(-h --help) ;;
     lint) most=2 options=(--allow -h --help) ;;
@@ -106,7 +106,7 @@ _rollout() {
             current=${current##*[,:]}
         fi
         compopt -o nospace 2>/dev/null
-        _rollout_offer zero-limit empty-limit no-hosts down-hosts unknown-name missing-name shell-word idle-handler
+        _rollout_offer zero-limit empty-limit group-down near-key case-hosts no-hosts down-hosts idle-serial one-failure unknown-name missing-name constant-condition shell-word local-step long-word dash-name idle-handler
         ;;
     --failing | --mended | --expect) ;;
     *)

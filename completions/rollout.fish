@@ -50,7 +50,7 @@ complete -c rollout -n __rollout_of -a run -d 'Updates the hosts of each play ba
 complete -c rollout -n __rollout_of -a rehearse -d 'Answers what a run of a play would come to if these hosts failed, command by command'
 complete -c rollout -n __rollout_of -a state -d "Prints how each host stands by a run's journal, and whether the run has ended"
 complete -c rollout -n __rollout_of -a check -d 'Tells whether a text is a plan of a play, and how many batches the least one has'
-complete -c rollout -n __rollout_of -a lint -d 'Prints what is accepted and probably not meant, one note a line'
+complete -c rollout -n __rollout_of -a lint -d 'Prints every fault of the files with what helps, or else what is probably not meant'
 complete -c rollout -n __rollout_of -a explain -d 'Prints what the fault of this number means, with an example, and what to do'
 complete -c rollout -n __rollout_of -a help -d 'Prints the help of the program, or that of a command'
 
@@ -58,6 +58,8 @@ complete -c rollout -n '__rollout_of limits' -l expect -x -d "Ends with status 1
 complete -c rollout -n '__rollout_of limits' -l from -r -F -d 'Begins where the run of this journal stands, as --resume would have it go on'
 complete -c rollout -n '__rollout_of limits' -l mended -x -d 'Beside --from these hosts and groups, parted by commas, are up by now'
 complete -c rollout -n '__rollout_of limits' -l changed-inputs -d 'The inputs may be others than those with which the run of the journal began'
+complete -c rollout -n '__rollout_of limits' -l json -d 'Prints it, and a fault, as JSON'
+complete -c rollout -n '__rollout_of limits' -s v -l verbose -d 'Tells more on standard error: which hosts are left out, and behind a refusal what was expected'
 complete -c rollout -n '__rollout_of limits' -s h -l help -d 'Print help'
 complete -c rollout -n '__rollout_lacks 1 limits' -k -a '(__fish_complete_suffix .json)'
 
@@ -71,7 +73,8 @@ complete -c rollout -n '__rollout_of plan' -l expect -x -d "Ends with status 1 w
 complete -c rollout -n '__rollout_of plan' -l from -r -F -d 'Begins where the run of this journal stands, as --resume would have it go on'
 complete -c rollout -n '__rollout_of plan' -l mended -x -d 'Beside --from these hosts and groups, parted by commas, are up by now'
 complete -c rollout -n '__rollout_of plan' -l changed-inputs -d 'The inputs may be others than those with which the run of the journal began'
-complete -c rollout -n '__rollout_of plan' -s v -l verbose -d 'Tells on standard error which hosts of the play are down already, and left out'
+complete -c rollout -n '__rollout_of plan' -l json -d 'Prints it, and a fault, as JSON'
+complete -c rollout -n '__rollout_of plan' -s v -l verbose -d 'Tells more on standard error: which hosts are left out, and behind a refusal what was expected'
 complete -c rollout -n '__rollout_of plan' -s h -l help -d 'Print help'
 
 complete -c rollout -n '__rollout_of run' -l forks -x -k -a '1 2 3 4 5 6 7 8 9 10 11 12 13 14 15 16 17 18 19 20 21 22 23 24 25 26 27 28 29 30 31 32 33 34 35 36 37 38 39 40 41 42 43 44 45 46 47 48 49 50 51 52 53 54 55 56 57 58 59 60 61 62 63 64' -d 'How many hosts are worked on at once, 1 to 64'
@@ -83,12 +86,15 @@ complete -c rollout -n '__rollout_of run' -l resume -r -F -d 'Goes on with the r
 complete -c rollout -n '__rollout_of run' -l mended -x -d 'These hosts and groups, parted by commas, are up by now, though the inventory or the journal has them as down'
 complete -c rollout -n '__rollout_of run' -l changed-inputs -d 'Beside --resume the inputs may be others than those with which the run began'
 complete -c rollout -n '__rollout_of run' -l lock -d "Holds the lock of the inventory's file, as --journal does: a second such run is refused meanwhile"
+complete -c rollout -n '__rollout_of run' -l strict -d 'Runs nothing where a step may look for a name that has no value on a host'
+complete -c rollout -n '__rollout_of run' -l json -d 'Prints it, and a fault, as JSON'
 complete -c rollout -n '__rollout_of run' -s h -l help -d 'Print help'
 
 complete -c rollout -n '__rollout_of rehearse' -l strict -d 'Ends with status 1 where a command was refused'
 complete -c rollout -n '__rollout_of rehearse' -l from -r -F -d 'Begins where the run of this journal stands, as --resume would have it go on'
 complete -c rollout -n '__rollout_of rehearse' -l mended -x -d 'Beside --from these hosts and groups, parted by commas, are up by now'
 complete -c rollout -n '__rollout_of rehearse' -l changed-inputs -d 'The inputs may be others than those with which the run of the journal began'
+complete -c rollout -n '__rollout_of rehearse' -s v -l verbose -d 'Tells more on standard error: which hosts are left out, and behind a refusal what was expected'
 complete -c rollout -n '__rollout_of rehearse' -s h -l help -d 'Print help'
 
 complete -c rollout -n '__rollout_of state' -l changed-inputs -d 'The inputs may be others than those with which the run of the journal began'
@@ -96,7 +102,7 @@ complete -c rollout -n '__rollout_of state' -s h -l help -d 'Print help'
 
 complete -c rollout -n '__rollout_of check' -s h -l help -d 'Print help'
 
-complete -c rollout -n '__rollout_of lint' -l allow -x -a "(__fish_append , zero-limit empty-limit no-hosts down-hosts unknown-name missing-name shell-word idle-handler)" -d 'These kinds of notes, parted by commas, are not told'
+complete -c rollout -n '__rollout_of lint' -l allow -x -a "(__fish_append , zero-limit empty-limit group-down near-key case-hosts no-hosts down-hosts idle-serial one-failure unknown-name missing-name constant-condition shell-word local-step long-word dash-name idle-handler)" -d 'These kinds of notes, parted by commas, are not told'
 complete -c rollout -n '__rollout_of lint' -s h -l help -d 'Print help'
 
 complete -c rollout -n '__rollout_of explain' -s h -l help -d 'Print help'

@@ -485,7 +485,7 @@ Commands:
   rehearse  Answers what a run of a play would come to if these hosts failed, command by command
   state     Prints how each host stands by a run'\''s journal, and whether the run has ended
   check     Tells whether a text is a plan of a play, and how many batches the least one has
-  lint      Prints what is accepted and probably not meant, one note a line
+  lint      Prints every fault of the files with what helps, or else what is probably not meant
   explain   Prints what the fault of this number means, with an example, and what to do
   help      Print this message or the help of the given subcommand(s)
 
@@ -522,6 +522,8 @@ Options:
       --from <JOURNAL>  Begins where the run of this journal stands, as --resume would have it go on
       --mended <HOSTS>  Beside --from these hosts and groups, parted by commas, are up by now
       --changed-inputs  The inputs may be others than those with which the run of the journal began
+      --json            Prints it, and a fault, as JSON
+  -v, --verbose         Tells more on standard error: which hosts are left out, and behind a refusal what was expected
   -h, --help            Print help
 '
 for words in 'limits --help' 'limits -h' 'help limits'; do
@@ -548,7 +550,8 @@ Options:
       --from <JOURNAL>   Begins where the run of this journal stands, as --resume would have it go on
       --mended <HOSTS>   Beside --from these hosts and groups, parted by commas, are up by now
       --changed-inputs   The inputs may be others than those with which the run of the journal began
-  -v, --verbose          Tells on standard error which hosts of the play are down already, and left out
+      --json             Prints it, and a fault, as JSON
+  -v, --verbose          Tells more on standard error: which hosts are left out, and behind a refusal what was expected
   -h, --help             Print help
 '
 for words in 'plan --help' 'plan -h' 'help plan'; do
@@ -574,6 +577,8 @@ Options:
       --mended <HOSTS>    These hosts and groups, parted by commas, are up by now, though the inventory or the journal has them as down
       --changed-inputs    Beside --resume the inputs may be others than those with which the run began
       --lock              Holds the lock of the inventory'\''s file, as --journal does: a second such run is refused meanwhile
+      --strict            Runs nothing where a step may look for a name that has no value on a host
+      --json              Prints it, and a fault, as JSON
   -h, --help              Print help
 '
 for words in 'run --help' 'run -h' 'help run'; do
@@ -594,13 +599,19 @@ Options:
       --from <JOURNAL>  Begins where the run of this journal stands, as --resume would have it go on
       --mended <HOSTS>  Beside --from these hosts and groups, parted by commas, are up by now
       --changed-inputs  The inputs may be others than those with which the run of the journal began
+  -v, --verbose         Tells more on standard error: which hosts are left out, and behind a refusal what was expected
   -h, --help            Print help
 
 Standard input has a command a line, about the first play of PLAY. Nothing is run.
   advance [HOST ..]  the next batch is over, and of it just these hosts failed
+  next N             the next N batches are over, and just the marked hosts failed in them
+  finish             the same of all batches, to the end of the play
+  fail HOST          marks a host, which then fails as soon as its batch is over
+  undo               takes the last of these back, whole
   plan               the plan of the hosts that still wait
   show               how each host stands, and whether the play has ended
-  undo               takes the last advance back
+  hosts GROUP        how each host of a group stands, and its batch in the plan
+  help, quit         the list of commands; the end of the session
 '
 for words in 'rehearse --help' 'rehearse -h' 'help rehearse'; do
     run $words
@@ -641,7 +652,7 @@ for words in 'check --help' 'check -h' 'help check'; do
     check "the help by $words" 0 "$check_help" ''
 done
 
-lint_help='Prints what is accepted and probably not meant, one note a line
+lint_help='Prints every fault of the files with what helps, or else what is probably not meant
 
 Usage: rollout lint [OPTIONS] <INV> [PLAY]
 
@@ -740,6 +751,15 @@ for words in '--words --course' '--words --groups' '--words --picture c' '--from
     apart "plan a b $words"
 done
 apart 'limits a --expect hosts=1 --from c'
+for words in --groups '--picture c' --words '--expect batches=1' '--from c'; do
+    apart "plan a b --json $words"
+done
+for words in '--expect hosts=1' '--from c'; do
+    apart "limits a $words --json"
+done
+for words in '--resume c' '--mended c'; do
+    apart "run a b --strict $words"
+done
 for words in --color= --color=red '--color Always' '--groups --color on'; do
     apart "plan a b $words"
 done
@@ -773,12 +793,25 @@ read_by 'limits --from --changed-inputs a' a
 read_by 'limits --from=b --mended= --changed-inputs --changed-inputs a' a
 read_by 'limits -- --from' --from
 read_by 'limits --expect hosts=1 --expect=limited=1 a' a
-read_by 'plan --words a --color never b --words -v' a
+read_by 'plan --words a --color never b --words' a
 read_by 'plan a --expect batches=1 b' a
 read_by 'check a b c' a
+read_by 'run --strict a b --lock --strict' a
 read_by 'check -- --words b c' --words
 read_by 'state --changed-inputs --changed-inputs a b' a
 read_by 'state -- --changed-inputs b' --changed-inputs
+# helped WORDS: the words are a line, by which the file `a` is missing, and one line behind that says more
+helped() {
+    run $1
+    if [ "$status" -eq 1 ] && [ ! -s "$work/out" ] && [ "$(head -n 1 "$work/errors")" = 'rollout: 902 File name=a' ] && sed -n '2,$p' "$work/errors" | tr '\n' '$' | grep -qx '  [!-~][^$]*\$'; then
+        pass
+    else
+        fail "the line '$1': status $status, $(head -n 3 "$work/errors")"
+    fi
+}
+for words in 'limits -v a --verbose' 'plan --words a --color never b --words -v' 'plan -v a b' 'rehearse a --verbose b --strict -v' 'run -v a b'; do
+    helped "$words"
+done
 bad 'run --journal --resume c a b' 'rollout run [OPTIONS] <INV> <PLAY>' "unexpected argument 'b' found"
 bad 'run a b --lock=1' 'rollout run --lock <INV> <PLAY>' "unexpected value '1' for '--lock' found; no more were expected"
 bad 'run -- a b --lock' 'rollout run [OPTIONS] <INV> <PLAY>' "unexpected argument '--lock' found"

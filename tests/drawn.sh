@@ -1,7 +1,7 @@
 #!/bin/sh
 # Compares the built program with the slow program of tests/slow: both outputs, whole, and the exit status, on worked rows, on cases that are drawn
 # from a seed, on drawn runs that tell of themselves, on drawn courses and tables of groups, on drawn runs that broke off and go on, on what is foreseen of such runs, on drawn runs that begin with hosts that are mended,
-# on words that are told beforehand, on plans that are checked, on expectations, on what is noted of inventories and plays, and on the greatest inputs; and courses with runs in which the same hosts fail. A case that differs is made smaller and printed as its files and a command. Of a command that the program
+# on words that are told beforehand, on plans that are checked, on expectations, on what is noted of inventories and plays, on files with many faults, on strict runs, and on the greatest inputs; and courses with runs in which the same hosts fail. A case that differs is made smaller and printed as its files and a command. Of a command that the program
 # doesn't have yet no case is tried. `SEED=7 CASES=30000 sh tests/drawn.sh` draws others; ROLLOUT is another program than that of crates/rollout/out.
 set -u
 top=$(cd "$(dirname "$0")/.." && pwd)
@@ -56,6 +56,8 @@ counted worded "$rollout" "${SEED:-}" "${CASES:+$((CASES / 10))}"
 counted checked "$rollout" "${SEED:-}" "${CASES:+$((CASES / 10))}"
 counted expected "$rollout" "${SEED:-}" "${CASES:+$((CASES / 10))}"
 counted linted "$rollout" "${SEED:-}" "${CASES:+$((CASES / 10))}"
+counted faulty "$rollout" "${SEED:-}" "${CASES:+$((CASES * 3 / 50))}"
+counted strict "$rollout" "${SEED:-}" "${CASES:+$((CASES * 3 / 50))}"
 counted followed "$rollout" "${SEED:-}" "${CASES:+$((CASES / 30 + 1))}"
 echo "$passed passed, $failed failed"
 [ "$failed" -eq 0 ]

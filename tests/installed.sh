@@ -257,7 +257,7 @@ listed() {
     echo 'rollout lint i>inv.json'
     echo 'rollout lint --allow a inv.json p>play.json'
     echo 'rollout lint inv.json play.json i>'
-    echo 'rollout lint --allow >zero-limit/empty-limit/no-hosts/down-hosts/unknown-name/missing-name/shell-word/idle-handler'
+    echo 'rollout lint --allow >zero-limit/empty-limit/group-down/near-key/case-hosts/no-hosts/down-hosts/idle-serial/one-failure/unknown-name/missing-name/constant-condition/shell-word/local-step/long-word/dash-name/idle-handler'
     echo 'rollout lint inv.json --allow n>no-hosts'
     echo 'rollout explain i>'
     echo 'rollout run -- ->'

@@ -1,9 +1,9 @@
 #!/bin/bash
-# Runs the lines of README.md, docs/, examples/README.md and bench/README.md that begin with `$ `, at the top of the repository, and compares what each
+# Runs the lines of README.md, docs/, the README.md of examples/ and its folders, and bench/README.md that begin with `$ `, at the top of the repository, and compares what each
 # prints, both outputs together, with the lines behind it, up to the next `$ ` or the end of the block (fenced, or indented by four
 # blanks). A command that ends in a backslash goes on in the next line. `rollout` is the built program, or ROLLOUT; the commands of one block run in
 # one shell. A block whose first line is a comment `# needs NAME` is run only where NAME is among the script's words, as in
-# `tests/readme.sh ansible-core`; one that bounds memory is left out where UNPROVED is set, as tests/common.sh has it. Then it looks for the files that the pages link to, and draws
+# `tests/readme.sh ansible-core`; PAGES are other pages than these, and LIMIT other seconds for a block than 120; one that bounds memory is left out where UNPROVED is set, as tests/common.sh has it. Then it looks for the files that the pages link to, and draws
 # the picture that README shows.
 # Under another shell, as `sh tests/readme.sh`, it starts itself again.
 [ -n "${BASH_VERSION:-}" ] || exec bash "$0" "$@"
@@ -83,7 +83,7 @@ run_block() {
         echo "left out on a program without proofs: $page:$first, of want of memory"
         return
     fi
-    timeout 120 bash "$work/shell" "$work" "$top"
+    timeout "${LIMIT:-120}" bash "$work/shell" "$work" "$top"
     for ((index = 0; index < count; index++)); do
         # a substitution drops the empty lines at the end
         if [ "$(cat "$work/expected.$index")" = "$(cat "$work/printed.$index" 2>&1)" ]; then
@@ -151,7 +151,8 @@ check_links() {
 "$rollout" plan examples/two-racks.json examples/restart-web.json --picture "$work/two-racks.svg" >/dev/null 2>&1
 cmp -s docs/two-racks.svg "$work/two-racks.svg" && judge yes || judge no 'docs/two-racks.svg: the program draws another picture'
 
-for page in README.md docs/*.md examples/README.md bench/README.md; do
+# shellcheck disable=SC2086
+for page in ${PAGES:-README.md docs/*.md examples/README.md examples/*/README.md bench/README.md}; do
     run_page "$page"
     check_links "$page"
 done

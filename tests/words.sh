@@ -141,7 +141,7 @@ words = [str(word) for word in json.load(open(sys.argv[1], encoding="utf-8"))]
 sys.exit(open(sys.argv[2], "rb").read() != "".join(word + "\0" for word in words).encode())
 READ
 
-# What is told to run, given to a shell, is what a run starts.
+# What is told to run, given to a shell, is what a run starts. With one fork: two programs that append to one file at once mix their writes.
 cat >"$work/playbook.json" <<'PLAYBOOK'
 [{"hosts": "all", "tasks": [
   {"command": {"argv": ["sh", "-c", "{ printf '<%s>' \"$@\"; echo; } >>\"$WRITTEN\"", "it's", "{{ inventory_hostname }}", "", "{{ v }}", "a\tb", "\u0001 \\n", "*", "$HOME"]}},
@@ -154,7 +154,7 @@ run plan "$work/inventory.json" "$work/playbook.json" --words
 sed -n 's/^[ab] step=[12] runs: //p' "$work/out" | WRITTEN=$work/told bash --norc
 WRITTEN=$work/ran
 export WRITTEN
-run run "$work/inventory.json" "$work/playbook.json"
+run run "$work/inventory.json" "$work/playbook.json" --forks 1
 unset WRITTEN
 sort "$work/told" >"$work/told.sorted"
 sort "$work/ran" >"$work/ran.sorted"

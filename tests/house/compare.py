@@ -5,6 +5,7 @@ tests/house.sh runs it. Each comparison is a row; the last line counts them.
 """
 
 import difflib
+import json
 import os
 import re
 import sys
@@ -23,6 +24,8 @@ MAY_NAME_THE_HANDLE = ("crates/rollout/src/main.rt", "crates/roll_core/src/histo
 CITES = re.compile(r"(?<!\w)(?:R(?:1[0-6]|[1-9])|T[1-5]|D(?:1[0-9]|2[01]|[1-9])|W(?:1[0-9]|2[01]|[1-9])|[Dd]ocument 0[1-4]|[Ii]ssue #?\d+)(?!\w)")
 # What ran at some time, under the names of that time.
 HISTORY = "docs/TRIED.md"
+# Faults of what has no form in JSON: of bad words, rehearsals, expectations and plans that are checked.
+NOT_IN_JSON = {"901", "906", "907", "908", "909"}
 # Scripts that others share, or that a target of the Makefile is for.
 NOT_IN_THE_GATE = {"all", "build", "common", "contracts", "crates", "edits", "gate", "install", "package", "test", "touched"}
 
@@ -76,6 +79,23 @@ def compare_entries(count):
     for front in made.faults_of_page():
         number = front.split(" ")[0]
         count.row(not number.isdigit() or int(number) in entries, f"docs/FAULTS.md: fault {number} has no heading to which its row leads")
+
+
+def compare_schema(count):
+    """The schema of what `--json` prints has each fault of FAULTS that comes with it, and its name, and no others."""
+    told = {front.split(" ")[0]: front.split(" ")[1] for front in made.faults_of_page() if front[0].isdigit()}
+    parts = [part["properties"] for part in json.loads(tree.read("docs/rollout.schema.json"))["$defs"].values() if "number" in part.get("properties", {})]
+    described = {}
+    for part in parts:
+        numbers, names = (part[key].get("enum", [part[key].get("const")]) for key in ("number", "kind"))
+        for number in numbers:
+            described[str(number)] = names
+    described.pop("None", None)
+    for number in sorted(told.keys() | described.keys()):
+        if number in NOT_IN_JSON:
+            count.row(number not in described, f"docs/rollout.schema.json has fault {number}, which never comes with --json")
+        else:
+            count.row(told.get(number) in described.get(number, []), f"docs/rollout.schema.json: fault {number} is {described.get(number)}, and {told.get(number)} by docs/FAULTS.md")
 
 
 def compare_edits(count):
@@ -396,7 +416,7 @@ def compare_scripts(count):
     scripts = {os.path.basename(path)[:-3] for path in tree.found("tests/*.sh")} - NOT_IN_THE_GATE
     architecture = tree.read("docs/ARCHITECTURE.md")
     for path in ("tests/gate.sh", "tests/all.sh"):
-        listed = re.search(r"(?:set --|gate\.sh\") ((?:[a-z]+ ){3,}[a-z]+)", tree.read(path))
+        listed = re.search(r"(?:set --|gate\.sh\") ((?:[a-z_]+ ){3,}[a-z_]+)", tree.read(path))
         listed = set(listed[1].split()) if listed else set()
         for name in sorted(scripts | listed):
             count.row(name in scripts and name in listed, f"{path}: {name} is " + ("listed, and no script" if name in listed else "a script, and not listed"))
@@ -452,6 +472,7 @@ def main():
     named = {name: tree.Crate(name) for name in crates}
     compare_made_parts(count)
     compare_entries(count)
+    compare_schema(count)
     compare_edits(count)
     compare_crates(count, crates)
     compare_rules(count)

@@ -280,6 +280,14 @@ def a_fault_explained_otherwise_than_on_its_page(copy):
     copy.change(explained.ENTRIES, "the text is no JSON", "the text is JSON")
 
 
+def a_fault_that_the_schema_lacks(copy):
+    copy.change("docs/rollout.schema.json", "103, 104,", "103,")
+
+
+def a_fault_of_another_kind_in_the_schema(copy):
+    copy.change("docs/rollout.schema.json", '"TwicePlaced"', '"TwiceNamed"')
+
+
 def a_fault_that_is_explained_nowhere(copy):
     copy.change(explained.FAULTS, "\n### 102 TwicePlaced\n", "\n### 102 Twice\n")
 

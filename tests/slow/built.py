@@ -1,5 +1,6 @@
 """The built program: it is called in a folder with a case's files, and what it says is compared with what the slow program says."""
 
+import re
 import subprocess
 from pathlib import Path
 
@@ -19,14 +20,22 @@ def call(program, case, folder, before=None):
         )
     except subprocess.TimeoutExpired:
         return Said("", f"it didn't end within {LONGEST_RUN} seconds\n", -1)
+    out = unhelped(_text(done.stdout)) if case.kind == "lint" else _text(done.stdout)
     left = None if case.journal is None else (Path(folder) / JOURNAL).read_bytes()
-    return Said(_text(done.stdout), _told(case, _text(done.stderr)), done.returncode, left)
+    return Said(out, _told(case, _text(done.stderr)), done.returncode, left)
+
+
+def unhelped(out):
+    """What `lint` says, without the line that helps behind each fault: two blanks, and 1 to 300 bytes of printable ASCII. Where one isn't so, or isn't there, the whole text stays as it is."""
+    text, count = re.subn(r"^(rollout: .*\n)  [!-~][ -~]{0,299}\n", r"\1", out, flags=re.M)
+    return text if count == len(re.findall(r"^rollout: ", out, re.M)) else out
 
 
 def _told(case, errors):
-    """Standard error; of a run that tells of itself without its times, and where programs run at once, in the order of one at a time."""
+    """Standard error; of a run that tells of itself without its times and what helps behind a fault, and where programs run at once, in the order of one at a time."""
     if not case.is_verbose:
         return errors
+    errors = unhelped(errors)
     return timeless(errors) if case.words[-1] == "1" else in_order(errors)
 
 

@@ -4,6 +4,7 @@ from dataclasses import dataclass, replace
 from random import Random
 
 import commands
+import json_form
 from draw_focused import FocusedStyle
 from draw_inventory import draw_inventory
 from draw_inventory import draw_right as draw_right_inventory
@@ -51,17 +52,22 @@ class Case:
         """Whether it is a run that tells of itself."""
         return self.kind == "run" and "-v" in self.words
 
+    @property
+    def is_formed(self):
+        """Whether it is asked for JSON."""
+        return json_form.is_wanted(self.words)
+
     def said(self):
         """What the slow program says."""
         files = {INVENTORY: self.inventory, PLAYBOOK: self.playbook, JOURNAL: self.journal, PLAN: self.plan}
         try:
             commands.check_line(self.words)
         except Fault as fault:
-            return commands.refused(fault)
+            return commands.unread(self.words, fault)
         named = commands.named_files(self.words)
         for name in named:
             if name not in files:
-                return commands.refused(Fault(902, "File", name=name))
+                return commands.unread(self.words, Fault(902, "File", name=name))
         return commands.command(self.words, [files[name] for name in named] or [self.typed], self.typed)
 
     def put(self, part, text):

@@ -1,44 +1,37 @@
 """The commands, from the bytes of their files to both outputs and the exit status."""
 
-from dataclasses import dataclass
-
+import json_form
 from aftermath import left_out, why
 from checking import judged, read_batches
 from course import next_boundary
-from entries import digest, entries_of, line, whole_of
+from entries import digest
+from every import every_fault, fault_lines
 from expecting import number_in_plan, number_in_table, read_expectations, unmet
+from facts import accepted, coursed, gone_on, planned, plays_before, ran, status_of_plan, targeted, went_on
 from faults import Fault
 from fleet import Fleet, parts_of
-from foreseen import foresee, foreseen_text
+from foreseen import foreseen_text
 from foretold import foretold
 from inventory import read_inventory
 from linting import lint_lines, read_allowed
-from planning import Blocked, start
-from playbook import read_playbook
-from plays import end_line, recaps, run_plays, status_of
+from missing import first_missed
+from planning import start
+from plays import recaps, status_of
 from rehearsal import Rehearsal
 from rehearsal import rehearse as answers
-from resuming import is_of, rest_of
 from rules import turned
+from said import Said
 from sizes import cap
 from standing import read_journal
 from surveyed import groups_lines, sight_of_plan
 from telling import told
-from texts import as_text, limits_text, listed, plan_text
-
-
-@dataclass(frozen=True)
-class Said:
-    """Both outputs of a command, as texts, and its exit status; and what is left of the journal that it was given."""
-
-    out: str
-    errors: str
-    status: int
-    journal: bytes | None = None
+from texts import as_text, limits_text, plan_text
 
 
 def command(words, files, typed):
     """What is said to a line of words, its files having been read; `typed` is standard input."""
+    if json_form.is_wanted(words):
+        return json_form.said(words, files, names_to_fail(words), mended_names(words))
     try:
         expectations, allowed = expected_in(words), allowed_in(words)
     except Fault as fault:
@@ -58,7 +51,7 @@ def command(words, files, typed):
     if words[0] == "run" and "--resume" in words:
         return resume(*files, mended_names(words), "--changed-inputs" in words)
     if words[0] == "run":
-        return run(*files, is_verbose="-v" in words)
+        return run(*files, is_verbose="-v" in words, is_strict="--strict" in words)
     if words[0] == "state":
         return state(*files)
     if words[0] == "rehearse":
@@ -79,14 +72,11 @@ def plan(inventory, playbook, is_grouped=False, is_coloured=False, expectations=
     """The plan of the first play, once all plays were accepted; below it its groups, where they are asked for, and the full ones coloured where that is; and the first expectation that it
     doesn't meet."""
     try:
-        fleet, plays, targets = accepted(inventory, playbook)
+        fleet, state, boundary = planned(inventory, playbook)
     except Fault as fault:
         return refused(fault)
-    state = start(fleet, targets[0])
-    boundary = next_boundary(fleet, plays[0], state, cap(plays[0].sizes, targeted(fleet, targets[0]), 0))
-    left_out = boundary.aside and not turned("held-hosts-make-status-three")
     groups = as_text(groups_lines(fleet, sight_of_plan(state, boundary.answer, boundary.aside), is_coloured)) if is_grouped else ""
-    said = Said(plan_text(boundary.answer, boundary.aside) + groups, "", 3 if isinstance(boundary.answer, Blocked) or left_out else 0)
+    said = Said(plan_text(boundary.answer, boundary.aside) + groups, "", status_of_plan(boundary))
     return as_expected(said, expectations, lambda name: number_in_plan(boundary.answer, name))
 
 
@@ -124,11 +114,11 @@ def check(inventory, playbook, text):
 
 
 def lint(inventory, playbook=None, allowed=()):
-    """What is accepted and probably not meant, of the inventory, and of the playbook where there is one; kinds of notes that are allowed aren't told."""
-    try:
-        fleet, plays, targets = (Fleet(read_inventory(inventory)), [], []) if playbook is None else accepted(inventory, playbook)
-    except Fault as fault:
-        return refused(fault)
+    """Every fault of the inventory, and of the playbook where there is one; where there is none, what is accepted and probably not meant, but for kinds of notes that are allowed."""
+    faults = every_fault(inventory, playbook)
+    if faults:
+        return Said("".join(fault_lines(faults)), "", 0 if turned("faults-make-status-one") else 1)
+    fleet, plays, targets = (Fleet(read_inventory(inventory)), [], []) if playbook is None else accepted(inventory, playbook)
     lines, count = lint_lines(fleet, plays, targets, allowed)
     return Said(as_text([*lines, f"notes={count}"]), "", 1 if count and not turned("lint-notes-make-status-one") else 0)
 
@@ -156,6 +146,7 @@ def allowed_in(words):
 def named_files(words):
     """The names of the files that a line of words gives, in the order in which they are read."""
     journal = [value for word, value in zip(words, words[1:]) if word == "--resume"]
+    words = json_form.without(words)
     most = {"limits": 1, "check": 3, "lint": 2 if len(words) > 2 and not words[2].startswith("--") else 1}.get("".join(words[:1]), 2)
     return [*words[1 : 1 + most], *journal]
 
@@ -196,25 +187,22 @@ def _values_behind(option, words):
 def course(inventory, playbook, names, is_grouped=False, is_coloured=False):
     """What a run would open to its end, where just the hosts of these names fail; below each play its groups, where they are asked for, and the full ones coloured where that is."""
     try:
-        if turned("course-names-last"):
-            Fleet(read_inventory(inventory)).target(names)
-        fleet, plays, targets = accepted(inventory, playbook)
-        if turned("course-groups-may-fail"):
-            names = [name for name in names if name not in {place.name for place in fleet.places}]
-        failing = fleet.target(names)
+        fleet, plays, courses = coursed(inventory, playbook, names)
     except Fault as fault:
         return refused(fault)
-    courses = foresee(fleet, plays, targets, lambda target: targeted(fleet, target), failing)
     return Said(foreseen_text(fleet, courses, len(plays) > 1, is_grouped, is_coloured), "", status_of(courses))
 
 
-def run(inventory, playbook, is_verbose=False):
-    """The recap of a whole run; how many are worked on at once makes no difference to it. With `-v`, what is told before, meanwhile and behind it."""
+def run(inventory, playbook, is_verbose=False, is_strict=False):
+    """The recap of a whole run. With `-v`, what is told before, meanwhile and behind it. A strict one begins where no step may look up a name in vain."""
     try:
-        fleet, plays, targets = accepted(inventory, playbook)
+        if is_strict:
+            lack = first_missed(*accepted(inventory, playbook))
+            if lack is not None:
+                return refused(lack)
+        fleet, plays, targets, courses = ran(inventory, playbook)
     except Fault as fault:
         return refused(fault)
-    courses = run_plays(fleet, plays, targets, lambda target: targeted(fleet, target))
     errors = left_out(fleet, targets) + told(plays, courses) + why(fleet, plays, courses) if is_verbose else ""
     return Said(recaps(courses, len(plays) > 1), errors, status_of(courses))
 
@@ -232,15 +220,10 @@ def state(inventory, journal):
 def resume(inventory, playbook, journal, names, takes_others):
     """The recap of the rest of a run that broke off, and its journal, which goes on."""
     try:
-        fleet, plays, targets = accepted(inventory, playbook)
-        is_own = (lambda inputs: True) if takes_others else (lambda inputs: is_of(inputs, inventory, playbook))
-        rest = rest_of(fleet, plays, targets, names, lambda: read_journal(fleet, journal, is_own))
+        plays, rest, courses = went_on(inventory, playbook, journal, names, takes_others)
     except Fault as fault:
         return refused(fault, journal=journal)
-    courses = run_plays(fleet, plays[rest.before :], targets[rest.before :], lambda target: targeted(fleet, target), rest.state, rest.opened)
-    before = 0 if turned("resume-plays-have-the-numbers-of-the-file") else rest.before
-    went_on = b"".join(line(body) for body in [listed("resumed:", rest.mended), *entries_of(courses, end_line, rest.word)])
-    return Said(recaps(courses, len(plays) > 1, before), "", status_of(courses), whole_of(journal) + went_on)
+    return Said(recaps(courses, len(plays) > 1, plays_before(rest)), "", status_of(courses), gone_on(journal, rest, courses))
 
 
 def rehearse(inventory, playbook, typed):
@@ -254,26 +237,11 @@ def rehearse(inventory, playbook, typed):
     return refused(fault, out) if fault else Said(out, "", 0)
 
 
-def accepted(inventory, playbook):
-    """The fleet, the plays and the hosts of each one's pattern. The inventory's faults come first, those of patterns last."""
-    if turned("inventory-before-playbook"):
-        read_playbook(playbook)
-    places = read_inventory(inventory)
-    if turned("fleet-before-playbook"):
-        read_playbook(playbook)
-    fleet = Fleet(places)
-    plays = read_playbook(playbook)
-    looked_up = plays[:1] if turned("patterns-of-all-plays") else plays
-    return fleet, plays, [fleet.target(play.parts) for play in looked_up]
-
-
-def targeted(fleet, target):
-    """The number of hosts of which a percentage is taken: those that are down are among them."""
-    if turned("targets-that-are-down-count"):
-        return sum(not fleet.is_off(host) for host in target)
-    return len(target)
-
-
 def refused(fault, out="", journal=None):
     """What is said of a refused input, behind what went out before. A journal stays as it was."""
     return Said(out, fault.line(), 1, journal)
+
+
+def unread(words, fault):
+    """What is said where a line of words is refused before all of its files were read."""
+    return json_form.refused(fault) if json_form.is_wanted(words) else refused(fault)

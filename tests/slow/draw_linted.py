@@ -1,5 +1,6 @@
 """Drawn inventories and plays of which `lint` has something to note: names that some hosts have, all or none; results that are read before and behind the step that registers them; handlers that
-nobody notifies; words of a shell; groups of which no host may be down."""
+nobody notifies; words of a shell; groups of which no host may be down, and variables of groups that are nearly keys; hosts that are alike, or begin with a dash; programs here and elsewhere, words
+that are too long, and conditions that ask nothing."""
 
 from random import Random
 
@@ -13,7 +14,14 @@ from linting import KINDS, SHELL_WORDS
 from mutate import mutate
 
 NAMES = ["v", "v", "w", "w", "flag", "tier", "x", "_n", "r", "r", "q", "nowhere", "max_down", "down", "inventory_hostname"]
-WORDS = ["a", "-n", "x=1", ">&2", "2>", "a;", "|a", "{", "}}", "$v", "*", *SHELL_WORDS]
+KEYS = [
+    "down", "Down", "DOWN", "d_o-w.n", " down", "do wn", "town", "dawn", "own", "downs", "dwon", "max_down", "maxdown", "MAX-DOWN", "Max.Down", "max\tdown", "max_dwon", "amx_down", "max_donw",
+    "max_downn", "mmax_down", "max_dow", "ax_down", "max_doen", "mux_down", "max__down", "max-down", "min_down", "max_up", "max_dwn_", "xmax_downx", "\u00e9max_down", "max_d\u00f6wn",
+]
+ALIKE = ["A", "a", "B", "C1", "c1", "H0", "Web", "wEB", "WEB", "-a", "-A", "--", "-", "A.b", "a_b"]
+PROGRAMS = ["ssh", "ssh", "/usr/bin/ssh", "./ssh", "sssh", "ssh/x", "Ssh", "{{ v }}", "{{ v }}/ssh", "true", "rsync"]
+PLAIN = ["true", "false", "1 == 1", "'a' != \"b\"", "not (true and 0)", "1 or ''", "'g' in group_names", "inventory_hostname", "inventory_hostname == 'a'", "true or 'g' not in group_names", "x is defined"]
+WORDS = ["a", "--", "--", "-", "-n", "x=1", ">&2", "2>", "a;", "|a", "{", "}}", "$v", "*", *SHELL_WORDS]
 BAD = ["shell-words", "Shell-Word", "shell_word", "all", "unknown-name=v", "caf\u00e9", "no-hosts idle-handler", "-", "\x1b[2J", "\u00a0no-hosts"]
 
 
@@ -27,12 +35,23 @@ class LintedStyle(AnyStyle):
 
     def command(self, random):
         words = ["".join(_part(random) for _ in range(random.choice([1, 1, 1, 2]))) for _ in range(random.choice([1, 2, 2, 3, 4]))]
+        if random.random() < 0.4:
+            words.insert(0, random.choice(PROGRAMS))
+        if random.random() < 0.01:
+            words.insert(random.randint(0, len(words)), _long(random))
         if random.random() < 0.5:
             return " ".join(words)
         return Members([("argv", [*words, random.choice([7, -1])] if random.random() < 0.1 else words)])
 
     def condition(self, random, register=None):
+        if random.random() < 0.3:
+            return random.choice(PLAIN)
         return draw_condition(random, NAMES, safe=True)
+
+
+def _long(random):
+    """A word of about as many bytes as a program may be given, some with a hole."""
+    return random.choice(["", "", "{{ v }}", "\u00e9"]) + "x" * random.choice([65_533, 65_535, 65_536, 65_537, 70_000])
 
 
 def _part(random):
@@ -48,6 +67,7 @@ def draw_linted(seed, number):
     """The inventory and the playbook of this number that notes are made of."""
     random = Random(f"{seed}/linted/{number}")
     value = draw_right_inventory(random, crossing=0.01, down=random.choice([0, 0, 0.1, 0.3, 0.9]), limited=random.choice([0.2, 0.5]), dense=random.random() < 0.25)
+    value = _with_names(value, random)
     inventory = write(mutate(value, random) if random.random() < 0.03 else value, random)
     value = draw_right_playbook(random, names_in(inventory), LintedStyle(), random.choice([1, 1, 2, 3, 4]))
     playbook = write(mutate(value, random) if random.random() < 0.03 else value, random)
@@ -55,6 +75,20 @@ def draw_linted(seed, number):
     if random.random() < 0.05:
         words[random.randrange(1, len(words))] = random.choice(MISSING)
     return Case((*words, *_lists(random)), inventory, playbook)
+
+
+def _with_names(value, random, key=None):
+    """The same inventory, in which some groups have variables with names like those of keys, and some hosts names like those of others."""
+    if not isinstance(value, Members):
+        return value
+    found = Members((name, _with_names(below, random, name)) for name, below in value)
+    if key == "vars":
+        names = [name for name in random.sample(KEYS, random.choice([0, 0, 1, 1, 2])) if name != "max_down" and name not in found.names()]
+        return Members([*found, *((name, random.choice([1, "x", True, None, []])) for name in names)])
+    if key == "hosts" and random.random() < 0.4:
+        names = [name for name in random.sample(ALIKE, random.choice([1, 1, 2, 3])) if name not in found.names()]
+        return Members([*found, *((name, None) for name in names)])
+    return found
 
 
 def _lists(random):

@@ -15,6 +15,7 @@ from cases import KINDS, draw_case
 from gate import CASES, SEED
 from generate import keep
 from programs import Unmodelled
+from schema import misfit_of
 from shrink import smallest
 
 MOST_SHOWN = 20
@@ -60,7 +61,8 @@ def _differs(program, case, folder):
         said = case.said()
     except Unmodelled:
         return False
-    return call(program, case, folder) != said
+    found = call(program, case, folder)
+    return found != said or (case.is_formed and misfit_of(found) is not None)
 
 
 def shown(program, case, folder, name):
@@ -69,6 +71,7 @@ def shown(program, case, folder, name):
     for label, said in (("slow", case.said()), ("built", call(program, case, folder))):
         lines += [f"  {label}: status {said.status}"]
         lines += [f"    {line[:300]}" for line in (said.out + said.errors).splitlines()[:12]]
+        lines += [f"    schema: {misfit_of(said)}"] if case.is_formed else []
     return "\n".join(lines)
 
 

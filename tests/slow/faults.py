@@ -1,4 +1,4 @@
-"""Faults: what refuses an input, and the one line that tells it."""
+"""Faults: what refuses an input, and the one line that tells it; and who is told of them, the first alone or each."""
 
 from rules import turned
 
@@ -21,6 +21,28 @@ class Fault(Exception):
         parts = [str(self.number), self.name]
         parts += [f"{key}={shown(value)}" for key, value in self.details.items()]
         return " ".join(parts)
+
+
+class First:
+    """Who is told of one fault: reading ends with it."""
+
+    found = ()
+
+    def tell(self, fault):
+        raise fault
+
+
+class Every:
+    """Who is told of all faults, in their order: reading goes on."""
+
+    def __init__(self):
+        self.found = []
+
+    def tell(self, fault):
+        self.found.append(fault)
+
+
+FIRST = First()
 
 
 def shown(value):

@@ -2,7 +2,7 @@
 
 import re
 
-from faults import Fault, by_bytes
+from faults import FIRST, Every, Fault, by_bytes
 from rules import turned
 from shares import share
 
@@ -12,7 +12,7 @@ MOST_HOSTS = 4_096
 class Fleet:
     """Hosts sorted by bytes; `places` in preorder; `limited` are the limited ones among them, each with its limit as a number."""
 
-    def __init__(self, places):
+    def __init__(self, places, told=FIRST):
         self.places = places
         self.members = _members(places)
         self.rows = {}
@@ -28,7 +28,9 @@ class Fleet:
         if turned("size-before-nested"):
             order = [self._check_nested, self._check_size, self._check_start]
         for check in order:
-            check()
+            # What comes behind wouldn't be so, or would only follow.
+            if check(told) and not turned("kinds-of-faults-of-fleets-hide-later-ones"):
+                break
 
     def _limit(self, place):
         kind, number = place.limit
@@ -41,18 +43,25 @@ class Fleet:
             return -(-number * count // 100)
         return share(number, count)
 
-    def _check_size(self):
-        if len(self.hosts) > MOST_HOSTS + turned("hosts-most"):
-            raise Fault(303, "TooManyHosts")
+    def _check_size(self, told):
+        is_over = len(self.hosts) > MOST_HOSTS + turned("hosts-most")
+        if is_over:
+            told.tell(Fault(303, "TooManyHosts"))
+        return is_over
 
-    def _check_nested(self):
-        """The first host by name that two limited groups hold of which neither is below the other, and its first such pair."""
+    def _check_nested(self, told):
+        """The pairs of limited groups of which neither is below the other, each with the first host by name that both hold, in the order of these hosts."""
+        met = set()
         for host in reversed(self.hosts) if turned("nested-first-host") else self.hosts:
-            pair = self._crossing(self.chain(host))
-            if pair:
-                raise Fault(301, "NotNested", host=host, first=pair[0].name, second=pair[1].name)
+            for one, other in self._crossings(self.chain(host)):
+                if (one.number, other.number) not in met or turned("each-crossing-pair-once"):
+                    told.tell(Fault(301, "NotNested", host=host, first=one.name, second=other.name))
+                    met.add((one.number, other.number))
+                if turned("each-crossing-pair-of-a-host"):
+                    break
+        return bool(met)
 
-    def _crossing(self, groups):
+    def _crossings(self, groups):
         pairs = [(one, other) for place, one in enumerate(groups) for other in groups[place + 1 :]]
         if turned("nested-neighbours-alone"):
             pairs = list(zip(groups, groups[1:]))
@@ -63,16 +72,19 @@ class Fleet:
             if turned("nested-by-paths"):
                 below = self.members[one.number] >= self.members[other.number] or self.members[one.number] <= self.members[other.number]
             if not below:
-                return one, other
-        return None
+                yield one, other
 
-    def _check_start(self):
-        groups = reversed(self.limited) if turned("start-first-group") else self.limited
+    def _check_start(self, told):
+        groups, is_over = reversed(self.limited) if turned("start-first-group") else self.limited, False
         for place in groups:
             down = sum(self.is_off(host) for host in self.members[place.number])
             limit = self.limits[place.number]
             if down > limit - turned("start-over-not-at"):
-                raise Fault(302, "StartOver", group=place.name, down=down, limit=limit)
+                told.tell(Fault(302, "StartOver", group=place.name, down=down, limit=limit))
+                is_over = True
+                if turned("each-group-that-starts-over"):
+                    break
+        return is_over
 
     def chain(self, host):
         """The limited groups that hold a host, in preorder."""
@@ -90,7 +102,13 @@ class Fleet:
         found = {place.name for place in self.places if host in self.members[place.number]}
         return found if turned("all-is-no-group-name") else found - {"all"}
 
-    def target(self, parts):
+    def unknown(self, parts):
+        """The faults of a pattern's parts that name nothing, each name once."""
+        told = Every()
+        self.target(list(parts) if turned("each-unknown-name-once-a-play") else dict.fromkeys(parts), told)
+        return told.found
+
+    def target(self, parts, told=FIRST):
         """The hosts of a pattern's parts, sorted. A name is a group's first, then a host's."""
         found = set()
         groups = {place.name: self.members[place.number] for place in self.places}
@@ -101,7 +119,7 @@ class Fleet:
             elif part in self.rows:
                 found.add(part)
             elif part not in groups:
-                raise Fault(304, "NoSuchName", name=part)
+                told.tell(Fault(304, "NoSuchName", name=part))
         return sorted(found, key=by_bytes)
 
 

@@ -1,6 +1,6 @@
 """The seed and the numbers of the cases that the gate draws: of all commands, of runs that tell of themselves, of courses, of groups, of runs that go on, of runs that begin with hosts that are
 up though they are marked as down, of words that are told beforehand, of plans that are checked, of expectations,
-and of what `lint` notes."""
+of what `lint` notes, of all faults that it tells, of strict runs, and of what is told as JSON."""
 
 SEED = "1"
 CASES = 5_000
@@ -13,3 +13,6 @@ WORDED = 500
 CHECKED = 500
 EXPECTED = 500
 LINTED = 500
+FAULTY = 300
+STRICT = 300
+FORMED = 300

@@ -1,8 +1,8 @@
-"""The reading of a playbook: its plays, or its first fault."""
+"""The reading of a playbook: its plays, or its first fault, or all of them."""
 
 from dataclasses import dataclass
 
-from faults import Fault, by_bytes
+from faults import FIRST, Fault, by_bytes
 from fleet import parts_of
 from json_text import NotJson, read_json
 from rules import turned
@@ -27,120 +27,140 @@ class Play:
     handlers: list
 
 
-def read_playbook(text):
-    """The plays in order. The first play is read whole before the second one is looked at."""
+def read_playbook(text, told=FIRST):
+    """The plays in order. The first play is read whole before the second one is looked at. What a fault leaves unsaid is read as if it weren't given."""
     try:
         plays = read_json(text)
     except NotJson:
-        raise Fault(701, "NotJson") from None
+        told.tell(Fault(701, "NotJson"))
+        return []
     if not isinstance(plays, list) or not plays:
-        raise Fault(702, "BadShape", at="")
+        told.tell(Fault(702, "BadShape", at=""))
+        return []
     if len(plays) > MOST_PLAYS + turned("plays-most"):
-        raise Fault(708, "ManyPlays")
+        told.tell(Fault(708, "ManyPlays"))
+        return []
     several = len(plays) > 1 or turned("play-told-of-several")
     numbers = [place + 1 if several else None for place in range(len(plays))]
-    return [_read_play(play, str(place), numbers[place]) for place, play in enumerate(plays)]
+    return [_read_play(play, str(place), numbers[place], told) for place, play in enumerate(plays)]
 
 
-def _read_play(given, at, number):
+def _read_play(given, at, number, told):
+    """A play; None in the place of one of which nothing else is told."""
     if not isinstance(given, dict):
-        raise Fault(702, "BadShape", at=at)
-    unknown = sorted((key for key in given if key not in KEYS), key=by_bytes, reverse=turned("play-keys-in-order"))
-    if unknown and not turned("play-keys-before-hosts"):
-        raise Fault(703, "UnknownKey", at=f"{at}/{unknown[0]}")
-    parts = _read_hosts(given, at)
-    if unknown:
-        raise Fault(703, "UnknownKey", at=f"{at}/{unknown[0]}")
+        told.tell(Fault(702, "BadShape", at=at))
+        return None
+    first = [_check_keys, _read_hosts]
+    found = {read: read(given, at, told) for read in (reversed(first) if turned("play-keys-before-hosts") else first)}
     settings = [_read_serial, _read_most_failed, _read_hold]
     if turned("serial-before-percentage"):
         settings = [_read_most_failed, _read_serial, _read_hold]
     if turned("settings-before-lists"):
-        _read_lists(given, at)
-    found = {setting: setting(given, at) for setting in settings}
-    tasks, handlers = _read_lists(given, at)
-    if len(tasks) + len(handlers) > MOST_STEPS + turned("steps-most"):
-        raise Fault(709, "TooManySteps")
-    steps = _read_steps(tasks, handlers, at, number)
-    return Play(parts, found[_read_serial], found[_read_most_failed], found[_read_hold], *steps)
+        _read_lists(given, at, told)
+    found.update((setting, setting(given, at, told)) for setting in settings)
+    tasks, handlers = _read_lists(given, at, told)
+    steps = [], []
+    if len(tasks) + len(handlers or []) > MOST_STEPS + turned("steps-most"):
+        told.tell(Fault(709, "TooManySteps"))
+    if len(tasks) + len(handlers or []) <= MOST_STEPS + turned("steps-most") or turned("no-step-of-too-many"):
+        steps = _read_steps(tasks, handlers, at, number, told)
+    return Play(found[_read_hosts], found[_read_serial], found[_read_most_failed], found[_read_hold], *steps)
 
 
-def _read_hosts(given, at):
-    """The names of the pattern, or of a list of patterns in turn; at least one."""
+def _check_keys(given, at, told):
+    unknown = sorted((key for key in given if key not in KEYS), key=by_bytes, reverse=turned("play-keys-in-order"))
+    for key in unknown[:1] if turned("each-unknown-key-of-a-play") else unknown:
+        told.tell(Fault(703, "UnknownKey", at=f"{at}/{key}"))
+
+
+def _read_hosts(given, at, told):
+    """The names of the pattern, or of a list of patterns in turn; at least one, which is asked where all are texts."""
     if "hosts" not in given:
-        raise Fault(702, "BadShape", at=at)
+        told.tell(Fault(702, "BadShape", at=at))
+        return []
     value = given["hosts"]
     at = f"{at}/hosts"
     if not isinstance(value, (str, list)):
-        raise Fault(702, "BadShape", at=at)
+        told.tell(Fault(702, "BadShape", at=at))
+        return []
     patterns = [value] if isinstance(value, str) else value
-    for place, pattern in enumerate(patterns):
-        if not isinstance(pattern, str):
-            raise Fault(702, "BadShape", at=f"{at}/{place}")
-    parts = [part for pattern in patterns for part in parts_of(pattern)]
-    if not parts and not turned("pattern-names-somebody"):
-        raise Fault(702, "BadShape", at=at)
+    others = [place for place, pattern in enumerate(patterns) if not isinstance(pattern, str)]
+    for place in others[:1] if turned("each-pattern-that-is-no-text") else others:
+        told.tell(Fault(702, "BadShape", at=f"{at}/{place}"))
+    parts = [part for pattern in patterns if isinstance(pattern, str) for part in parts_of(pattern)]
+    if not parts and not turned("pattern-names-somebody") and (not others or turned("emptiness-of-texts-alone")):
+        told.tell(Fault(702, "BadShape", at=at))
     return parts
 
 
-def _read_serial(given, at):
-    return read_sizes(given["serial"], f"{at}/serial") if "serial" in given else []
+def _read_serial(given, at, told):
+    return read_sizes(given["serial"], f"{at}/serial", told) if "serial" in given else []
 
 
-def _read_most_failed(given, at):
+def _read_most_failed(given, at, told):
     if "max_fail_percentage" not in given:
         return None
     value = given["max_fail_percentage"]
     if not is_whole(value, 100 + turned("percentage-at-most-all")):
-        raise Fault(707, "BadPercent", at=f"{at}/max_fail_percentage")
+        told.tell(Fault(707, "BadPercent", at=f"{at}/max_fail_percentage"))
     return value
 
 
-def _read_hold(given, at):
+def _read_hold(given, at, told):
     value = given.get("on_blocked", "stop")
     if value not in ("stop", "hold"):
-        raise Fault(702, "BadShape", at=f"{at}/on_blocked")
+        told.tell(Fault(702, "BadShape", at=f"{at}/on_blocked"))
     return value == "hold"
 
 
-def _read_lists(given, at):
-    if "tasks" not in given:
-        raise Fault(702, "BadShape", at=at)
-    tasks, handlers = given["tasks"], given.get("handlers")
+def _read_lists(given, at, told):
+    """The tasks and the handlers; of handlers that can't be read nothing is known, so None."""
+    tasks, handlers = given.get("tasks"), given.get("handlers")
     shapes = [(isinstance(tasks, list) and tasks, "tasks"), (handlers is None or isinstance(handlers, list), "handlers")]
-    for right, key in reversed(shapes) if turned("tasks-shape-first") else shapes:
+    for right, key in reversed(shapes) if turned("tasks-shape-first") and "tasks" in given else shapes:
         if not right:
-            raise Fault(702, "BadShape", at=f"{at}/{key}")
-    return tasks, handlers or []
+            told.tell(Fault(702, "BadShape", at=f"{at}/{key}" if key in given else at))
+    known = [] if handlers is None else None
+    return tasks if isinstance(tasks, list) else [], handlers if isinstance(handlers, list) else known
 
 
-def _read_steps(tasks, handlers, at, play):
-    """Handlers are read first, though their numbers come behind those of the tasks."""
+def _read_steps(tasks, handlers, at, play, told):
+    """Handlers are read first, though their numbers come behind those of the tasks. A handler whose name is a text has it, whatever else is wrong with it."""
     first = 1 if turned("handlers-counted-behind-tasks") else len(tasks) + 1
     read_handlers, names = [], []
 
     def read_all_handlers():
-        for place, given in enumerate(handlers):
-            step = read_step(given, f"{at}/handlers/{place}", Numbering(play, first + place), is_task=False)
+        for place, given in enumerate(handlers or []):
+            before = len(told.found)
+            step = read_step(given, f"{at}/handlers/{place}", Numbering(play, first + place), False, told)
             read_handlers.append(step)
             if step.name in names:
-                raise Fault(705, "TwiceHandler", name=step.name)
-            names.append(step.name)
+                told.tell(Fault(705, "TwiceHandler", name=step.name))
+            if step.name is not None and not (len(told.found) > before and turned("names-of-wrong-handlers")):
+                names.append(step.name)
+
+    def check_notified(step):
+        if handlers is not None or turned("handlers-that-cant-be-read-lack-none"):
+            _check_notified(step, names, told)
 
     if not turned("handlers-before-tasks"):
         read_all_handlers()
     read_tasks = []
     for place, given in enumerate(tasks):
-        read_tasks.append(read_step(given, f"{at}/tasks/{place}", Numbering(play, place + 1), is_task=True))
+        read_tasks.append(read_step(given, f"{at}/tasks/{place}", Numbering(play, place + 1), True, told))
         if not turned("handlers-looked-up-after-each-task") and not turned("handlers-before-tasks"):
-            _check_notified(read_tasks[-1], names)
+            check_notified(read_tasks[-1])
     if turned("handlers-before-tasks"):
         read_all_handlers()
-    for step in read_tasks:
-        _check_notified(step, names)
+    if turned("handlers-looked-up-after-each-task") or turned("handlers-before-tasks"):
+        for step in read_tasks:
+            check_notified(step)
     return read_tasks, read_handlers
 
 
-def _check_notified(step, names):
-    for name in reversed(step.notify) if turned("first-unknown-handler") else step.notify:
-        if name not in names:
-            raise Fault(704, "NoSuchHandler", name=name)
+def _check_notified(step, names, told):
+    """Each name that no handler has, once a task."""
+    notified = step.notify if turned("each-unknown-handler-once-a-task") else list(dict.fromkeys(step.notify))
+    missing = [name for name in (reversed(notified) if turned("first-unknown-handler") else notified) if name not in names]
+    for name in missing[:1] if turned("each-unknown-handler") else missing:
+        told.tell(Fault(704, "NoSuchHandler", name=name))

@@ -2,34 +2,31 @@
 
 import re
 
-from faults import Fault
+from faults import FIRST, Fault
 from rules import turned
 from shares import MOST, is_whole, percent_of, share
 
 MOST_SIZES = 64
 
 
-def read_sizes(value, at):
-    """The sizes of `serial`, each a count or a percentage. The length of a list is looked at before its entries."""
+def read_sizes(value, at, told=FIRST):
+    """The sizes of `serial`, each a count or a percentage. The length of a list is looked at before its entries; they are looked at whatever it is."""
     if not isinstance(value, list):
-        return [_read_size(value, at)]
-    checks = [_check_length, _check_entries]
+        return [_read_size(value, at, told)]
+    sizes = []
+    checks = [lambda: _check_length(value, at, told), lambda: sizes.extend(_read_size(entry, f"{at}/{place}", told) for place, entry in enumerate(value))]
     for check in reversed(checks) if turned("sizes-length-first") else checks:
-        check(value, at)
-    return [_read_size(entry, f"{at}/{place}") for place, entry in enumerate(value)]
+        check()
+    return sizes
 
 
-def _check_length(value, at):
+def _check_length(value, at, told):
     if not 1 <= len(value) <= MOST_SIZES + turned("sizes-most"):
-        raise Fault(706, "BadSerial", at=at)
+        told.tell(Fault(706, "BadSerial", at=at))
 
 
-def _check_entries(value, at):
-    for place, entry in enumerate(value):
-        _read_size(entry, f"{at}/{place}")
-
-
-def _read_size(value, at):
+def _read_size(value, at, told):
+    """The size that a value says; None where it says none."""
     if is_whole(value):
         return "count", value
     if isinstance(value, str):
@@ -38,7 +35,8 @@ def _read_size(value, at):
             return "count", int(value)
         if percent_of(value) is not None:
             return "percent", percent_of(value)
-    raise Fault(706, "BadSerial", at=at)
+    told.tell(Fault(706, "BadSerial", at=at))
+    return None
 
 
 def cap(sizes, targeted, opened):

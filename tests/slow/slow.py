@@ -18,7 +18,7 @@ def main(words):
         commands.check_line(words)
         files = [_read(name) for name in commands.named_files(words)] if words else [_whole(sys.stdin.buffer, "-")]
     except Fault as fault:
-        return commands.refused(fault)
+        return commands.unread(words, fault)
     typed = sys.stdin.buffer.read(MOST_BYTES + 1) if words[:1] == ["rehearse"] else b""
     return commands.command(words, files, typed)
 

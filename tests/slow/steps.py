@@ -39,36 +39,45 @@ class Numbering:
         return {**before, "step": self.step}
 
 
-def read_step(given, at, number, is_task):
-    """A step, or its first fault."""
+def read_step(given, at, number, is_task, told):
+    """A step. What a fault leaves unsaid is read as if it weren't given; of what is no object nothing else is told."""
     if not isinstance(given, dict):
-        raise Fault(702, "BadShape", at=at)
+        told.tell(Fault(702, "BadShape", at=at))
+        return Step(number.step, None, [], None, None, None, None, False, [])
     known = (*KEYS, "notify") if is_task or turned("handlers-never-notify") else KEYS
     unknown = sorted((key for key in given if key not in known), key=by_bytes)
-    if unknown and not turned("step-keys-before-the-name"):
-        raise Fault(703, "UnknownKey", at=f"{at}/{unknown[0]}")
+    if not turned("step-keys-before-the-name"):
+        _tell_keys(unknown, at, told)
     if turned("command-behind-the-name"):
-        _read_command(given, at, number)
-    name = _read_name(given, at, is_task)
-    if unknown:
-        raise Fault(703, "UnknownKey", at=f"{at}/{unknown[0]}")
-    words = _read_command(given, at, number)
+        _read_command(given, at, number, told)
+    name = _read_name(given, at, is_task, told)
+    if turned("step-keys-before-the-name"):
+        _tell_keys(unknown, at, told)
+    words = _read_command(given, at, number, told)
     if turned("register-before-conditions"):
-        _read_condition(given, "when", at, number)
-    register = _read_register(given, at)
+        _read_condition(given, "when", at, number, told)
+    register = _read_register(given, at, told)
     keys = ("when", "changed_when", "failed_when")
-    found = {key: _read_condition(given, key, at, number) for key in (reversed(keys) if turned("conditions-in-order") else keys)}
-    last = [_read_ignore_errors, _read_notify]
-    values = {read: read(given, at) for read in (reversed(last) if turned("notify-read-last") else last)}
-    return Step(number.step, name, words, register, *(found[key] for key in keys), values[last[0]], values[last[1]])
+    found = {key: _read_condition(given, key, at, number, told) for key in (reversed(keys) if turned("conditions-in-order") else keys)}
+    last = [_read_ignore_errors, _read_notify] if is_task or turned("handlers-never-notify") else [_read_ignore_errors]
+    values = {read: read(given, at, told) for read in (reversed(last) if turned("notify-read-last") else last)}
+    return Step(number.step, name, words, register, *(found[key] for key in keys), values[_read_ignore_errors], values.get(_read_notify, []))
 
 
-def _read_name(given, at, is_task):
+def _tell_keys(unknown, at, told):
+    for key in unknown[:1] if turned("each-unknown-key-of-a-step") else unknown:
+        told.tell(Fault(703, "UnknownKey", at=f"{at}/{key}"))
+
+
+def _read_name(given, at, is_task, told):
     if "name" not in given:
-        if is_task or turned("handlers-have-names"):
-            return None
-        raise Fault(702, "BadShape", at=at)
-    return _text(given["name"], f"{at}/name")
+        if not is_task and not turned("handlers-have-names"):
+            told.tell(Fault(702, "BadShape", at=at))
+        return None
+    if not isinstance(given["name"], str):
+        told.tell(Fault(702, "BadShape", at=f"{at}/name"))
+        return None
+    return given["name"]
 
 
 def _text(value, at):
@@ -77,17 +86,23 @@ def _text(value, at):
     return value
 
 
-def _read_command(given, at, number):
-    """The words of a command: their shape first, then the braces of each."""
-    written = [key for key in COMMANDS if key in given]
-    if len(written) != 1 and not (written and turned("one-form-of-command")):
-        raise Fault(702, "BadShape", at=at)
-    words = _words(given[written[0]], f"{at}/{written[0]}")
+def _read_command(given, at, number, told):
+    """The words of a command: their shape first, of which the first fault is told, then their braces, which are told once."""
+    try:
+        written = [key for key in COMMANDS if key in given]
+        if len(written) != 1 and not (written and turned("one-form-of-command")):
+            raise Fault(702, "BadShape", at=at)
+        words = _words(given[written[0]], f"{at}/{written[0]}")
+    except Fault as fault:
+        told.tell(fault)
+        return []
     for word in words:
         try:
             parts(word)
         except BadBraces:
-            raise Fault(602, "BadBraces", **number.details()) from None
+            told.tell(Fault(602, "BadBraces", **number.details()))
+            if not turned("braces-once-a-step"):
+                break
     return words
 
 
@@ -119,55 +134,65 @@ def _free_form(text, at):
         raise Fault(702, "BadShape", at=at) from None
 
 
-def _read_register(given, at):
+def _read_register(given, at, told):
     if "register" not in given:
         return None
     value = given["register"]
     reserved = () if turned("register-is-not-reserved") else RESERVED
     if not isinstance(value, str) or not re.fullmatch(NAME, value) or value in reserved:
-        raise Fault(702, "BadShape", at=f"{at}/register")
+        told.tell(Fault(702, "BadShape", at=f"{at}/register"))
     return value
 
 
-def _read_condition(given, key, at, number):
-    """A text, a truth value or a list of them. All shapes are looked at before any text is parsed."""
+def _read_condition(given, key, at, number, told):
+    """A text, a truth value or a list of them. All shapes are looked at before any text is parsed; texts are parsed whatever stands beside them."""
     value = given.get(key)
     if value is None or value == []:
         return None
     here = f"{at}/{key}"
     if not isinstance(value, (str, bool, list)):
-        raise Fault(702, "BadShape", at=here)
-    entries = value if isinstance(value, list) else [value]
+        told.tell(Fault(702, "BadShape", at=here))
+        return None
+    entries = list(enumerate(value if isinstance(value, list) else [value]))
+    others = [(place, entry) for place, entry in entries if not isinstance(entry, (str, bool))]
     if turned("condition-shapes-first"):
-        return [_entry(entry, f"{here}/{place}", key, number) for place, entry in enumerate(entries)]
-    for place, entry in enumerate(entries):
-        if not isinstance(entry, (str, bool)):
-            raise Fault(702, "BadShape", at=f"{here}/{place}")
-    return [_entry(entry, here, key, number) for entry in entries]
+        return [_entry(entry, f"{here}/{place}", key, number, told) for place, entry in entries]
+    for place, _ in others[:1] if turned("each-shape-of-a-condition") else others:
+        told.tell(Fault(702, "BadShape", at=f"{here}/{place}"))
+    if others and turned("conditions-beside-other-shapes"):
+        return None
+    return [_entry(entry, here, key, number, told) for place, entry in entries if (place, entry) not in others]
 
 
-def _entry(entry, at, key, number):
+def _entry(entry, at, key, number, told):
     if isinstance(entry, bool):
         return entry
     if not isinstance(entry, str):
-        raise Fault(702, "BadShape", at=at)
+        told.tell(Fault(702, "BadShape", at=at))
+        return None
     try:
         return parse(entry)
     except CondFault as fault:
-        raise Fault(fault.number, fault.name, **number.details(), key=key, at=fault.at) from None
+        told.tell(Fault(fault.number, fault.name, **number.details(), key=key, at=fault.at))
+        return None
 
 
-def _read_ignore_errors(given, at):
+def _read_ignore_errors(given, at, told):
     value = given.get("ignore_errors", False)
     if not isinstance(value, bool):
-        raise Fault(702, "BadShape", at=f"{at}/ignore_errors")
+        told.tell(Fault(702, "BadShape", at=f"{at}/ignore_errors"))
     return value
 
 
-def _read_notify(given, at):
+def _read_notify(given, at, told):
+    """The names of handlers, each a text; also beside what is none."""
     value = given.get("notify", [])
     if isinstance(value, str):
         return [value]
     if not isinstance(value, list):
-        raise Fault(702, "BadShape", at=f"{at}/notify")
-    return [_text(entry, f"{at}/notify/{place}") for place, entry in enumerate(value)]
+        told.tell(Fault(702, "BadShape", at=f"{at}/notify"))
+        return []
+    others = [place for place, entry in enumerate(value) if not isinstance(entry, str)]
+    for place in others[:1] if turned("each-shape-of-a-notification") else others:
+        told.tell(Fault(702, "BadShape", at=f"{at}/notify/{place}"))
+    return [entry for entry in value if isinstance(entry, str)]

@@ -2,7 +2,7 @@
 
 For each rule the slow program says with that rule turned what it says of the cases, one after the other, until it says something else than with
 all rules right. Rules of what a run tells are held against the runs that tell of themselves, those of courses against courses, those of groups against plans and courses that are asked for them, those
-of journals against runs that go on, those of words that are told beforehand, of plans that are checked, of expectations and of notes against cases of their own. `python3 turned.py [SEED [CASES [NAME..]]]` prints a line a rule; its last line counts them.
+of journals against runs that go on, those of words that are told beforehand, of plans that are checked, of expectations, of notes, of all faults of a file, of strict runs and of what is told as JSON against cases of their own. `python3 turned.py [SEED [CASES [NAME..]]]` prints a line a rule; its last line counts them.
 """
 
 import os
@@ -12,16 +12,22 @@ from multiprocessing import Pool
 from cases import draw_case, draw_foreseen, draw_grouped, draw_told
 from draw_checked import draw_checked
 from draw_expected import draw_expected
+from draw_faulty import draw_faulty
+from draw_formed import draw_formed
 from draw_linted import draw_linted
 from draw_resumed import draw_resumed
+from draw_strict import draw_strict
 from draw_worded import draw_worded
-from gate import CASES, CHECKED, EXPECTED, FORESEEN, GROUPED, LINTED, RESUMED, SEED, TOLD, WORDED
+from gate import CASES, CHECKED, EXPECTED, FAULTY, FORESEEN, FORMED, GROUPED, LINTED, RESUMED, SEED, STRICT, TOLD, WORDED
 from programs import Unmodelled
 from rule_list import RULES
 from rules import turn, turn_none
+from rules_of_faults import FAULTS
+from rules_of_forms import FORMS
 from rules_of_notes import NOTES
 from rules_of_plans import CHECKS, EXPECTATIONS, FORETOLD
 from rules_of_runs import COURSES, GROUPS, JOURNALS, RESUMES, TELLING
+from rules_of_strictness import STRICTNESS
 
 # By what the cases are of, but for those of a command: how they are drawn, how many, and which rules they tell.
 _KINDS = {
@@ -33,6 +39,9 @@ _KINDS = {
     "check": (draw_checked, CHECKED, CHECKS),
     "expect": (draw_expected, EXPECTED, EXPECTATIONS),
     "lint": (draw_linted, LINTED, NOTES),
+    "faults": (draw_faulty, FAULTY, FAULTS),
+    "strict": (draw_strict, STRICT, STRICTNESS),
+    "json": (draw_formed, FORMED, FORMS),
 }
 # The cases, and what is right of each.
 _cases = {"": [], **{kind: [] for kind in _KINDS}}

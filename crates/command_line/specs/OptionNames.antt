@@ -2,7 +2,7 @@
 use Rattle.std.specs.Prelude.{Bool, true, false, ◌||◌, [], codes, unwrap_or}
 use Rattle.std.specs.Str.{bytes_eq}
 use Rattle.command_line.specs.declared.option_name.OptionName.{OptionName}
-use Rattle.command_line.specs.declared.option_name.OptionName.TheVariants.{Allow, ChangedInputs, Color, Course, Expect, Failing, From, Groups, Journal, Lock, Mended, Picture, Quiet, Resume, StopFile, Strict, Verbose, Words}
+use Rattle.command_line.specs.declared.option_name.OptionName.TheVariants.{Allow, ChangedInputs, Color, Course, Expect, Failing, From, Groups, Journal, Json, Lock, Mended, Picture, Quiet, Resume, StopFile, Strict, Verbose, Words}
 use Rattle.command_line.specs.Operands.{Word}
 use Rattle.command_line.specs.Options.{behind}
 
@@ -17,6 +17,7 @@ text_of Failing = codes "--failing"
 text_of From = codes "--from"
 text_of Groups = codes "--groups"
 text_of Journal = codes "--journal"
+text_of Json = codes "--json"
 text_of Lock = codes "--lock"
 text_of Mended = codes "--mended"
 text_of Picture = codes "--picture"
@@ -42,6 +43,7 @@ has_value Failing = true
 has_value From = true
 has_value Groups = false
 has_value Journal = true
+has_value Json = false
 has_value Lock = false
 has_value Mended = true
 has_value Picture = true
@@ -67,6 +69,7 @@ has_letter Failing word = false
 has_letter From word = false
 has_letter Groups word = false
 has_letter Journal word = false
+has_letter Json word = false
 has_letter Lock word = false
 has_letter Mended word = false
 has_letter Picture word = false

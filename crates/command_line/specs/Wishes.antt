@@ -4,7 +4,7 @@ use Rattle.std.specs.List.{last_or, list_all, list_any}
 use Rattle.std.specs.Option.{option_or}
 use Rattle.std.specs.Str.{bytes_eq}
 use Rattle.command_line.specs.declared.option_name.OptionName.{OptionName}
-use Rattle.command_line.specs.declared.option_name.OptionName.TheVariants.{Allow, ChangedInputs, Color, Course, Expect, Failing, From, Groups, Journal, Lock, Mended, Picture, Quiet, Resume, StopFile, Strict, Verbose, Words}
+use Rattle.command_line.specs.declared.option_name.OptionName.TheVariants.{Allow, ChangedInputs, Color, Course, Expect, Failing, From, Groups, Journal, Json, Lock, Mended, Picture, Quiet, Resume, StopFile, Strict, Verbose, Words}
 use Rattle.command_line.specs.declared.wishes.Wishes as declared
 use Rattle.command_line.specs.Operands.{Word}
 use Rattle.command_line.specs.OptionNames.{is_same}
@@ -52,6 +52,18 @@ tells_beyond given = has Course given || (tells_groups given || has From given)
 abbrev pub stand_alone : List Given → Bool
 stand_alone given = not (tells_beyond given) && not (has Expect given)
 
+-- what is asked for has a form in JSON
+abbrev pub has_json : List Given → Bool
+has_json given = not (tells_groups given) && (not (has From given) && (not (has Expect given) && not (has Words given)))
+
+-- a run is asked to begin only where no name may be missing
+abbrev pub begins_strictly : Word → List Given → Bool
+begins_strictly command given = bytes_eq command (codes "run") && has Strict given
+
+-- it begins with other hosts than the inventory has as up
+abbrev pub begins_with_others : List Given → Bool
+begins_with_others given = has Resume given || has Mended given
+
 -- when tables are coloured: at a terminal, always, or never
 abbrev pub is_when : Word → Bool
 is_when word = bytes_eq word (codes "auto") || bytes_eq word (codes "always") || bytes_eq word (codes "never")
@@ -69,7 +81,8 @@ goes_with given holds = not given || holds
 
 -- these options go together: failing hosts with a course; a run that goes on is kept where it was; and where nothing begins from a journal or tells of one, no inputs are others than its own,
 -- and of a run alone hosts are up by now. What begins from a journal has no table of its groups and no picture. Numbers are expected of the table of limits
--- and of the plan at the start, and words are told in place of all else.
+-- and of the plan at the start, and words are told in place of all else. What is told of the start or the end, and of a course, has a form in JSON. Names may be missing
+-- as the inventory has the hosts: where others are up, or a run goes on, nobody looks for them.
 abbrev pub go_together : Word → List Given → Bool
 go_together command given =
     goes_with (has Failing given) (has Course given)
@@ -78,7 +91,9 @@ go_together command given =
     && (goes_with (has Mended given) (begins_from given || bytes_eq command (codes "run"))
     && (goes_with (has From given) (not (tells_groups given))
     && (goes_with (has Expect given) (not (tells_beyond given))
-    && (goes_with (has Words given) (stand_alone given) && are_colours given))))))
+    && (goes_with (has Words given) (stand_alone given)
+    && (goes_with (has Json given) (has_json given)
+    && (goes_with (begins_strictly command given) (not (begins_with_others given)) && are_colours given))))))))
 
 -- the words are taken as they are where their options don't go together: they are no line then
 abbrev pub kept : Bool → List Word → Reading → Reading
@@ -98,9 +113,9 @@ abbrev pub given_in : List Word → List Given
 given_in [] = []
 given_in (command ∷ words) = (reading_of command words).given
 
--- what is asked for beside a line: to tell of itself, or nothing; to refuse; to hold the lock; the file that ends a run; the new one in which it is kept; the journal from which a run
+-- what is asked for beside a line: to tell of itself, or nothing; to refuse, or to begin only where no name may be missing; to hold the lock; the file that ends a run; the new one in which it is kept; the journal from which a run
 -- goes on, or a plan, a rehearsal or limits begin; the hosts that are up by now, a comma behind each name; whether the inputs may be others than those of that journal; the names of the
--- hosts that fail in the course, where it is asked for; the table of groups, and when that is coloured; the file of the picture; the words of the steps; what is expected, a
+-- hosts that fail in the course, where it is asked for; the table of groups, and when that is coloured; the file of the picture; the words of the steps; JSON; what is expected, a
 -- comma behind each list; and the kinds of notes that are allowed, likewise
 pub record Wish : Type 0 where
   pub verbose : Bool
@@ -117,6 +132,7 @@ pub record Wish : Type 0 where
   pub color : Option Word
   pub picture : Option Word
   pub words : Bool
+  pub json : Bool
   pub expected : Option Word
   pub allowed : Word
 
@@ -136,6 +152,7 @@ wish_of given = record {
   color = last_value Color given;
   picture = last_value Picture given;
   words = has Words given;
+  json = has Json given;
   expected = if has Expect given then Some (joined_values Expect given) else None;
   allowed = joined_values Allow given;
 }
@@ -161,6 +178,7 @@ wish_as wishes = record {
   color = option_map string_bytes wishes.color;
   picture = option_map string_bytes wishes.picture;
   words = wishes.tells_words;
+  json = wishes.is_json;
   expected = option_map string_bytes wishes.expected;
   allowed = string_bytes wishes.allowed;
 }

@@ -37,7 +37,7 @@ pub enum Line {
         playbook: Source,
         plan: Source,
     },
-    /// Prints what an inventory and a playbook say that is accepted and probably not meant.
+    /// Prints all faults of an inventory and a playbook, or where there is none what is probably not meant.
     Lint {
         inventory: Source,
         playbook: Option<Source>,

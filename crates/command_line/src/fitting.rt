@@ -19,6 +19,8 @@ pub(crate) const OF_RUN: &[OptionName] = &[
     OptionName::Mended,
     OptionName::ChangedInputs,
     OptionName::Lock,
+    OptionName::Strict,
+    OptionName::Json,
 ];
 
 pub(crate) const OF_PLAN: &[OptionName] = &[
@@ -32,6 +34,7 @@ pub(crate) const OF_PLAN: &[OptionName] = &[
     OptionName::From,
     OptionName::Mended,
     OptionName::ChangedInputs,
+    OptionName::Json,
     OptionName::Verbose,
 ];
 
@@ -40,6 +43,7 @@ pub(crate) const OF_REHEARSAL: &[OptionName] = &[
     OptionName::From,
     OptionName::Mended,
     OptionName::ChangedInputs,
+    OptionName::Verbose,
 ];
 
 pub(crate) const OF_LIMITS: &[OptionName] = &[
@@ -47,6 +51,8 @@ pub(crate) const OF_LIMITS: &[OptionName] = &[
     OptionName::From,
     OptionName::Mended,
     OptionName::ChangedInputs,
+    OptionName::Json,
+    OptionName::Verbose,
 ];
 
 pub(crate) const OF_STATE: &[OptionName] = &[OptionName::ChangedInputs];
@@ -94,6 +100,8 @@ pub(crate) fn go_together(command: &String, given: &[Given]) -> bool
     ) && goes_with(has(given, OptionName::From), !tells_groups(given))
         && goes_with(has(given, OptionName::Expect), !tells_beyond(given))
         && goes_with(has(given, OptionName::Words), stand_alone(given))
+        && goes_with(has(given, OptionName::Json), has_json(given))
+        && goes_with(begins_strictly(command, given), !begins_with_others(given))
         && are_colours(given)
 }
 
@@ -148,6 +156,30 @@ fn stand_alone(given: &[Given]) -> bool
     ensures { result ≡ spec.stand_alone (map given_as given.now) }
 {
     !tells_beyond(given) && !has(given, OptionName::Expect)
+}
+
+/// Whether what is asked for has a form in JSON.
+fn has_json(given: &[Given]) -> bool
+    ensures { result ≡ spec.has_json (map given_as given.now) }
+{
+    !tells_groups(given)
+        && !has(given, OptionName::From)
+        && !has(given, OptionName::Expect)
+        && !has(given, OptionName::Words)
+}
+
+/// Whether a run is asked to begin only where no name may be missing.
+fn begins_strictly(command: &String, given: &[Given]) -> bool
+    ensures { result ≡ spec.begins_strictly (string_bytes command.now) (map given_as given.now) }
+{
+    is_word(command, "run") && has(given, OptionName::Strict)
+}
+
+/// Whether a run begins with other hosts than the inventory has as up.
+fn begins_with_others(given: &[Given]) -> bool
+    ensures { result ≡ spec.begins_with_others (map given_as given.now) }
+{
+    has(given, OptionName::Resume) || has(given, OptionName::Mended)
 }
 
 /// Whether an option that is given or not goes with what holds or not.

@@ -45,6 +45,9 @@ impl OptionName {
             OptionName::Resume => {
                 "Goes on with the run of this journal, which broke off, and keeps it there"
             }
+            OptionName::Strict => {
+                "Runs nothing where a step may look for a name that has no value on a host"
+            }
             OptionName::Lock => {
                 "Holds the lock of the inventory's file, as --journal does: a second such run is refused meanwhile"
             }
@@ -75,8 +78,9 @@ impl OptionName {
             }
             OptionName::Allow => "These kinds of notes, parted by commas, are not told",
             OptionName::Strict => "Ends with status 1 where a command was refused",
+            OptionName::Json => "Prints it, and a fault, as JSON",
             OptionName::Verbose => {
-                "Tells on standard error which hosts of the play are down already, and left out"
+                "Tells more on standard error: which hosts are left out, and behind a refusal what was expected"
             }
             OptionName::From => {
                 "Begins where the run of this journal stands, as --resume would have it go on"

@@ -17,6 +17,7 @@ pub(crate) enum OptionName {
     From,
     Groups,
     Journal,
+    Json,
     Lock,
     Mended,
     Picture,
@@ -43,6 +44,7 @@ impl OptionName {
             OptionName::From => "--from",
             OptionName::Groups => "--groups",
             OptionName::Journal => "--journal",
+            OptionName::Json => "--json",
             OptionName::Lock => "--lock",
             OptionName::Mended => "--mended",
             OptionName::Picture => "--picture",
@@ -80,6 +82,7 @@ impl OptionName {
             OptionName::ChangedInputs
             | OptionName::Course
             | OptionName::Groups
+            | OptionName::Json
             | OptionName::Lock
             | OptionName::Quiet
             | OptionName::Strict

@@ -29,9 +29,14 @@ Exit status:
 const COMMANDS: &str = "\
 Standard input has a command a line, about the first play of PLAY. Nothing is run.
   advance [HOST ..]  the next batch is over, and of it just these hosts failed
+  next N             the next N batches are over, and just the marked hosts failed in them
+  finish             the same of all batches, to the end of the play
+  fail HOST          marks a host, which then fails as soon as its batch is over
+  undo               takes the last of these back, whole
   plan               the plan of the hosts that still wait
   show               how each host stands, and whether the play has ended
-  undo               takes the last advance back";
+  hosts GROUP        how each host of a group stands, and its batch in the plan
+  help, quit         the list of commands; the end of the session";
 
 fn rollout<'a>(alloc: Global) -> Result<Command<'a>, AllocError>
     ensures { IfOk result (λ c. app_of c ≡ spec.rollout) }
@@ -163,7 +168,9 @@ fn lint<'a>(alloc: Global) -> Result<Command<'a>, AllocError>
     ensures local { IfOk result (λ c. (fields_of c).has_globals ≡ false) }
 {
     let bare = Command::new(alloc, "lint")
-        .about("Prints what is accepted and probably not meant, one note a line")
+        .about(
+            "Prints every fault of the files with what helps, or else what is probably not meant",
+        )
         .arg(inventory(alloc))?
         .arg(any_playbook(alloc))?;
     with_options(alloc, bare, OF_LINT, false)

@@ -17,7 +17,7 @@ pub struct Wishes {
     pub is_verbose: bool,
     /// Whether a run tells nothing unasked, also at a terminal. Where it is verbose too, that goes before.
     pub is_quiet: bool,
-    /// Whether a rehearsal in which a command is refused ends as refused.
+    /// Whether a rehearsal in which a command is refused ends as refused, and a run begins only where no name may be missing.
     pub is_strict: bool,
     /// Whether a run holds the lock of its inventory.
     pub locks: bool,
@@ -41,6 +41,8 @@ pub struct Wishes {
     pub picture: Option<String>,
     /// Whether a plan is asked for the words of its steps.
     pub tells_words: bool,
+    /// Whether what goes out is JSON.
+    pub is_json: bool,
     /// Where numbers are expected of the table of limits or of a plan, their lists, a comma behind each.
     pub expected: Option<String>,
     /// The kinds of notes that are not told, a comma behind each list of them.
@@ -67,6 +69,7 @@ impl Wishes {
             color: None,
             picture: None,
             tells_words: false,
+            is_json: false,
             expected: None,
             allowed: String::new(alloc),
         }
@@ -92,6 +95,7 @@ pub(crate) fn wishes_of(alloc: Global, given: &[Given]) -> Result<Wishes, AllocE
         color: last(alloc, given, OptionName::Color)?,
         picture: last(alloc, given, OptionName::Picture)?,
         tells_words: has(given, OptionName::Words),
+        is_json: has(given, OptionName::Json),
         expected: joined_if_given(alloc, given, OptionName::Expect)?,
         allowed: joined(alloc, given, OptionName::Allow)?,
     })

@@ -7,7 +7,7 @@ use crate::tree::Tree;
 
 /// What one text says, and how many bytes it has. It owns nothing, so that dropping a long list of parts takes no time.
 #[derive(Clone, Copy, Debug)]
-pub(crate) enum Part {
+pub enum Part {
     /// A test, or its contrary.
     Test {
         denied: bool,
@@ -22,7 +22,8 @@ pub(crate) enum Part {
 }
 
 impl Part {
-    pub(crate) fn bytes(self) -> u16
+    /// How many bytes of the text are its own.
+    pub fn bytes(self) -> u16
         ensures { result ≡ bytes_of self }
     {
         match self {
@@ -31,7 +32,8 @@ impl Part {
         }
     }
 
-    pub(crate) fn trees(self) -> usize
+    /// How many of the trees are its own.
+    pub fn trees(self) -> usize
         ensures { result ≡ trees_of self }
     {
         match self {
@@ -45,7 +47,7 @@ impl Part {
 /// that no part of a list of many tests takes memory of its own.
 #[derive(Debug, Drop)]
 pub struct Cond {
-    pub(crate) text: String,
-    pub(crate) parts: Vec<Part>,
-    pub(crate) trees: Vec<Tree>,
+    pub text: String,
+    pub parts: Vec<Part>,
+    pub trees: Vec<Tree>,
 }

@@ -5,14 +5,14 @@ use text_parts::Field;
 
 /// What a condition looks up: a name, a field of the result registered under a name, or the host's own name.
 #[derive(Clone, Copy, Debug)]
-pub(crate) enum Ref {
+pub enum Ref {
     Whole(Span),
     Part(Span, Field),
     Hostname,
 }
 
 #[derive(Clone, Copy, Debug)]
-pub(crate) enum Operand {
+pub enum Operand {
     Text(Span),
     Int(i64),
     Truth(bool),
@@ -22,7 +22,7 @@ pub(crate) enum Operand {
 /// A test without brackets, `not`, `and` and `or`. `contrary` says that the text asks for the contrary, by `is not`,
 /// `!=` or `not in`. It stands first, where it takes no room beside the kind of the test.
 #[derive(Clone, Copy, Debug)]
-pub(crate) enum Test {
+pub enum Test {
     Stands {
         contrary: bool,
         state: State,

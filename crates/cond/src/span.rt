@@ -7,9 +7,9 @@ use std::str;
 
 /// A part of a text of at most 4,096 bytes: where it begins, and how many bytes it has.
 #[derive(Clone, Copy, Debug)]
-pub(crate) struct Span {
-    pub(crate) at: u16,
-    pub(crate) bytes: u16,
+pub struct Span {
+    pub at: u16,
+    pub bytes: u16,
 }
 
 /// The span of a word that stands at this place.
@@ -24,7 +24,7 @@ pub(crate) fn span_of(at: usize, word: &str) -> Span
 }
 
 /// What stands there in a text; nothing where that is no text by itself.
-pub(crate) fn word_in(text: &[u8], span: Span) -> &str
+pub fn word_in(text: &[u8], span: Span) -> &str
     ensures { result.now ≡ piece text.now span }
 {
     match str::from_utf8(bytes_at(text, span)) {
@@ -44,7 +44,7 @@ fn bytes_at(bytes: &[u8], span: Span) -> &[u8]
 }
 
 /// So many elements, or all where there are fewer, and what is behind them.
-pub(crate) fn split<T>(list: &[T], count: usize) -> (&[T], &[T])
+pub fn split<T>(list: &[T], count: usize) -> (&[T], &[T])
     ensures front { result.0.now ≡ take count list.now }
     ensures behind { result.1.now ≡ drop count list.now }
 {

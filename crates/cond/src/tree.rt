@@ -4,7 +4,7 @@ use crate::leaf::Test;
 /// What a text says. How deep it is is bounded by how deep the text nests brackets and `not`, since a chain of `or` or `and` is
 /// one level. Words stand in it as places in the text.
 #[derive(Debug, Drop)]
-pub(crate) enum Tree {
+pub enum Tree {
     Either(Vec<Tree>),
     Both(Vec<Tree>),
     Negated(Box<Tree>),

@@ -48,6 +48,7 @@ pub fn entry_of<'p>(number: u16) -> Option<&'p str>
         912 => Some(OF_912),
         913 => Some(OF_913),
         914 => Some(OF_914),
+        915 => Some(OF_915),
         916 => Some(OF_916),
         917 => Some(OF_917),
         918 => Some(OF_918),
@@ -567,6 +568,19 @@ rollout: 914 NeedsResult name=release
 
 A step that is to come reads what a step of an earlier play registered under this name, and no journal has that. So too what the play that goes on registers, where a host was updated in it before:
 that one doesn't run it again. Nothing was started. Let a task of its own play find it out, or run the rest with a playbook of your own.
+";
+
+const OF_915: &str = "\
+915 NoValue: a step of a run with `--strict` may look for a name that has no value on a host
+
+```
+$ echo '[{\"hosts\": \"web\", \"tasks\": [{\"command\": \"install {{ releese }}\"}]}]' | rollout run --strict examples/two-racks.json /dev/stdin
+rollout: 915 NoValue step=1 host=web1 name=releese
+```
+
+The host has no such variable, and nothing that certainly runs before the step registers a result of that name; or the step asks for a field of what is only a variable. It is the first such step, in a file of several
+plays of the play `play=`, with the first host that waits for it and the first name that it looks for there. Nothing was started. Give all hosts of the play the variable, register the name in a task before, or say under
+`when` that the name `is defined`. Without `--strict` such a step fails when its turn comes on that host.
 ";
 
 const OF_916: &str = "\

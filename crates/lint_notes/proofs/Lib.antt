@@ -1,6 +1,10 @@
 pub mod OnceLemmas
 pub mod NotedLemmas
+pub mod AlikeLemmas
 pub mod CrowdLemmas
 pub mod SameLemmas
 pub mod LintLemmas
 pub mod OnceLaws
+pub mod ConstantLaws
+pub mod ProgramLemmas
+pub mod BatchLemmas

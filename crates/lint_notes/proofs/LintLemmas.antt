@@ -3,22 +3,14 @@ use Rattle.std.proofs.Common.{◌≡◌, ℕ, Option, List, refl}
 use Rattle.std.specs.Io.KnownBytes.{Appends, Keeps}
 use Rattle.bounded_io.specs.Sending.{SendsFirst}
 use Rattle.domains.specs.FleetViews.{FleetView}
-use Rattle.planning.specs.PlanTexts.{IsFleetIn, IsPlaybookFault, IsUnread}
+use Rattle.planning.specs.PlanTexts.{IsFleetIn, IsPlaybookFault}
 use Rattle.planning.specs.declared.fault.PlanFault.{PlanFault}
 use Rattle.planning.specs.declared.fault.PlanFault.TheVariants.{Read, Fleet, Playbook, Pattern, Write}
 use Rattle.planning.proofs.TextLemmas.{refused_is_true}
-use Rattle.lint_notes.specs.LintTexts.{BreaksNotes, IsTrueFault, IsTrueFleetFault, WritesNotes}
+use Rattle.lint_notes.specs.LintTexts.{BreaksNotes, IsTrueFault, WritesNotes}
 use Rattle.lint_notes.specs.Notes.{Note, told}
 use Rattle.lint_notes.specs.NotesText.{end_of, notes_text}
 use Rattle.lint_notes.specs.declared.end.LintEnd.{LintEnd}
-
-pub unread_lint : (inventory allowed : List ℕ) (old new : Option (List ℕ)) (fault : PlanFault) → Keeps old new → IsUnread inventory fault
-    → IsTrueFleetFault inventory allowed old new fault
-unread_lint inventory allowed old new (Read fault) keeps unread = (unread, keeps)
-unread_lint inventory allowed old new (Fleet fault) keeps unread = (unread, keeps)
-unread_lint inventory allowed old new (Playbook fault) keeps unread = absurd unread
-unread_lint inventory allowed old new (Pattern fault) keeps unread = absurd unread
-unread_lint inventory allowed old new (Write fault) keeps unread = absurd unread
 
 pub refused_lint : (inventory playbook allowed : List ℕ) (old new : Option (List ℕ)) (fleet : FleetView) → IsFleetIn inventory fleet → (fault : PlanFault) → Keeps old new
     → IsPlaybookFault fleet playbook fault → IsTrueFault inventory playbook allowed old new fault

@@ -32,6 +32,10 @@ range_noted noted place before found after so_far now =
     ap (flat_map noted) (range_more place) ∙ flat_map-append noted (range_with_len 0 place) (place ∷ []) ∙ ap (λ (l : List Note). earlier ++ l) (append-nil (noted place)) in
     now ∙ ap (λ (l : List Note). l ++ noted place) so_far ∙ append_assoc before earlier (noted place) ∙ ap (λ (l : List Note). before ++ l) (sym more)
 
+-- one note behind another
+pub two_noted : (before middle after first second : List Note) → middle ≡ before ++ first → after ≡ middle ++ second → after ≡ before ++ (first ++ second)
+two_noted before middle after first second is also = also ∙ ap (λ (l : List Note). l ++ second) is ∙ append_assoc before first second
+
 -- one more note, told or not
 told_more : (allowed : List ℕ) (all : List code.Note) (place : ℕ) (note none : code.Note) → place < length all → note ≡ get_or all place none
     → told allowed (map seen (take (place + 1) all)) ≡ told allowed (map seen (take place all)) ++ told allowed (seen note ∷ [])

@@ -1,7 +1,11 @@
 -- Words of the passes.
-use Rattle.std.specs.Prelude.{ℕ, Bool, true, is_none, Option, None, Some, List, map, slice_get}
+use Rattle.std.specs.Prelude.{ℕ, Bool, true, is_none, if◌then◌else◌, Option, None, Some, option_map, List, map, slice_get}
 use Rattle.std.specs.Borrow.{Bor}
 use Rattle.std.specs.List.{list_any}
+use Rattle.std.specs.Option.{option_or}
+use Rattle.std.specs.HashMap.{HashMap, get_by_text}
+use Rattle.std.specs.Prelude.{String}
+use Rattle.lint_notes.specs.CaseHosts.{small_letters}
 use Rattle.group_tree.specs.Names.{Name, same_name}
 use Rattle.host_vars.specs.Conditions.{environment_of}
 use Rattle.host_vars.specs.declared.vars.Vars.{Vars}
@@ -26,3 +30,10 @@ has_name registered name = list_any (λ key. same_name name key.now) registered.
 
 abbrev pub names_of : List (Bor Name) → List Name
 names_of lent = map (λ (name : Bor Name). name.now) lent
+
+-- the name that is kept under these letters, and that is once this one is kept under its own
+abbrev pub first_kept : {Y S : Type 0} → HashMap (String Y) (Bor Name) S → Name → Option Name
+first_kept firsts letters = option_map (λ (name : Bor Name). name.now) (get_by_text firsts letters)
+
+abbrev pub kept_with : (Name → Option Name) → Name → Name → Option Name
+kept_with kept name letters = option_or (kept letters) (if same_name (small_letters name) letters then Some name else None)

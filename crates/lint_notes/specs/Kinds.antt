@@ -4,21 +4,33 @@ use Rattle.std.specs.List.{list_all}
 use Rattle.group_tree.specs.Names.{Name, is_among}
 use Rattle.text_parts.specs.Patterns.{parts_of}
 use Rattle.lint_notes.specs.declared.kind.Kind.{Kind}
-use Rattle.lint_notes.specs.declared.kind.Kind.TheVariants.{ZeroLimit, EmptyLimit, NoHosts, DownHosts, UnknownName, MissingName, ShellWord, IdleHandler}
+use Rattle.lint_notes.specs.declared.kind.Kind.TheVariants.{ZeroLimit, EmptyLimit, GroupDown, NearKey, CaseHosts, NoHosts, DownHosts, IdleSerial, OneFailure}
+use Rattle.lint_notes.specs.declared.kind.Kind.TheVariants.{UnknownName, MissingName, ConstantCondition, ShellWord, LocalStep, LongWord, DashName, IdleHandler}
 
 -- the word with which the line of such a note begins, and by which it is switched off
 abbrev pub kind_name : Kind → Name
 kind_name ZeroLimit = codes "zero-limit"
 kind_name EmptyLimit = codes "empty-limit"
+kind_name GroupDown = codes "group-down"
+kind_name NearKey = codes "near-key"
+kind_name CaseHosts = codes "case-hosts"
 kind_name NoHosts = codes "no-hosts"
 kind_name DownHosts = codes "down-hosts"
+kind_name IdleSerial = codes "idle-serial"
+kind_name OneFailure = codes "one-failure"
 kind_name UnknownName = codes "unknown-name"
 kind_name MissingName = codes "missing-name"
+kind_name ConstantCondition = codes "constant-condition"
 kind_name ShellWord = codes "shell-word"
+kind_name LocalStep = codes "local-step"
+kind_name LongWord = codes "long-word"
+kind_name DashName = codes "dash-name"
 kind_name IdleHandler = codes "idle-handler"
 
 abbrev pub all_kinds : List Kind
-all_kinds = ZeroLimit ∷ EmptyLimit ∷ NoHosts ∷ DownHosts ∷ UnknownName ∷ MissingName ∷ ShellWord ∷ IdleHandler ∷ []
+all_kinds =
+    ZeroLimit ∷ EmptyLimit ∷ GroupDown ∷ NearKey ∷ CaseHosts ∷ NoHosts ∷ DownHosts ∷ IdleSerial ∷ OneFailure ∷ UnknownName ∷ MissingName ∷ ConstantCondition
+    ∷ ShellWord ∷ LocalStep ∷ LongWord ∷ DashName ∷ IdleHandler ∷ []
 
 -- a kind has this name
 unfoldable pub is_kind_name : Name → Bool

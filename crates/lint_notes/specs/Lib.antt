@@ -1,11 +1,16 @@
 pub mod Kinds
 pub mod Notes
 pub mod NotesText
+pub mod NearKeys
+pub mod Groups
+pub mod CaseHosts
 pub mod Hosts
+pub mod Batches
 pub mod NamesRead
+pub mod Conditions
+pub mod Programs
 pub mod Steps
 pub mod Playbooks
-pub mod Groups
 pub mod AllNotes
 pub mod LintTexts
 pub mod Laws

@@ -14,7 +14,7 @@ use Rattle.planning.specs.declared.fault.PlanFault.{PlanFault}
 use Rattle.planning.specs.declared.fault.PlanFault.TheVariants.{Read, Fleet, Playbook, Pattern, Write}
 use Rattle.lint_notes.specs.Notes.{Note, told}
 use Rattle.lint_notes.specs.NotesText.{end_of, notes_text}
-use Rattle.lint_notes.specs.Groups.{groups_notes}
+use Rattle.lint_notes.specs.CaseHosts.{fleet_notes}
 use Rattle.lint_notes.specs.AllNotes.{AreNotesOf}
 use Rattle.lint_notes.specs.declared.end.LintEnd.{LintEnd}
 
@@ -30,9 +30,11 @@ pub record AreNotesIn (inventory playbook : List ℕ) (notes : List Note) : Type
 
 -- the notes on the inventory alone
 pub record AreFleetNotesIn (inventory : List ℕ) (notes : List Note) : Type 0 where
+  pub says : Inventory
   pub fleet : FleetView
-  pub built : IsFleetIn inventory fleet
-  pub notes_are : notes ≡ groups_notes fleet
+  pub reads : inventories.IsReadAs inventory says
+  pub built : IsFleetOf says fleet
+  pub notes_are : notes ≡ fleet_notes says fleet
 
 -- the text of those of these notes that the text of kinds doesn't switch off, and the end with them
 pub record IsTextOf (AreNotes : List Note → Type 0) (allowed text : List ℕ) (end : LintEnd) : Type 0 where

@@ -3,7 +3,8 @@ use Rattle.std.specs.Prelude.{ℕ, Bool, true, false, List, [], ◌∷◌, ◌++
 use Rattle.group_tree.specs.Names.{Name}
 use Rattle.recap.specs.LimitsText.{field_text}
 use Rattle.lint_notes.specs.Kinds.{kind_name}
-use Rattle.lint_notes.specs.Notes.{Note, zero_limit, empty_limit, no_hosts, down_hosts, unknown_name, missing_name, shell_word, idle_handler, kind_of}
+use Rattle.lint_notes.specs.Notes.{Note, kind_of, zero_limit, empty_limit, group_down, near_key, case_hosts, no_hosts, down_hosts, idle_serial, one_failure}
+use Rattle.lint_notes.specs.Notes.{unknown_name, missing_name, constant_condition, shell_word, local_step, long_word, dash_name, idle_handler}
 use Rattle.lint_notes.specs.declared.step_path.StepPath.{StepPath}
 use Rattle.lint_notes.specs.declared.end.LintEnd.{LintEnd}
 use Rattle.lint_notes.specs.declared.end.LintEnd.TheVariants.{Clean, Noted}
@@ -33,11 +34,20 @@ missing_text hosts waiting host = field_text (codes " hosts=") hosts ++ (field_t
 abbrev pub details : Note → List ℕ
 details (zero_limit group members) = named_text (codes " group=") group ++ field_text (codes " members=") members
 details (empty_limit group) = named_text (codes " group=") group
+details (group_down group) = named_text (codes " group=") group
+details (near_key group name) = named_text (codes " group=") group ++ named_text (codes " name=") name
+details (case_hosts host other) = named_text (codes " host=") host ++ named_text (codes " other=") other
 details (no_hosts play) = field_text (codes " play=") play
 details (down_hosts play hosts host) = field_text (codes " play=") play ++ (field_text (codes " hosts=") hosts ++ named_text (codes " host=") host)
+details (idle_serial play size waiting) = field_text (codes " play=") play ++ (field_text (codes " size=") size ++ field_text (codes " waiting=") waiting)
+details (one_failure play percent size) = field_text (codes " play=") play ++ (field_text (codes " percent=") percent ++ field_text (codes " size=") size)
 details (unknown_name at name) = step_text at (codes " name=") name
 details (missing_name at name hosts waiting host) = step_text at (codes " name=") name ++ missing_text hosts waiting host
+details (constant_condition at) = at_text at
 details (shell_word at word) = step_text at (codes " word=") word
+details (local_step at word) = step_text at (codes " word=") word
+details (long_word at bytes) = at_text at ++ field_text (codes " bytes=") bytes
+details (dash_name at host) = step_text at (codes " host=") host
 details (idle_handler at) = at_text at
 
 -- `KIND ..`

@@ -1,12 +1,13 @@
 -- What is noted of the plays of a playbook.
-use Rattle.std.specs.Prelude.{ℕ, ◌+◌, Bool, ◌||◌, List, [], ◌∷◌, ◌++◌, take}
+use Rattle.std.specs.Prelude.{ℕ, ◌+◌, Bool, ◌||◌, Option, None, List, [], ◌∷◌, ◌++◌, length, slice_index_or, take}
 use Rattle.group_tree.specs.Names.{Name}
 use Rattle.domains.specs.FleetViews.{FleetView}
 use Rattle.play_model.specs.declared.play.Play.{Play}
 use Rattle.play_model.specs.declared.step.Step.{Step}
 use Rattle.needed_results.specs.Registers.{is_registered_by, is_registered_in}
 use Rattle.lint_notes.specs.Notes.{Note, noted}
-use Rattle.lint_notes.specs.Hosts.{Crowd, crowd_for, play_note}
+use Rattle.lint_notes.specs.Hosts.{Crowd, crowd_for, play_note, waiting_for}
+use Rattle.lint_notes.specs.Batches.{failure_note, size_note}
 use Rattle.lint_notes.specs.Steps.{notes_at, path_of}
 
 -- what is noted of each element, one behind the other; each is told its place, and the list begins at this one
@@ -26,11 +27,18 @@ step_notes is_earlier crowd number play place step =
 abbrev pub steps_notes : (Name → Bool) → Crowd → ℕ → Play → List Note
 steps_notes is_earlier crowd number play = all_noted (step_notes is_earlier crowd number play) 0 play.steps.items
 
--- the note on its hosts, and those on its steps; notes count plays from 1, and paths from 0
-abbrev pub play_notes : FleetView → (Name → ℕ → Bool) → (Name → Bool) → ℕ → Play → List Note
-play_notes fleet lacks is_earlier number play =
-    noted (play_note fleet (number + 1) play) ++ steps_notes is_earlier (crowd_for fleet lacks play) number play
+-- the notes on its hosts, the size of its batches, and the failures that the smallest of these bears; here plays are counted from 1
+abbrev pub batch_notes : FleetView → Option ℕ → ℕ → Play → List Note
+batch_notes fleet smallest number play =
+    noted (play_note fleet number play)
+    ++ (noted (size_note number play.sizes.items (length (waiting_for fleet play))) ++ noted (failure_note number play.max_fail smallest))
 
--- the notes on each play behind those before it
-abbrev pub plays_notes : FleetView → (Name → ℕ → Bool) → List Play → List Note
-plays_notes fleet lacks plays = all_noted (λ number play. play_notes fleet lacks (is_registered_in (take number plays)) number play) 0 plays
+-- those notes, and those on its steps, whose paths count plays from 0
+abbrev pub play_notes : FleetView → (Name → ℕ → Bool) → (Name → Bool) → Option ℕ → ℕ → Play → List Note
+play_notes fleet lacks is_earlier smallest number play =
+    batch_notes fleet smallest (number + 1) play ++ steps_notes is_earlier (crowd_for fleet lacks play) number play
+
+-- the notes on each play behind those before it; of each, the size of its smallest batch is given
+abbrev pub plays_notes : FleetView → (Name → ℕ → Bool) → List (Option ℕ) → List Play → List Note
+plays_notes fleet lacks sizes plays =
+    all_noted (λ number play. play_notes fleet lacks (is_registered_in (take number plays)) (slice_index_or sizes number None) number play) 0 plays

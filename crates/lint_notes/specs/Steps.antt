@@ -8,6 +8,8 @@ use Rattle.play_model.specs.declared.step.Step.{Step}
 use Rattle.lint_notes.specs.Notes.{Note, shell_word, idle_handler, noted}
 use Rattle.lint_notes.specs.Hosts.{Crowd, name_note}
 use Rattle.lint_notes.specs.NamesRead.{names_asked}
+use Rattle.lint_notes.specs.Conditions.{condition_note}
+use Rattle.lint_notes.specs.Programs.{local_note, long_note, dash_note}
 use Rattle.lint_notes.specs.declared.step_path.StepPath.{StepPath}
 
 -- where a step stands in the play of this number: among its tasks, or among the handlers behind them
@@ -41,7 +43,13 @@ is_notified play handler = list_any (notifies handler) (take play.tasks play.ste
 abbrev pub idle_note : Play → StepPath → Option Note
 idle_note play at = if at.is_handler && not (is_notified play at.place) then Some (idle_handler at) else None
 
--- the notes on the names that it reads, on its words, and on what notifies it
+-- the notes on its condition, its words and its program
+abbrev pub words_notes : Crowd → Play → StepPath → Step → List Note
+words_notes crowd play at step =
+    noted (condition_note at step.when)
+    ++ (noted (shell_note at step) ++ (noted (local_note play at step) ++ (noted (long_note at step) ++ noted (dash_note crowd at step))))
+
+-- the notes on the names that it reads, those, and the one on what notifies it
 abbrev pub notes_at : (Name → Bool) → Crowd → Play → StepPath → Step → List Note
 notes_at is_set crowd play at step =
-    flat_map (λ name. noted (name_note crowd at name)) (names_asked is_set crowd step) ++ (noted (shell_note at step) ++ noted (idle_note play at))
+    flat_map (λ name. noted (name_note crowd at name)) (names_asked is_set crowd step) ++ (words_notes crowd play at step ++ noted (idle_note play at))

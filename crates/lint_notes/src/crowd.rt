@@ -4,7 +4,11 @@ ghost use Rattle.std.specs.List.{find, list_any};
 ghost use Rattle.lint_notes.specs.Hosts as model;
 ghost use Rattle.lint_notes.specs.Inside.{crowd_of, lacks_in};
 ghost use Rattle.lint_notes.specs.Notes.{seen};
+ghost use Rattle.lint_notes.specs.Programs as programs;
+ghost use Rattle.lint_notes.specs.Programs.{first_dashed, is_dashed};
+ghost use Rattle.domains.specs.Numbered.{host_at};
 
+use crate::bytes::byte_at;
 use crate::note::{Missing, Note};
 use crate::step_path::StepPath;
 use cond::Env;
@@ -40,6 +44,12 @@ fn count_lacking(vars: &[Vars], waiting: &[usize], name: &str) -> usize
         .count()
 }
 
+fn is_dashed(name: &str) -> bool
+    ensures { result ≡ programs.is_dashed name.now }
+{
+    byte_at(name.as_bytes(), 0) == b'-'
+}
+
 impl<'a> Crowd<'a, '_> {
     /// Whether a waiting host has no variable of this name.
     pub(crate) fn is_lacked(&self, name: &str) -> bool
@@ -58,6 +68,27 @@ impl<'a> Crowd<'a, '_> {
             .iter()
             .copied()
             .find(|host| lacks(vars, name, *host))
+    }
+
+    /// The first whose name begins with a dash.
+    fn first_dashed_host(&self) -> Option<usize>
+        ensures { result ≡ find (λ host. is_dashed (host_at self.now.fleet.now.hosts host)) self.now.waiting.now }
+    {
+        let fleet = self.fleet;
+        self.waiting.iter().copied().find(|host| is_dashed(host_name(
+            fleet,
+            HostId { index: *host },
+        )))
+    }
+
+    /// Its name.
+    pub(crate) fn first_dashed(&self) -> Option<&'a str>
+        ensures { option_map (λ name. name.now) result ≡ first_dashed (crowd_of self.now) }
+    {
+        match self.first_dashed_host() {
+            Some(index) => Some(host_name(self.fleet, HostId { index })),
+            None => None,
+        }
     }
 
     /// What is noted of a name that a step reads and that this host is the first to lack.

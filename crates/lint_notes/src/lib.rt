@@ -3,16 +3,22 @@
 
 mod allowed;
 mod asked;
+mod batches;
 mod blanks;
+mod bytes;
+mod case_hosts;
+mod conditions;
 mod crowd;
 mod end;
 mod groups;
 mod kind;
 mod laws;
 mod lint;
+mod near_keys;
 mod note;
 mod notes;
 mod playbook;
+mod programs;
 mod reading;
 mod registered;
 mod step_path;
@@ -24,5 +30,8 @@ mod writing;
 pub use allowed::{Allowed, read_allowed};
 pub use end::LintEnd;
 pub use kind::Kind;
-pub use laws::{no_name_is_told_twice, the_names_told_are_those_read};
+pub use laws::{
+    a_constant_condition_is_the_same_on_each_host, no_name_is_told_twice,
+    the_names_told_are_those_read,
+};
 pub use lint::{lint_fleet_text, lint_text};

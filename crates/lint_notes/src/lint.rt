@@ -3,19 +3,19 @@ ghost use Rattle.std.specs.Prelude.{IfErr, IfOk};
 ghost use Rattle.lint_notes.specs.LintTexts.{AreFleetNotesIn, AreNotesIn, IsTrueFault, IsTrueFleetFault, WritesNotes};
 
 use crate::allowed::Allowed;
+use crate::case_hosts::list_fleet_notes;
 use crate::end::LintEnd;
-use crate::groups::list_group_notes;
 use crate::playbook::list_notes;
 use crate::told::send_notes;
 use bumpalo::Bump;
 use domains::{Fleet, PatternFault};
 use inventory_read::read_inventory;
-use planning::{PlanFault, read_fleet, read_known_plays};
+use planning::{PlanFault, read_known_plays};
 use std::alloc::{AllocError, Global};
 use std::io::Write;
 
-/// Writes what is accepted of an inventory and probably not meant, given as the bytes of its text: a line a note on a limited group, but for those of the kinds that are allowed, and how
-/// many they are. An inventory that is refused is refused as for a plan, and nothing goes out then. Where a write fails, exactly the first bytes of the text went out, as many as the fault
+/// Writes what is accepted of an inventory and probably not meant, given as the bytes of its text: a line a note on a group or its hosts, but for those of the kinds that are allowed, and
+/// how many they are. An inventory that is refused is refused as for a plan, and nothing goes out then. Where a write fails, exactly the first bytes of the text went out, as many as the fault
 /// says.
 pub fn lint_fleet_text<W: Write>(
     alloc: Global,
@@ -26,11 +26,16 @@ pub fn lint_fleet_text<W: Write>(
     ensures ok { IfOk result (WritesNotes (AreFleetNotesIn inventory.now) allowed.now (W.contents out.old) (W.contents out.new)) }
     ensures err { IfErr result (IsTrueFleetFault inventory.now allowed.now (W.contents out.old) (W.contents out.new)) }
 {
-    let fleet = match read_fleet(alloc, inventory) {
-        Ok(fleet) => fleet,
-        Err(fault) => return Err(fault),
+    let arena = Bump::new(alloc);
+    let tree = match read_inventory(&arena, alloc, inventory) {
+        Ok(tree) => tree,
+        Err(fault) => return Err(PlanFault::Read(fault)),
     };
-    let notes = match list_group_notes(alloc, &fleet) {
+    let fleet = match Fleet::build(alloc, &tree) {
+        Ok(fleet) => fleet,
+        Err(fault) => return Err(PlanFault::Fleet(fault)),
+    };
+    let notes = match list_fleet_notes(alloc, &tree, &fleet) {
         Ok(notes) => notes,
         Err(AllocError) => return Err(PlanFault::Pattern(PatternFault::Memory)),
     };
@@ -40,7 +45,7 @@ pub fn lint_fleet_text<W: Write>(
     }
 }
 
-/// The same of an inventory and a playbook: behind the notes on limited groups stand those on each play and its steps, in their order. Nothing goes out before both texts were accepted:
+/// The same of an inventory and a playbook: behind the notes on groups and their hosts stand those on each play and its steps, in their order. Nothing goes out before both texts were accepted:
 /// first the inventory's faults are told, then the playbook's, then the first part of a pattern, of any play, that names nothing. Want of memory for the notes is told as that for a pattern.
 pub fn lint_text<W: Write>(
     alloc: Global,

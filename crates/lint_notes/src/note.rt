@@ -15,6 +15,17 @@ pub(crate) enum Note<'a> {
     EmptyLimit {
         group: &'a str,
     },
+    GroupDown {
+        group: &'a str,
+    },
+    NearKey {
+        group: &'a str,
+        name: &'a str,
+    },
+    CaseHosts {
+        host: &'a str,
+        other: &'a str,
+    },
     NoHosts {
         play: usize,
     },
@@ -22,6 +33,16 @@ pub(crate) enum Note<'a> {
         play: usize,
         hosts: usize,
         host: &'a str,
+    },
+    IdleSerial {
+        play: usize,
+        size: u16,
+        waiting: usize,
+    },
+    OneFailure {
+        play: usize,
+        percent: u8,
+        size: usize,
     },
     UnknownName {
         at: StepPath,
@@ -32,9 +53,24 @@ pub(crate) enum Note<'a> {
         name: &'a str,
         missing: Missing<'a>,
     },
+    ConstantCondition {
+        at: StepPath,
+    },
     ShellWord {
         at: StepPath,
         word: &'a str,
+    },
+    LocalStep {
+        at: StepPath,
+        word: &'a str,
+    },
+    LongWord {
+        at: StepPath,
+        bytes: usize,
+    },
+    DashName {
+        at: StepPath,
+        host: &'a str,
     },
     IdleHandler {
         at: StepPath,
@@ -56,11 +92,20 @@ impl Note<'_> {
         match self {
             Note::ZeroLimit { .. } => Kind::ZeroLimit,
             Note::EmptyLimit { .. } => Kind::EmptyLimit,
+            Note::GroupDown { .. } => Kind::GroupDown,
+            Note::NearKey { .. } => Kind::NearKey,
+            Note::CaseHosts { .. } => Kind::CaseHosts,
             Note::NoHosts { .. } => Kind::NoHosts,
             Note::DownHosts { .. } => Kind::DownHosts,
+            Note::IdleSerial { .. } => Kind::IdleSerial,
+            Note::OneFailure { .. } => Kind::OneFailure,
             Note::UnknownName { .. } => Kind::UnknownName,
             Note::MissingName { .. } => Kind::MissingName,
+            Note::ConstantCondition { .. } => Kind::ConstantCondition,
             Note::ShellWord { .. } => Kind::ShellWord,
+            Note::LocalStep { .. } => Kind::LocalStep,
+            Note::LongWord { .. } => Kind::LongWord,
+            Note::DashName { .. } => Kind::DashName,
             Note::IdleHandler { .. } => Kind::IdleHandler,
         }
     }

@@ -1,15 +1,17 @@
 //! The notes on the plays of a playbook.
-ghost use Rattle.std.specs.Prelude.{◌≡◌, ◌<◌, ◌||◌, ◌++◌, ◌^◌, IfOk, OnOk};
+ghost use Rattle.std.specs.Prelude.{◌≡◌, ◌<◌, ◌||◌, ◌++◌, ◌^◌, IfOk, OnOk, length};
 ghost use Rattle.group_tree.specs.Names.{Name};
 ghost use Rattle.domains.specs.Fleets.{IsFleetOf};
 ghost use Rattle.needed_results.specs.Registers.{is_registered_by};
 ghost use Rattle.lint_notes.specs.Inside.{crowd_of, has_name, lacks_in};
 ghost use Rattle.lint_notes.specs.AllNotes.{AreNotesOf};
-ghost use Rattle.lint_notes.specs.Playbooks.{play_notes, plays_notes, steps_notes};
+ghost use Rattle.lint_notes.specs.Hosts.{down_for, waiting_for};
+ghost use Rattle.lint_notes.specs.Playbooks.{batch_notes, play_notes, plays_notes, steps_notes};
 
 use crate::asked::Asked;
+use crate::batches::{failure_note, list_smallest, size_note};
+use crate::case_hosts::list_fleet_notes;
 use crate::crowd::Crowd;
-use crate::groups::note_groups;
 use crate::notes::Notes;
 use crate::registered::Registered;
 use crate::step_path::{Numbered, StepPath};
@@ -48,6 +50,26 @@ fn note_steps<'a>(
     Ok(())
 }
 
+/// Adds what is noted of a play's hosts and batches, of which the smallest has this size. Here plays are counted from 1.
+fn note_batches<'a>(
+    notes: &mut Notes<'a>,
+    fleet: &'a Fleet,
+    targets: &Targets,
+    numbered: Numbered<'_>,
+    smallest: Option<usize>,
+) -> Result<(), AllocError>
+    requires waiting { targets.now.waiting.items ≡ waiting_for fleet.now numbered.play.now }
+    requires down { targets.now.down.items ≡ down_for fleet.now numbered.play.now }
+    ensures { OnOk result (notes.new ≡ notes.old ++ batch_notes fleet.now smallest numbered.entry.number numbered.entry.play.now) }
+{
+    let play = numbered.play;
+    let number = numbered.number;
+    notes.add(note_of(fleet, number, targets))?;
+    notes.add(size_note(number, play.sizes(), targets.waiting.len()))?;
+    notes.add(failure_note(number, play.max_fail(), smallest))?;
+    Ok(())
+}
+
 /// Adds what is noted of a play, and the names under which its steps register results.
 fn note_play<'a>(
     alloc: Global,
@@ -55,16 +77,21 @@ fn note_play<'a>(
     hosts: (&'a Fleet, &[Vars]),
     registered: &mut Registered<'a>,
     numbered: Numbered<'a>,
+    smallest: Option<usize>,
 ) -> Result<(), AllocError>
     requires { numbered.number < 2 ^ 63 }
     ensures notes { OnOk result (notes.new ≡ notes.old
-        ++ play_notes hosts.entry.0.now (lacks_in hosts.entry.1.now) (has_name registered.old) numbered.entry.number numbered.entry.play.now) }
+        ++ play_notes hosts.entry.0.now (lacks_in hosts.entry.1.now) (has_name registered.old) smallest numbered.entry.number numbered.entry.play.now) }
     ensures registered { OnOk result ((name : Name) → has_name registered.new name
         ≡ (has_name registered.old name || is_registered_by numbered.entry.play.now.steps.items name)) }
 {
     let (fleet, vars) = hosts;
     let targets = Targets::of(alloc, fleet, numbered.play)?;
-    notes.add(note_of(fleet, numbered.number + 1, &targets))?;
+    let from_one = Numbered {
+        number: numbered.number + 1,
+        play: numbered.play,
+    };
+    note_batches(notes, fleet, &targets, from_one, smallest)?;
     let crowd = Crowd {
         fleet,
         vars,
@@ -74,15 +101,17 @@ fn note_play<'a>(
     Ok(())
 }
 
-/// Adds what is noted of the plays.
+/// Adds what is noted of the plays; of each the size of its smallest batch is given.
 fn note_plays<'a>(
     alloc: Global,
     notes: &mut Notes<'a>,
     fleet: &'a Fleet,
     vars: &[Vars],
+    sizes: &[Option<usize>],
     plays: &'a [Play],
 ) -> Result<(), AllocError>
-    ensures { OnOk result (notes.new ≡ notes.old ++ plays_notes fleet.now (lacks_in vars.now) plays.now) }
+    requires { length sizes.now ≡ length plays.now }
+    ensures { OnOk result (notes.new ≡ notes.old ++ plays_notes fleet.now (lacks_in vars.now) sizes.now plays.now) }
 {
     let mut registered = Registered::new(alloc);
     for number in 0..plays.len() {
@@ -90,15 +119,23 @@ fn note_plays<'a>(
             number,
             play: &plays[number],
         };
-        note_play(alloc, notes, (fleet, vars), &mut registered, numbered)?;
+        let smallest = sizes[number];
+        note_play(
+            alloc,
+            notes,
+            (fleet, vars),
+            &mut registered,
+            numbered,
+            smallest,
+        )?;
     }
     Ok(())
 }
 
-/// All notes on a fleet's limited groups and on these plays. They are gathered by the variables of the tree of which the fleet was built. It fails for want of memory alone.
+/// All notes on a fleet and on these plays. They are gathered by the variables of the tree of which the fleet was built. It fails for want of memory alone.
 pub(crate) fn list_notes<'a, A: Allocator>(
     alloc: Global,
-    tree: &Tree<A>,
+    tree: &'a Tree<A>,
     fleet: &'a Fleet,
     plays: &'a [Play],
 ) -> Result<Notes<'a>, AllocError>
@@ -106,8 +143,15 @@ pub(crate) fn list_notes<'a, A: Allocator>(
     ensures { IfOk result (AreNotesOf tree.now fleet.now plays.now) }
 {
     let vars = layered_all(alloc, tree, fleet)?;
-    let mut notes = Notes::new(alloc);
-    note_groups(&mut notes, fleet)?;
-    note_plays(alloc, &mut notes, fleet, vars.as_slice(), plays)?;
+    let sizes = list_smallest(alloc, fleet, plays)?;
+    let mut notes = list_fleet_notes(alloc, tree, fleet)?;
+    note_plays(
+        alloc,
+        &mut notes,
+        fleet,
+        vars.as_slice(),
+        sizes.as_slice(),
+        plays,
+    )?;
     Ok(notes)
 }

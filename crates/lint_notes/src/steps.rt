@@ -4,12 +4,14 @@ ghost use Rattle.lint_notes.specs.Hosts.{name_note};
 ghost use Rattle.lint_notes.specs.Inside.{crowd_of, has_name, names_of};
 ghost use Rattle.lint_notes.specs.Notes.{noted, seen};
 ghost use Rattle.lint_notes.specs.Steps as model;
-ghost use Rattle.lint_notes.specs.Steps.{first_shell_word, notes_at};
+ghost use Rattle.lint_notes.specs.Steps.{first_shell_word, notes_at, words_notes};
 
 use crate::asked::{Asked, list_asked};
+use crate::conditions::condition_note;
 use crate::crowd::Crowd;
 use crate::note::Note;
 use crate::notes::Notes;
+use crate::programs::{dash_note, local_note, long_note};
 use crate::step_path::StepPath;
 use play_model::{Play, Step, Words};
 use std::alloc::{AllocError, Global};
@@ -86,6 +88,24 @@ fn note_names<'a>(
     Ok(())
 }
 
+/// Adds what is noted of a step's condition, its words and its program.
+fn note_words<'a>(
+    notes: &mut Notes<'a>,
+    crowd: &Crowd<'a, '_>,
+    play: &Play,
+    at: StepPath,
+    step: &'a Step,
+) -> Result<(), AllocError>
+    ensures { OnOk result (notes.new ≡ notes.old ++ words_notes (crowd_of crowd.now) play.now at step.now) }
+{
+    notes.add(condition_note(at, &step.when))?;
+    notes.add(shell_note(at, step))?;
+    notes.add(local_note(play, at, step))?;
+    notes.add(long_note(at, step))?;
+    notes.add(dash_note(crowd, at, step))?;
+    Ok(())
+}
+
 /// Adds what is noted of a step of this play. It fails for want of memory alone.
 pub(crate) fn note_step<'a>(
     alloc: Global,
@@ -99,7 +119,7 @@ pub(crate) fn note_step<'a>(
 {
     let names = list_asked(alloc, asked, step)?;
     note_names(notes, &asked.crowd, at, names.as_slice())?;
-    notes.add(shell_note(at, step))?;
+    note_words(notes, &asked.crowd, play, at, step)?;
     notes.add(idle_note(play, at))?;
     Ok(())
 }

@@ -1,7 +1,8 @@
 //! A note as it is written.
-ghost use Rattle.std.specs.Prelude.{◌≡◌};
+ghost use Rattle.std.specs.Prelude.{◌≡◌, ◌++◌, codes};
 ghost use Rattle.bounded_io.specs.Writing.{Writes};
 ghost use Rattle.lint_notes.specs.Notes.{seen};
+ghost use Rattle.recap.specs.LimitsText.{field_text};
 ghost use Rattle.lint_notes.specs.NotesText as model;
 ghost use Rattle.lint_notes.specs.NotesText.{at_text, details, list_word, missing_text, named_text, note_line, step_text};
 
@@ -55,6 +56,31 @@ fn write_missing<W: Write>(text: &mut TextWriter<'_, W>, missing: &Missing<'_>)
     write_named(text, " host=", missing.host);
 }
 
+/// Two words, and a name behind each.
+#[tactic(auto, using(bounded_io::proofs::Pieces::pieces_of_text))]
+fn write_pair<W: Write>(text: &mut TextWriter<'_, W>, first: (&str, &str), second: (&str, &str))
+    ensures { Writes W.contents text.old text.new (named_text first.entry.0.now first.entry.1.now ++ named_text second.entry.0.now second.entry.1.now) }
+{
+    write_named(text, first.0, first.1);
+    write_named(text, second.0, second.1);
+}
+
+/// A play's number, and two words with a number behind each.
+#[tactic(auto, using(bounded_io::proofs::Pieces::pieces_of_text))]
+fn write_fields<W: Write>(
+    text: &mut TextWriter<'_, W>,
+    play: usize,
+    first: (&str, u64),
+    second: (&str, u64),
+)
+    ensures { Writes W.contents text.old text.new (field_text (codes " play=") play
+        ++ (field_text first.entry.0.now first.entry.1 ++ field_text second.entry.0.now second.entry.1)) }
+{
+    write_field(text, " play=", play as u64);
+    write_field(text, first.0, first.1);
+    write_field(text, second.0, second.1);
+}
+
 #[tactic(auto, using(bounded_io::proofs::Pieces::pieces_of_text))]
 fn write_details<W: Write>(text: &mut TextWriter<'_, W>, note: &Note<'_>)
     ensures { Writes W.contents text.old text.new (details (seen note.now)) }
@@ -65,18 +91,48 @@ fn write_details<W: Write>(text: &mut TextWriter<'_, W>, note: &Note<'_>)
             write_field(text, " members=", members as u64);
         }
         Note::EmptyLimit { group } => write_named(text, " group=", group),
+        Note::GroupDown { group } => write_named(text, " group=", group),
+        Note::NearKey { group, name } => write_pair(text, (" group=", group), (" name=", name)),
+        Note::CaseHosts { host, other } => write_pair(text, (" host=", host), (" other=", other)),
         Note::NoHosts { play } => write_field(text, " play=", play as u64),
         Note::DownHosts { play, hosts, host } => {
             write_field(text, " play=", play as u64);
             write_field(text, " hosts=", hosts as u64);
             write_named(text, " host=", host);
         }
+        Note::IdleSerial {
+            play,
+            size,
+            waiting,
+        } => write_fields(
+            text,
+            play,
+            (" size=", size as u64),
+            (" waiting=", waiting as u64),
+        ),
+        Note::OneFailure {
+            play,
+            percent,
+            size,
+        } => write_fields(
+            text,
+            play,
+            (" percent=", percent as u64),
+            (" size=", size as u64),
+        ),
         Note::UnknownName { at, name } => write_step(text, at, " name=", name),
         Note::MissingName { at, name, missing } => {
             write_step(text, at, " name=", name);
             write_missing(text, &missing);
         }
+        Note::ConstantCondition { at } => write_at(text, at),
         Note::ShellWord { at, word } => write_step(text, at, " word=", word),
+        Note::LocalStep { at, word } => write_step(text, at, " word=", word),
+        Note::LongWord { at, bytes } => {
+            write_at(text, at);
+            write_field(text, " bytes=", bytes as u64);
+        }
+        Note::DashName { at, host } => write_step(text, at, " host=", host),
         Note::IdleHandler { at } => write_at(text, at),
     }
 }

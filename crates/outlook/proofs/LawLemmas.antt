@@ -24,7 +24,7 @@ begin_with [] (b ∷ behind) last boundary are same = absurd (cc)
 begin_with (first ∷ rest) behind last boundary are same = same.0
 
 pub runs_go_on_as_planned : (may : Work → Ending → Type 0) → RunsGoOnAsPlanned may
-runs_go_on_as_planned may asked resumption boundary next forks runs logs text columns recap tells =
+runs_go_on_as_planned may asked resumption boundary next form forks runs logs text columns recap tells =
     let first : Play = next.goes.gone.first in
     let statuses = resumption.beginning.start.statuses.items in
     let own : Roll = roll_by resumption.fleet recap.are.first forks statuses resumption.beginning.start.vars.items in

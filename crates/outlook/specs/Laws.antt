@@ -1,6 +1,7 @@
 -- What a run that goes on has to do with what was told of it.
 use Rattle.std.specs.Prelude.{ℕ, List, [], ◌∷◌}
 use Rattle.host_track.specs.Endings.{Ending}
+use Rattle.json_texts.specs.declared.form.Form.{Form}
 use Rattle.play_course.specs.Files.{Course}
 use Rattle.play_course.specs.Laws.{IsSameBoundary}
 use Rattle.play_course.specs.declared.boundary.Boundary.{Boundary}
@@ -28,8 +29,8 @@ BeginWith (first ∷ rest) boundary = IsSameBoundary first boundary
 abbrev pub RunsGoOnAsPlanned : (Work → Ending → Type 0) → Type 0
 RunsGoOnAsPlanned may =
     (asked : Question) (resumption : Resumption) (boundary : Boundary) → IsNextBoundary asked resumption boundary
-    → (forks : ℕ) (runs : List Run) (logs : List (List Event)) (text : List ℕ) (columns : Columns)
-    (recap : IsRecapFrom may resumption.fleet forks resumption.plays.items resumption.beginning runs logs text)
+    → (form : Form) (forks : ℕ) (runs : List Run) (logs : List (List Event)) (text : List ℕ) (columns : Columns)
+    (recap : IsRecapFrom form may resumption.fleet forks resumption.plays.items resumption.beginning runs logs text)
     → Tells columns (roll_by resumption.fleet recap.are.first forks resumption.beginning.start.statuses.items resumption.beginning.start.vars.items) recap.are.log
     → BeginWith recap.are.run.boundaries.items boundary
 

@@ -16,8 +16,8 @@ pub trait Watch: Drop {
     fn hear(&mut self, fleet: &Fleet, play: &Play, news: &News<'_>)
         ensures { hears self.old self.new fleet.now play.now (telling_of news.now) };
 
-    /// Of so many plays the first is to begin.
-    fn plays_begin(&mut self, plays: usize);
+    /// Of a file's plays the next is to begin, behind so many of them.
+    fn plays_begin(&mut self, before: usize, plays: usize);
 
     /// The next play begins.
     fn play_begins(&mut self);
@@ -44,7 +44,7 @@ impl Watch for Unwatched {
 
     fn hear(&mut self, _fleet: &Fleet, _play: &Play, _news: &News<'_>) {}
 
-    fn plays_begin(&mut self, _plays: usize) {}
+    fn plays_begin(&mut self, _before: usize, _plays: usize) {}
 
     fn play_begins(&mut self) {}
 
@@ -66,8 +66,8 @@ impl<W: Watch> Watch for &mut W {
         (**self).hear(fleet, play, news);
     }
 
-    fn plays_begin(&mut self, plays: usize) {
-        (**self).plays_begin(plays);
+    fn plays_begin(&mut self, before: usize, plays: usize) {
+        (**self).plays_begin(before, plays);
     }
 
     fn play_begins(&mut self) {

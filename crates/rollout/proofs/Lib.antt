@@ -1,7 +1,10 @@
+pub mod Advising
 pub mod Asking
+pub mod FaultLemmas
 pub mod Ignoring
 pub mod Rehearsing
 pub mod Rolling
+pub mod RowLemmas
 pub mod Resuming
 pub mod Tables
 mod Starting

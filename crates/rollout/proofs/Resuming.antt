@@ -4,6 +4,7 @@ use Rattle.std.specs.Prelude.{IfOk, IfErr}
 use Rattle.host_track.specs.Endings.{Ending}
 use Rattle.event_log.specs.Events.{Event}
 use Rattle.event_log.specs.Told.{Work}
+use Rattle.json_texts.specs.declared.form.Form.{Form}
 use Rattle.journal.specs.declared.fault.JournalFault.TheVariants as journal
 use Rattle.resuming.specs.Resumptions.{RefusesToBegin, RefusesToResume}
 use Rattle.resuming.specs.declared.fault.ResumeFault.{ResumeFault}
@@ -20,14 +21,14 @@ use Rattle.rollout.specs.declared.fault.Fault.TheVariants.{Stopped}
 use Rattle.rollout.specs.declared.status.Status.{Status}
 use Rattle.rollout.proofs.Rolling.{plan_stops_nothing}
 
-pub GoesOnBy-of_rest : (may : Work → Ending → Type 0) (Is : Resumption → Type 0) (Refuses : ResumeFault → Type 0) (forks : ℕ) (old new : Option (List ℕ)) (resumption : Resumption)
+pub GoesOnBy-of_rest : (form : Form) (may : Work → Ending → Type 0) (Is : Resumption → Type 0) (Refuses : ResumeFault → Type 0) (forks : ℕ) (old new : Option (List ℕ)) (resumption : Resumption)
     (result : Result Status Fault) (before after : List (List Event)) → Is resumption
-    → IfOk result (λ status. Gains before after (PrintsRest may resumption.fleet resumption.plays.items resumption.beginning forks old new status))
-    → IfErr result (λ fault. Gains before after (BreaksRest may resumption.fleet resumption.plays.items resumption.beginning forks old new fault))
-    → Gains before after (GoesOnBy may Is Refuses forks old new result)
-GoesOnBy-of_rest may Is Refuses forks old new resumption (Ok status) before after wished prints breaks =
+    → IfOk result (λ status. Gains before after (PrintsRest form may resumption.fleet resumption.plays.items resumption.beginning forks old new status))
+    → IfErr result (λ fault. Gains before after (BreaksRest form may resumption.fleet resumption.plays.items resumption.beginning forks old new fault))
+    → Gains before after (GoesOnBy form may Is Refuses forks old new result)
+GoesOnBy-of_rest form may Is Refuses forks old new resumption (Ok status) before after wished prints breaks =
     gains_as before after (λ logs is. record { resumption = resumption; wished = wished; prints = is }) prints
-GoesOnBy-of_rest may Is Refuses forks old new resumption (Err fault) before after wished prints breaks =
+GoesOnBy-of_rest form may Is Refuses forks old new resumption (Err fault) before after wished prints breaks =
     gains_as before after (λ logs is. inr (record { resumption = resumption; wished = wished; breaks = is })) breaks
 
 -- nor was one that can't begin

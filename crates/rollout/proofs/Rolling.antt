@@ -5,6 +5,7 @@ use Rattle.command_line.specs.declared.command.Source.{Source}
 use Rattle.host_track.specs.Endings.{Ending}
 use Rattle.event_log.specs.Events.{Event}
 use Rattle.event_log.specs.Told.{Work}
+use Rattle.json_texts.specs.declared.form.Form.{Form}
 use Rattle.fork_pool.specs.declared.fault.StepFault.{StepFault}
 use Rattle.fork_pool.specs.declared.fault.StepFault.TheVariants as step
 use Rattle.planning.specs.declared.fault.PlanFault.{PlanFault}
@@ -22,19 +23,20 @@ use Rattle.rollout.specs.PlanFaults as planning
 use Rattle.rollout.specs.RollFaults.{fault_of}
 use Rattle.rollout.specs.Rolls.{Breaks, BreaksOff, Prints, PrintsRecap, RollsInputs}
 use Rattle.rollout.specs.Status.{status_of_run}
+use Rattle.rollout.specs.Strictness.{FindsNames, RefusesNames}
 use Rattle.rollout.specs.Systems.{Sources}
 use Rattle.rollout.specs.declared.fault.Fault.{Fault}
-use Rattle.rollout.specs.declared.fault.Fault.TheVariants.{JournalWrite, Stopped}
+use Rattle.rollout.specs.declared.fault.Fault.TheVariants.{JournalWrite, NoValue, Stopped}
 use Rattle.rollout.specs.declared.status.Status.{Status}
 
-pub RollsInputs-of_texts : (may : Work → Ending → Type 0) (sources : Sources) (inventory playbook : Source) (forks : ℕ) (input_old input_new out_old out_new : Option (List ℕ))
-    (first second : List ℕ) (result : Result Status Fault) (before after : List (List Event)) → ReadsBoth sources inventory playbook input_old input_new first second
-    → IfOk result (λ status. Gains before after (PrintsRecap may first second forks out_old out_new status)) → IfErr result (λ fault. Gains before after (BreaksOff may first second forks out_old out_new fault))
-    → Gains before after (RollsInputs may sources inventory playbook forks input_old input_new out_old out_new result)
-RollsInputs-of_texts may sources inventory playbook forks input_old input_new out_old out_new first second (Ok status) before after texts prints breaks =
-    gains_as before after (λ logs is. record { first = first; second = second; texts = texts; prints = is }) prints
-RollsInputs-of_texts may sources inventory playbook forks input_old input_new out_old out_new first second (Err fault) before after texts prints breaks =
-    gains_as before after (λ logs is. inr (record { first = first; second = second; texts = texts; breaks = is })) breaks
+pub RollsInputs-of_texts : (form : Form) (strict : Bool) (may : Work → Ending → Type 0) (sources : Sources) (inventory playbook : Source) (forks : ℕ) (input_old input_new out_old out_new : Option (List ℕ))
+    (first second : List ℕ) (result : Result Status Fault) (before after : List (List Event)) → ReadsBoth sources inventory playbook input_old input_new first second → FindsNames strict first second
+    → IfOk result (λ status. Gains before after (PrintsRecap form may first second forks out_old out_new status)) → IfErr result (λ fault. Gains before after (BreaksOff form may first second forks out_old out_new fault))
+    → Gains before after (RollsInputs form strict may sources inventory playbook forks input_old input_new out_old out_new result)
+RollsInputs-of_texts form strict may sources inventory playbook forks input_old input_new out_old out_new first second (Ok status) before after texts named prints breaks =
+    gains_as before after (λ logs is. record { first = first; second = second; texts = texts; named = named; prints = is }) prints
+RollsInputs-of_texts form strict may sources inventory playbook forks input_old input_new out_old out_new first second (Err fault) before after texts named prints breaks =
+    gains_as before after (λ logs is. inr (inr (record { first = first; second = second; texts = texts; named = named; breaks = is }))) breaks
 
 pub fault_in : (fault : Fault) → ◌≡◌ {A = Result Status Fault} (Err fault) (Err Stopped) → fault ≡ Stopped
 fault_in fault same = cc
@@ -104,3 +106,8 @@ module _ (Writes : RunEnd → List (List Event) → Type 0) (IsTrue : RunTextFau
       (gains_as before after (λ logs recap. inr (record { status = status_of_run end; prints = record { end = end; recap = recap; tells = refl }; is = refl })) prints)
   told_err (Err fault) whole result is prints breaks =
       subst TellsErr (sym is) (gains_as before after (λ logs true_so. inl (record { cause = fault; is = refl; is_true = true_so })) breaks)
+
+-- nor does a name that is missing stop a run
+pub names_stop_nothing : (inventory playbook : List ℕ) (fault : Fault) → RefusesNames inventory playbook fault → fault ≡ Stopped → ⊥
+names_stop_nothing inventory playbook fault (inl tells) same = let both : NoValue tells.missing ≡ Stopped = sym tells.is ∙ same in absurd (cc)
+names_stop_nothing inventory playbook fault (inr can_not) same = plan_stops_nothing can_not.cause (sym can_not.is ∙ same)

@@ -1,18 +1,51 @@
 -- How the program ends: its status, and what it reports on standard error.
-use Rattle.std.specs.Prelude.{ℕ, List, ◌++◌, Option, Some, None, Result, Ok, Err}
+use Rattle.std.specs.Prelude.{◌≡◌, ℕ, Bool, true, false, List, [], ◌++◌, Option, Some, None, option_map, Result, Ok, Err, codes, string_bytes, ⊤}
 use Rattle.std.specs.Io.KnownBytes.{Keeps}
 use Rattle.bounded_io.specs.Sending.{SendsText}
 use Rattle.bounded_io.specs.declared.write_fault.WriteFault.{WriteFault}
 use Rattle.rollout.specs.FaultLines.{line_text}
-use Rattle.rollout.specs.Explanations.{explanation_of}
+use Rattle.help_lines.specs.Lines.{IsHelp}
+use Rattle.json_texts.specs.declared.form.Form.{Form}
+use Rattle.json_texts.specs.declared.form.Form.TheVariants.{Plain, Json}
+use Rattle.rollout.specs.Explanations.{explanation_in}
 use Rattle.rollout.specs.FaultRows.{number_of, row_of}
+use Rattle.rollout.specs.declared.ending.Reporting as declared
 use Rattle.rollout.specs.declared.fault.Fault.{Fault}
 use Rattle.rollout.specs.declared.status.Status.{Status}
 use Rattle.rollout.specs.declared.status.Status.TheVariants as status
 
 -- what is reported of a fault
-abbrev pub fault_text : Fault → List ℕ
-fault_text fault = line_text (number_of fault) (row_of fault) ++ explanation_of fault
+abbrev pub fault_text : Form → Fault → List ℕ
+fault_text form fault = line_text form (number_of fault) (row_of fault) ++ explanation_in form fault
+
+-- `  HELP`, where there is any: a line for people
+abbrev pub help_text : Form → Option (List ℕ) → List ℕ
+help_text Plain None = []
+help_text Plain (Some help) = codes "  " ++ (help ++ codes "\n")
+help_text Json help = []
+
+-- how it is reported: in which form, and what is said behind it of what to do
+pub record Reporting : Type 0 where
+  pub form : Form
+  pub help : Option (List ℕ)
+
+-- the same as the program has it
+abbrev pub reporting_as : declared.Reporting → Reporting
+reporting_as reporting = record { form = reporting.form; help = option_map string_bytes reporting.help }
+
+-- the form that is asked for
+abbrev pub form_of : Bool → Form
+form_of true = Json
+form_of false = Plain
+
+-- a fault alone, for people
+abbrev pub plain_reporting : Reporting
+plain_reporting = record { form = Plain; help = None }
+
+-- a line helps only where it may
+abbrev pub MayHelp : Bool → Option (List ℕ) → Type 0
+MayHelp may None = ⊤
+MayHelp may (Some help) = (may ≡ true) × IsHelp help
 
 -- the status of what has a fault's number
 abbrev pub status_of_number : Option ℕ → Status
@@ -32,7 +65,7 @@ pub record GoesOut (old new : Option (List ℕ)) (text : List ℕ) : Type 0 wher
   pub outcome : Result (Unit {0}) WriteFault
   pub sent : SendsText old new text outcome
 
--- of what was done nothing is reported, and of a fault its line
-abbrev pub Reports : Result Status Fault → Option (List ℕ) → Option (List ℕ) → Type 0
-Reports (Ok status) old new = Keeps old new
-Reports (Err fault) old new = GoesOut old new (fault_text fault)
+-- of what was done nothing is reported, and of a fault its line, and the line that helps
+abbrev pub Reports : Reporting → Result Status Fault → Option (List ℕ) → Option (List ℕ) → Type 0
+Reports reporting (Ok status) old new = Keeps old new
+Reports reporting (Err fault) old new = GoesOut old new (fault_text reporting.form fault ++ help_text reporting.form reporting.help)

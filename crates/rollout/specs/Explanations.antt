@@ -2,8 +2,10 @@
 use Rattle.std.specs.Prelude.{ℕ, ◌&&◌, ◌||◌, ◌==◌, not, nat_lt, if◌then◌else◌, List, [], ◌∷◌, codes, flat_map}
 use Rattle.command_line.specs.Messages as messages
 use Rattle.command_line.specs.declared.fault.LineFault.TheVariants as line_fault
+use Rattle.json_texts.specs.declared.form.Form.{Form}
+use Rattle.json_texts.specs.declared.form.Form.TheVariants.{Plain, Json}
 use Rattle.rollout.specs.declared.fault.Fault.{Fault}
-use Rattle.rollout.specs.declared.fault.Fault.TheVariants.{Line, Input, Read, Fleet, Playbook, Pattern, Mixed, LongLine, JournalThere, JournalWrite, ChildrenIgnored, Stopped, Locked, BadJournal, OtherInputs, NeedsResult, BadPlan, Unexpected, BadList, Write, Memory}
+use Rattle.rollout.specs.declared.fault.Fault.TheVariants.{Line, Input, Read, Fleet, Playbook, Pattern, Mixed, LongLine, JournalThere, JournalWrite, ChildrenIgnored, Stopped, Locked, BadJournal, OtherInputs, NeedsResult, NoValue, BadPlan, Unexpected, BadList, Write, Memory}
 
 -- a byte of a text in which words of somebody else stand: a control character but for the line feed and the tabulator is a question mark
 abbrev pub told : ℕ → ℕ
@@ -36,8 +38,14 @@ explanation_of Locked = []
 explanation_of (BadJournal line) = []
 explanation_of OtherInputs = []
 explanation_of (NeedsResult name) = []
+explanation_of (NoValue missing) = []
 explanation_of (BadPlan line) = []
 explanation_of (Unexpected found) = []
 explanation_of (BadList list) = []
 explanation_of (Write fault) = []
 explanation_of Memory = []
+
+-- it is for people: JSON has none of it
+abbrev pub explanation_in : Form → Fault → List ℕ
+explanation_in Plain fault = explanation_of fault
+explanation_in Json fault = []

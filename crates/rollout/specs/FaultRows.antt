@@ -1,5 +1,5 @@
 -- the faults that the program reports: their numbers, their names and their details.
-use Rattle.std.specs.Prelude.{ℕ, List, [], ◌∷◌, Option, Some, None, codes, decimal, string_bytes}
+use Rattle.std.specs.Prelude.{ℕ, true, false, List, [], ◌∷◌, Option, Some, None, codes, decimal, string_bytes}
 use Rattle.bounded_io.specs.Faults as input
 use Rattle.bounded_io.specs.declared.input_fault.InputFault.{InputFault}
 use Rattle.bounded_io.specs.declared.input_fault.InputFault.TheVariants as input_fault
@@ -29,19 +29,19 @@ use Rattle.play_rules.specs.declared.key.ConditionKey.{ConditionKey}
 use Rattle.recap.specs.Printable.{printed}
 use Rattle.rollout.specs.FaultLines.{Row, ShownDetail}
 use Rattle.rollout.specs.declared.fault.Fault.{Fault}
-use Rattle.rollout.specs.declared.fault.Fault.TheVariants.{Line, Input, Read, Fleet, Playbook, Pattern, Mixed, LongLine, JournalThere, JournalWrite, ChildrenIgnored, Stopped, Locked, BadJournal, OtherInputs, NeedsResult, BadPlan, Unexpected, BadList, Write, Memory}
+use Rattle.rollout.specs.declared.fault.Fault.TheVariants.{Line, Input, Read, Fleet, Playbook, Pattern, Mixed, LongLine, JournalThere, JournalWrite, ChildrenIgnored, Stopped, Locked, BadJournal, OtherInputs, NeedsResult, NoValue, BadPlan, Unexpected, BadList, Write, Memory}
 
 abbrev row : List ℕ → List ShownDetail → Row
 row name details = record { name = name; details = details }
 
 abbrev text : List ℕ → List ℕ → ShownDetail
-text key value = record { key = key; value = printed value }
+text key value = record { key = key; value = printed value; is_number = false }
 
 abbrev number : List ℕ → ℕ → ShownDetail
-number key value = record { key = key; value = decimal value }
+number key value = record { key = key; value = decimal value; is_number = true }
 
 -- want of memory has neither a number nor a row
-abbrev no_row : Row
+abbrev pub no_row : Row
 no_row = row [] []
 
 -- a fault at a path, and one that names something
@@ -121,6 +121,13 @@ playbook_row (play_fault.BadCondition play step key fault) = cond_row play step 
 playbook_row (play_fault.BadBraces play step) = braces_row play step
 playbook_row play_fault.Memory = no_row
 
+-- a name that a step may look for in vain on a host; the play is told where the text has several
+abbrev pub missing_row : Option ℕ → ℕ → List ℕ → List ℕ → Row
+missing_row None step host name =
+    row (codes "NoValue") (number (codes "step") step ∷ text (codes "host") host ∷ text (codes "name") name ∷ [])
+missing_row (Some play) step host name =
+    row (codes "NoValue") (number (codes "play") play ∷ number (codes "step") step ∷ text (codes "host") host ∷ text (codes "name") name ∷ [])
+
 -- what is expected of the number
 abbrev pub relation_key : Relation → List ℕ
 relation_key Equal = codes "expected"
@@ -152,6 +159,7 @@ number_of Locked = Some 918
 number_of (BadJournal line) = Some 912
 number_of OtherInputs = Some 913
 number_of (NeedsResult name) = Some 914
+number_of (NoValue missing) = Some 915
 number_of (BadPlan line) = Some 908
 number_of (Unexpected found) = Some 907
 number_of (BadList list) = Some 909
@@ -175,6 +183,7 @@ row_of Locked = row (codes "Locked") []
 row_of (BadJournal line) = row (codes "BadJournal") (number (codes "line") line ∷ [])
 row_of OtherInputs = row (codes "OtherInputs") []
 row_of (NeedsResult name) = name_row (codes "NeedsResult") (string_bytes name)
+row_of (NoValue missing) = missing_row missing.play missing.step (string_bytes missing.host) (string_bytes missing.name)
 row_of (BadPlan line) = row (codes "BadPlan") (number (codes "line") line ∷ [])
 row_of (Unexpected found) = unexpected_row found
 row_of (BadList list) = name_row (codes "BadList") (string_bytes list)

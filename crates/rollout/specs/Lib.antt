@@ -10,8 +10,10 @@ pub mod FaultLines
 pub mod FaultRows
 pub mod Groups
 pub mod Inputs
+pub mod Jsons
 pub mod JournalFaults
 pub mod LimitsText
+pub mod LintFaults
 pub mod Lists
 pub mod Notes
 pub mod OutlookFaults
@@ -29,6 +31,7 @@ pub mod Rolls
 pub mod Runs
 pub mod StateTexts
 pub mod Status
+pub mod Strictness
 pub mod Systems
 pub mod Texts
 pub mod WordTexts

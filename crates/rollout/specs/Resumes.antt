@@ -14,7 +14,9 @@ use Rattle.resuming.specs.declared.fault.ResumeFault.{ResumeFault}
 use Rattle.resuming.specs.declared.inputs.Resumption.{Resumption}
 use Rattle.running.specs.Beginnings.{AreSafeBehind, IsTrueFaultFrom, WritesFrom}
 use Rattle.running.specs.declared.beginning.Beginning.{Beginning}
+use Rattle.json_texts.specs.declared.form.Form.{Form}
 use Rattle.rollout.specs.Children.{IsAnswerOf}
+use Rattle.rollout.specs.Endings.{form_of}
 use Rattle.rollout.specs.Inputs.{IsFaultOfFile, IsTextOfFile, LacksInput, ReadsBoth}
 use Rattle.rollout.specs.ResumeFaults as refusals
 use Rattle.rollout.specs.Rolls.{Breaks, Prints, RefusesToRoll, Rolls}
@@ -48,24 +50,24 @@ abbrev pub IsNoneWished : List ℕ → List ℕ → List ℕ → ResumeWish → 
 IsNoneWished inventory playbook journal wish cause = RefusesToResume inventory playbook journal wish.mended wish.takes_others cause
 
 -- the plays were run from there with so many workers, and their recap went out
-abbrev pub PrintsRest : (Work → Ending → Type 0) → FleetView → List Play → Beginning → ℕ → Option (List ℕ) → Option (List ℕ) → Status → List (List Event) → Type 0
-PrintsRest may fleet plays beginning forks old new = Prints (WritesFrom may fleet forks plays beginning old new)
+abbrev pub PrintsRest : Form → (Work → Ending → Type 0) → FleetView → List Play → Beginning → ℕ → Option (List ℕ) → Option (List ℕ) → Status → List (List Event) → Type 0
+PrintsRest form may fleet plays beginning forks old new = Prints (WritesFrom form may fleet forks plays beginning old new)
 
 -- the fault is true of a run of the plays from there, or of where its recap broke off; or the journal did not take its end
-abbrev pub BreaksRest : (Work → Ending → Type 0) → FleetView → List Play → Beginning → ℕ → Option (List ℕ) → Option (List ℕ) → Fault → List (List Event) → Type 0
-BreaksRest may fleet plays beginning forks old new = Breaks (WritesFrom may fleet forks plays beginning old new) (IsTrueFaultFrom may fleet forks plays beginning old new)
+abbrev pub BreaksRest : Form → (Work → Ending → Type 0) → FleetView → List Play → Beginning → ℕ → Option (List ℕ) → Option (List ℕ) → Fault → List (List Event) → Type 0
+BreaksRest form may fleet plays beginning forks old new = Breaks (WritesFrom form may fleet forks plays beginning old new) (IsTrueFaultFrom form may fleet forks plays beginning old new)
 
 -- the run went on with what is wished, and its recap went out
-pub record PrintsOn (may : Work → Ending → Type 0) (Is : Resumption → Type 0) (forks : ℕ) (old new : Option (List ℕ)) (status : Status) (logs : List (List Event)) : Type 0 where
+pub record PrintsOn (form : Form) (may : Work → Ending → Type 0) (Is : Resumption → Type 0) (forks : ℕ) (old new : Option (List ℕ)) (status : Status) (logs : List (List Event)) : Type 0 where
   pub resumption : Resumption
   pub wished : Is resumption
-  pub prints : PrintsRest may resumption.fleet resumption.plays.items resumption.beginning forks old new status logs
+  pub prints : PrintsRest form may resumption.fleet resumption.plays.items resumption.beginning forks old new status logs
 
 -- the run went on, and broke off
-pub record BreaksOn (may : Work → Ending → Type 0) (Is : Resumption → Type 0) (forks : ℕ) (old new : Option (List ℕ)) (fault : Fault) (logs : List (List Event)) : Type 0 where
+pub record BreaksOn (form : Form) (may : Work → Ending → Type 0) (Is : Resumption → Type 0) (forks : ℕ) (old new : Option (List ℕ)) (fault : Fault) (logs : List (List Event)) : Type 0 where
   pub resumption : Resumption
   pub wished : Is resumption
-  pub breaks : BreaksRest may resumption.fleet resumption.plays.items resumption.beginning forks old new fault logs
+  pub breaks : BreaksRest form may resumption.fleet resumption.plays.items resumption.beginning forks old new fault logs
 
 -- the run can't go on, as is refused so
 pub record CanNotGoOn (Refuses : ResumeFault → Type 0) (fault : Fault) : Type 0 where
@@ -80,9 +82,9 @@ pub record IsNoGoingOn (Refuses : ResumeFault → Type 0) (old new : Option (Lis
   pub none : logs ≡ []
 
 -- what comes of a run that goes on with what is wished, or is refused so
-abbrev pub GoesOnBy : (Work → Ending → Type 0) → (Resumption → Type 0) → (ResumeFault → Type 0) → ℕ → Option (List ℕ) → Option (List ℕ) → Result Status Fault → List (List Event) → Type 0
-GoesOnBy may Is Refuses forks old new (Ok status) logs = PrintsOn may Is forks old new status logs
-GoesOnBy may Is Refuses forks old new (Err fault) logs = IsNoGoingOn Refuses old new fault logs ⊎ BreaksOn may Is forks old new fault logs
+abbrev pub GoesOnBy : Form → (Work → Ending → Type 0) → (Resumption → Type 0) → (ResumeFault → Type 0) → ℕ → Option (List ℕ) → Option (List ℕ) → Result Status Fault → List (List Event) → Type 0
+GoesOnBy form may Is Refuses forks old new (Ok status) logs = PrintsOn form may Is forks old new status logs
+GoesOnBy form may Is Refuses forks old new (Err fault) logs = IsNoGoingOn Refuses old new fault logs ⊎ BreaksOn form may Is forks old new fault logs
 
 -- the journal's file can't be read
 abbrev pub LacksJournal : Files → List ℕ → Fault → Type 0
@@ -91,13 +93,13 @@ LacksJournal files name Memory = Unit {0}
 LacksJournal files name fault = ⊥
 
 -- both inputs and the journal were read
-pub record GoesOn (may : Work → Ending → Type 0) (sources : Sources) (inventory playbook : Source) (wish : ResumeWish) (forks : ℕ) (input_old input_new out_old out_new : Option (List ℕ)) (result : Result Status Fault) (logs : List (List Event)) : Type 0 where
+pub record GoesOn (form : Form) (may : Work → Ending → Type 0) (sources : Sources) (inventory playbook : Source) (wish : ResumeWish) (forks : ℕ) (input_old input_new out_old out_new : Option (List ℕ)) (result : Result Status Fault) (logs : List (List Event)) : Type 0 where
   pub first : List ℕ
   pub second : List ℕ
   pub third : List ℕ
   pub texts : ReadsBoth sources inventory playbook input_old input_new first second
   pub journal : IsTextOfFile (sources.files wish.journal) third
-  pub goes : GoesOnBy may (IsWished first second third wish) (IsNoneWished first second third wish) forks out_old out_new result logs
+  pub goes : GoesOnBy form may (IsWished first second third wish) (IsNoneWished first second third wish) forks out_old out_new result logs
 
 -- an input, or the journal, can't be read
 pub record LacksAny (sources : Sources) (inventory playbook : Source) (wish : ResumeWish) (input_old input_new out_old out_new : Option (List ℕ)) (result : Result Status Fault) (logs : List (List Event)) : Type 0 where
@@ -107,34 +109,34 @@ pub record LacksAny (sources : Sources) (inventory playbook : Source) (wish : Re
   pub unwritten : Keeps out_old out_new
   pub none : logs ≡ []
 
-abbrev pub ResumesInputs : (Work → Ending → Type 0) → Sources → Source → Source → ResumeWish → ℕ → Option (List ℕ) → Option (List ℕ) → Option (List ℕ) → Option (List ℕ)
+abbrev pub ResumesInputs : Form → (Work → Ending → Type 0) → Sources → Source → Source → ResumeWish → ℕ → Option (List ℕ) → Option (List ℕ) → Option (List ℕ) → Option (List ℕ)
     → Result Status Fault → List (List Event) → Type 0
-ResumesInputs may sources inventory playbook wish forks input_old input_new out_old out_new result logs =
+ResumesInputs form may sources inventory playbook wish forks input_old input_new out_old out_new result logs =
     LacksAny sources inventory playbook wish input_old input_new out_old out_new result logs
-    ⊎ GoesOn may sources inventory playbook wish forks input_old input_new out_old out_new result logs
+    ⊎ GoesOn form may sources inventory playbook wish forks input_old input_new out_old out_new result logs
 
 -- the ends of children are not ignored, and the run went on, by as many workers as were asked for or fewer; that it was stopped is told only where it may be
-pub record ResumesOn (may : Work → Ending → Type 0) (asks : Bool) (sources : Sources) (inventory playbook : Source) (wish : ResumeWish) (forks : ℕ) (input_old input_new out_old out_new : Option (List ℕ)) (result : Result Status Fault) (logs : List (List Event)) : Type 0 where
+pub record ResumesOn (form : Form) (may : Work → Ending → Type 0) (asks : Bool) (sources : Sources) (inventory playbook : Source) (wish : ResumeWish) (forks : ℕ) (input_old input_new out_old out_new : Option (List ℕ)) (result : Result Status Fault) (logs : List (List Event)) : Type 0 where
   pub kept : IsAnswerOf sources.files false
   pub workers : ℕ
   pub some : 0 < workers
   pub few : workers ≤ forks
-  pub resumes : ResumesInputs may sources inventory playbook wish workers input_old input_new out_old out_new result logs
+  pub resumes : ResumesInputs form may sources inventory playbook wish workers input_old input_new out_old out_new result logs
   pub stops : result ≡ Err Stopped → asks ≡ true
 
 -- the command `run` that is to go on with a run, and the logs of all that it started
-abbrev pub Resumes : (Work → Ending → Type 0) → Bool → Sources → Source → Source → ResumeWish → ℕ → Option (List ℕ) → Option (List ℕ) → Option (List ℕ) → Option (List ℕ)
+abbrev pub Resumes : Form → (Work → Ending → Type 0) → Bool → Sources → Source → Source → ResumeWish → ℕ → Option (List ℕ) → Option (List ℕ) → Option (List ℕ) → Option (List ℕ)
     → Result Status Fault → List (List Event) → Type 0
-Resumes may asks sources inventory playbook wish forks input_old input_new out_old out_new result logs =
+Resumes form may asks sources inventory playbook wish forks input_old input_new out_old out_new result logs =
     RefusesToRoll sources input_old input_new out_old out_new result logs
-    ⊎ ResumesOn may asks sources inventory playbook wish forks input_old input_new out_old out_new result logs
+    ⊎ ResumesOn form may asks sources inventory playbook wish forks input_old input_new out_old out_new result logs
 
 -- both inputs were read, and a run of theirs began in which these hosts are up by now
-pub record BeginsMended (may : Work → Ending → Type 0) (sources : Sources) (inventory playbook : Source) (names : List ℕ) (forks : ℕ) (input_old input_new out_old out_new : Option (List ℕ)) (result : Result Status Fault) (logs : List (List Event)) : Type 0 where
+pub record BeginsMended (form : Form) (may : Work → Ending → Type 0) (sources : Sources) (inventory playbook : Source) (names : List ℕ) (forks : ℕ) (input_old input_new out_old out_new : Option (List ℕ)) (result : Result Status Fault) (logs : List (List Event)) : Type 0 where
   pub first : List ℕ
   pub second : List ℕ
   pub texts : ReadsBoth sources inventory playbook input_old input_new first second
-  pub goes : GoesOnBy may (IsMendedBeginning first second names) (RefusesToBegin first second names) forks out_old out_new result logs
+  pub goes : GoesOnBy form may (IsMendedBeginning first second names) (RefusesToBegin first second names) forks out_old out_new result logs
 
 -- an input can't be read
 pub record LacksEither (sources : Sources) (inventory playbook : Source) (input_old input_new out_old out_new : Option (List ℕ)) (result : Result Status Fault) (logs : List (List Event)) : Type 0 where
@@ -144,48 +146,48 @@ pub record LacksEither (sources : Sources) (inventory playbook : Source) (input_
   pub unwritten : Keeps out_old out_new
   pub none : logs ≡ []
 
-abbrev pub MendsInputs : (Work → Ending → Type 0) → Sources → Source → Source → List ℕ → ℕ → Option (List ℕ) → Option (List ℕ) → Option (List ℕ) → Option (List ℕ)
+abbrev pub MendsInputs : Form → (Work → Ending → Type 0) → Sources → Source → Source → List ℕ → ℕ → Option (List ℕ) → Option (List ℕ) → Option (List ℕ) → Option (List ℕ)
     → Result Status Fault → List (List Event) → Type 0
-MendsInputs may sources inventory playbook names forks input_old input_new out_old out_new result logs =
+MendsInputs form may sources inventory playbook names forks input_old input_new out_old out_new result logs =
     LacksEither sources inventory playbook input_old input_new out_old out_new result logs
-    ⊎ BeginsMended may sources inventory playbook names forks input_old input_new out_old out_new result logs
+    ⊎ BeginsMended form may sources inventory playbook names forks input_old input_new out_old out_new result logs
 
 -- the ends of children are not ignored, and the run began, by as many workers as were asked for or fewer; that it was stopped is told only where it may be
-pub record MendsOn (may : Work → Ending → Type 0) (asks : Bool) (sources : Sources) (inventory playbook : Source) (names : List ℕ) (forks : ℕ) (input_old input_new out_old out_new : Option (List ℕ)) (result : Result Status Fault) (logs : List (List Event)) : Type 0 where
+pub record MendsOn (form : Form) (may : Work → Ending → Type 0) (asks : Bool) (sources : Sources) (inventory playbook : Source) (names : List ℕ) (forks : ℕ) (input_old input_new out_old out_new : Option (List ℕ)) (result : Result Status Fault) (logs : List (List Event)) : Type 0 where
   pub kept : IsAnswerOf sources.files false
   pub workers : ℕ
   pub some : 0 < workers
   pub few : workers ≤ forks
-  pub mends : MendsInputs may sources inventory playbook names workers input_old input_new out_old out_new result logs
+  pub mends : MendsInputs form may sources inventory playbook names workers input_old input_new out_old out_new result logs
   pub stops : result ≡ Err Stopped → asks ≡ true
 
 -- the command `run` where hosts are named that are up by now, and the logs of all that it started
-abbrev pub RollsMended : (Work → Ending → Type 0) → Bool → Sources → Source → Source → List ℕ → ℕ → Option (List ℕ) → Option (List ℕ) → Option (List ℕ) → Option (List ℕ)
+abbrev pub RollsMended : Form → (Work → Ending → Type 0) → Bool → Sources → Source → Source → List ℕ → ℕ → Option (List ℕ) → Option (List ℕ) → Option (List ℕ) → Option (List ℕ)
     → Result Status Fault → List (List Event) → Type 0
-RollsMended may asks sources inventory playbook names forks input_old input_new out_old out_new result logs =
+RollsMended form may asks sources inventory playbook names forks input_old input_new out_old out_new result logs =
     RefusesToRoll sources input_old input_new out_old out_new result logs
-    ⊎ MendsOn may asks sources inventory playbook names forks input_old input_new out_old out_new result logs
+    ⊎ MendsOn form may asks sources inventory playbook names forks input_old input_new out_old out_new result logs
 
 -- the command `run`, where one is to begin: hosts that are named are up by now
-abbrev pub BeginsBy : (Work → Ending → Type 0) → Bool → List ℕ → Sources → Source → Source → ℕ → Option (List ℕ) → Option (List ℕ) → Option (List ℕ) → Option (List ℕ)
+abbrev pub BeginsBy : Form → Bool → (Work → Ending → Type 0) → Bool → List ℕ → Sources → Source → Source → ℕ → Option (List ℕ) → Option (List ℕ) → Option (List ℕ) → Option (List ℕ)
     → Result Status Fault → List (List Event) → Type 0
-BeginsBy may asks [] sources inventory playbook forks input_old input_new out_old out_new result logs =
-    Rolls may asks sources inventory playbook forks input_old input_new out_old out_new result logs
-BeginsBy may asks (byte ∷ names) sources inventory playbook forks input_old input_new out_old out_new result logs =
-    RollsMended may asks sources inventory playbook (byte ∷ names) forks input_old input_new out_old out_new result logs
+BeginsBy form strict may asks [] sources inventory playbook forks input_old input_new out_old out_new result logs =
+    Rolls form strict may asks sources inventory playbook forks input_old input_new out_old out_new result logs
+BeginsBy form strict may asks (byte ∷ names) sources inventory playbook forks input_old input_new out_old out_new result logs =
+    RollsMended form may asks sources inventory playbook (byte ∷ names) forks input_old input_new out_old out_new result logs
 
 -- the command `run`, where a run is to go on or one is to begin
-abbrev pub RollsFrom : (Work → Ending → Type 0) → Bool → Option (List ℕ) → Wish → Sources → Source → Source → ℕ → Option (List ℕ) → Option (List ℕ) → Option (List ℕ) → Option (List ℕ)
+abbrev pub RollsFrom : Form → (Work → Ending → Type 0) → Bool → Option (List ℕ) → Wish → Sources → Source → Source → ℕ → Option (List ℕ) → Option (List ℕ) → Option (List ℕ) → Option (List ℕ)
     → Result Status Fault → List (List Event) → Type 0
-RollsFrom may asks None wish sources inventory playbook forks input_old input_new out_old out_new result logs =
-    BeginsBy may asks wish.mended sources inventory playbook forks input_old input_new out_old out_new result logs
-RollsFrom may asks (Some journal) wish sources inventory playbook forks input_old input_new out_old out_new result logs =
-    Resumes may asks sources inventory playbook (resume_wish journal wish) forks input_old input_new out_old out_new result logs
+RollsFrom form may asks None wish sources inventory playbook forks input_old input_new out_old out_new result logs =
+    BeginsBy form wish.strict may asks wish.mended sources inventory playbook forks input_old input_new out_old out_new result logs
+RollsFrom form may asks (Some journal) wish sources inventory playbook forks input_old input_new out_old out_new result logs =
+    Resumes form may asks sources inventory playbook (resume_wish journal wish) forks input_old input_new out_old out_new result logs
 
 abbrev pub RollsBy : (Work → Ending → Type 0) → Bool → Wish → Sources → Source → Source → ℕ → Option (List ℕ) → Option (List ℕ) → Option (List ℕ) → Option (List ℕ)
     → Result Status Fault → List (List Event) → Type 0
 RollsBy may asks wish sources inventory playbook forks input_old input_new out_old out_new result logs =
-    RollsFrom may asks wish.from wish sources inventory playbook forks input_old input_new out_old out_new result logs
+    RollsFrom (form_of wish.json) may asks wish.from wish sources inventory playbook forks input_old input_new out_old out_new result logs
 
 -- both inputs were read, and these are the logs of rolls of the plays of a run that begins with these hosts up by now: at no moment of any of them is a group over its limit
 pub record AreSafeMended (may : Work → Ending → Type 0) (sources : Sources) (inventory playbook : Source) (names : List ℕ) (forks : ℕ) (input_old input_new : Option (List ℕ)) (logs : List (List Event)) : Type 0 where

@@ -8,10 +8,12 @@ use Rattle.event_log.specs.Told.{Work}
 use Rattle.running.specs.RunTexts.{AreSafeIn, WritesRecap, IsTrueFault}
 use Rattle.running.specs.declared.end.RunEnd.{RunEnd}
 use Rattle.running.specs.declared.fault.RunTextFault.{RunTextFault}
+use Rattle.json_texts.specs.declared.form.Form.{Form}
 use Rattle.rollout.specs.Children.{IsAnswerOf}
 use Rattle.rollout.specs.Inputs.{LacksInput, ReadsBoth}
 use Rattle.rollout.specs.RollFaults.{fault_of}
 use Rattle.rollout.specs.Status.{status_of_run}
+use Rattle.rollout.specs.Strictness.{FindsNames, RefusesNames}
 use Rattle.rollout.specs.Systems.{Files, Sources}
 use Rattle.rollout.specs.declared.fault.Fault.{Fault}
 use Rattle.rollout.specs.declared.fault.Fault.TheVariants.{ChildrenIgnored, JournalThere, JournalWrite, Locked, Memory, Stopped}
@@ -39,36 +41,49 @@ abbrev pub Breaks : (RunEnd → List (List Event) → Type 0) → (RunTextFault 
 Breaks Writes IsTrue fault logs = Fails IsTrue fault logs ⊎ LosesEnd Writes fault logs
 
 -- the plays of both texts were run with so many workers
-abbrev pub PrintsRecap : (Work → Ending → Type 0) → List ℕ → List ℕ → ℕ → Option (List ℕ) → Option (List ℕ) → Status → List (List Event) → Type 0
-PrintsRecap may inventory playbook forks old new = Prints (WritesRecap may inventory playbook forks old new)
+abbrev pub PrintsRecap : Form → (Work → Ending → Type 0) → List ℕ → List ℕ → ℕ → Option (List ℕ) → Option (List ℕ) → Status → List (List Event) → Type 0
+PrintsRecap form may inventory playbook forks old new = Prints (WritesRecap form may inventory playbook forks old new)
 
 -- the fault is true of both texts, of a run of their plays, or of where its recap broke off; or the journal did not take its end
-abbrev pub BreaksOff : (Work → Ending → Type 0) → List ℕ → List ℕ → ℕ → Option (List ℕ) → Option (List ℕ) → Fault → List (List Event) → Type 0
-BreaksOff may inventory playbook forks old new = Breaks (WritesRecap may inventory playbook forks old new) (IsTrueFault may inventory playbook forks old new)
+abbrev pub BreaksOff : Form → (Work → Ending → Type 0) → List ℕ → List ℕ → ℕ → Option (List ℕ) → Option (List ℕ) → Fault → List (List Event) → Type 0
+BreaksOff form may inventory playbook forks old new = Breaks (WritesRecap form may inventory playbook forks old new) (IsTrueFault form may inventory playbook forks old new)
 
 -- both inputs were read, and the plays of their texts were run
-pub record ShowsRecap (may : Work → Ending → Type 0) (sources : Sources) (inventory playbook : Source) (forks : ℕ) (input_old input_new out_old out_new : Option (List ℕ)) (status : Status) (logs : List (List Event)) : Type 0 where
+pub record ShowsRecap (form : Form) (strict : Bool) (may : Work → Ending → Type 0) (sources : Sources) (inventory playbook : Source) (forks : ℕ) (input_old input_new out_old out_new : Option (List ℕ)) (status : Status) (logs : List (List Event)) : Type 0 where
   pub first : List ℕ
   pub second : List ℕ
   pub texts : ReadsBoth sources inventory playbook input_old input_new first second
-  pub prints : PrintsRecap may first second forks out_old out_new status logs
+  pub named : FindsNames strict first second
+  pub prints : PrintsRecap form may first second forks out_old out_new status logs
 
 -- both inputs were read, and the fault is true of their texts or of a run
-pub record BreaksRun (may : Work → Ending → Type 0) (sources : Sources) (inventory playbook : Source) (forks : ℕ) (input_old input_new out_old out_new : Option (List ℕ)) (fault : Fault) (logs : List (List Event)) : Type 0 where
+pub record BreaksRun (form : Form) (strict : Bool) (may : Work → Ending → Type 0) (sources : Sources) (inventory playbook : Source) (forks : ℕ) (input_old input_new out_old out_new : Option (List ℕ)) (fault : Fault) (logs : List (List Event)) : Type 0 where
   pub first : List ℕ
   pub second : List ℕ
   pub texts : ReadsBoth sources inventory playbook input_old input_new first second
-  pub breaks : BreaksOff may first second forks out_old out_new fault logs
+  pub named : FindsNames strict first second
+  pub breaks : BreaksOff form may first second forks out_old out_new fault logs
+
+-- both inputs were read, and no play was run and nothing went out: a name is missing, or it can't be told whether one is
+pub record HoldsBack (strict : Bool) (sources : Sources) (inventory playbook : Source) (input_old input_new out_old out_new : Option (List ℕ)) (fault : Fault) (logs : List (List Event)) : Type 0 where
+  pub first : List ℕ
+  pub second : List ℕ
+  pub texts : ReadsBoth sources inventory playbook input_old input_new first second
+  pub is_strict : strict ≡ true
+  pub refuses : RefusesNames first second fault
+  pub unwritten : Keeps out_old out_new
+  pub none : logs ≡ []
 
 -- both inputs were read and their plays were run, where each program may end so, and these are the logs of all that was started: nothing is before both
 -- inputs were read
-abbrev pub RollsInputs : (Work → Ending → Type 0) → Sources → Source → Source → ℕ → Option (List ℕ) → Option (List ℕ) → Option (List ℕ) → Option (List ℕ)
+abbrev pub RollsInputs : Form → Bool → (Work → Ending → Type 0) → Sources → Source → Source → ℕ → Option (List ℕ) → Option (List ℕ) → Option (List ℕ) → Option (List ℕ)
     → Result Status Fault → List (List Event) → Type 0
-RollsInputs may sources inventory playbook forks input_old input_new out_old out_new (Ok status) logs =
-    ShowsRecap may sources inventory playbook forks input_old input_new out_old out_new status logs
-RollsInputs may sources inventory playbook forks input_old input_new out_old out_new (Err fault) logs =
+RollsInputs form strict may sources inventory playbook forks input_old input_new out_old out_new (Ok status) logs =
+    ShowsRecap form strict may sources inventory playbook forks input_old input_new out_old out_new status logs
+RollsInputs form strict may sources inventory playbook forks input_old input_new out_old out_new (Err fault) logs =
     (LacksInput sources inventory playbook input_old input_new fault × Keeps out_old out_new × (logs ≡ []))
-    ⊎ BreaksRun may sources inventory playbook forks input_old input_new out_old out_new fault logs
+    ⊎ HoldsBack strict sources inventory playbook input_old input_new out_old out_new fault logs
+    ⊎ BreaksRun form strict may sources inventory playbook forks input_old input_new out_old out_new fault logs
 
 -- why a run is refused before anything is read: the ends of children are ignored, or memory was wanting to look; or its journal is there already, or another run holds the inventory
 abbrev pub IsRefusedBy : Files → Fault → Type 0
@@ -88,20 +103,20 @@ pub record RefusesToRoll (sources : Sources) (input_old input_new out_old out_ne
   pub none : logs ≡ []
 
 -- the ends of children are not ignored, and the inputs were run, by as many workers as were asked for or fewer; that a run was stopped is told only where it may be
-pub record RollsOn (may : Work → Ending → Type 0) (asks : Bool) (sources : Sources) (inventory playbook : Source) (forks : ℕ) (input_old input_new out_old out_new : Option (List ℕ)) (result : Result Status Fault) (logs : List (List Event)) : Type 0 where
+pub record RollsOn (form : Form) (strict : Bool) (may : Work → Ending → Type 0) (asks : Bool) (sources : Sources) (inventory playbook : Source) (forks : ℕ) (input_old input_new out_old out_new : Option (List ℕ)) (result : Result Status Fault) (logs : List (List Event)) : Type 0 where
   pub kept : IsAnswerOf sources.files false
   pub workers : ℕ
   pub some : 0 < workers
   pub few : workers ≤ forks
-  pub rolls : RollsInputs may sources inventory playbook workers input_old input_new out_old out_new result logs
+  pub rolls : RollsInputs form strict may sources inventory playbook workers input_old input_new out_old out_new result logs
   pub stops : result ≡ Err Stopped → asks ≡ true
 
 -- the command `run`, where each program may end so, and whether it may be stopped; and the logs of all that it started
-abbrev pub Rolls : (Work → Ending → Type 0) → Bool → Sources → Source → Source → ℕ → Option (List ℕ) → Option (List ℕ) → Option (List ℕ) → Option (List ℕ)
+abbrev pub Rolls : Form → Bool → (Work → Ending → Type 0) → Bool → Sources → Source → Source → ℕ → Option (List ℕ) → Option (List ℕ) → Option (List ℕ) → Option (List ℕ)
     → Result Status Fault → List (List Event) → Type 0
-Rolls may asks sources inventory playbook forks input_old input_new out_old out_new result logs =
+Rolls form strict may asks sources inventory playbook forks input_old input_new out_old out_new result logs =
     RefusesToRoll sources input_old input_new out_old out_new result logs
-    ⊎ RollsOn may asks sources inventory playbook forks input_old input_new out_old out_new result logs
+    ⊎ RollsOn form strict may asks sources inventory playbook forks input_old input_new out_old out_new result logs
 
 -- both inputs were read, and these are the logs of rolls of their plays on their fleet, by as many workers as this or fewer: at no moment of any of them is a
 -- group over its limit

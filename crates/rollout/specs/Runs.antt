@@ -1,5 +1,5 @@
 -- What a run of the program does, from the words that the system gives to the exit status.
-use Rattle.std.specs.Prelude.{◌≡◌, ◌≢◌, ◌⊎◌, ℕ, Bool, true, false, List, [], ◌∷◌, Option, None, Some, Result, Err, drop, is_some, string_bytes}
+use Rattle.std.specs.Prelude.{◌≡◌, ◌≢◌, ◌⊎◌, ℕ, Bool, true, false, ◌||◌, List, [], ◌∷◌, Option, None, Some, Result, Err, drop, is_some, string_bytes}
 use Rattle.std.specs.declared.io.ErrorKind.{ErrorKind}
 use Rattle.std.specs.declared.io.ErrorKind.TheVariants.{OutOfMemory}
 use Rattle.std.specs.Io.KnownBytes.{Keeps}
@@ -17,8 +17,9 @@ use Rattle.event_log.specs.Events.{Event}
 use Rattle.event_log.specs.Told.{Work}
 use Rattle.rollout.specs.Checks.{Checks}
 use Rattle.rollout.specs.Commands.{TabulatesLimits, Prints}
-use Rattle.rollout.specs.Endings.{Reports, status_of}
+use Rattle.rollout.specs.Endings.{Reporting, MayHelp, Reports, form_of, plain_reporting, status_of}
 use Rattle.rollout.specs.Expecting.{ExpectsPlan, ExpectsTable}
+use Rattle.rollout.specs.Jsons.{PlansJson, TabulatesJson}
 use Rattle.rollout.specs.Notes.{Lints}
 use Rattle.rollout.specs.Outlooks.{PlansRest, RehearsesFrom, TabulatesStanding}
 use Rattle.rollout.specs.Pages.{Explains}
@@ -34,28 +35,31 @@ use Rattle.rollout.specs.declared.fault.Fault.{Fault}
 use Rattle.rollout.specs.declared.fault.Fault.TheVariants.{Line, Memory}
 use Rattle.rollout.specs.declared.status.Status.{Status}
 
--- the command `limits` at the start; numbers may be expected of its table
-abbrev pub TabulatesAtStart : Option (List ℕ) → Sources → Source → Option (List ℕ) → Option (List ℕ) → Option (List ℕ) → Option (List ℕ) → Result Status Fault → Type 0
-TabulatesAtStart None sources inventory input_old input_new out_old out_new result = TabulatesLimits sources inventory input_old input_new out_old out_new result
-TabulatesAtStart (Some list) sources inventory input_old input_new out_old out_new result = ExpectsTable list sources inventory input_old input_new out_old out_new result
+-- the command `limits` at the start; numbers may be expected of its table, or it is asked for as JSON
+abbrev pub TabulatesAtStart : Option (List ℕ) → Bool → Sources → Source → Option (List ℕ) → Option (List ℕ) → Option (List ℕ) → Option (List ℕ) → Result Status Fault → Type 0
+TabulatesAtStart None true sources inventory input_old input_new out_old out_new result = TabulatesJson sources inventory input_old input_new out_old out_new result
+TabulatesAtStart None false sources inventory input_old input_new out_old out_new result = TabulatesLimits sources inventory input_old input_new out_old out_new result
+TabulatesAtStart (Some list) json sources inventory input_old input_new out_old out_new result = ExpectsTable list sources inventory input_old input_new out_old out_new result
 
 -- the command `limits`, at the start or where the run of a journal stands
 abbrev pub TabulatesBy : Option (List ℕ) → Wish → Sources → Source → Option (List ℕ) → Option (List ℕ) → Option (List ℕ) → Option (List ℕ) → Result Status Fault → Type 0
-TabulatesBy None wish sources inventory input_old input_new out_old out_new result = TabulatesAtStart wish.expected sources inventory input_old input_new out_old out_new result
+TabulatesBy None wish sources inventory input_old input_new out_old out_new result = TabulatesAtStart wish.expected wish.json sources inventory input_old input_new out_old out_new result
 TabulatesBy (Some journal) wish sources inventory input_old input_new out_old out_new result =
     TabulatesStanding sources inventory (resume_wish journal wish) input_old input_new out_old out_new result
 
--- the command `plan` from the start; numbers may be expected of the plan
-abbrev pub PlansAtStart : Option (List ℕ) → Wish → Sources → Source → Source → Option (List ℕ) → Option (List ℕ) → Option (List ℕ) → Option (List ℕ) → Result Status Fault → Type 0
-PlansAtStart None wish sources inventory playbook input_old input_new out_old out_new result =
+-- the command `plan` from the start; numbers may be expected of the plan, or it is asked for as JSON
+abbrev pub PlansAtStart : Option (List ℕ) → Bool → Wish → Sources → Source → Source → Option (List ℕ) → Option (List ℕ) → Option (List ℕ) → Option (List ℕ) → Result Status Fault → Type 0
+PlansAtStart None true wish sources inventory playbook input_old input_new out_old out_new result =
+    PlansJson wish.course sources inventory playbook input_old input_new out_old out_new result
+PlansAtStart None false wish sources inventory playbook input_old input_new out_old out_new result =
     PlansDrawn wish.picture wish.groups wish.color wish.course sources inventory playbook input_old input_new out_old out_new result
-PlansAtStart (Some list) wish sources inventory playbook input_old input_new out_old out_new result = ExpectsPlan list sources inventory playbook input_old input_new out_old out_new result
+PlansAtStart (Some list) json wish sources inventory playbook input_old input_new out_old out_new result = ExpectsPlan list sources inventory playbook input_old input_new out_old out_new result
 
 -- the words of the steps, where it is asked for them
 abbrev pub PlansOrTellsWords : Bool → Wish → Sources → Source → Source → Option (List ℕ) → Option (List ℕ) → Option (List ℕ) → Option (List ℕ) → Result Status Fault → Type 0
 PlansOrTellsWords true wish sources inventory playbook input_old input_new out_old out_new result = TellsWords sources inventory playbook input_old input_new out_old out_new result
 PlansOrTellsWords false wish sources inventory playbook input_old input_new out_old out_new result =
-    PlansAtStart wish.expected wish sources inventory playbook input_old input_new out_old out_new result
+    PlansAtStart wish.expected wish.json wish sources inventory playbook input_old input_new out_old out_new result
 
 -- the command `plan`, from the start or from where the run of a journal would go on
 abbrev pub PlansFrom : Option (List ℕ) → Wish → Sources → Source → Source → Option (List ℕ) → Option (List ℕ) → Option (List ℕ) → Option (List ℕ) → Result Status Fault → Type 0
@@ -92,14 +96,17 @@ Does may asks wish sources (Print message) input_old input_new out_old out_new r
     Keeps input_old input_new × Prints (messages.text_of message) out_old out_new result × (logs ≡ [])
 
 -- the words without their options are a line, and what it asks for was done as they ask: whether a run tells of itself while it goes on makes no difference, and it may be stopped where they
--- name a file for that
-pub record FollowsLine (may : Work → Ending → Type 0) (sources : Sources) (words_given : List Word) (input_old input_new out_old out_new : Option (List ℕ)) (result : Result Status Fault) (logs : List (List Event)) : Type 0 where
+-- name a file for that. A fault is reported in the form that they ask for, and what helps is said behind it only where they ask for more than its line, or somebody watches
+pub record FollowsLine (may : Work → Ending → Type 0) (is_watched : Bool) (sources : Sources) (words_given : List Word) (input_old input_new out_old out_new : Option (List ℕ)) (reporting : Reporting) (result : Result Status Fault) (logs : List (List Event)) : Type 0 where
+  pub form_is : reporting.form ≡ form_of (wished words_given).json
+  pub help_is : MayHelp (is_watched || (wished words_given).verbose) reporting.help
   pub line : declared_line.Line
   pub says : words.Says (plain words_given) line
   pub does : Does may (is_some (wished words_given).stop_file) (wished words_given) sources line input_old input_new out_old out_new result logs
 
 -- the words are no line, and nothing was read or written
-pub record RefusesWords (words_given : List Word) (input_old input_new out_old out_new : Option (List ℕ)) (result : Result Status Fault) (logs : List (List Event)) : Type 0 where
+pub record RefusesWords (words_given : List Word) (input_old input_new out_old out_new : Option (List ℕ)) (reporting : Reporting) (result : Result Status Fault) (logs : List (List Event)) : Type 0 where
+  pub plainly : reporting ≡ plain_reporting
   pub fault : LineFault
   pub refuses : words.Refuses (plain words_given) fault
   pub is : result ≡ Err (Line fault)
@@ -107,17 +114,17 @@ pub record RefusesWords (words_given : List Word) (input_old input_new out_old o
   pub unwritten : Keeps out_old out_new
   pub none : logs ≡ []
 
-abbrev pub Attempts : (Work → Ending → Type 0) → Sources → List Word → Option (List ℕ) → Option (List ℕ) → Option (List ℕ) → Option (List ℕ) → Result Status Fault → List (List Event) → Type 0
-Attempts may sources words_given input_old input_new out_old out_new result logs =
-    FollowsLine may sources words_given input_old input_new out_old out_new result logs ⊎ RefusesWords words_given input_old input_new out_old out_new result logs
+abbrev pub Attempts : (Work → Ending → Type 0) → Bool → Sources → List Word → Option (List ℕ) → Option (List ℕ) → Option (List ℕ) → Option (List ℕ) → Reporting → Result Status Fault → List (List Event) → Type 0
+Attempts may is_watched sources words_given input_old input_new out_old out_new reporting result logs =
+    FollowsLine may is_watched sources words_given input_old input_new out_old out_new reporting result logs ⊎ RefusesWords words_given input_old input_new out_old out_new reporting result logs
 
 -- the system gave the words; the first is the program's name
-pub record TakesWords (may : Work → Ending → Type 0) (given : Known (List Word)) (sources : Sources) (input_old input_new out_old out_new : Option (List ℕ)) (result : Result Status Fault) (logs : List (List Event)) : Type 0 where
+pub record TakesWords (may : Work → Ending → Type 0) (is_watched : Bool) (given : Known (List Word)) (sources : Sources) (input_old input_new out_old out_new : Option (List ℕ)) (reporting : Reporting) (result : Result Status Fault) (logs : List (List Event)) : Type 0 where
   pub args : List Word
   pub gives : Gives given args
   pub words_given : List Word
   pub behind_name : words_given ≡ drop 1 args
-  pub attempts : Attempts may sources words_given input_old input_new out_old out_new result logs
+  pub attempts : Attempts may is_watched sources words_given input_old input_new out_old out_new reporting result logs
 
 -- what an error of this kind makes of words that the system doesn't give: words that are no text make the line a bad one
 abbrev pub IsFaultOfWords : ErrorKind → Fault → Type 0
@@ -127,7 +134,8 @@ IsFaultOfWords kind (Line line_fault.Memory) = ⊥
 IsFaultOfWords kind fault = ⊥
 
 -- the system gave no words, and nothing was read or written
-pub record LacksWords (given : Known (List Word)) (input_old input_new out_old out_new : Option (List ℕ)) (result : Result Status Fault) (logs : List (List Event)) : Type 0 where
+pub record LacksWords (given : Known (List Word)) (input_old input_new out_old out_new : Option (List ℕ)) (reporting : Reporting) (result : Result Status Fault) (logs : List (List Event)) : Type 0 where
+  pub plainly : reporting ≡ plain_reporting
   pub kind : ErrorKind
   pub fails : Fails given kind
   pub fault : Fault
@@ -137,15 +145,16 @@ pub record LacksWords (given : Known (List Word)) (input_old input_new out_old o
   pub unwritten : Keeps out_old out_new
   pub none : logs ≡ []
 
-abbrev pub Performs : (Work → Ending → Type 0) → Known (List Word) → Sources → Option (List ℕ) → Option (List ℕ) → Option (List ℕ) → Option (List ℕ) → Result Status Fault → List (List Event) → Type 0
-Performs may given sources input_old input_new out_old out_new result logs =
-    TakesWords may given sources input_old input_new out_old out_new result logs ⊎ LacksWords given input_old input_new out_old out_new result logs
+abbrev pub Performs : (Work → Ending → Type 0) → Bool → Known (List Word) → Sources → Option (List ℕ) → Option (List ℕ) → Option (List ℕ) → Option (List ℕ) → Reporting → Result Status Fault → List (List Event) → Type 0
+Performs may is_watched given sources input_old input_new out_old out_new reporting result logs =
+    TakesWords may is_watched given sources input_old input_new out_old out_new reporting result logs ⊎ LacksWords given input_old input_new out_old out_new reporting result logs
 
 -- a whole run: what was done, what was reported, the exit status, and the logs of all that was started
-pub record Runs (may : Work → Ending → Type 0) (given : Known (List Word)) (sources : Sources) (input_old input_new out_old out_new errors_old errors_new : Option (List ℕ)) (status : ℕ) (logs : List (List Event)) : Type 0 where
+pub record Runs (may : Work → Ending → Type 0) (is_watched : Bool) (given : Known (List Word)) (sources : Sources) (input_old input_new out_old out_new errors_old errors_new : Option (List ℕ)) (status : ℕ) (logs : List (List Event)) : Type 0 where
   pub outcome : Result Status Fault
-  pub performs : Performs may given sources input_old input_new out_old out_new outcome logs
-  pub reports : Reports outcome errors_old errors_new
+  pub reporting : Reporting
+  pub performs : Performs may is_watched given sources input_old input_new out_old out_new reporting outcome logs
+  pub reports : Reports reporting outcome errors_old errors_new
   pub ends : status ≡ code_of (status_of outcome)
 
 -- these are the logs of the rolls of a run that begins, or of one in which hosts are up by now

@@ -10,6 +10,7 @@ use expectations::{ExpectFault, Unexpected};
 use fork_pool::StepFault;
 use inventory_read::ReadFault;
 use journal::JournalFault;
+use missing_names::NoValue;
 use outlook::{OutlookFault, RestFault};
 use plan_check::CheckFault;
 use planning::PlanFault;
@@ -53,6 +54,8 @@ pub enum Fault {
     OtherInputs,
     /// A run that is to go on reads in a step what a step of an earlier play registered.
     NeedsResult { name: String },
+    /// A step may look for a name that has no value on a host, and a run is to begin only where none does.
+    NoValue(NoValue),
     /// Another run that is kept goes on with the same inventory.
     Locked,
     /// A text is no plan: this line, counted from 1, is none of one.
@@ -88,6 +91,7 @@ impl Fault {
             Fault::BadJournal { line: _ } => Some(912),
             Fault::OtherInputs => Some(913),
             Fault::NeedsResult { name: _ } => Some(914),
+            Fault::NoValue(_) => Some(915),
             Fault::BadPlan { line: _ } => Some(908),
             Fault::Unexpected(_) => Some(907),
             Fault::BadList { list: _ } => Some(909),

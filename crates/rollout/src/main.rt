@@ -1,6 +1,7 @@
 //! rollout: rolling updates over failure domains.
 #![tactic(auto)]
 
+mod advice;
 mod attendant;
 mod awaited;
 mod children;
@@ -11,6 +12,7 @@ mod explanation;
 mod fault;
 mod fault_line;
 mod folder;
+mod helper;
 mod inputs;
 mod list;
 mod program;

@@ -3,13 +3,15 @@ ghost use Rattle.std.specs.Prelude.{◌≡◌, map, string_bytes};
 ghost use Rattle.std.specs.Process.{exit_status};
 ghost use Rattle.roll_run.specs.Histories.{Gains};
 ghost use Rattle.command_line.specs.Wishes.{wish_as};
+ghost use Rattle.rollout.specs.Endings.{reporting_as};
 ghost use Rattle.rollout.specs.Runs.{Attempts, Does, Performs, Runs, StartsSafely};
 ghost use Rattle.rollout.specs.Systems.{sources_of};
 
 use crate::attendant::Attendant;
 use crate::commands::{check, explain, lint, print, state};
-use crate::ending::{conclude, exit_code};
+use crate::ending::{Ended, Reporting, conclude, exit_code, form_of};
 use crate::fault::Fault;
+use crate::helper::Helper;
 use crate::status::Status;
 use crate::system::System;
 use crate::wished::{limits_by, plan_or_rest, rehearse_by, run_by};
@@ -51,12 +53,13 @@ pub fn run<
     errors: &mut E,
     history: History,
 ) -> (ExitCode, History)
-    ensures runs { Gains history result.1 (Runs (R.may runner.now) (S.words system.now) (sources_of (S.files system.now) (I.is_reliable input.old))
+    ensures runs { Gains history result.1 (Runs (R.may runner.now) (S.may_watch system.now) (S.words system.now) (sources_of (S.files system.now) (I.is_reliable input.old))
         (I.remaining input.old) (I.remaining input.new) (O.contents out.old) (O.contents out.new) (E.contents errors.old) (E.contents errors.new) (exit_status result.0)) }
     ensures safe { Gains history result.1 (StartsSafely (R.may runner.now) (S.words system.now) (sources_of (S.files system.now) (I.is_reliable input.old)) (I.remaining input.old) (I.remaining input.new)) }
 {
-    let (outcome, history) = perform(system, rt, alloc, runner, notes, tell, input, out, history);
-    (exit_code(conclude(outcome, errors)), history)
+    let (ended, history) = perform(system, rt, alloc, runner, notes, tell, input, out, history);
+    let Ended { outcome, reporting } = ended;
+    (exit_code(conclude(outcome, &reporting, errors)), history)
 }
 
 /// Does what the words say, where the system gives them.
@@ -77,9 +80,9 @@ fn perform<
     input: &mut I,
     out: &mut O,
     history: History,
-) -> (Result<Status, Fault>, History)
-    ensures { Gains history result.1 (Performs (R.may runner.now) (S.words system.now) (sources_of (S.files system.now) (I.is_reliable input.old))
-        (I.remaining input.old) (I.remaining input.new) (O.contents out.old) (O.contents out.new) result.0) }
+) -> (Ended, History)
+    ensures { Gains history result.1 (Performs (R.may runner.now) (S.may_watch system.now) (S.words system.now) (sources_of (S.files system.now) (I.is_reliable input.old))
+        (I.remaining input.old) (I.remaining input.new) (O.contents out.old) (O.contents out.new) (reporting_as result.0.reporting) result.0.outcome) }
 {
     match system.args() {
         Ok(args) => attempt(
@@ -94,7 +97,7 @@ fn perform<
             out,
             history,
         ),
-        Err(error) => (Err(words_fault(&error)), history),
+        Err(error) => (Ended::plain(Err(words_fault(&error))), history),
     }
 }
 
@@ -118,9 +121,9 @@ fn attempt<
     input: &mut I,
     out: &mut O,
     history: History,
-) -> (Result<Status, Fault>, History)
-    ensures { Gains history result.1 (Attempts (R.may runner.now) (sources_of (S.files system.now) (I.is_reliable input.old)) (map string_bytes words.now)
-        (I.remaining input.old) (I.remaining input.new) (O.contents out.old) (O.contents out.new) result.0) }
+) -> (Ended, History)
+    ensures { Gains history result.1 (Attempts (R.may runner.now) (S.may_watch system.now) (sources_of (S.files system.now) (I.is_reliable input.old)) (map string_bytes words.now)
+        (I.remaining input.old) (I.remaining input.new) (O.contents out.old) (O.contents out.new) (reporting_as result.0.reporting) result.0.outcome) }
 {
     match request_of(alloc, words) {
         Ok(Request { line, wishes }) => {
@@ -131,7 +134,8 @@ fn attempt<
                 alloc,
                 attend: &attend,
             };
-            follow(
+            let helper = Helper::new(system, alloc, &line, &wishes);
+            let (outcome, history) = follow(
                 system,
                 &coordinator,
                 runner,
@@ -141,22 +145,23 @@ fn attempt<
                 input,
                 out,
                 history,
-            )
+            );
+            let help = helper.help(system, alloc, &outcome);
+            let reporting = Reporting {
+                form: form_of(wishes.is_json),
+                help,
+            };
+            (Ended { outcome, reporting }, history)
         }
-        Err(fault) => (Err(Fault::Line(fault)), history),
+        Err(fault) => (Ended::plain(Err(Fault::Line(fault))), history),
     }
 }
 
 /// From now on a run is told of, and a plan, which has more to tell of than what it prints.
 fn begin_telling<S: System, T: Tell>(system: &S, tell: &mut T, line: &Line, wishes: &Wishes) {
-    let Wishes {
-        is_verbose,
-        is_quiet,
-        ..
-    } = wishes;
     match line {
-        Line::Run { .. } => tell.run_begins(system.seen(*is_verbose, *is_quiet, true)),
-        Line::Plan { .. } => tell.run_begins(system.seen(*is_verbose, *is_quiet, false)),
+        Line::Run { .. } => tell.run_begins(system.seen(wishes, true)),
+        Line::Plan { .. } => tell.run_begins(system.seen(wishes, false)),
         Line::Limits { .. }
         | Line::Rehearse { .. }
         | Line::State { .. }

@@ -1,10 +1,11 @@
 //! What the system gives the program: the words of its line, and files; and whoever types its commands.
-ghost use Rattle.std.specs.Prelude.{List, ℕ, Option, None, IfOk, IfErr, map, string_bytes};
+ghost use Rattle.std.specs.Prelude.{◌≡◌, Bool, List, ℕ, Option, None, IfOk, IfErr, map, string_bytes, true};
 ghost use Rattle.std.specs.IoError.{error_kind};
 ghost use Rattle.rollout.specs.Systems.{Fails, Files, Gives, Known, Opens};
 
 use crate::folder::folder_of;
 use bounded_io::{Fallible, Input};
+use command_line::Wishes;
 use keeping::{Disk, Shelf};
 use rehearsing::Prompt;
 use std::env::{Env, FillError};
@@ -48,9 +49,17 @@ pub trait System: Prompt + Shelf {
     /// Whether there is a file of this name now, of whatever kind.
     fn is_there(&self, name: &str) -> bool;
 
-    /// How what is told is seen, where it is to be told by its lines or not at all, or neither was asked for. How wide the lines may be is asked
-    /// for where one may be drawn.
-    fn seen(&self, is_verbose: bool, is_quiet: bool, draws: bool) -> Seen;
+    /// How what is told is seen, by what was asked for. How wide the lines may be is asked for where one may be drawn.
+    fn seen(&self, wishes: &Wishes, draws: bool) -> Seen;
+
+    ghost may_watch: { Self → Bool } = { λ _. true };
+
+    /// Whether somebody looks at what is reported: standard error is a terminal.
+    fn is_watched(&self) -> bool
+        ensures { result ≡ true → may_watch self.now ≡ true };
+
+    /// Whether there is a file of this name that can be read more than once.
+    fn is_file(&self, name: &str) -> bool;
 
     /// Whether what is printed is coloured where it isn't said whether it is to be: a terminal shows it, and nobody has asked programs not to.
     fn shows_colours(&self) -> bool;
@@ -188,20 +197,32 @@ impl<R: Env + fs::Files<File = fs::File> + AllocGlobal + Processes<Started = Sys
         fs::exists(self.rt, name).unwrap_or(false)
     }
 
-    fn seen(&self, is_verbose: bool, is_quiet: bool, draws: bool) -> Seen {
+    fn seen(&self, wishes: &Wishes, draws: bool) -> Seen {
         let is_terminal = self.errors.is_terminal();
         let is_dumb = is_dumb(self.rt);
-        let width = if draws && is_terminal && !is_dumb && !is_verbose && !is_quiet {
+        let width = if draws && is_terminal && !is_dumb && !wishes.is_verbose && !wishes.is_quiet {
             width(self.rt, self.rt.alloc())
         } else {
             0
         };
         Seen {
-            is_verbose,
-            is_quiet,
+            is_verbose: wishes.is_verbose,
+            is_quiet: wishes.is_quiet,
+            is_json: wishes.is_json,
             is_terminal,
             is_dumb,
             width,
+        }
+    }
+
+    fn is_watched(&self) -> bool {
+        self.errors.is_terminal()
+    }
+
+    fn is_file(&self, name: &str) -> bool {
+        match fs::metadata(self.rt, name) {
+            Ok(metadata) => metadata.is_file(),
+            Err(_) => false,
         }
     }
 

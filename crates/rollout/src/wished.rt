@@ -1,6 +1,7 @@
 //! What a line of `limits`, `plan`, `rehearse` or `run` asks for by its options.
 ghost use Rattle.std.specs.Prelude.{◌≡◌, string_bytes};
 ghost use Rattle.roll_run.specs.Histories.{Gains};
+ghost use Rattle.rollout.specs.Endings as spec;
 ghost use Rattle.rollout.specs.Resumes as model;
 ghost use Rattle.rollout.specs.Resumes.{BeginsBy, RollsBy};
 ghost use Rattle.command_line.specs.Wishes.{wish_as};
@@ -8,9 +9,11 @@ ghost use Rattle.rollout.specs.Runs.{PlansAtStart, PlansFrom, PlansOrTellsWords,
 ghost use Rattle.rollout.specs.Systems.{sources_of};
 
 use crate::commands::{
-    ResumeWish, StartWish, limits, limits_expecting, limits_standing, plan_by, plan_expecting,
-    plan_rest, rehearse, rehearse_rest, resume, roll, roll_mended, words,
+    ResumeWish, StartWish, limits, limits_expecting, limits_in_json, limits_standing, plan_by,
+    plan_expecting, plan_in_json, plan_rest, rehearse, rehearse_rest, resume, roll, roll_mended,
+    words,
 };
+use crate::ending::form_of;
 use crate::fault::Fault;
 use crate::status::Status;
 use crate::system::System;
@@ -101,7 +104,7 @@ pub fn limits_by<S: System, I: Input, O: Write>(
     }
 }
 
-/// The table at the start, of which numbers may be expected.
+/// The table at the start, of which numbers may be expected, or which is asked for as JSON.
 fn limits_at_start<S: System, I: Input, O: Write>(
     system: &S,
     alloc: Global,
@@ -110,11 +113,12 @@ fn limits_at_start<S: System, I: Input, O: Write>(
     input: &mut I,
     out: &mut O,
 ) -> Result<Status, Fault>
-    ensures { TabulatesAtStart (wish_as wishes.now).expected (sources_of (S.files system.now) (I.is_reliable input.old)) inventory
+    ensures { TabulatesAtStart (wish_as wishes.now).expected (wish_as wishes.now).json (sources_of (S.files system.now) (I.is_reliable input.old)) inventory
         (I.remaining input.old) (I.remaining input.new) (O.contents out.old) (O.contents out.new) result }
 {
     match &wishes.expected {
         Some(list) => limits_expecting(system, alloc, inventory, list.as_str(), input, out),
+        None if wishes.is_json => limits_in_json(system, alloc, inventory, input, out),
         None => limits(system, alloc, inventory, input, out),
     }
 }
@@ -175,7 +179,7 @@ fn plan_or_words<S: System, T: Watch, I: Input, O: Write>(
     }
 }
 
-/// The plan from the start, of which numbers may be expected.
+/// The plan from the start, of which numbers may be expected, or which is asked for as JSON.
 #[allow(clippy::too_many_arguments)]
 fn plan_at_start<S: System, T: Watch, I: Input, O: Write>(
     system: &S,
@@ -187,7 +191,7 @@ fn plan_at_start<S: System, T: Watch, I: Input, O: Write>(
     input: &mut I,
     out: &mut O,
 ) -> Result<Status, Fault>
-    ensures { PlansAtStart (wish_as wishes.now).expected (wish_as wishes.now) (sources_of (S.files system.now) (I.is_reliable input.old)) inventory playbook
+    ensures { PlansAtStart (wish_as wishes.now).expected (wish_as wishes.now).json (wish_as wishes.now) (sources_of (S.files system.now) (I.is_reliable input.old)) inventory playbook
         (I.remaining input.old) (I.remaining input.new) (O.contents out.old) (O.contents out.new) result }
 {
     match &wishes.expected {
@@ -198,6 +202,16 @@ fn plan_at_start<S: System, T: Watch, I: Input, O: Write>(
             inventory,
             playbook,
             list.as_str(),
+            input,
+            out,
+        ),
+        None if wishes.is_json => plan_in_json(
+            system,
+            alloc,
+            watch,
+            inventory,
+            playbook,
+            &wishes.course,
             input,
             out,
         ),
@@ -234,20 +248,27 @@ pub fn rehearse_by<S: System, I: Input, O: Write>(
 
 /// The run that is to go on, or from which something begins.
 fn resume_wish<'w>(journal: &'w String, wishes: &'w Wishes) -> ResumeWish<'w>
-    ensures { model.wished result ≡ model.resume_wish (string_bytes journal.now) (wish_as wishes.now) }
+    ensures wish { model.wished result ≡ model.resume_wish (string_bytes journal.now) (wish_as wishes.now) }
+    ensures form { result.form ≡ spec.form_of (wish_as wishes.now).json }
 {
     ResumeWish {
         journal: journal.as_str(),
         mended: wishes.mended.as_str(),
         takes_others: wishes.takes_others,
+        form: form_of(wishes.is_json),
     }
 }
 
 /// What a run is that begins, beside its inputs.
-fn start_wish(wishes: &Wishes) -> StartWish<'_> {
+fn start_wish(wishes: &Wishes) -> StartWish<'_>
+    ensures strict { result.is_strict ≡ (wish_as wishes.now).strict }
+    ensures form { result.form ≡ spec.form_of (wish_as wishes.now).json }
+{
     StartWish {
         journal: &wishes.journal,
         locks: wishes.locks,
+        is_strict: wishes.is_strict,
+        form: form_of(wishes.is_json),
     }
 }
 
@@ -274,7 +295,7 @@ fn begin_by<
     out: &mut O,
     history: History,
 ) -> (Result<Status, Fault>, History)
-    ensures { Gains history result.1 (BeginsBy (R.may runner.now) (A.asks coordinator.now.attend.now) (wish_as wishes.now).mended (sources_of (S.files system.now) (I.is_reliable input.old)) inventory playbook forks
+    ensures { Gains history result.1 (BeginsBy (spec.form_of (wish_as wishes.now).json) (wish_as wishes.now).strict (R.may runner.now) (A.asks coordinator.now.attend.now) (wish_as wishes.now).mended (sources_of (S.files system.now) (I.is_reliable input.old)) inventory playbook forks
         (I.remaining input.old) (I.remaining input.new) (O.contents out.old) (O.contents out.new) result.0) }
 {
     let mended = wishes.mended.as_str();

@@ -1,10 +1,9 @@
 -- Plays that one text says are alike: on each host their steps ask, judge and register the same.
-use Rattle.std.proofs.Common.{◌≡◌, ℕ, Bool, true, Option, None, Some, Ok, Err, List, [], ◌∷◌, length, refl, sym, ap, ap₂, ◌∙◌, subst}
+use Rattle.std.proofs.Common.{◌≡◌, ℕ, Bool, Option, None, Some, List, [], ◌∷◌, refl, sym, ap, ap₂, ◌∙◌, subst}
 use Rattle.std.specs.List.{AllZip}
-use Rattle.std.specs.Prelude.{string_bytes, slice_get}
-use Rattle.std.proofs.lemmas.Option.{same_Some}
+use Rattle.std.specs.Prelude.{string_bytes}
 use Rattle.cond.specs.Conditions.{IsMeant}
-use Rattle.cond.specs.Grammar.{Any, tokens_of}
+use Rattle.cond.specs.Grammar.{tokens_of}
 use Rattle.cond.specs.Meaning.{Environment, Verdict, meaning}
 use Rattle.cond.specs.Tokens.{FallsInto, Front, Not, Token, next_token}
 use Rattle.cond.specs.Trees.{all_of}
@@ -13,8 +12,6 @@ use Rattle.cond.proofs.Unambiguous.{one_reading}
 use Rattle.host_track.specs.Judging.{decided, register_of}
 use Rattle.play_read.specs.Says.{MeanEach, Meaning, Means, Says, said_on}
 use Rattle.play_model.specs.declared.play.Play.{Play}
-use Rattle.play_model.specs.declared.size.Size.{Size}
-use Rattle.play_model.specs.declared.on_blocked.OnBlocked.{OnBlocked}
 use Rattle.play_model.specs.declared.step.Step.{Step}
 use Rattle.play_read.specs.Reads.{IsPlay}
 use Rattle.play_rules.specs.Conditions as rules

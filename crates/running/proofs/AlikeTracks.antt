@@ -1,6 +1,6 @@
 -- What a host does in two plays that are alike.
-use Rattle.std.proofs.Common.{◌≡◌, ℕ, zero, suc, ◌-◌, nat_lt, Bool, true, not, ◌&&◌, ◌||◌, Option, None, Some, Ok, Err, List, [], ◌∷◌, ◌++◌, length, refl, sym, ap, ap₂, ◌∙◌, subst}
-use Rattle.std.specs.List.{AllZip, list_any}
+use Rattle.std.proofs.Common.{◌≡◌, ℕ, zero, suc, ◌-◌, nat_lt, Bool, true, not, ◌&&◌, ◌||◌, Option, None, Some, Ok, Err, List, [], ◌∷◌, ◌++◌, length, refl, sym, ap, ap₂, ◌∙◌}
+use Rattle.std.specs.List.{AllZip}
 use Rattle.std.specs.Prelude.{slice_get, if◌then◌else◌}
 use Rattle.std.proofs.lemmas.Slice.Zip.{AllZip-long}
 use Rattle.fleet_numbers.specs.NumberLists.{has_number}
@@ -14,7 +14,7 @@ use Rattle.host_track.specs.Endings.{Ending, ran, not_started, lost, skipped, un
 use Rattle.host_track.specs.Hosts.{Known, environment_in, values_in, with_result}
 use Rattle.host_track.specs.Judging.{changed_by, decided, failed_by, finding_of, flags_of, flags_of_run, judged_as, register_of, registered_row}
 use Rattle.host_track.specs.Asking.{Request, asked_if, asks, end_of, is_to_run, words_asked}
-use Rattle.host_track.specs.Tracks.{Column, Entry, handlers_of, has_failed, is_due, is_notified, known_after, known_with, notifies, row_at, row_if_due, step_at, track, whole_track}
+use Rattle.host_track.specs.Tracks.{Column, Entry, handlers_of, has_failed, is_due, is_notified, known_after, known_with, row_at, row_if_due, step_at, track, whole_track}
 use Rattle.play_model.specs.declared.play.Play.{Play}
 use Rattle.play_model.specs.declared.step.Step.{Step}
 use Rattle.running.proofs.AlikePlays.{AreAlikePlays, AreAlikeSteps}

@@ -4,6 +4,7 @@ use Rattle.domains.specs.FleetViews.{FleetView}
 use Rattle.fleet_states.specs.declared.status.Status.{Status}
 use Rattle.host_vars.specs.declared.vars.Vars.{Vars}
 use Rattle.host_track.specs.Endings.{Ending}
+use Rattle.json_texts.specs.declared.form.Form.{Form}
 use Rattle.play_model.specs.declared.play.Play.{Play}
 use Rattle.event_log.specs.Events.{Event}
 use Rattle.event_log.specs.Told.{Work}
@@ -26,26 +27,26 @@ pub inputs_lent : (inventory playbook : List ℕ) (fleet : FleetView) (vars : Li
     → AreInputs inventory playbook fleet vars lent statuses
 inputs_lent inventory playbook fleet vars plays lent statuses same inputs = subst (λ (l : List Play). AreInputs inventory playbook fleet vars l statuses) (sym same) inputs
 
-module _ (may : Work → Ending → Type 0) (inventory playbook : List ℕ) (forks : ℕ) (fleet : FleetView) (plays : List Play) (start : Start)
+module _ (form : Form) (may : Work → Ending → Type 0) (inventory playbook : List ℕ) (forks : ℕ) (fleet : FleetView) (plays : List Play) (start : Start)
     (inputs : AreInputs inventory playbook fleet start.vars.items plays start.statuses.items) where
   abbrev first : Beginning
   first = record { plays_before = 0; start = start }
 
-  recap_of : (runs : List Run) (logs : List (List Event)) (text : List ℕ) → IsRecapFrom may fleet forks plays first runs logs text → IsRecap may inventory playbook forks runs logs text
+  recap_of : (runs : List Run) (logs : List (List Event)) (text : List ℕ) → IsRecapFrom form may fleet forks plays first runs logs text → IsRecap form may inventory playbook forks runs logs text
   recap_of runs logs text is =
       record { fleet = fleet; plays = plays; are = record { vars = start.vars.items; statuses = start.statuses.items; inputs = inputs; runs_are = is.are }; text_is = is.text_is }
 
-  broken_recap_of : (done : List Run) (last : RunFault) (logs : List (List Event)) (text : List ℕ) → IsBrokenRecapFrom may fleet forks plays first done last logs text
-      → IsBrokenRecap may inventory playbook forks done last logs text
+  broken_recap_of : (done : List Run) (last : RunFault) (logs : List (List Event)) (text : List ℕ) → IsBrokenRecapFrom form may fleet forks plays first done last logs text
+      → IsBrokenRecap form may inventory playbook forks done last logs text
   broken_recap_of done last logs text is =
       record { fleet = fleet; plays = plays; are = record { vars = start.vars.items; statuses = start.statuses.items; inputs = inputs; broken = is.are }; text_is = is.text_is }
 
   module _ (old new : Option (List ℕ)) where
-    pub recap_written : (end : RunEnd) (logs : List (List Event)) → WritesFrom may fleet forks plays first old new end logs → WritesRecap may inventory playbook forks old new end logs
+    pub recap_written : (end : RunEnd) (logs : List (List Event)) → WritesFrom form may fleet forks plays first old new end logs → WritesRecap form may inventory playbook forks old new end logs
     recap_written end logs writes =
         record { runs = writes.runs; text = writes.text; is = recap_of writes.runs logs writes.text writes.is; written = writes.written; ends = writes.ends }
 
-    pub fault_is_true : (fault : RunTextFault) (logs : List (List Event)) → IsTrueFaultFrom may fleet forks plays first old new fault logs → IsTrueFault may inventory playbook forks old new fault logs
+    pub fault_is_true : (fault : RunTextFault) (logs : List (List Event)) → IsTrueFaultFrom form may fleet forks plays first old new fault logs → IsTrueFault form may inventory playbook forks old new fault logs
     fault_is_true (Refused fault) logs is = absurd is
     fault_is_true Memory logs is = absurd is
     fault_is_true (Broken why) logs is =

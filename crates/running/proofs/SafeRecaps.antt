@@ -8,7 +8,7 @@ use Rattle.running.specs.Laws.{BrokenRecapsAreOfSafeRolls, FaultsFromAreOfSafeRo
 use Rattle.running.specs.declared.fault.RunTextFault.TheVariants.{Refused, Memory, Broken, Write}
 
 pub recaps_are_of_safe_rolls : (may : Work → Ending → Type 0) → RecapsAreOfSafeRolls may
-recaps_are_of_safe_rolls may inventory playbook text forks runs logs is = record {
+recaps_are_of_safe_rolls may form inventory playbook text forks runs logs is = record {
   fleet = is.fleet;
   vars = is.are.vars;
   plays = is.plays;
@@ -18,7 +18,7 @@ recaps_are_of_safe_rolls may inventory playbook text forks runs logs is = record
 }
 
 pub broken_recaps_are_of_safe_rolls : (may : Work → Ending → Type 0) → BrokenRecapsAreOfSafeRolls may
-broken_recaps_are_of_safe_rolls may inventory playbook text forks done last logs is = record {
+broken_recaps_are_of_safe_rolls may form inventory playbook text forks done last logs is = record {
   fleet = is.fleet;
   vars = is.are.vars;
   plays = is.plays;
@@ -28,15 +28,15 @@ broken_recaps_are_of_safe_rolls may inventory playbook text forks done last logs
 }
 
 pub runs_from_are_of_safe_rolls : (may : Work → Ending → Type 0) → RunsFromAreOfSafeRolls may
-runs_from_are_of_safe_rolls may fleet forks plays beginning old new end logs writes =
+runs_from_are_of_safe_rolls may form fleet forks plays beginning old new end logs writes =
     runs_are_safe may fleet forks (plays_from beginning plays) beginning.start.statuses.items beginning.start.vars.items writes.runs logs writes.is.are
 
 pub faults_from_are_of_safe_rolls : (may : Work → Ending → Type 0) → FaultsFromAreOfSafeRolls may
-faults_from_are_of_safe_rolls may fleet forks plays beginning old new (Refused fault) logs is = absurd is
-faults_from_are_of_safe_rolls may fleet forks plays beginning old new Memory logs is = absurd is
-faults_from_are_of_safe_rolls may fleet forks plays beginning old new (Broken why) logs is =
+faults_from_are_of_safe_rolls may form fleet forks plays beginning old new (Refused fault) logs is = absurd is
+faults_from_are_of_safe_rolls may form fleet forks plays beginning old new Memory logs is = absurd is
+faults_from_are_of_safe_rolls may form fleet forks plays beginning old new (Broken why) logs is =
     broken_runs_are_safe may fleet forks (plays_from beginning plays) beginning.start.statuses.items beginning.start.vars.items is.done is.last logs is.is.are
-faults_from_are_of_safe_rolls may fleet forks plays beginning old new (Write fault) logs (inl is) =
+faults_from_are_of_safe_rolls may form fleet forks plays beginning old new (Write fault) logs (inl is) =
     runs_are_safe may fleet forks (plays_from beginning plays) beginning.start.statuses.items beginning.start.vars.items is.runs logs is.is.are
-faults_from_are_of_safe_rolls may fleet forks plays beginning old new (Write fault) logs (inr is) =
+faults_from_are_of_safe_rolls may form fleet forks plays beginning old new (Write fault) logs (inr is) =
     broken_runs_are_safe may fleet forks (plays_from beginning plays) beginning.start.statuses.items beginning.start.vars.items is.done is.last logs is.is.are

@@ -1,10 +1,9 @@
 -- Two runs of plays that are alike, whose programs end as the same columns say, have one recap.
-use Rattle.std.proofs.Common.{◌≡◌, ℕ, zero, suc, ◌+◌, ◌-◌, ◌<◌, Bool, true, false, cond, nat_lt, Option, None, Some, List, [], ◌∷◌, ◌++◌, length, map, refl, sym, ap, ap₂, ◌∙◌, subst, arith}
+use Rattle.std.proofs.Common.{◌≡◌, ℕ, zero, suc, ◌+◌, ◌-◌, ◌<◌, Bool, true, false, cond, nat_lt, Option, None, Some, List, [], ◌∷◌, ◌++◌, length, refl, sym, ap, ap₂, ◌∙◌, subst, arith}
 use Rattle.std.specs.List.{flat_map, range_with_len}
-use Rattle.std.specs.Prelude.{slice_index_or, string_bytes}
 use Rattle.std.proofs.Math.Path.{fun_ext}
 use Rattle.text_parts.specs.Patterns.{parts_of}
-use Rattle.fleet_numbers.specs.NumberLists.{has_number, list_at}
+use Rattle.fleet_numbers.specs.NumberLists.{has_number}
 use Rattle.group_tree.specs.declared.ids.GroupId.{GroupId}
 use Rattle.domains.specs.FleetViews.{FleetView}
 use Rattle.domains.specs.Ids.{host_numbers}
@@ -25,7 +24,7 @@ use Rattle.host_track.specs.Hosts.{Known}
 use Rattle.host_track.specs.Tracks.{Entry, counts_in, failing_step, track, whole_track}
 use Rattle.play_course.specs.declared.boundary.Boundary.{Boundary}
 use Rattle.play_course.specs.declared.end.End.{End}
-use Rattle.play_course.specs.Courses.{IsCourse, Setting, batches_of, next_batch}
+use Rattle.play_course.specs.Courses.{IsCourse, Setting, next_batch}
 use Rattle.play_course.specs.Laws.{AreSameBoundaries, IsSameBoundary}
 use Rattle.play_course.proofs.SameLemmas.{one_course}
 use Rattle.recap.specs.PlanText.{answer_line, blocked_line, held_line, names_line, planned_line}
@@ -37,14 +36,15 @@ use Rattle.event_log.specs.Told.{Work}
 use Rattle.event_log.specs.Events.{Event}
 use Rattle.event_log.specs.Logs.{end_state}
 use Rattle.roll_run.specs.declared.run.Run.{Run}
-use Rattle.roll_run.specs.Runs.{AreCounted, IsRun, TookItsCourse, rows_behind, rows_of, setting_of}
+use Rattle.roll_run.specs.Runs.{IsRun, TookItsCourse, rows_behind, rows_of, setting_of}
 use Rattle.recap.specs.RecapText.{boundary_lines, boundary_text, counts_at, end_line, host_line_of, host_lines, open_line, text_by_place}
-use Rattle.recap.specs.LimitsText.{field_text}
-use Rattle.running.specs.Recaps.{run_text}
+use Rattle.json_texts.specs.PlayJson.{play_json}
+use Rattle.json_texts.proofs.SameLemmas.{same_next, same_play_json}
+use Rattle.running.specs.Recaps.{facts_text, run_facts}
 use Rattle.running.proofs.AlikePlays.{AreAlikePlays}
 use Rattle.running.proofs.AlikeTracks.{same_steps, same_track, same_whole}
 
--- the same answers are written alike, and open the same batch
+-- the same answers are written alike
 same_line : (fleet : FleetView) (answer other : Answer) → IsSameAnswer answer other → answer_line fleet answer ≡ answer_line fleet other
 same_line fleet (Planned plan) (Planned other) same =
     ap (λ (batches : List (List ℕ)). planned_line fleet (length batches) plan.bound) same.0 ∙ ap (planned_line fleet (length other.batches)) same.1
@@ -52,15 +52,6 @@ same_line fleet (Planned plan) (Blocked group waiting) same = absurd same
 same_line fleet (Blocked group waiting) (Planned plan) same = absurd same
 same_line fleet (Blocked group waiting) (Blocked other number) same =
     ap (λ (g : GroupId). blocked_line fleet g.index waiting) same.0 ∙ ap (blocked_line fleet other.index) same.1
-
-same_batches : (answer other : Answer) → IsSameAnswer answer other → batches_of answer ≡ batches_of other
-same_batches (Planned plan) (Planned other) same = same.0
-same_batches (Planned plan) (Blocked group waiting) same = absurd same
-same_batches (Blocked group waiting) (Planned plan) same = absurd same
-same_batches (Blocked group waiting) (Blocked other number) same = refl
-
-same_next : (answer other : Answer) → IsSameAnswer answer other → next_batch answer ≡ next_batch other
-same_next answer other same = ap (λ (batches : List (List ℕ)). list_at batches 0) (same_batches answer other same)
 
 -- the same boundaries are written alike
 module _ (fleet : FleetView) where
@@ -127,9 +118,14 @@ pub record BeginAlike (roll other : Roll) : Type 0 where
   pub start : roll.start ≡ other.start
   pub known : (host : ℕ) → roll.known host ≡ other.known host
 
+-- the recaps of two runs are alike in each form
+pub record AreToldAlike (fleet : FleetView) (run also : Run) : Type 0 where
+  pub lines : facts_text fleet (run_facts run) ≡ facts_text fleet (run_facts also)
+  pub json : (number : ℕ) → play_json fleet number (run_facts run) ≡ play_json fleet number (run_facts also)
+
 -- what two such runs leave
 pub record LeaveAlike (fleet : FleetView) (roll other : Roll) (run also : Run) (log second : List Event) : Type 0 where
-  pub text : run_text fleet run ≡ run_text fleet also
+  pub told : AreToldAlike fleet run also
   pub statuses : run.statuses.items ≡ also.statuses.items
   pub end : run.end ≡ also.end
   pub rows : (host : ℕ) → (end_state roll log).rows host ≡ (end_state other second).rows host
@@ -220,12 +216,16 @@ module _ (fleet : FleetView) (roll other : Roll) (columns : Columns) (alike : Be
         let start : length roll.start ≡ length other.start = ap length alike.start in
         one.counts host (omega (arith, within, all)) ∙ ap counts_in (rows host) ∙ sym (two.counts host (omega (arith, within, all, start)))
 
-    pub leave_alike : LeaveAlike fleet roll other run also log other_log
-    leave_alike = record {
-      text =
+    opened : length run.boundaries.items - 1 ≡ length also.boundaries.items - 1
+    opened = ap (λ (n : ℕ). n - 1) (same_many fleet run.boundaries.items also.boundaries.items courses.0)
+
+    told : AreToldAlike fleet run also
+    told = record {
+      lines =
           ap₂ ◌++◌ (same_boundaries fleet run.boundaries.items also.boundaries.items courses.0)
           (ap₂ ◌++◌ (same_hosts fleet run.statuses.items also.statuses.items run.counts.items also.counts.items statuses counts) (ap (λ (e : End). end_line fleet (Some e)) courses.1));
-      statuses = statuses;
-      end = courses.1;
-      rows = rows;
+      json = λ number. same_play_json fleet number (run_facts run) (run_facts also) courses.0 opened statuses counts (ap Some courses.1);
     }
+
+    pub leave_alike : LeaveAlike fleet roll other run also log other_log
+    leave_alike = record { told = told; statuses = statuses; end = courses.1; rows = rows }

@@ -9,6 +9,7 @@ use Rattle.host_vars.specs.declared.vars.Vars.{Vars}
 use Rattle.host_track.specs.Endings.{Ending}
 use Rattle.planning.specs.PlanTexts.{IsPlaybookFault}
 use Rattle.planning.specs.declared.fault.PlanFault.{PlanFault}
+use Rattle.json_texts.specs.declared.form.Form.{Form}
 use Rattle.play_model.specs.declared.play.Play.{Play}
 use Rattle.event_log.specs.Events.{Event}
 use Rattle.event_log.specs.Told.{Work}
@@ -46,39 +47,39 @@ pub playbook_is_refused : (inventory playbook : List ℕ) (fleet : FleetView) (v
 playbook_is_refused inventory playbook fleet vars fault hosts refused =
     inr (record { fleet = fleet; built = record { inventory = hosts.inventory; reads = hosts.reads; built = hosts.built }; refused = refused })
 
-pub refusal_is_true : (may : Work → Ending → Type 0) (inventory playbook : List ℕ) (forks : ℕ) (old new : Option (List ℕ)) (fault : RunTextFault) → Keeps old new
-    → RefusesTexts inventory playbook fault → IsTrueFault may inventory playbook forks old new fault []
-refusal_is_true may inventory playbook forks old new (Refused fault) keeps refused = (refused, keeps, refl)
-refusal_is_true may inventory playbook forks old new Memory keeps refused = (keeps, refl)
-refusal_is_true may inventory playbook forks old new (Broken why) keeps refused = absurd refused
-refusal_is_true may inventory playbook forks old new (Write fault) keeps refused = absurd refused
+pub refusal_is_true : (form : Form) (may : Work → Ending → Type 0) (inventory playbook : List ℕ) (forks : ℕ) (old new : Option (List ℕ)) (fault : RunTextFault) → Keeps old new
+    → RefusesTexts inventory playbook fault → IsTrueFault form may inventory playbook forks old new fault []
+refusal_is_true form may inventory playbook forks old new (Refused fault) keeps refused = (refused, keeps, refl)
+refusal_is_true form may inventory playbook forks old new Memory keeps refused = (keeps, refl)
+refusal_is_true form may inventory playbook forks old new (Broken why) keeps refused = absurd refused
+refusal_is_true form may inventory playbook forks old new (Write fault) keeps refused = absurd refused
 
 -- what the writers say of runs that begin in the midst of a file
-module _ (may : Work → Ending → Type 0) (fleet : FleetView) (forks : ℕ) (plays lent : List Play) (beginning : Beginning) (several : Bool) (old new : Option (List ℕ))
+module _ (form : Form) (may : Work → Ending → Type 0) (fleet : FleetView) (forks : ℕ) (plays lent : List Play) (beginning : Beginning) (several : Bool) (old new : Option (List ℕ))
     (are_lent : lent ≡ plays_from beginning plays) (many : several ≡ are_several plays) where
   abbrev text_of : List Run → List ℕ
-  text_of runs = runs_text_from beginning.plays_before fleet several runs
+  text_of runs = runs_text_from form beginning.plays_before fleet several runs
 
   abbrev broken_text_of : List Run → RunFault → List ℕ
-  broken_text_of done last = broken_text_from beginning.plays_before fleet several done last
+  broken_text_of done last = broken_text_from form beginning.plays_before fleet several done last
 
   recap_from : (runs : List Run) (logs : List (List Event)) → AreRuns may fleet forks lent beginning.start.statuses.items beginning.start.vars.items runs logs
-      → IsRecapFrom may fleet forks plays beginning runs logs (text_of runs)
+      → IsRecapFrom form may fleet forks plays beginning runs logs (text_of runs)
   recap_from runs logs are = record {
     are = subst (λ (l : List Play). AreRuns may fleet forks l beginning.start.statuses.items beginning.start.vars.items runs logs) are_lent are;
-    text_is = ap (λ (b : Bool). runs_text_from beginning.plays_before fleet b runs) many;
+    text_is = ap (λ (b : Bool). runs_text_from form beginning.plays_before fleet b runs) many;
   }
 
   broken_recap_from : (done : List Run) (last : RunFault) (logs : List (List Event)) → AreBroken may fleet forks lent beginning.start.statuses.items beginning.start.vars.items done last logs
-      → IsBrokenRecapFrom may fleet forks plays beginning done last logs (broken_text_of done last)
+      → IsBrokenRecapFrom form may fleet forks plays beginning done last logs (broken_text_of done last)
   broken_recap_from done last logs broken = record {
     are = subst (λ (l : List Play). AreBroken may fleet forks l beginning.start.statuses.items beginning.start.vars.items done last logs) are_lent broken;
-    text_is = ap (λ (b : Bool). broken_text_from beginning.plays_before fleet b done last) many;
+    text_is = ap (λ (b : Bool). broken_text_from form beginning.plays_before fleet b done last) many;
   }
 
   runs_are_told : (runs : List Run) (logs : List (List Event)) (result : Result RunEnd RunTextFault) → AreRuns may fleet forks lent beginning.start.statuses.items beginning.start.vars.items runs logs
-      → TellsRuns beginning.plays_before fleet several runs old new result
-      → IfOk result (λ end. WritesFrom may fleet forks plays beginning old new end logs) × IfErr result (λ fault. IsTrueFaultFrom may fleet forks plays beginning old new fault logs)
+      → TellsRuns form beginning.plays_before fleet several runs old new result
+      → IfOk result (λ end. WritesFrom form may fleet forks plays beginning old new end logs) × IfErr result (λ fault. IsTrueFaultFrom form may fleet forks plays beginning old new fault logs)
   runs_are_told runs logs (Ok end) are told = (record { runs = runs; text = text_of runs; is = recap_from runs logs are; written = told.1; ends = told.0 }, tt)
   runs_are_told runs logs (Err (Write fault)) are told = (tt, inl (record { runs = runs; text = text_of runs; is = recap_from runs logs are; written = told }))
   runs_are_told runs logs (Err (Refused fault)) are told = absurd told
@@ -88,14 +89,14 @@ module _ (may : Work → Ending → Type 0) (fleet : FleetView) (forks : ℕ) (p
   -- the same of runs that are lent
   pub runs_told : (runs shown : List Run) (logs : List (List Event)) (result : Result RunEnd RunTextFault)
       → AreRuns may fleet forks lent beginning.start.statuses.items beginning.start.vars.items runs logs → shown ≡ runs
-      → TellsRuns beginning.plays_before fleet several shown old new result
-      → IfOk result (λ end. WritesFrom may fleet forks plays beginning old new end logs) × IfErr result (λ fault. IsTrueFaultFrom may fleet forks plays beginning old new fault logs)
+      → TellsRuns form beginning.plays_before fleet several shown old new result
+      → IfOk result (λ end. WritesFrom form may fleet forks plays beginning old new end logs) × IfErr result (λ fault. IsTrueFaultFrom form may fleet forks plays beginning old new fault logs)
   runs_told runs shown logs result are listed told =
-      runs_are_told runs logs result are (subst (λ (l : List Run). TellsRuns beginning.plays_before fleet several l old new result) listed told)
+      runs_are_told runs logs result are (subst (λ (l : List Run). TellsRuns form beginning.plays_before fleet several l old new result) listed told)
 
   pub fault_told : (done : List Run) (last : RunFault) (logs : List (List Event)) (fault : RunTextFault)
       → AreBroken may fleet forks lent beginning.start.statuses.items beginning.start.vars.items done last logs
-      → TellsBroken beginning.plays_before fleet several done last old new fault → IsTrueFaultFrom may fleet forks plays beginning old new fault logs
+      → TellsBroken form beginning.plays_before fleet several done last old new fault → IsTrueFaultFrom form may fleet forks plays beginning old new fault logs
   fault_told done last logs (Broken why) broken told =
       record { done = done; last = last; text = broken_text_of done last; is = broken_recap_from done last logs broken; written = told.1; why_is = told.0 }
   fault_told done last logs (Write fault) broken told =
@@ -158,9 +159,9 @@ module _ {K : Type 0} (keeps : K → K → FleetView → JournalEntry → Type 0
   keeps_not_ahead kept = gains_as old new (λ logs is. far logs (record { mid = after; kept = is; ahead = inl refl })) kept
 
 -- what broke a run off may break its text off
-pub may_break : (asks refuses : Bool) (before : ℕ) (fleet : FleetView) (several : Bool) (done : List Run) (last : RunFault) (old new : Option (List ℕ)) (fault : RunTextFault)
-    → TellsBroken before fleet several done last old new fault → MayBreak asks refuses last.why → MayBreakText asks refuses fault
-may_break asks refuses before fleet several done last old new (Broken why) told may = subst (MayBreak asks refuses) (sym told.0) may
-may_break asks refuses before fleet several done last old new (Write fault) told may = tt
-may_break asks refuses before fleet several done last old new (Refused fault) told may = absurd told
-may_break asks refuses before fleet several done last old new Memory told may = absurd told
+pub may_break : (form : Form) (asks refuses : Bool) (before : ℕ) (fleet : FleetView) (several : Bool) (done : List Run) (last : RunFault) (old new : Option (List ℕ)) (fault : RunTextFault)
+    → TellsBroken form before fleet several done last old new fault → MayBreak asks refuses last.why → MayBreakText asks refuses fault
+may_break form asks refuses before fleet several done last old new (Broken why) told may = subst (MayBreak asks refuses) (sym told.0) may
+may_break form asks refuses before fleet several done last old new (Write fault) told may = tt
+may_break form asks refuses before fleet several done last old new (Refused fault) told may = absurd told
+may_break form asks refuses before fleet several done last old new Memory told may = absurd told

@@ -4,6 +4,7 @@ use Rattle.std.specs.Io.KnownBytes.{Appends}
 use Rattle.bounded_io.specs.Sending.{SendsFirst}
 use Rattle.domains.specs.FleetViews.{FleetView}
 use Rattle.event_log.specs.Events.{Event}
+use Rattle.json_texts.specs.declared.form.Form.{Form}
 use Rattle.roll_run.specs.declared.run.Run.{Run}
 use Rattle.roll_run.specs.declared.fault.Break.{Break}
 use Rattle.roll_run.specs.declared.fault.RunFault.{RunFault}
@@ -53,16 +54,16 @@ IsFaultOfRuns Is IsBroken old new (Broken why) logs = WritesBroken IsBroken old 
 IsFaultOfRuns Is IsBroken old new (Write fault) logs = BreaksRuns Is old new fault.written logs ⊎ BreaksBroken IsBroken old new fault.written logs
 
 -- the recaps of runs that came to their ends went out, or broke off
-abbrev pub TellsRuns : ℕ → FleetView → Bool → List Run → Option (List ℕ) → Option (List ℕ) → Result RunEnd RunTextFault → Type 0
-TellsRuns before fleet several runs old new (Ok end) = IsEndOf runs end × Appends old new (runs_text_from before fleet several runs)
-TellsRuns before fleet several runs old new (Err (Write fault)) = SendsFirst old new (runs_text_from before fleet several runs) fault.written
-TellsRuns before fleet several runs old new (Err (Refused fault)) = ⊥
-TellsRuns before fleet several runs old new (Err Memory) = ⊥
-TellsRuns before fleet several runs old new (Err (Broken why)) = ⊥
+abbrev pub TellsRuns : Form → ℕ → FleetView → Bool → List Run → Option (List ℕ) → Option (List ℕ) → Result RunEnd RunTextFault → Type 0
+TellsRuns form before fleet several runs old new (Ok end) = IsEndOf runs end × Appends old new (runs_text_from form before fleet several runs)
+TellsRuns form before fleet several runs old new (Err (Write fault)) = SendsFirst old new (runs_text_from form before fleet several runs) fault.written
+TellsRuns form before fleet several runs old new (Err (Refused fault)) = ⊥
+TellsRuns form before fleet several runs old new (Err Memory) = ⊥
+TellsRuns form before fleet several runs old new (Err (Broken why)) = ⊥
 
 -- the recaps of runs of which a fault broke the last one off went out, or broke off
-abbrev pub TellsBroken : ℕ → FleetView → Bool → List Run → RunFault → Option (List ℕ) → Option (List ℕ) → RunTextFault → Type 0
-TellsBroken before fleet several done last old new (Broken why) = (why ≡ last.why) × Appends old new (broken_text_from before fleet several done last)
-TellsBroken before fleet several done last old new (Write fault) = SendsFirst old new (broken_text_from before fleet several done last) fault.written
-TellsBroken before fleet several done last old new (Refused fault) = ⊥
-TellsBroken before fleet several done last old new Memory = ⊥
+abbrev pub TellsBroken : Form → ℕ → FleetView → Bool → List Run → RunFault → Option (List ℕ) → Option (List ℕ) → RunTextFault → Type 0
+TellsBroken form before fleet several done last old new (Broken why) = (why ≡ last.why) × Appends old new (broken_text_from form before fleet several done last)
+TellsBroken form before fleet several done last old new (Write fault) = SendsFirst old new (broken_text_from form before fleet several done last) fault.written
+TellsBroken form before fleet several done last old new (Refused fault) = ⊥
+TellsBroken form before fleet several done last old new Memory = ⊥

@@ -5,11 +5,15 @@ mod beginning;
 mod behind;
 mod down;
 mod end;
+mod facts;
 mod fault;
 mod hosts;
 mod inputs;
 mod laws;
 mod left;
+mod lines;
+mod manner;
+mod objects;
 mod plays;
 mod printing;
 mod recaps;
@@ -21,5 +25,6 @@ pub use inputs::{Inputs, read_inputs};
 pub use laws::{
     one_recap, one_recap_by_plays, recaps_are_of_safe_rolls, runs_from_are_of_safe_rolls,
 };
+pub use manner::Manner;
 pub use plays::run_from;
 pub use printing::run_text;

@@ -15,8 +15,10 @@ use crate::behind::{tell_behind, tell_left_out};
 use crate::end::{RunEnd, end_of_runs};
 use crate::fault::RunTextFault;
 use crate::left::Left;
+use crate::manner::Manner;
 use crate::recaps::{send_broken, send_runs};
 use domains::Fleet;
+use json_texts::Form;
 use play_model::Play;
 use roll_core::{History, Runner, Watch};
 use roll_run::{Attend, Coordinator, Keep, Run, RunsFault, Setup, run_plays};
@@ -42,6 +44,7 @@ fn behind(plays: &[Play], plays_before: usize) -> &[Play]
 
 /// Writes the recaps of runs that came to their ends.
 fn tell_runs<W: Write>(
+    form: Form,
     fleet: &Fleet,
     several: bool,
     plays_before: usize,
@@ -50,9 +53,9 @@ fn tell_runs<W: Write>(
 ) -> Result<RunEnd, RunTextFault>
     requires some { 0 < length runs.now }
     requires few { plays_before + length runs.now ≤ 18446744073709551615 }
-    ensures { TellsRuns plays_before fleet.now several runs.now (W.contents out.old) (W.contents out.new) result }
+    ensures { TellsRuns form plays_before fleet.now several runs.now (W.contents out.old) (W.contents out.new) result }
 {
-    match send_runs(fleet, several, plays_before, runs, out) {
+    match send_runs(form, fleet, several, plays_before, runs, out) {
         Ok(()) => Ok(end_of_runs(runs)),
         Err(fault) => Err(RunTextFault::Write(fault)),
     }
@@ -60,6 +63,7 @@ fn tell_runs<W: Write>(
 
 /// Writes the recaps of runs of which a fault broke the last one off, and tells that fault, or where the text broke off.
 fn tell_broken<W: Write>(
+    form: Form,
     fleet: &Fleet,
     several: bool,
     plays_before: usize,
@@ -67,17 +71,17 @@ fn tell_broken<W: Write>(
     out: &mut W,
 ) -> RunTextFault
     requires { plays_before + length fault.now.done.items < 18446744073709551615 }
-    ensures { TellsBroken plays_before fleet.now several fault.now.done.items fault.now.last (W.contents out.old) (W.contents out.new) result }
+    ensures { TellsBroken form plays_before fleet.now several fault.now.done.items fault.now.last (W.contents out.old) (W.contents out.new) result }
 {
-    match send_broken(fleet, several, plays_before, fault, out) {
+    match send_broken(form, fleet, several, plays_before, fault, out) {
         Ok(()) => RunTextFault::Broken(fault.last.why),
         Err(fault) => RunTextFault::Write(fault),
     }
 }
 
-/// Runs the plays of a file behind so many of them, on this fleet, with `forks` workers, 1 to 64: the first of these from this start, each next one
-/// where the one before it ended. When the runs have ended it writes the recap: of each play that was begun, under its number in the file
-/// where that has several. Where a fault breaks the runs off, the recap of what they came to goes out, and then the answer is that fault. Where a write fails,
+/// Runs the plays of a file behind so many of them, on this fleet, with 1 to 64 workers: the first of these from this start, each next one
+/// where the one before it ended. When the runs have ended it writes the recap in the form that is asked for: of each play that was begun, in lines under its number
+/// in the file where that has several. Where a fault breaks the runs off, the recap of what they came to goes out, and then the answer is that fault. Where a write fails,
 /// exactly the first bytes of the text went out, as many as the fault says. Writing takes no memory.
 /// `watch` is told how many plays are to run, of each of them, of hosts that the file's plays leave out where its first play is to run, and behind the recap
 /// why hosts are down; `attend` may have the run end before a batch. `keeper` is given how many plays are to run and what there is to keep of
@@ -98,23 +102,24 @@ pub fn run_from<
     fleet: &Fleet,
     plays: &[Play],
     beginning: Beginning,
-    forks: usize,
+    manner: Manner,
     runner: &R,
     out: &mut W,
     history: History,
 ) -> (Result<RunEnd, RunTextFault>, History, K)
-    requires some { 0 < forks }
-    requires few { forks ≤ 64 }
+    requires some { 0 < manner.forks }
+    requires few { manner.forks ≤ 64 }
     requires play { beginning.plays_before < length plays.now }
     requires known { find (names_nothing fleet.now) (named_parts plays.now) ≡ None }
     requires starts { MayStart fleet.now beginning.start }
-    ensures ok { IfOk result.0 (λ end. Gains history result.1 (WritesFrom (R.may runner.now) fleet.now forks plays.now beginning (W.contents out.old) (W.contents out.new) end)) }
-    ensures err { IfErr result.0 (λ fault. Gains history result.1 (IsTrueFaultFrom (R.may runner.now) fleet.now forks plays.now beginning (W.contents out.old) (W.contents out.new) fault)) }
+    ensures ok { IfOk result.0 (λ end. Gains history result.1 (WritesFrom manner.form (R.may runner.now) fleet.now manner.forks plays.now beginning (W.contents out.old) (W.contents out.new) end)) }
+    ensures err { IfErr result.0 (λ fault. Gains history result.1 (IsTrueFaultFrom manner.form (R.may runner.now) fleet.now manner.forks plays.now beginning (W.contents out.old) (W.contents out.new) fault)) }
     ensures asked { IfErr result.0 (MayBreakText (A.asks coordinator.now.attend.now) K.refuses) }
     ensures kept { IfOk result.0 (λ _. Gains history result.1 (KeepsFrom K.keeps fleet.now (plays_from beginning plays.now) keeper result.2)) }
     ensures ahead { IfErr result.0 (λ _. Gains history result.1 (KeepsAheadFrom K.keeps fleet.now (plays_from beginning plays.now) keeper result.2)) }
 {
     let alloc = coordinator.alloc;
+    let Manner { forks, form } = manner;
     tell_left_out(alloc, watch, fleet, plays, &beginning);
     let Beginning {
         plays_before,
@@ -123,7 +128,7 @@ pub fn run_from<
     let rolls = history.rolls();
     let several = are_several(plays);
     let coming = behind(plays, plays_before);
-    watch.plays_begin(coming.len());
+    watch.plays_begin(plays_before, plays.len());
     keeper.plays_begin(fleet, coming.len());
     let setup = Setup {
         fleet,
@@ -135,14 +140,14 @@ pub fn run_from<
     match ran {
         Ok(runs) => {
             watch.plays_end();
-            let told = tell_runs(fleet, several, plays_before, runs.as_slice(), out);
+            let told = tell_runs(form, fleet, several, plays_before, runs.as_slice(), out);
             let left = Left::of_all(plays_before, runs.as_slice(), &history, rolls);
             tell_behind(alloc, watch, fleet, plays, &left, told.is_ok());
             (told, history, keeper)
         }
         Err(fault) => {
             watch.plays_end();
-            let told = tell_broken(fleet, several, plays_before, &fault, out);
+            let told = tell_broken(form, fleet, several, plays_before, &fault, out);
             let is_whole = !matches!(told, RunTextFault::Write(_));
             let left = Left::of_broken(plays_before, &fault, &history, rolls);
             tell_behind(alloc, watch, fleet, plays, &left, is_whole);

@@ -8,6 +8,7 @@ use crate::beginning::Beginning;
 use crate::end::RunEnd;
 use crate::fault::RunTextFault;
 use crate::inputs::{Inputs, read_inputs};
+use crate::manner::Manner;
 use crate::plays::run_from;
 use roll_core::{History, Runner, Watch};
 use roll_run::{Attend, Coordinator, Keep};
@@ -16,8 +17,8 @@ use std::process::{Processes, SystemProcess};
 use std::sync::Wait;
 use std::thread::Threads;
 
-/// Runs the plays of a playbook on the fleet of an inventory, each given as the bytes of its text, with `forks` workers, 1 to 64, and
-/// writes the recap when the runs have ended: of each play that was begun, under its number where the file has several. Nothing is run, and
+/// Runs the plays of a playbook on the fleet of an inventory, each given as the bytes of its text, with 1 to 64 workers, and
+/// writes the recap when the runs have ended, in the form that is asked for: of each play that was begun, in lines under its number where the file has several. Nothing is run, and
 /// nothing goes out, before both were accepted: first the inventory's faults are told, then the playbook's, then the first part of a
 /// pattern, of any play, that names nothing. Where a fault breaks the runs off, the recap of what they came to goes out, and then the answer
 /// is that fault. Where a write fails, exactly the first bytes of the text went out, as many as the fault says. Writing takes no memory.
@@ -38,15 +39,15 @@ pub fn run_text<
     keeper: K,
     inventory: &[u8],
     playbook: &[u8],
-    forks: usize,
+    manner: Manner,
     runner: &R,
     out: &mut W,
     history: History,
 ) -> (Result<RunEnd, RunTextFault>, History, K)
-    requires some { 0 < forks }
-    requires few { forks ≤ 64 }
-    ensures ok { IfOk result.0 (λ end. Gains history result.1 (WritesRecap (R.may runner.now) inventory.now playbook.now forks (W.contents out.old) (W.contents out.new) end)) }
-    ensures err { IfErr result.0 (λ fault. Gains history result.1 (IsTrueFault (R.may runner.now) inventory.now playbook.now forks (W.contents out.old) (W.contents out.new) fault)) }
+    requires some { 0 < manner.forks }
+    requires few { manner.forks ≤ 64 }
+    ensures ok { IfOk result.0 (λ end. Gains history result.1 (WritesRecap manner.form (R.may runner.now) inventory.now playbook.now manner.forks (W.contents out.old) (W.contents out.new) end)) }
+    ensures err { IfErr result.0 (λ fault. Gains history result.1 (IsTrueFault manner.form (R.may runner.now) inventory.now playbook.now manner.forks (W.contents out.old) (W.contents out.new) fault)) }
     ensures asked { IfErr result.0 (MayBreakText (A.asks coordinator.now.attend.now) K.refuses) }
     ensures kept { IfOk result.0 (λ _. Gains history result.1 (KeepsRuns K.keeps inventory.now playbook.now keeper result.2)) }
     ensures ahead { IfErr result.0 (λ _. Gains history result.1 (KeepsBroken K.keeps inventory.now playbook.now keeper result.2)) }
@@ -70,7 +71,7 @@ pub fn run_text<
         &fleet,
         plays.as_slice(),
         beginning,
-        forks,
+        manner,
         runner,
         out,
         history,

@@ -114,7 +114,7 @@ fn write_host<W: Write>(
 }
 
 /// The statuses with which a run of the play would begin, if it came first. Only want of memory refuses them, where its pattern was looked up.
-fn start_play(alloc: Global, fleet: &Fleet, play: &Play) -> Result<Vec<Status>, AllocError>
+pub fn start_play(alloc: Global, fleet: &Fleet, play: &Play) -> Result<Vec<Status>, AllocError>
     ensures { IfOk result (λ statuses. statuses.items ≡ start_statuses fleet.now (targets fleet.now play.now)) }
 {
     match fleet.target(alloc, play.pattern()) {
@@ -133,7 +133,7 @@ fn push_if(hosts: &mut Vec<HostId>, host: HostId, is_wanted: bool) -> Result<(),
 }
 
 /// The hosts that the play is for and that aren't down at the start, by name.
-fn list_hosts(alloc: Global, fleet: &Fleet, play: &Play) -> Result<Vec<HostId>, AllocError>
+pub fn list_hosts(alloc: Global, fleet: &Fleet, play: &Play) -> Result<Vec<HostId>, AllocError>
     ensures are { IfOk result (λ hosts. host_numbers hosts.items ≡ hosts_of fleet.now play.now) }
     ensures within { IfOk result (λ hosts. All (λ host. host.index < length fleet.now.hosts) hosts.items) }
 {

@@ -17,5 +17,7 @@ mod shell;
 mod wording;
 
 pub use end::WordsEnd;
+pub use hosts::{list_hosts, start_play};
 pub use laws::steps_run_as_told;
 pub use printing::words_text;
+pub use reading::{Inputs, read_inputs};

@@ -14,19 +14,15 @@ use std::alloc::Global;
 
 /// A fleet, of each of its hosts the variables, and the plays.
 #[derive(Drop)]
-pub(crate) struct Inputs {
-    pub(crate) fleet: Fleet,
-    pub(crate) vars: Vec<Vars>,
-    pub(crate) plays: Vec<Play>,
+pub struct Inputs {
+    pub fleet: Fleet,
+    pub vars: Vec<Vars>,
+    pub plays: Vec<Play>,
 }
 
 /// Reads both texts: first the inventory's faults are told, then the playbook's, then the first part of a pattern, of any play, that names nothing. The
 /// inventory's tree lives in an arena that is given up here: the fleet and the variables own what they need.
-pub(crate) fn read_inputs(
-    alloc: Global,
-    inventory: &[u8],
-    playbook: &[u8],
-) -> Result<Inputs, PlanFault>
+pub fn read_inputs(alloc: Global, inventory: &[u8], playbook: &[u8]) -> Result<Inputs, PlanFault>
     ensures ok { IfOk result (λ inputs. AreRead inventory.now playbook.now inputs.fleet (views_of inputs.vars.items) inputs.plays.items) }
     ensures bare { IfOk result (λ inputs. All HasNoResult inputs.vars.items) }
     ensures err { IfErr result (IsRefused inventory.now playbook.now) }

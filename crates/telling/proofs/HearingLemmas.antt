@@ -5,8 +5,9 @@ use Rattle.domains.specs.FleetViews.{FleetView}
 use Rattle.play_model.specs.declared.play.Play.{Play}
 use Rattle.roll_core.specs.Tellings.{Telling}
 use Rattle.telling.specs.Hearing.{Draws, Hears, Tells, TellsIn}
+use Rattle.telling.specs.declared.form.Form.TheVariants.{Plain, Json}
 use Rattle.telling.specs.declared.mode.Mode.{Mode}
-use Rattle.telling.specs.declared.mode.Mode.TheVariants.{Nothing, OneLine, AllLines}
+use Rattle.telling.specs.declared.mode.Mode.TheVariants.{Nothing, OneLine, AllLines, AllJson}
 use Rattle.telling.specs.declared.screen.Screen.{Screen}
 
 module _ (mode later : Mode) (fleet : FleetView) (play : Play) (telling : Telling) (before after : Screen) (old new : Option (List ℕ)) (sent : Result (Unit {0}) WriteFault) where
@@ -25,7 +26,10 @@ module _ (mode later : Mode) (fleet : FleetView) (play : Play) (telling : Tellin
   pub hears_one : mode ≡ OneLine → later ≡ mode → Draws fleet play telling before after old new sent → Heard
   hears_one is stays draws = hears_in OneLine is stays draws
 
-  pub hears_all : mode ≡ AllLines → later ≡ mode → Tells fleet play telling old new sent → after ≡ before → Heard
+  pub hears_all : mode ≡ AllLines → later ≡ mode → Tells Plain fleet play telling old new sent → after ≡ before → Heard
   hears_all is stays tells same = hears_in AllLines is stays (tells, same)
 
-pub ruleset hearing = (hears_nothing, hears_one, hears_all)
+  pub hears_json : mode ≡ AllJson → later ≡ mode → Tells Json fleet play telling old new sent → after ≡ before → Heard
+  hears_json is stays tells same = hears_in AllJson is stays (tells, same)
+
+pub ruleset hearing = (hears_nothing, hears_one, hears_all, hears_json)

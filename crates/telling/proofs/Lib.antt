@@ -1,3 +1,4 @@
 mod HearingLemmas
 mod OptionLemmas
 mod ShownLemmas
+mod ReadingLemmas

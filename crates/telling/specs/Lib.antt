@@ -3,6 +3,10 @@ pub mod Options
 pub mod Rows
 pub mod Batches
 pub mod Tellings
+pub mod JsonStrings
+pub mod JsonRows
+pub mod JsonTellings
+pub mod Forms
 pub mod Modes
 pub mod Spans
 pub mod Counting
@@ -10,3 +14,5 @@ pub mod StatusLines
 pub mod Screens
 pub mod Above
 pub mod Hearing
+pub mod JsonReading
+pub mod Laws

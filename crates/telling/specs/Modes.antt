@@ -1,24 +1,38 @@
 -- How much is told of a run.
 use Rattle.std.specs.Prelude.{Bool, true, false, not, ◌&&◌, if◌then◌else◌}
+use Rattle.telling.specs.declared.form.Form.{Form}
+use Rattle.telling.specs.declared.form.Form.TheVariants.{Plain, Json}
 use Rattle.telling.specs.declared.mode.Mode.{Mode}
-use Rattle.telling.specs.declared.mode.Mode.TheVariants.{Nothing, OneLine, AllLines}
+use Rattle.telling.specs.declared.mode.Mode.TheVariants.{Nothing, OneLine, AllLines, AllJson}
 use Rattle.telling.specs.declared.mode.Seen.{Seen}
 
 -- somebody is there to see it
 abbrev pub sees_one_line : Seen → Bool
 sees_one_line seen = seen.is_terminal && not seen.is_quiet
 
+abbrev pub lines_mode : Bool → Mode
+lines_mode is_json = if is_json then AllJson else AllLines
+
 abbrev pub mode_of : Seen → Mode
-mode_of seen = if seen.is_verbose then AllLines else (if sees_one_line seen then OneLine else Nothing)
+mode_of seen = if seen.is_verbose then lines_mode seen.is_json else (if sees_one_line seen then OneLine else Nothing)
 
 -- anything is told
 abbrev pub tells : Mode → Bool
 tells Nothing = false
 tells OneLine = true
 tells AllLines = true
+tells AllJson = true
 
 -- a line for each thing that happens is
 abbrev pub tells_lines : Mode → Bool
 tells_lines Nothing = false
 tells_lines OneLine = false
 tells_lines AllLines = true
+tells_lines AllJson = true
+
+-- what it is written as
+abbrev pub form_of : Mode → Form
+form_of Nothing = Plain
+form_of OneLine = Plain
+form_of AllLines = Plain
+form_of AllJson = Json

@@ -1,7 +1,7 @@
 -- Texts of others as a terminal is given them.
 use Rattle.std.specs.Prelude.{ℕ, ◌-◌, ◌&&◌, ◌||◌, ◌==◌, Bool, not, nat_lt, nat_le, if◌then◌else◌, List, [], ◌∷◌, ◌++◌, codes, length, slice_index_or}
 use Rattle.telling.specs.declared.shown.Layout.{Layout}
-use Rattle.telling.specs.declared.shown.Layout.TheVariants.{OneLine, Lines}
+use Rattle.telling.specs.declared.shown.Layout.TheVariants.{OneLine, Lines, Json}
 
 -- a byte as a terminal is given it: a control character but for the tabulator is a question mark
 abbrev pub shown : ℕ → ℕ
@@ -49,13 +49,27 @@ front_text host end = codes "  " ++ (host ++ (codes " " ++ (end ++ codes ": ")))
 abbrev pub byte_text : List ℕ → List ℕ → ℕ → List ℕ
 byte_text host end byte = if byte == 10 then codes "\n" ++ front_text host end else shown byte ∷ []
 
+-- a byte in a string of JSON: as a terminal is given it, but for the three that can't stand there as they are
+abbrev pub escaped : ℕ → List ℕ
+escaped byte =
+    if byte == 34 then codes "\\\"" else (if byte == 92 then codes "\\\\" else (if byte == 9 then codes "\\t" else shown byte ∷ []))
+
+-- the same, where a line feed is written so
+abbrev pub byte_json : List ℕ → ℕ → List ℕ
+byte_json feed byte = if byte == 10 then feed else escaped byte
+
 abbrev pub laid_out : Layout → ℕ → List ℕ
 laid_out OneLine byte = shown byte ∷ []
 laid_out (Lines host end) byte = byte_text host.now end.now byte
+laid_out (Json feed) byte = byte_json feed.now byte
 
 -- a text on one line
 abbrev pub shown_text : List ℕ → List ℕ
 shown_text bytes = text_by (λ byte. shown byte ∷ []) 0 bytes
+
+-- a text in a string of JSON, where a line feed is written so
+abbrev pub escaped_text : List ℕ → List ℕ → List ℕ
+escaped_text feed bytes = text_by (byte_json feed) 0 bytes
 
 -- an output, each line behind the host's name
 abbrev pub output_text : List ℕ → List ℕ → List ℕ → List ℕ

@@ -83,7 +83,7 @@ pub(crate) fn count_updated(batch: &[HostId], statuses: &[Status], halt: Option<
         .count()
 }
 
-fn count_failed(batch: &[HostId], statuses: &[Status], halt: Option<usize>) -> usize
+pub(crate) fn count_failed(batch: &[HostId], statuses: &[Status], halt: Option<usize>) -> usize
     ensures { result ≡ spec.count_after spec.is_failed halt statuses.now (host_numbers batch.now) }
 {
     batch
@@ -92,7 +92,7 @@ fn count_failed(batch: &[HostId], statuses: &[Status], halt: Option<usize>) -> u
         .count()
 }
 
-fn count_halted(batch: &[HostId], statuses: &[Status], halt: Option<usize>) -> usize
+pub(crate) fn count_halted(batch: &[HostId], statuses: &[Status], halt: Option<usize>) -> usize
     ensures { result ≡ spec.count_after spec.is_halted halt statuses.now (host_numbers batch.now) }
 {
     batch

@@ -1,4 +1,4 @@
-//! Telling of a run on standard error while it goes on: its lines, or one line at a terminal.
+//! Telling of a run on standard error while it goes on: its lines, in words or as objects of JSON, or one line at a terminal.
 #![tactic(auto)]
 
 mod above;
@@ -6,7 +6,15 @@ mod batches;
 mod begins;
 mod columns;
 mod counters;
+mod form;
 mod given;
+mod json_batches;
+mod json_begins;
+mod json_ends;
+mod json_rows;
+mod json_strings;
+mod json_tellings;
+mod laws;
 mod marks;
 mod mode;
 mod names;
@@ -24,5 +32,6 @@ mod teller;
 mod tellings;
 
 pub use columns::width;
+pub use laws::{a_line_says_what_is_shown, a_text_says_what_is_shown, lines_say_what_is_shown};
 pub use mode::Seen;
 pub use teller::{Tell, Teller};

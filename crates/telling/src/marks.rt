@@ -12,7 +12,7 @@ pub(crate) fn mark_len(bytes: &[u8]) -> usize
 }
 
 /// The byte at this place; 0 past the end.
-fn byte_at(bytes: &[u8], place: usize) -> u8
+pub(crate) fn byte_at(bytes: &[u8], place: usize) -> u8
     ensures { result ≡ slice_index_or bytes.now place 0 }
 {
     match bytes.get(place) {

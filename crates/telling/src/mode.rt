@@ -2,21 +2,25 @@
 ghost use Rattle.std.specs.Prelude.{◌≡◌};
 ghost use Rattle.telling.specs.Modes as spec;
 
+use crate::form::Form;
+
 /// Nothing; failures and warnings, and below them one line that is written over, where the terminal can go back in one; or a line for each thing that
-/// happens.
+/// happens, in words or as an object of JSON.
 #[derive(Clone, Copy, Debug, PartialEq, Eq)]
 pub(crate) enum Mode {
     Nothing,
     OneLine,
     AllLines,
+    AllJson,
 }
 
-/// What is wanted of the lines, and who sees them: whether the words ask for all of them or for none; whether standard error is a terminal,
+/// What is wanted of the lines, and who sees them: whether the words ask for all of them or for none, and for objects of JSON; whether standard error is a terminal,
 /// whether it is one that can't go back in a line, and how many columns it has.
 #[derive(Clone, Copy, Debug, PartialEq, Eq)]
 pub struct Seen {
     pub is_verbose: bool,
     pub is_quiet: bool,
+    pub is_json: bool,
     pub is_terminal: bool,
     pub is_dumb: bool,
     pub width: usize,
@@ -27,11 +31,31 @@ pub(crate) fn mode_of(seen: &Seen) -> Mode
     ensures { result ≡ spec.mode_of seen.now }
 {
     if seen.is_verbose {
-        Mode::AllLines
+        lines_mode(seen.is_json)
     } else if sees_one_line(seen) {
         Mode::OneLine
     } else {
         Mode::Nothing
+    }
+}
+
+fn lines_mode(is_json: bool) -> Mode
+    ensures { result ≡ spec.lines_mode is_json }
+{
+    if is_json {
+        Mode::AllJson
+    } else {
+        Mode::AllLines
+    }
+}
+
+/// What lines are written as where so much is told.
+pub(crate) fn form_of(mode: Mode) -> Form
+    ensures { result ≡ spec.form_of mode }
+{
+    match mode {
+        Mode::Nothing | Mode::OneLine | Mode::AllLines => Form::Plain,
+        Mode::AllJson => Form::Json,
     }
 }
 

@@ -3,9 +3,10 @@ ghost use Rattle.std.specs.Prelude.{◌≡◌, ◌++◌, option_map};
 ghost use Rattle.bounded_io.specs.Sending.{SendsText};
 ghost use Rattle.roll_core.specs.Tellings.{telling_of};
 ghost use Rattle.telling.specs.Above.{told_above};
+ghost use Rattle.telling.specs.Forms.{lines_as, play_as, told_as};
 ghost use Rattle.telling.specs.Screens.{over_text, wiped_text};
-ghost use Rattle.telling.specs.Tellings.{play_text, told_text};
 
+use crate::form::Form;
 use crate::given::Given;
 use crate::screen::Over;
 use crate::sending::{send_lines, send_over, send_play, send_told};
@@ -31,10 +32,17 @@ impl<E: Write> Outlet<E> {
     }
 
     /// Gives out what is told of what happened.
-    pub(crate) fn tell(&mut self, fleet: &Fleet, play: &Play, news: &News<'_>, given: &Given)
-        ensures { SendsText (E.contents self.old.out) (E.contents self.new.out) (told_text fleet.now play.now (telling_of news.now) given.now) self.new.sent }
+    pub(crate) fn tell(
+        &mut self,
+        form: Form,
+        fleet: &Fleet,
+        play: &Play,
+        news: &News<'_>,
+        given: &Given,
+    )
+        ensures { SendsText (E.contents self.old.out) (E.contents self.new.out) (told_as form fleet.now play.now (telling_of news.now) given.now) self.new.sent }
     {
-        self.sent = send_told(&mut self.out, fleet, play, news, given);
+        self.sent = send_told(&mut self.out, form, fleet, play, news, given);
     }
 
     /// Gives out what is told above the one line, and that line.
@@ -54,16 +62,16 @@ impl<E: Write> Outlet<E> {
     }
 
     /// Gives out the number of the play that begins, where there are several.
-    pub(crate) fn tell_play(&mut self, number: u64, plays: u64)
-        ensures { SendsText (E.contents self.old.out) (E.contents self.new.out) (play_text number plays) self.new.sent }
+    pub(crate) fn tell_play(&mut self, form: Form, number: u64, plays: u64)
+        ensures { SendsText (E.contents self.old.out) (E.contents self.new.out) (play_as form number plays) self.new.sent }
     {
-        self.sent = send_play(&mut self.out, number, plays);
+        self.sent = send_play(&mut self.out, form, number, plays);
     }
 
     /// Gives these lines out, and wipes the one line away before them where it is to be.
-    pub(crate) fn tell_lines(&mut self, wipes: bool, lines: &[u8])
-        ensures { SendsText (E.contents self.old.out) (E.contents self.new.out) (wiped_text wipes ++ lines.now) self.new.sent }
+    pub(crate) fn tell_lines(&mut self, wipes: bool, form: Form, lines: &[u8])
+        ensures { SendsText (E.contents self.old.out) (E.contents self.new.out) (wiped_text wipes ++ lines_as form lines.now) self.new.sent }
     {
-        self.sent = send_lines(&mut self.out, wipes, lines);
+        self.sent = send_lines(&mut self.out, wipes, form, lines);
     }
 }

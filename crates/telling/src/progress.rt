@@ -35,9 +35,9 @@ impl Progress {
         self.began = milliseconds();
     }
 
-    /// The first play is to begin, of so many.
-    pub(crate) fn begin_plays(&mut self, plays: usize) {
-        self.counters = Counters::new(0, plays as u64);
+    /// The next play is to begin, behind so many of a file's.
+    pub(crate) fn begin_plays(&mut self, before: usize, plays: usize) {
+        self.counters = Counters::new(before as u64, plays as u64);
     }
 
     /// The next play begins.

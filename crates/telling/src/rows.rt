@@ -42,7 +42,7 @@ fn write_row_line<W: Write>(
 }
 
 /// Whether outputs are shown of a program that is judged so: it failed, ignored or not.
-fn shows_outputs(judged: Judged) -> bool
+pub(crate) fn shows_outputs(judged: Judged) -> bool
     ensures { result ≡ spec.shows_outputs judged }
 {
     match judged {

@@ -7,11 +7,13 @@ use crate::marks::mark_len;
 use bounded_io::TextWriter;
 use std::io::Write;
 
-/// What a line feed of a text is shown as: it stands on one line, or each of its lines begins with the name of a host and of an output.
+/// What a line feed of a text is shown as: it stands on one line, or each of its lines begins with the name of a host and of an output; or it is in
+/// JSON, with this for a line feed.
 #[derive(Clone, Copy)]
 enum Layout<'a> {
     OneLine,
     Lines(&'a str, &'a str),
+    Json(&'a str),
 }
 
 /// A control character would move a terminal about, so it is a question mark there.
@@ -49,6 +51,30 @@ fn write_byte<W: Write>(text: &mut TextWriter<'_, W>, host: &str, end: &str, byt
     }
 }
 
+fn write_byte_json<W: Write>(text: &mut TextWriter<'_, W>, feed: &str, byte: u8)
+    ensures { Writes W.contents text.old text.new (spec.byte_json feed.now byte) }
+{
+    if byte == b'\n' {
+        text.write_str(feed);
+    } else {
+        write_escaped_byte(text, byte);
+    }
+}
+
+fn write_escaped_byte<W: Write>(text: &mut TextWriter<'_, W>, byte: u8)
+    ensures { Writes W.contents text.old text.new (spec.escaped byte) }
+{
+    if byte == b'"' {
+        text.write_str("\\\"");
+    } else if byte == b'\\' {
+        text.write_str("\\\\");
+    } else if byte == b'\t' {
+        text.write_str("\\t");
+    } else {
+        text.write_bytes(&[shown(byte)]);
+    }
+}
+
 #[tactic(auto, using(bounded_io::proofs::Pieces::pieces_of_text))]
 fn write_laid_out<W: Write>(text: &mut TextWriter<'_, W>, layout: &Layout<'_>, byte: u8)
     ensures { Writes W.contents text.old text.new (spec.laid_out layout.now byte) }
@@ -56,6 +82,7 @@ fn write_laid_out<W: Write>(text: &mut TextWriter<'_, W>, layout: &Layout<'_>, b
     match layout {
         Layout::OneLine => text.write_bytes(&[shown(byte)]),
         Layout::Lines(host, end) => write_byte(text, *host, *end, byte),
+        Layout::Json(feed) => write_byte_json(text, *feed, byte),
     }
 }
 
@@ -97,6 +124,13 @@ pub(crate) fn write_shown<W: Write>(text: &mut TextWriter<'_, W>, bytes: &[u8])
     ensures { Writes W.contents text.old text.new (spec.shown_text bytes.now) }
 {
     write_text(text, &Layout::OneLine, bytes);
+}
+
+/// Writes a text of others into a string of JSON, with this for each line feed.
+pub(crate) fn write_escaped<W: Write>(text: &mut TextWriter<'_, W>, feed: &str, bytes: &[u8])
+    ensures { Writes W.contents text.old text.new (spec.escaped_text feed.now bytes.now) }
+{
+    write_text(text, &Layout::Json(feed), bytes);
 }
 
 /// Writes an output, each line behind the host's name.

@@ -2,14 +2,15 @@
 ghost use Rattle.std.specs.Prelude.{◌≡◌, [], ◌++◌, IfSome, None, false, not, true};
 ghost use Rattle.bounded_io.specs.Sending.{SendsText};
 ghost use Rattle.roll_core.specs.Tellings.{telling_of};
+ghost use Rattle.telling.specs.Forms.{lines_as, play_as};
 ghost use Rattle.telling.specs.Hearing.{Draws, Hears, Tells};
 ghost use Rattle.telling.specs.Modes as spec;
 ghost use Rattle.telling.specs.Screens as screens;
 ghost use Rattle.telling.specs.StatusLines.{status_text};
-ghost use Rattle.telling.specs.Tellings.{play_text};
 
 use crate::above::tells_above;
-use crate::mode::{Mode, Seen, mode_of};
+use crate::form::Form;
+use crate::mode::{Mode, Seen, form_of, mode_of};
 use crate::outlet::Outlet;
 use crate::progress::Progress;
 use crate::screen::Screen;
@@ -63,13 +64,13 @@ impl<'a, H: Wait, E: Write> Teller<'a, H, E> {
     }
 
     /// Gives out the lines of what happened.
-    fn tell_all(&mut self, fleet: &Fleet, play: &Play, news: &News<'_>)
+    fn tell_all(&mut self, form: Form, fleet: &Fleet, play: &Play, news: &News<'_>)
         ensures stays { self.new.mode ≡ self.old.mode }
         ensures screen { self.new.screen ≡ self.old.screen }
-        ensures tells { Tells fleet.now play.now (telling_of news.now) (E.contents self.old.outlet.out) (E.contents self.new.outlet.out) self.new.outlet.sent }
+        ensures tells { Tells form fleet.now play.now (telling_of news.now) (E.contents self.old.outlet.out) (E.contents self.new.outlet.out) self.new.outlet.sent }
     {
         let given = self.progress.hear(self.rt, self.notes, news);
-        self.outlet.tell(fleet, play, news, &given);
+        self.outlet.tell(form, fleet, play, news, &given);
     }
 
     /// The one line of a run that has taken so many seconds, where the terminal can go back in it, once a batch was opened, and where there is memory
@@ -116,7 +117,7 @@ impl<'a, H: Wait, E: Write> Teller<'a, H, E> {
     fn tells_lines(&self) -> bool
         ensures { result ≡ spec.tells_lines self.now.mode }
     {
-        self.mode == Mode::AllLines
+        self.mode == Mode::AllLines || self.mode == Mode::AllJson
     }
 
     /// Gives these lines out, without the one line, where that stands.
@@ -124,10 +125,10 @@ impl<'a, H: Wait, E: Write> Teller<'a, H, E> {
         ensures stays { self.new.mode ≡ self.old.mode }
         ensures blank { self.new.screen ≡ screens.blank self.old.screen.width self.old.screen.draws }
         ensures tells { SendsText (E.contents self.old.outlet.out) (E.contents self.new.outlet.out)
-            (screens.wiped_text self.old.screen.is_drawn ++ lines.now) self.new.outlet.sent }
+            (screens.wiped_text self.old.screen.is_drawn ++ lines_as (spec.form_of self.old.mode) lines.now) self.new.outlet.sent }
     {
         let is_drawn = self.screen.is_drawn;
-        self.outlet.tell_lines(is_drawn, lines);
+        self.outlet.tell_lines(is_drawn, form_of(self.mode), lines);
         self.screen.is_drawn = false;
     }
 }
@@ -141,29 +142,31 @@ impl<H: Wait, E: Write + Drop> Watch for Teller<'_, H, E> {
         match self.mode {
             Mode::Nothing => {}
             Mode::OneLine => self.draw(fleet, play, news),
-            Mode::AllLines => self.tell_all(fleet, play, news),
+            Mode::AllLines => self.tell_all(Form::Plain, fleet, play, news),
+            Mode::AllJson => self.tell_all(Form::Json, fleet, play, news),
         }
     }
 
-    fn plays_begin(&mut self, plays: usize)
+    fn plays_begin(&mut self, before: usize, plays: usize)
         ensures stays { self.new.mode ≡ self.old.mode }
         ensures screen { self.new.screen ≡ self.old.screen }
         ensures outlet { self.new.outlet ≡ self.old.outlet }
     {
-        self.progress.begin_plays(plays);
+        self.progress.begin_plays(before, plays);
     }
 
     fn play_begins(&mut self)
         ensures stays { self.new.mode ≡ self.old.mode }
         ensures screen { self.new.screen ≡ self.old.screen }
         ensures told { spec.tells_lines self.old.mode ≡ true → SendsText (E.contents self.old.outlet.out) (E.contents self.new.outlet.out)
-            (play_text self.new.progress.counters.play self.new.progress.counters.plays) self.new.outlet.sent }
+            (play_as (spec.form_of self.old.mode) self.new.progress.counters.play self.new.progress.counters.plays) self.new.outlet.sent }
         ensures silent { spec.tells_lines self.old.mode ≡ false → self.new.outlet ≡ self.old.outlet }
     {
         self.progress.begin_play();
         if self.tells_lines() {
             let counters = &self.progress.counters;
-            self.outlet.tell_play(counters.play, counters.plays);
+            self.outlet
+                .tell_play(form_of(self.mode), counters.play, counters.plays);
         }
     }
 
@@ -171,7 +174,7 @@ impl<H: Wait, E: Write + Drop> Watch for Teller<'_, H, E> {
         ensures stays { self.new.mode ≡ self.old.mode }
         ensures gone { self.new.screen.is_drawn ≡ false }
         ensures told { self.old.screen.is_drawn ≡ true → SendsText (E.contents self.old.outlet.out) (E.contents self.new.outlet.out)
-            (screens.wiped_text self.old.screen.is_drawn ++ []) self.new.outlet.sent }
+            (screens.wiped_text self.old.screen.is_drawn ++ lines_as (spec.form_of self.old.mode) []) self.new.outlet.sent }
         ensures silent { self.old.screen.is_drawn ≡ false → self.new.outlet ≡ self.old.outlet }
     {
         if self.screen.is_drawn {
@@ -188,7 +191,7 @@ impl<H: Wait, E: Write + Drop> Watch for Teller<'_, H, E> {
     fn note(&mut self, lines: &[u8])
         ensures stays { self.new.mode ≡ self.old.mode }
         ensures told { spec.tells self.old.mode ≡ true → SendsText (E.contents self.old.outlet.out) (E.contents self.new.outlet.out)
-            (screens.wiped_text self.old.screen.is_drawn ++ lines.now) self.new.outlet.sent }
+            (screens.wiped_text self.old.screen.is_drawn ++ lines_as (spec.form_of self.old.mode) lines.now) self.new.outlet.sent }
         ensures silent { spec.tells self.old.mode ≡ false → self.new.outlet ≡ self.old.outlet }
     {
         if self.tells() {

@@ -1,11 +1,12 @@
 //! The command `lint`: from the files of an inventory and a playbook to what is accepted and probably not meant.
-ghost use Rattle.std.specs.Prelude.{◌≡◌, IfErr, IfOk, false, true};
+ghost use Rattle.std.specs.Prelude.{◌≡◌, IfErr, IfOk, None, Some, false, true};
 ghost use Rattle.std.specs.Option.{option_map};
 ghost use Rattle.lint_notes.specs.Kinds.{are_kind_names};
 ghost use Rattle.rollout.specs.Lists.{IsBadList};
-ghost use Rattle.rollout.specs.Notes.{IsRefusedAlone, IsRefusedSo, Lints, LintsBoth, LintsOne, PrintsFleetNotes, PrintsNotes};
+ghost use Rattle.rollout.specs.Notes.{IsRefusedAlone, IsRefusedSo, Lints, LintsBoth, LintsOne, FailsOver, PrintsFleetNotes, PrintsNotes, SaysOf};
 ghost use Rattle.rollout.specs.Systems.{sources_of};
 
+use crate::commands::faults::{find_faults, tell_faults};
 use crate::fault::Fault;
 use crate::inputs::read_both;
 use crate::list::bad_list;
@@ -29,7 +30,8 @@ fn read_list(alloc: Global, list: &str) -> Result<Allowed<'_>, Fault>
     }
 }
 
-/// Reads the inventory, and the playbook where there is one, and writes the notes on them, but for those of the kinds that the list names. The list is read first.
+/// Reads the inventory, and the playbook where there is one, and writes all their faults, or where there is none the notes on them, but for those of the kinds that the list names. The
+/// list is read first.
 #[allow(clippy::too_many_arguments)]
 pub fn lint<S: System, I: Input, W: Write>(
     system: &S,
@@ -65,8 +67,25 @@ fn lint_one<S: System, I: Input, W: Write>(
         (W.contents out.old) (W.contents out.new) result }
 {
     match read_source(system, alloc, inventory, input) {
-        Ok(inventory) => print_fleet_notes(alloc, inventory.as_slice(), allowed, out),
+        Ok(inventory) => print_on_one(alloc, inventory.as_slice(), allowed, out),
         Err(fault) => Err(fault),
+    }
+}
+
+/// Writes all faults of the inventory, or the notes on it, where there is none.
+fn print_on_one<W: Write>(
+    alloc: Global,
+    inventory: &[u8],
+    allowed: &Allowed<'_>,
+    out: &mut W,
+) -> Result<Status, Fault>
+    ensures ok { IfOk result (λ status. SaysOf inventory.now None (W.contents out.old) (W.contents out.new) status (PrintsFleetNotes allowed.now inventory.now (W.contents out.old) (W.contents out.new) status)) }
+    ensures err { IfErr result (λ fault. FailsOver inventory.now None (W.contents out.old) (W.contents out.new) fault (IsRefusedAlone allowed.now inventory.now (W.contents out.old) (W.contents out.new) fault)) }
+{
+    match find_faults(alloc, inventory, None) {
+        Ok(Some(found)) => tell_faults(alloc, &found, inventory, None, out),
+        Ok(None) => print_fleet_notes(alloc, inventory, allowed, out),
+        Err(_refused) => Err(Fault::Memory),
     }
 }
 
@@ -83,7 +102,7 @@ fn lint_both<S: System, I: Input, W: Write>(
         (W.contents out.old) (W.contents out.new) result }
 {
     match read_both(system, alloc, inventory, playbook, input) {
-        Ok((inventory, playbook)) => print_notes(
+        Ok((inventory, playbook)) => print_on_both(
             alloc,
             inventory.as_slice(),
             playbook.as_slice(),
@@ -91,6 +110,24 @@ fn lint_both<S: System, I: Input, W: Write>(
             out,
         ),
         Err(fault) => Err(fault),
+    }
+}
+
+/// Writes all faults of both texts, or the notes on them, where there is none.
+fn print_on_both<W: Write>(
+    alloc: Global,
+    inventory: &[u8],
+    playbook: &[u8],
+    allowed: &Allowed<'_>,
+    out: &mut W,
+) -> Result<Status, Fault>
+    ensures ok { IfOk result (λ status. SaysOf inventory.now (Some playbook.now) (W.contents out.old) (W.contents out.new) status (PrintsNotes allowed.now inventory.now playbook.now (W.contents out.old) (W.contents out.new) status)) }
+    ensures err { IfErr result (λ fault. FailsOver inventory.now (Some playbook.now) (W.contents out.old) (W.contents out.new) fault (IsRefusedSo allowed.now inventory.now playbook.now (W.contents out.old) (W.contents out.new) fault)) }
+{
+    match find_faults(alloc, inventory, Some(playbook)) {
+        Ok(Some(found)) => tell_faults(alloc, &found, inventory, Some(playbook), out),
+        Ok(None) => print_notes(alloc, inventory, playbook, allowed, out),
+        Err(_refused) => Err(Fault::Memory),
     }
 }
 

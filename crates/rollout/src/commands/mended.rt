@@ -14,6 +14,7 @@ use crate::status::Status;
 use crate::system::System;
 use bounded_io::Input;
 use command_line::{Forks, Source};
+use json_texts::Form;
 use keeping::begin_journal;
 use local_programs::workers;
 use resuming::{Resumption, begin_inputs};
@@ -49,7 +50,7 @@ pub fn roll_mended<
     out: &mut W,
     history: History,
 ) -> (Result<Status, Fault>, History)
-    ensures { Gains history result.1 (RollsMended (R.may runner.now) (A.asks coordinator.now.attend.now) (sources_of (S.files system.now) (I.is_reliable input.old)) inventory playbook mended.now forks
+    ensures { Gains history result.1 (RollsMended wish.entry.form (R.may runner.now) (A.asks coordinator.now.attend.now) (sources_of (S.files system.now) (I.is_reliable input.old)) inventory playbook mended.now forks
         (I.remaining input.old) (I.remaining input.new) (W.contents out.old) (W.contents out.new) result.0) }
 {
     match may_begin(system, coordinator.alloc, watch, &inventory, wish) {
@@ -63,7 +64,7 @@ pub fn roll_mended<
                 inventory,
                 playbook,
                 forks,
-                wish.journal,
+                wish,
                 mended,
                 input,
                 out,
@@ -92,7 +93,7 @@ fn mend_inputs<
     inventory: Source,
     playbook: Source,
     forks: usize,
-    journal: &Option<String>,
+    wish: StartWish<'_>,
     mended: &str,
     input: &mut I,
     out: &mut W,
@@ -100,7 +101,7 @@ fn mend_inputs<
 ) -> (Result<Status, Fault>, History)
     requires some { 0 < forks }
     requires few { forks ≤ 64 }
-    ensures mends { Gains history result.1 (MendsInputs (R.may runner.now) (sources_of (S.files system.now) (I.is_reliable input.old)) inventory playbook mended.now forks
+    ensures mends { Gains history result.1 (MendsInputs wish.entry.form (R.may runner.now) (sources_of (S.files system.now) (I.is_reliable input.old)) inventory playbook mended.now forks
         (I.remaining input.old) (I.remaining input.new) (W.contents out.old) (W.contents out.new) result.0) }
     ensures stops { result.0 ≡ Err Stopped → A.asks coordinator.now.attend.now ≡ true }
 {
@@ -113,7 +114,7 @@ fn mend_inputs<
             inventory.as_slice(),
             playbook.as_slice(),
             forks,
-            journal,
+            wish,
             mended,
             out,
             history,
@@ -139,14 +140,14 @@ fn mend_texts<
     inventory: &[u8],
     playbook: &[u8],
     forks: usize,
-    journal: &Option<String>,
+    wish: StartWish<'_>,
     mended: &str,
     out: &mut W,
     history: History,
 ) -> (Result<Status, Fault>, History)
     requires some { 0 < forks }
     requires few { forks ≤ 64 }
-    ensures goes { Gains history result.1 (GoesOnBy (R.may runner.now) (IsMendedBeginning inventory.now playbook.now mended.now) (RefusesToBegin inventory.now playbook.now mended.now) forks
+    ensures goes { Gains history result.1 (GoesOnBy wish.entry.form (R.may runner.now) (IsMendedBeginning inventory.now playbook.now mended.now) (RefusesToBegin inventory.now playbook.now mended.now) forks
         (W.contents out.old) (W.contents out.new) result.0) }
     ensures stops { result.0 ≡ Err Stopped → A.asks coordinator.now.attend.now ≡ true }
 {
@@ -154,8 +155,18 @@ fn mend_texts<
         Ok(beginning) => beginning,
         Err(fault) => return (Err(Fault::from(fault)), history),
     };
-    let Some(name) = journal else {
-        return run_mended(coordinator, runner, watch, beginning, forks, out, history);
+    let form = wish.form;
+    let Some(name) = wish.journal else {
+        return run_mended(
+            coordinator,
+            runner,
+            watch,
+            beginning,
+            forks,
+            form,
+            out,
+            history,
+        );
     };
     let begun = begin_journal(
         coordinator.alloc,
@@ -174,6 +185,7 @@ fn mend_texts<
             file,
             beginning,
             forks,
+            form,
             out,
             history,
         ),
@@ -194,14 +206,15 @@ fn run_mended<
     watch: &mut T,
     beginning: Resumption,
     forks: usize,
+    form: Form,
     out: &mut W,
     history: History,
 ) -> (Result<Status, Fault>, History)
     requires some { 0 < forks }
     requires few { forks ≤ 64 }
     requires rest { CanRun beginning }
-    ensures ok { IfOk result.0 (λ status. Gains history result.1 (PrintsRest (R.may runner.now) beginning.fleet beginning.plays.items beginning.beginning forks (W.contents out.old) (W.contents out.new) status)) }
-    ensures err { IfErr result.0 (λ fault. Gains history result.1 (BreaksRest (R.may runner.now) beginning.fleet beginning.plays.items beginning.beginning forks (W.contents out.old) (W.contents out.new) fault)) }
+    ensures ok { IfOk result.0 (λ status. Gains history result.1 (PrintsRest form (R.may runner.now) beginning.fleet beginning.plays.items beginning.beginning forks (W.contents out.old) (W.contents out.new) status)) }
+    ensures err { IfErr result.0 (λ fault. Gains history result.1 (BreaksRest form (R.may runner.now) beginning.fleet beginning.plays.items beginning.beginning forks (W.contents out.old) (W.contents out.new) fault)) }
     ensures stops { result.0 ≡ Err Stopped → A.asks coordinator.now.attend.now ≡ true }
 {
     let Resumption {
@@ -220,6 +233,7 @@ fn run_mended<
         plays.as_slice(),
         beginning,
         forks,
+        form,
         out,
         history,
     )

@@ -23,25 +23,27 @@ use bounded_io::Input;
 use command_line::{Forks, Source};
 use domains::Fleet;
 use journal::whole_length;
+use json_texts::Form;
 use keeping::{Continuer, Disk, Holds};
 use local_programs::workers;
 use play_model::Play;
 use resuming::{Resumption, Wish, resume_inputs};
 use roll_core::{History, Runner, Watch};
 use roll_run::{Attend, Coordinator};
-use running::{Beginning, run_from};
+use running::{Beginning, Manner, run_from};
 use std::alloc::Global;
 use std::io::Write;
 use std::process::{Processes, SystemProcess};
 use std::sync::Wait;
 use std::thread::Threads;
 
-/// The run that is to go on: its journal's file, the names of the hosts that are up by now, and whether the inputs may be others than those with which it began.
+/// The run that is to go on: its journal's file, the names of the hosts that are up by now, whether the inputs may be others than those with which it began, and the form of its recap.
 #[derive(Clone, Copy)]
 pub struct ResumeWish<'w> {
     pub journal: &'w str,
     pub mended: &'w str,
     pub takes_others: bool,
+    pub form: Form,
 }
 
 /// Goes on with the run of a journal, with so many workers, where the ends of programs can be had, and writes the recap of the rest. What becomes of it is kept in the same
@@ -68,7 +70,7 @@ pub fn resume<
     out: &mut W,
     history: History,
 ) -> (Result<Status, Fault>, History)
-    ensures { Gains history result.1 (Resumes (R.may runner.now) (A.asks coordinator.now.attend.now) (sources_of (S.files system.now) (I.is_reliable input.old)) inventory playbook (model.wished wish.now) forks
+    ensures { Gains history result.1 (Resumes wish.now.form (R.may runner.now) (A.asks coordinator.now.attend.now) (sources_of (S.files system.now) (I.is_reliable input.old)) inventory playbook (model.wished wish.now) forks
         (I.remaining input.old) (I.remaining input.new) (W.contents out.old) (W.contents out.new) result.0) }
 {
     if let Some(fault) = refusal(system, coordinator.alloc) {
@@ -123,7 +125,7 @@ fn resume_sources<
 ) -> (Result<Status, Fault>, History)
     requires some { 0 < forks }
     requires few { forks ≤ 64 }
-    ensures resumes { Gains history result.1 (ResumesInputs (R.may runner.now) (sources_of (S.files system.now) (I.is_reliable input.old)) inventory playbook (model.wished wish.now) forks
+    ensures resumes { Gains history result.1 (ResumesInputs wish.now.form (R.may runner.now) (sources_of (S.files system.now) (I.is_reliable input.old)) inventory playbook (model.wished wish.now) forks
         (I.remaining input.old) (I.remaining input.new) (W.contents out.old) (W.contents out.new) result.0) }
     ensures stops { result.0 ≡ Err Stopped → A.asks coordinator.now.attend.now ≡ true }
 {
@@ -197,7 +199,7 @@ fn resume_texts<
     requires some { 0 < forks }
     requires few { forks ≤ 64 }
     requires short { length journal.now ≤ max_body }
-    ensures goes { Gains history result.1 (GoesOnBy (R.may runner.now) (IsWished inventory.now playbook.now journal.now (model.wished wish.now))
+    ensures goes { Gains history result.1 (GoesOnBy wish.now.form (R.may runner.now) (IsWished inventory.now playbook.now journal.now (model.wished wish.now))
         (IsNoneWished inventory.now playbook.now journal.now (model.wished wish.now)) forks (W.contents out.old) (W.contents out.new) result.0) }
     ensures stops { result.0 ≡ Err Stopped → A.asks coordinator.now.attend.now ≡ true }
 {
@@ -218,6 +220,7 @@ fn resume_texts<
             file,
             resumption,
             forks,
+            wish.form,
             out,
             history,
         ),
@@ -241,14 +244,15 @@ pub(crate) fn keep_rest<
     file: F,
     resumption: Resumption,
     forks: usize,
+    form: Form,
     out: &mut W,
     history: History,
 ) -> (Result<Status, Fault>, History)
     requires some { 0 < forks }
     requires few { forks ≤ 64 }
     requires rest { CanRun resumption }
-    ensures ok { IfOk result.0 (λ status. Gains history result.1 (PrintsRest (R.may runner.now) resumption.fleet resumption.plays.items resumption.beginning forks (W.contents out.old) (W.contents out.new) status)) }
-    ensures err { IfErr result.0 (λ fault. Gains history result.1 (BreaksRest (R.may runner.now) resumption.fleet resumption.plays.items resumption.beginning forks (W.contents out.old) (W.contents out.new) fault)) }
+    ensures ok { IfOk result.0 (λ status. Gains history result.1 (PrintsRest form (R.may runner.now) resumption.fleet resumption.plays.items resumption.beginning forks (W.contents out.old) (W.contents out.new) status)) }
+    ensures err { IfErr result.0 (λ fault. Gains history result.1 (BreaksRest form (R.may runner.now) resumption.fleet resumption.plays.items resumption.beginning forks (W.contents out.old) (W.contents out.new) fault)) }
     ensures stops { result.0 ≡ Err Stopped → A.asks coordinator.now.attend.now ≡ true }
 {
     let Resumption {
@@ -268,6 +272,7 @@ pub(crate) fn keep_rest<
         plays.as_slice(),
         beginning,
         forks,
+        form,
         out,
         history,
     )
@@ -291,6 +296,7 @@ pub(crate) fn run_rest<
     plays: &[Play],
     beginning: Beginning,
     forks: usize,
+    form: Form,
     out: &mut W,
     history: History,
 ) -> (Result<Status, Fault>, History)
@@ -299,8 +305,8 @@ pub(crate) fn run_rest<
     requires play { beginning.plays_before < length plays.now }
     requires known { find (names_nothing fleet.now) (named_parts plays.now) ≡ None }
     requires starts { MayStart fleet.now beginning.start }
-    ensures ok { IfOk result.0 (λ status. Gains history result.1 (PrintsRest (R.may runner.now) fleet.now plays.now beginning forks (W.contents out.old) (W.contents out.new) status)) }
-    ensures err { IfErr result.0 (λ fault. Gains history result.1 (BreaksRest (R.may runner.now) fleet.now plays.now beginning forks (W.contents out.old) (W.contents out.new) fault)) }
+    ensures ok { IfOk result.0 (λ status. Gains history result.1 (PrintsRest form (R.may runner.now) fleet.now plays.now beginning forks (W.contents out.old) (W.contents out.new) status)) }
+    ensures err { IfErr result.0 (λ fault. Gains history result.1 (BreaksRest form (R.may runner.now) fleet.now plays.now beginning forks (W.contents out.old) (W.contents out.new) fault)) }
     ensures stops { result.0 ≡ Err Stopped → A.asks coordinator.now.attend.now ≡ true }
 {
     let (ran, history, keeper) = run_from(
@@ -310,7 +316,7 @@ pub(crate) fn run_rest<
         fleet,
         plays,
         beginning,
-        forks,
+        Manner { forks, form },
         runner,
         out,
         history,

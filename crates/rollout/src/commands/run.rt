@@ -9,28 +9,33 @@ ghost use Rattle.rollout.specs.Status.{status_of_run};
 ghost use Rattle.rollout.specs.declared.fault.Fault.TheVariants.{JournalWrite, Locked, Stopped};
 
 use crate::children::refusal;
+use crate::commands::strictness::check_names;
 use crate::fault::Fault;
 use crate::inputs::read_both;
 use crate::status::Status;
 use crate::system::System;
 use bounded_io::Input;
 use command_line::{Forks, Source};
+use json_texts::Form;
 use keeping::{Holds, Keeper};
 use local_programs::workers;
 use roll_core::{History, Runner, Unwatched, Watch};
 use roll_run::{Attend, Coordinator};
-use running::{RunEnd, RunTextFault, run_text};
+use running::{Manner, RunEnd, RunTextFault, run_text};
 use std::alloc::Global;
 use std::io::Write;
 use std::process::{Processes, SystemProcess};
 use std::sync::Wait;
 use std::thread::Threads;
 
-/// What a run that begins is asked for: the new file in which it is kept, and whether it holds the lock of its inventory without one.
+/// What a run that begins is asked for: the new file in which it is kept, whether it holds the lock of its inventory without one, whether it begins only where no name may be
+/// missing, and the form of its recap.
 #[derive(Clone, Copy)]
 pub struct StartWish<'w> {
     pub journal: &'w Option<String>,
     pub locks: bool,
+    pub is_strict: bool,
+    pub form: Form,
 }
 
 impl StartWish<'_> {
@@ -87,7 +92,7 @@ pub fn roll<
     out: &mut W,
     history: History,
 ) -> (Result<Status, Fault>, History)
-    ensures { Gains history result.1 (Rolls (R.may runner.now) (A.asks coordinator.now.attend.now) (sources_of (S.files system.now) (I.is_reliable input.old)) inventory playbook forks
+    ensures { Gains history result.1 (Rolls wish.entry.form wish.entry.is_strict (R.may runner.now) (A.asks coordinator.now.attend.now) (sources_of (S.files system.now) (I.is_reliable input.old)) inventory playbook forks
         (I.remaining input.old) (I.remaining input.new) (W.contents out.old) (W.contents out.new) result.0) }
 {
     match may_begin(system, coordinator.alloc, watch, &inventory, wish) {
@@ -101,7 +106,7 @@ pub fn roll<
                 inventory,
                 playbook,
                 forks,
-                wish.journal,
+                wish,
                 input,
                 out,
                 history,
@@ -182,14 +187,14 @@ fn roll_inputs<
     inventory: Source,
     playbook: Source,
     forks: usize,
-    journal: &Option<String>,
+    wish: StartWish<'_>,
     input: &mut I,
     out: &mut W,
     history: History,
 ) -> (Result<Status, Fault>, History)
     requires some { 0 < forks }
     requires few { forks ≤ 64 }
-    ensures rolls { Gains history result.1 (RollsInputs (R.may runner.now) (sources_of (S.files system.now) (I.is_reliable input.old)) inventory playbook forks
+    ensures rolls { Gains history result.1 (RollsInputs wish.entry.form wish.entry.is_strict (R.may runner.now) (sources_of (S.files system.now) (I.is_reliable input.old)) inventory playbook forks
         (I.remaining input.old) (I.remaining input.new) (W.contents out.old) (W.contents out.new) result.0) }
     ensures stops { result.0 ≡ Err Stopped → A.asks coordinator.now.attend.now ≡ true }
 {
@@ -197,18 +202,21 @@ fn roll_inputs<
         Ok((inventory, playbook)) => {
             let inventory = inventory.as_slice();
             let playbook = playbook.as_slice();
-            roll_texts(
-                system,
-                coordinator,
-                runner,
-                watch,
-                inventory,
-                playbook,
-                forks,
-                journal,
-                out,
-                history,
-            )
+            match check_names(coordinator.alloc, wish.is_strict, inventory, playbook) {
+                Ok(()) => roll_texts(
+                    system,
+                    coordinator,
+                    runner,
+                    watch,
+                    inventory,
+                    playbook,
+                    forks,
+                    wish,
+                    out,
+                    history,
+                ),
+                Err(fault) => (Err(fault), history),
+            }
         }
         Err(fault) => (Err(fault), history),
     }
@@ -231,17 +239,17 @@ fn roll_texts<
     inventory: &[u8],
     playbook: &[u8],
     forks: usize,
-    journal: &Option<String>,
+    wish: StartWish<'_>,
     out: &mut W,
     history: History,
 ) -> (Result<Status, Fault>, History)
     requires some { 0 < forks }
     requires few { forks ≤ 64 }
-    ensures ok { IfOk result.0 (λ status. Gains history result.1 (PrintsRecap (R.may runner.now) inventory.now playbook.now forks (W.contents out.old) (W.contents out.new) status)) }
-    ensures err { IfErr result.0 (λ fault. Gains history result.1 (BreaksOff (R.may runner.now) inventory.now playbook.now forks (W.contents out.old) (W.contents out.new) fault)) }
+    ensures ok { IfOk result.0 (λ status. Gains history result.1 (PrintsRecap wish.entry.form (R.may runner.now) inventory.now playbook.now forks (W.contents out.old) (W.contents out.new) status)) }
+    ensures err { IfErr result.0 (λ fault. Gains history result.1 (BreaksOff wish.entry.form (R.may runner.now) inventory.now playbook.now forks (W.contents out.old) (W.contents out.new) fault)) }
     ensures stops { result.0 ≡ Err Stopped → A.asks coordinator.now.attend.now ≡ true }
 {
-    match journal {
+    match wish.journal {
         Some(name) => {
             let name = name.as_str();
             let keeper = Keeper::new(coordinator.alloc, system, name, inventory, playbook);
@@ -253,6 +261,7 @@ fn roll_texts<
                 inventory,
                 playbook,
                 forks,
+                wish.form,
                 out,
                 history,
             )
@@ -265,6 +274,7 @@ fn roll_texts<
             inventory,
             playbook,
             forks,
+            wish.form,
             out,
             history,
         ),
@@ -288,13 +298,14 @@ fn roll_with<
     inventory: &[u8],
     playbook: &[u8],
     forks: usize,
+    form: Form,
     out: &mut W,
     history: History,
 ) -> (Result<Status, Fault>, History)
     requires some { 0 < forks }
     requires few { forks ≤ 64 }
-    ensures ok { IfOk result.0 (λ status. Gains history result.1 (PrintsRecap (R.may runner.now) inventory.now playbook.now forks (W.contents out.old) (W.contents out.new) status)) }
-    ensures err { IfErr result.0 (λ fault. Gains history result.1 (BreaksOff (R.may runner.now) inventory.now playbook.now forks (W.contents out.old) (W.contents out.new) fault)) }
+    ensures ok { IfOk result.0 (λ status. Gains history result.1 (PrintsRecap form (R.may runner.now) inventory.now playbook.now forks (W.contents out.old) (W.contents out.new) status)) }
+    ensures err { IfErr result.0 (λ fault. Gains history result.1 (BreaksOff form (R.may runner.now) inventory.now playbook.now forks (W.contents out.old) (W.contents out.new) fault)) }
     ensures stops { result.0 ≡ Err Stopped → A.asks coordinator.now.attend.now ≡ true }
 {
     let (ran, history, keeper) = run_text(
@@ -303,7 +314,7 @@ fn roll_with<
         keeper,
         inventory,
         playbook,
-        forks,
+        Manner { forks, form },
         runner,
         out,
         history,

@@ -166,6 +166,10 @@ pub returns-in-914 : goal.returns-in-914
 unfolding digits
 returns-in-914 c = rw c.in-914.is refl
 
+pub returns-in-915 : goal.returns-in-915
+unfolding digits
+returns-in-915 c = rw c.in-915.is refl
+
 pub returns-in-916 : goal.returns-in-916
 unfolding digits
 returns-in-916 c = rw c.in-916.is refl

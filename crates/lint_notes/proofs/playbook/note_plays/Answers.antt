@@ -1,4 +1,5 @@
-use Rattle.std.proofs.Common.{◌≡◌, ◌||◌, ◌++◌, List, sym, ap, ◌∙◌, take}
+use Rattle.std.proofs.Common.{◌≡◌, ◌||◌, ◌++◌, None, List, sym, ap, ◌∙◌, take}
+use Rattle.std.specs.Prelude.{slice_index_or}
 use Rattle.play_model.specs.declared.play.Play.{Play}
 use Rattle.needed_results.specs.Registers.{is_registered_by, is_registered_in}
 use Rattle.lint_notes.specs.Inside.{has_name, lacks_in}
@@ -15,13 +16,15 @@ loop-number-preserved c =
     let plays : List Play = c.args.plays.now in
     let number = c.loop-number.number in
     let play : Play = c.index-plays-number.result in
+    let sizes = c.args.sizes.now in
+    let smallest = slice_index_or sizes number None in
     let before = c.loop-number.registered in
     let earlier = is_registered_in (take number plays) in
-    let now : c.note_play.new.notes ≡ c.loop-number.notes ++ play_notes fleet lacks earlier number play =
+    let now : c.note_play.new.notes ≡ c.loop-number.notes ++ play_notes fleet lacks earlier smallest number play =
     c.in_ok-note_play.ensures.notes
-    ∙ ap (λ (l : List Note). c.loop-number.notes ++ l) (play_same (has_name before) earlier c.loop-number.invariant.registered fleet lacks number play) in
+    ∙ ap (λ (l : List Note). c.loop-number.notes ++ l) (play_same (has_name before) earlier c.loop-number.invariant.registered fleet lacks smallest number play) in
     record {
-      notes = noted_more (λ number play. play_notes fleet lacks (is_registered_in (take number plays)) number play) plays number play c.loop-number.notes c.note_play.new.notes _
+      notes = noted_more (λ number play. play_notes fleet lacks (is_registered_in (take number plays)) (slice_index_or sizes number None) number play) plays number play c.loop-number.notes c.note_play.new.notes _
           c.loop-number-test.true c.index-plays-number.is c.loop-number.invariant.notes now;
       registered = λ name. c.in_ok-note_play.ensures.registered name
           ∙ ap (λ b. b || is_registered_by play.steps.items name) (c.loop-number.invariant.registered name)

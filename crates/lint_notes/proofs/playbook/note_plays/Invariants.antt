@@ -1,4 +1,5 @@
-use Rattle.std.proofs.Common.{◌≡◌, ◌++◌, drop, take}
+use Rattle.std.proofs.Common.{◌≡◌, ◌++◌, None, drop, take}
+use Rattle.std.specs.Prelude.{slice_index_or}
 use Rattle.group_tree.specs.Names.{Name}
 use Rattle.play_model.specs.declared.play.Play.{Play}
 use Rattle.needed_results.specs.Registers.{is_registered_in}
@@ -9,7 +10,7 @@ use Rattle.lint_notes.proofs.playbook.note_plays.Given as goal
 abbrev pub invariant-loop-number : goal.invariant-loop-number
 invariant-loop-number l = record {
   notes : l.notes
-      ++ all_noted (λ number (play : Play). play_notes l.fleet (lacks_in l.vars) (is_registered_in (take number l.plays)) number play) l.number (drop l.number l.plays)
-      ≡ l.initial.notes ++ plays_notes l.fleet (lacks_in l.vars) l.plays;
+      ++ all_noted (λ number (play : Play). play_notes l.fleet (lacks_in l.vars) (is_registered_in (take number l.plays)) (slice_index_or l.sizes number None) number play) l.number (drop l.number l.plays)
+      ≡ l.initial.notes ++ plays_notes l.fleet (lacks_in l.vars) l.sizes l.plays;
   registered : (name : Name) → has_name l.registered name ≡ is_registered_in (take l.number l.plays) name;
 }

@@ -1,4 +1,4 @@
-use Rattle.std.proofs.Common.{◌≡◌, ◌<◌, ◌∷◌, List, length, drop, drop-cons, refl, sym, ap, ◌∙◌, arith}
+use Rattle.std.proofs.Common.{◌≡◌, ◌<◌, ◌∷◌, List, length, drop, drop-cons, sym, ap, ◌∙◌, arith}
 use Rattle.planning.proofs.PlayLemmas.{has_play}
 use Rattle.play_model.specs.declared.play.Play.{Play}
 use Rattle.running.proofs.inputs.read_inputs.Goals as goal

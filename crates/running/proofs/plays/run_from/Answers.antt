@@ -23,8 +23,8 @@ returns-in-Ok-clause-ok g c =
     let old = g.W.Write.contents c.args.out.now in
     let new = g.W.Write.contents c.tell_runs-told.new.out in
     let gained = ok_of _ c.run_plays-ran.result.0 c.in-Ok.runs c.in-Ok.is c.run_plays-ran.ensures.ok in
-    gains_ok (WritesFrom may c.args.fleet.now c.args.forks c.args.plays.now c.args.beginning old new) c.tell_runs-told.result c.args.history c.run_plays-ran.result.1 gained
-    (runs_told may c.args.fleet.now c.args.forks c.args.plays.now c.behind-coming.result.now c.args.beginning c.are_several-several.result old new c.behind-coming.ensures c.are_several-several.ensures
+    gains_ok (WritesFrom c.args.manner.form may c.args.fleet.now c.args.manner.forks c.args.plays.now c.args.beginning old new) c.tell_runs-told.result c.args.history c.run_plays-ran.result.1 gained
+    (runs_told c.args.manner.form may c.args.fleet.now c.args.manner.forks c.args.plays.now c.behind-coming.result.now c.args.beginning c.are_several-several.result old new c.behind-coming.ensures c.are_several-several.ensures
     c.in-Ok.runs.items c.as_slice.result.now gained.logs c.tell_runs-told.result gained.are c.as_slice.ensures.value c.tell_runs-told.ensures).0
 
 pub returns-in-Ok-clause-err : goal.returns-in-Ok-clause-err
@@ -33,8 +33,8 @@ returns-in-Ok-clause-err g c =
     let old = g.W.Write.contents c.args.out.now in
     let new = g.W.Write.contents c.tell_runs-told.new.out in
     let gained = ok_of _ c.run_plays-ran.result.0 c.in-Ok.runs c.in-Ok.is c.run_plays-ran.ensures.ok in
-    gains_err (IsTrueFaultFrom may c.args.fleet.now c.args.forks c.args.plays.now c.args.beginning old new) c.tell_runs-told.result c.args.history c.run_plays-ran.result.1 gained
-    (runs_told may c.args.fleet.now c.args.forks c.args.plays.now c.behind-coming.result.now c.args.beginning c.are_several-several.result old new c.behind-coming.ensures c.are_several-several.ensures
+    gains_err (IsTrueFaultFrom c.args.manner.form may c.args.fleet.now c.args.manner.forks c.args.plays.now c.args.beginning old new) c.tell_runs-told.result c.args.history c.run_plays-ran.result.1 gained
+    (runs_told c.args.manner.form may c.args.fleet.now c.args.manner.forks c.args.plays.now c.behind-coming.result.now c.args.beginning c.are_several-several.result old new c.behind-coming.ensures c.are_several-several.ensures
     c.in-Ok.runs.items c.as_slice.result.now gained.logs c.tell_runs-told.result gained.are c.as_slice.ensures.value c.tell_runs-told.ensures).1
 
 pub returns-after-matches-clause-err : goal.returns-after-matches-clause-err
@@ -46,7 +46,7 @@ returns-after-matches-clause-err g c =
     record {
       logs = gained.logs;
       grown = gained.grown;
-      are = fault_told may c.args.fleet.now c.args.forks c.args.plays.now c.behind-coming.result.now c.args.beginning c.are_several-several.result old new c.behind-coming.ensures c.are_several-several.ensures
+      are = fault_told c.args.manner.form may c.args.fleet.now c.args.manner.forks c.args.plays.now c.behind-coming.result.now c.args.beginning c.are_several-several.result old new c.behind-coming.ensures c.are_several-several.ensures
           c.in-Err.fault.done.items c.in-Err.fault.last gained.logs c.tell_broken-told.result gained.are c.tell_broken-told.ensures;
     }
 
@@ -56,7 +56,7 @@ of_all-left-requires g c =
     let start = c.args.beginning.start in
     let gained = ok_of _ c.run_plays-ran.result.0 c.in-Ok.runs c.in-Ok.is c.run_plays-ran.ensures.ok in
     subst (λ (l : List Run). EndsWithDone c.rolls-rolls.result l after) (sym c.as_slice-in-Ok.ensures.value)
-    (ends_with_done (g.R.Runner.may c.args.runner.now) c.args.fleet.now c.args.forks c.behind-coming.result.now start.statuses.items start.vars.items
+    (ends_with_done (g.R.Runner.may c.args.runner.now) c.args.fleet.now c.args.manner.forks c.behind-coming.result.now start.statuses.items start.vars.items
     c.rolls-rolls.result c.args.history after c.rolls-rolls.ensures c.in-Ok.runs.items gained)
 
 pub of_broken-left-requires : goal.of_broken-left-requires
@@ -65,7 +65,7 @@ of_broken-left-requires g c =
     let start = c.args.beginning.start in
     let fault = c.in-Err.fault in
     let gained = err_of _ c.run_plays-ran.result.0 fault c.in-Err.is c.run_plays-ran.ensures.err in
-    ends_with_broken (g.R.Runner.may c.args.runner.now) c.args.fleet.now c.args.forks c.behind-coming.result.now start.statuses.items start.vars.items
+    ends_with_broken (g.R.Runner.may c.args.runner.now) c.args.fleet.now c.args.manner.forks c.behind-coming.result.now start.statuses.items start.vars.items
     c.rolls-rolls.result c.args.history after c.rolls-rolls.ensures fault.done.items fault.last gained
 
 pub returns-in-Ok-clause-kept : goal.returns-in-Ok-clause-kept
@@ -91,7 +91,7 @@ returns-after-matches-clause-ahead g c =
 pub returns-after-matches-clause-asked : goal.returns-after-matches-clause-asked
 returns-after-matches-clause-asked g c =
     let asked = err_of _ c.run_plays-ran.result.0 c.in-Err.fault c.in-Err.is c.run_plays-ran.ensures.asked in
-    may_break
+    may_break c.args.manner.form
     (g.A.Attend.asks c.args.coordinator.now.attend.now) g.K.Keep.refuses c.args.beginning.plays_before c.args.fleet.now c.are_several-several.result c.in-Err.fault.done.items c.in-Err.fault.last
     (g.W.Write.contents c.args.out.now) (g.W.Write.contents c.tell_broken-told.new.out)
     c.tell_broken-told.result c.tell_broken-told.ensures asked

@@ -17,9 +17,9 @@ returns-clause-ok g c =
     let plays : List Play = c.as_slice.result.now in
     let begins : Beginning = record { plays_before = 0; start = inputs.start } in
     let says = inputs_lent c.args.inventory.now c.args.playbook.now inputs.fleet inputs.start.vars.items inputs.plays.items plays inputs.start.statuses.items c.as_slice.ensures.value c.in-Ok.ensures.ok in
-    ok_as (WritesFrom may inputs.fleet c.args.forks plays begins old new)
-    (WritesRecap may c.args.inventory.now c.args.playbook.now c.args.forks old new) c.run_from.result.0 c.args.history c.run_from.result.1
-    (recap_written may c.args.inventory.now c.args.playbook.now c.args.forks inputs.fleet plays inputs.start says old new) c.run_from.ensures.ok
+    ok_as (WritesFrom c.args.manner.form may inputs.fleet c.args.manner.forks plays begins old new)
+    (WritesRecap c.args.manner.form may c.args.inventory.now c.args.playbook.now c.args.manner.forks old new) c.run_from.result.0 c.args.history c.run_from.result.1
+    (recap_written c.args.manner.form may c.args.inventory.now c.args.playbook.now c.args.manner.forks inputs.fleet plays inputs.start says old new) c.run_from.ensures.ok
 
 pub returns-clause-err : goal.returns-clause-err
 returns-clause-err g c =
@@ -30,9 +30,9 @@ returns-clause-err g c =
     let plays : List Play = c.as_slice.result.now in
     let begins : Beginning = record { plays_before = 0; start = inputs.start } in
     let says = inputs_lent c.args.inventory.now c.args.playbook.now inputs.fleet inputs.start.vars.items inputs.plays.items plays inputs.start.statuses.items c.as_slice.ensures.value c.in-Ok.ensures.ok in
-    err_as (IsTrueFaultFrom may inputs.fleet c.args.forks plays begins old new)
-    (IsTrueFault may c.args.inventory.now c.args.playbook.now c.args.forks old new) c.run_from.result.0 c.args.history c.run_from.result.1
-    (fault_is_true may c.args.inventory.now c.args.playbook.now c.args.forks inputs.fleet plays inputs.start says old new) c.run_from.ensures.err
+    err_as (IsTrueFaultFrom c.args.manner.form may inputs.fleet c.args.manner.forks plays begins old new)
+    (IsTrueFault c.args.manner.form may c.args.inventory.now c.args.playbook.now c.args.manner.forks old new) c.run_from.result.0 c.args.history c.run_from.result.1
+    (fault_is_true c.args.manner.form may c.args.inventory.now c.args.playbook.now c.args.manner.forks inputs.fleet plays inputs.start says old new) c.run_from.ensures.err
 
 pub returns-clause-kept : goal.returns-clause-kept
 returns-clause-kept g c =

@@ -15,13 +15,13 @@ returns-in-Err-clause-goes g c =
 
 pub returns-in_default-clause-goes : goal.returns-in_default-clause-goes
 returns-in_default-clause-goes g c =
-    GoesOnBy-of_rest (g.R.Runner.may c.args.runner.now) (IsMendedBeginning c.args.inventory.now c.args.playbook.now c.args.mended.now)
+    GoesOnBy-of_rest c.args.wish.form (g.R.Runner.may c.args.runner.now) (IsMendedBeginning c.args.inventory.now c.args.playbook.now c.args.mended.now)
     (RefusesToBegin c.args.inventory.now c.args.playbook.now c.args.mended.now) c.args.forks (g.W.Write.contents c.args.out.now) (g.W.Write.contents c.run_mended.new.out) c.in-Ok.beginning
     c.run_mended.result.0 c.args.history c.run_mended.result.1 c.in-Ok.ensures.ok c.run_mended.ensures.ok c.run_mended.ensures.err
 
 pub returns-in-Some-begun-clause-goes : goal.returns-in-Some-begun-clause-goes
 returns-in-Some-begun-clause-goes g c =
-    GoesOnBy-of_rest (g.R.Runner.may c.args.runner.now) (IsMendedBeginning c.args.inventory.now c.args.playbook.now c.args.mended.now)
+    GoesOnBy-of_rest c.args.wish.form (g.R.Runner.may c.args.runner.now) (IsMendedBeginning c.args.inventory.now c.args.playbook.now c.args.mended.now)
     (RefusesToBegin c.args.inventory.now c.args.playbook.now c.args.mended.now) c.args.forks (g.W.Write.contents c.args.out.now) (g.W.Write.contents c.keep_rest.new.out) c.in-Ok.beginning
     c.keep_rest.result.0 c.args.history c.keep_rest.result.1 c.in-Ok.ensures.ok c.keep_rest.ensures.ok c.keep_rest.ensures.err
 

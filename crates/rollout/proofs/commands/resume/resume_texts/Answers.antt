@@ -18,7 +18,7 @@ returns-in-Err-clause-goes g c =
 pub returns-in-Ok-reopen-clause-goes : goal.returns-in-Ok-reopen-clause-goes
 returns-in-Ok-reopen-clause-goes g c =
     let wish = model.wished c.args.wish.now in
-    GoesOnBy-of_rest (g.R.Runner.may c.args.runner.now) (IsWished c.args.inventory.now c.args.playbook.now c.args.journal.now wish) (IsNoneWished c.args.inventory.now c.args.playbook.now c.args.journal.now wish)
+    GoesOnBy-of_rest c.args.wish.now.form (g.R.Runner.may c.args.runner.now) (IsWished c.args.inventory.now c.args.playbook.now c.args.journal.now wish) (IsNoneWished c.args.inventory.now c.args.playbook.now c.args.journal.now wish)
     c.args.forks (g.W.Write.contents c.args.out.now) (g.W.Write.contents c.keep_rest.new.out) c.in-Ok.resumption c.keep_rest.result.0 c.args.history c.keep_rest.result.1 c.in-Ok.ensures.ok
     c.keep_rest.ensures.ok c.keep_rest.ensures.err
 

@@ -1,18 +1,28 @@
-use Rattle.std.proofs.Common.{inl, refl}
+use Rattle.std.proofs.Common.{inl, inr, refl}
 use Rattle.std.proofs.KnownBytes.{Keeps-refl}
 use Rattle.roll_run.proofs.Following.{gains_none}
-use Rattle.rollout.proofs.Rolling.{RollsInputs-of_texts, fault_in, never_lacking}
+use Rattle.rollout.proofs.Rolling.{RollsInputs-of_texts}
 use Rattle.rollout.proofs.commands.run.roll_inputs.Goals as goal
+
+pub returns-in-Ok-check_names-clause-rolls : goal.returns-in-Ok-check_names-clause-rolls
+returns-in-Ok-check_names-clause-rolls g c =
+    let prints = rw (c.as_slice-inventory.ensures.value, c.as_slice-playbook.ensures.value) at c.roll_texts.ensures.ok in
+    let named = rw (c.as_slice-inventory.ensures.value, c.as_slice-playbook.ensures.value) at c.in-Ok-check_names.ensures.ok in
+    let breaks = rw (c.as_slice-inventory.ensures.value, c.as_slice-playbook.ensures.value) at c.roll_texts.ensures.err in
+    RollsInputs-of_texts c.args.wish.form c.args.wish.is_strict _ _ _ _ c.args.forks _ _ _ _ c.in-Ok.inventory.items c.in-Ok.playbook.items c.roll_texts.result.0 c.args.history c.roll_texts.result.1 c.in-Ok.ensures.ok named prints breaks
 
 pub returns-in-Ok-clause-rolls : goal.returns-in-Ok-clause-rolls
 returns-in-Ok-clause-rolls g c =
-    let prints = rw (c.as_slice-inventory.ensures.value, c.as_slice-playbook.ensures.value) at c.roll_texts.ensures.ok in
-    let breaks = rw (c.as_slice-inventory.ensures.value, c.as_slice-playbook.ensures.value) at c.roll_texts.ensures.err in
-    RollsInputs-of_texts _ _ _ _ c.args.forks _ _ _ _ c.in-Ok.inventory.items c.in-Ok.playbook.items c.roll_texts.result.0 c.args.history c.roll_texts.result.1 c.in-Ok.ensures.ok prints breaks
+    let refuses = rw (c.as_slice-inventory.ensures.value, c.as_slice-playbook.ensures.value) at c.in-Err-check_names.ensures.err in
+    gains_none c.args.history c.args.history refl (inr (inl (record {
+      first = c.in-Ok.inventory.items;
+      second = c.in-Ok.playbook.items;
+      texts = c.in-Ok.ensures.ok;
+      is_strict = c.in-Err-check_names.ensures.strict;
+      refuses = refuses;
+      unwritten = Keeps-refl (g.W.Write.contents c.args.out.now);
+      none = refl;
+    })))
 
-pub returns-in-Err-clause-rolls : goal.returns-in-Err-clause-rolls
-returns-in-Err-clause-rolls g c = gains_none c.args.history c.args.history refl (inl (c.in-Err.ensures.err, Keeps-refl (g.W.Write.contents c.args.out.now), refl))
-
-pub returns-in-Err-clause-stops : goal.returns-in-Err-clause-stops
-returns-in-Err-clause-stops g c same =
-    absurd (never_lacking _ c.args.inventory c.args.playbook _ _ c.in-Err.fault (fault_in c.in-Err.fault same) c.in-Err.ensures.err)
+pub returns-clause-rolls : goal.returns-clause-rolls
+returns-clause-rolls g c = gains_none c.args.history c.args.history refl (inl (c.in-Err.ensures.err, Keeps-refl (g.W.Write.contents c.args.out.now), refl))

@@ -1,0 +1,8 @@
+//! Every fault of an inventory and a playbook, where a plan of both tells the first alone.
+#![tactic(auto)]
+
+mod every;
+mod fleet;
+mod patterns;
+
+pub use every::{EveryFault, every_fault};

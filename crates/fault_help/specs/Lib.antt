@@ -1,0 +1,4 @@
+pub mod FleetHelps
+pub mod ReadHelps
+pub mod PatternHelps
+pub mod PlayHelps

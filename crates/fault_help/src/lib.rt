@@ -1,0 +1,14 @@
+//! The second line of a refusal: what was expected at its place, and what stands there.
+#![tactic(auto)]
+
+mod conditions;
+mod fleet;
+mod inventory;
+mod pattern;
+mod playbook;
+mod words;
+
+pub use fleet::fleet_help;
+pub use inventory::read_help;
+pub use pattern::pattern_help;
+pub use playbook::play_help;

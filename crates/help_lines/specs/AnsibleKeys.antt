@@ -1,0 +1,138 @@
+-- What stands in the place of keys that Ansible knows.
+use Rattle.std.specs.Prelude.{Bool, if◌then◌else◌, List, [], ◌∷◌, Option, Some, None, codes}
+use Rattle.std.specs.List.{list_any}
+use Rattle.std.specs.Str.{bytes_eq}
+use Rattle.std.specs.Option.{option_or}
+use Rattle.help_lines.specs.Values.{Text}
+
+-- the key is one of these
+abbrev pub is_one : List Text → Text → Bool
+is_one keys key = list_any (bytes_eq key) keys
+
+abbrev pub become_keys : List Text
+become_keys = codes "become" ∷ codes "become_user" ∷ codes "become_method" ∷ codes "become_flags" ∷ []
+
+abbrev pub remote_user_keys : List Text
+remote_user_keys = codes "remote_user" ∷ codes "port" ∷ []
+
+abbrev pub delegation_keys : List Text
+delegation_keys = codes "delegate_to" ∷ codes "delegate_facts" ∷ []
+
+abbrev pub local_keys : List Text
+local_keys = codes "local_action" ∷ []
+
+abbrev pub once_keys : List Text
+once_keys = codes "run_once" ∷ []
+
+abbrev pub variables_keys : List Text
+variables_keys = codes "vars" ∷ codes "vars_files" ∷ codes "vars_prompt" ∷ codes "set_fact" ∷ codes "include_vars" ∷ []
+
+abbrev pub environment_keys : List Text
+environment_keys = codes "environment" ∷ []
+
+unfoldable pub advice_on_place : Text → Option Text
+advice_on_place key =
+    if is_one become_keys key then Some (codes "let ssh come in as that user, or write \"sudo\", \"-n\" before the words of the program") else (
+    if is_one remote_user_keys key then Some (codes "let ssh do it: \"ssh\", \"-l\", \"deploy\", \"--\", \"{{ inventory_hostname }}\" before the words of the program") else (
+    if is_one delegation_keys key then Some (codes "programs run on this machine: write \"ssh\", \"--\", \"lb1\" before the words, or nothing") else (
+    if is_one local_keys key then Some (codes "programs run on this machine: write `command`") else (
+    if is_one once_keys key then Some (codes "write a play of its own whose `hosts` names one host") else (
+    if is_one variables_keys key then Some (codes "variables stand in the inventory, under `vars` of all, of a group or of a host") else (
+    if is_one environment_keys key then Some (codes "write \"env\", \"LANG=C\" before the words of the program") else (
+    None)))))))
+
+abbrev pub lists_keys : List Text
+lists_keys = codes "pre_tasks" ∷ codes "post_tasks" ∷ []
+
+abbrev pub roles_keys : List Text
+roles_keys = codes "roles" ∷ codes "include_tasks" ∷ codes "import_tasks" ∷ codes "include_role" ∷ codes "import_role" ∷ codes "import_playbook" ∷ codes "include" ∷ []
+
+abbrev pub blocks_keys : List Text
+blocks_keys = codes "block" ∷ codes "rescue" ∷ codes "always" ∷ []
+
+abbrev pub loops_keys : List Text
+loops_keys = codes "loop" ∷ codes "with_items" ∷ codes "with_list" ∷ codes "with_dict" ∷ codes "with_sequence" ∷ codes "loop_control" ∷ []
+
+abbrev pub retries_keys : List Text
+retries_keys = codes "until" ∷ codes "retries" ∷ codes "delay" ∷ []
+
+abbrev pub waits_keys : List Text
+waits_keys = codes "async" ∷ codes "poll" ∷ codes "timeout" ∷ []
+
+abbrev pub flushes_keys : List Text
+flushes_keys = codes "meta" ∷ []
+
+unfoldable pub advice_on_order : Text → Option Text
+advice_on_order key =
+    if is_one lists_keys key then Some (codes "put its steps into `tasks`, in that order; handlers come behind all of them") else (
+    if is_one roles_keys key then Some (codes "write its steps into `tasks`, in order") else (
+    if is_one blocks_keys key then Some (codes "write its steps into `tasks`; what is to be done after a failure belongs into the program") else (
+    if is_one loops_keys key then Some (codes "write a step for each, or a loop in a script") else (
+    if is_one retries_keys key then Some (codes "write a loop in a script: \"timeout\", \"60\", \"sh\", \"-c\", \"until ..; do sleep 2; done\"") else (
+    if is_one waits_keys key then Some (codes "a step ends when its program does: let the program wait, as by \"timeout\", \"60\"") else (
+    if is_one flushes_keys key then Some (codes "for flush_handlers write what comes behind as a play of its own, or the handler as a task with `when`") else (
+    None)))))))
+
+abbrev pub strategies_keys : List Text
+strategies_keys = codes "strategy" ∷ codes "order" ∷ codes "throttle" ∷ codes "forks" ∷ []
+
+abbrev pub fatal_keys : List Text
+fatal_keys = codes "any_errors_fatal" ∷ []
+
+abbrev pub unreachable_keys : List Text
+unreachable_keys = codes "ignore_unreachable" ∷ []
+
+abbrev pub listeners_keys : List Text
+listeners_keys = codes "listen" ∷ []
+
+abbrev pub tags_keys : List Text
+tags_keys = codes "tags" ∷ []
+
+abbrev pub trials_keys : List Text
+trials_keys = codes "check_mode" ∷ codes "diff" ∷ []
+
+abbrev pub facts_keys : List Text
+facts_keys = codes "setup" ∷ codes "gather_subset" ∷ codes "module_defaults" ∷ codes "collections" ∷ []
+
+unfoldable pub advice_on_whole : Text → Option Text
+advice_on_whole key =
+    if is_one strategies_keys key then Some (codes "leave it out: batches are planned by the limits of groups and by `serial`, and go in lock-step") else (
+    if is_one fatal_keys key then Some (codes "write \"max_fail_percentage\": 0") else (
+    if is_one unreachable_keys key then Some (codes "a host that ssh can't reach has failed the step: write \"ignore_errors\": true") else (
+    if is_one listeners_keys key then Some (codes "a handler is notified by its `name` alone") else (
+    if is_one tags_keys key then Some (codes "leave it out, and put what is to be run alone into a playbook of its own") else (
+    if is_one trials_keys key then Some (codes "leave it out: `plan --words` and `rehearse` show what would be run") else (
+    if is_one facts_keys key then Some (codes "leave it out: a step is a `command` with all its words, and no facts are gathered") else (
+    None)))))))
+
+abbrev pub shells_keys : List Text
+shells_keys = codes "shell" ∷ codes "raw" ∷ codes "script" ∷ []
+
+abbrev pub packages_keys : List Text
+packages_keys = codes "apt" ∷ codes "yum" ∷ codes "dnf" ∷ codes "package" ∷ codes "pip" ∷ codes "apt_repository" ∷ codes "apt_key" ∷ codes "rpm_key" ∷ []
+
+abbrev pub services_keys : List Text
+services_keys = codes "service" ∷ codes "systemd" ∷ codes "reboot" ∷ codes "user" ∷ codes "group" ∷ codes "cron" ∷ codes "mount" ∷ codes "sysctl" ∷ []
+
+abbrev pub files_keys : List Text
+files_keys = codes "copy" ∷ codes "template" ∷ codes "file" ∷ codes "lineinfile" ∷ codes "blockinfile" ∷ codes "stat" ∷ codes "fetch" ∷ codes "synchronize" ∷ []
+
+abbrev pub others_keys : List Text
+others_keys = codes "uri" ∷ codes "get_url" ∷ codes "git" ∷ codes "unarchive" ∷ codes "wait_for" ∷ codes "wait_for_connection" ∷ codes "debug" ∷ codes "pause" ∷ []
+
+abbrev pub checks_keys : List Text
+checks_keys = codes "assert" ∷ codes "fail" ∷ codes "ping" ∷ codes "slurp" ∷ codes "find" ∷ codes "replace" ∷ codes "docker_container" ∷ codes "k8s" ∷ []
+
+unfoldable pub advice_on_module : Text → Option Text
+advice_on_module key =
+    if is_one shells_keys key then Some (codes "write \"command\": {\"argv\": [\"sh\", \"-c\", \"..\"]}, and for a shell of the host \"ssh\", \"--\", \"{{ inventory_hostname }}\", \"..\"") else (
+    if is_one packages_keys key then Some (codes "modules are not taken: write a `command` whose program does it, on a host by ssh") else (
+    if is_one services_keys key then Some (codes "modules are not taken: write a `command` whose program does it, on a host by ssh") else (
+    if is_one files_keys key then Some (codes "modules are not taken: write a `command` whose program does it, on a host by ssh") else (
+    if is_one others_keys key then Some (codes "modules are not taken: write a `command` whose program does it, on a host by ssh") else (
+    if is_one checks_keys key then Some (codes "modules are not taken: write a `command` whose program does it, on a host by ssh") else (
+    None))))))
+
+-- the first that there is
+abbrev pub advice_on : Text → Option Text
+advice_on key = option_or (advice_on_place key) (option_or (advice_on_order key) (option_or (advice_on_whole key) (advice_on_module key)))

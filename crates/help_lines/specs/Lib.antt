@@ -1,0 +1,13 @@
+pub mod Values
+pub mod Lines
+pub mod Paths
+pub mod Texts
+pub mod AnsibleKeys
+pub mod Conditions
+pub mod Told
+pub mod Names
+pub mod Fleets
+pub mod Groups
+pub mod Places
+pub mod PlayKeys
+pub mod Shapes

@@ -1,0 +1,80 @@
+-- What is told of a part of a playbook that has another shape than the format asks for.
+use Rattle.std.specs.Prelude.{ℕ, Bool, ◌==◌, ◌||◌, if◌then◌else◌, List, Option, Some, None, is_some, option_and_then, length, codes}
+use Rattle.std.specs.List.{list_all, list_any}
+use Rattle.std.specs.Str.{bytes_eq}
+use Rattle.serde_json.specs.Data.{Data}
+use Rattle.serde_json.specs.Find.{as_object, as_str}
+use Rattle.help_lines.specs.Paths.{found_at}
+use Rattle.help_lines.specs.Texts.{is_blank}
+use Rattle.help_lines.specs.Values.{Text}
+use Rattle.help_lines.specs.Places.{Spot, whole_text, a_play, play_part, a_task, task_part, a_handler, handler_part, spot_of}
+use Rattle.help_lines.specs.Told.{said, value_help}
+
+abbrev pub playbook_rule : Text
+playbook_rule = codes "a playbook is a list of plays: [{\"hosts\": \"web\", \"tasks\": [{\"command\": \"true\"}]}]"
+
+-- an object at the top is an inventory's
+unfoldable pub top_help : Data → List Text
+top_help document =
+    if is_some (as_object document) then said (codes "an object stands at the top, as in an inventory; a playbook is a list of plays, and is given behind the inventory") else value_help (Some document) playbook_rule
+
+-- `'`, `"` or a backslash
+abbrev pub is_quoting : ℕ → Bool
+is_quoting byte = (byte == 39 || byte == 34) || byte == 92
+
+-- what a text that is no command holds: a quote, or no word, or else one of the parameters
+unfoldable pub allowed_in_text : Text → Text
+allowed_in_text text =
+    if list_any is_quoting text then codes "no quotes and no backslash are read there; write {\"argv\": [\"echo\", \"it's\"]}" else (
+    if list_all is_blank text then codes "it has no word; write the program and its arguments" else
+    codes "creates=, removes=, chdir= and stdin= are not taken; let the program do it, as {\"argv\": [\"sh\", \"-c\", \"cd /srv && ./migrate\"]}")
+
+unfoldable pub allowed_by_text : Option Text → Text
+allowed_by_text (Some text) = allowed_in_text text
+allowed_by_text None = codes "a command is a text, or an object with one key alone: {\"argv\": [\"echo\", \"it's\"]}, of texts and whole numbers, or {\"cmd\": \"echo yes\"}"
+
+unfoldable pub allowed_as_command : Option Data → Text
+allowed_as_command found = allowed_by_text (option_and_then as_str found)
+
+-- by the key of a play
+unfoldable pub allowed_in_play : Text → Text
+allowed_in_play key =
+    if bytes_eq key (codes "hosts") then codes "hosts is at least one name of a group or host: \"web:db\", or a list of such" else (
+    if bytes_eq key (codes "tasks") then codes "tasks is a list of at least one step: [{\"command\": \"true\"}]" else (
+    if bytes_eq key (codes "handlers") then codes "handlers is null or a list of steps, each with a name" else (
+    if bytes_eq key (codes "on_blocked") then codes "write \"stop\" or \"hold\"" else codes "a play is an object with hosts and tasks")))
+
+-- by the key of a step
+unfoldable pub allowed_in_step : Text → Text
+allowed_in_step key =
+    if bytes_eq key (codes "name") then codes "a name is a text" else (
+    if bytes_eq key (codes "register") then codes "write a letter or _, then letters, digits and _, and no word of conditions, as true, is or group_names" else (
+    if bytes_eq key (codes "when") then codes "a condition is a text, true, false, or a list of these, and null is none" else (
+    if bytes_eq key (codes "changed_when") then codes "a condition is a text, true, false, or a list of these, and null is none" else (
+    if bytes_eq key (codes "failed_when") then codes "a condition is a text, true, false, or a list of these, and null is none" else (
+    if bytes_eq key (codes "ignore_errors") then codes "write true or false, without quotes" else (
+    if bytes_eq key (codes "notify") then codes "tasks notify handlers by name: a text, or a list of texts; handlers notify nothing" else
+    codes "a step is an object with exactly one of command and ansible.builtin.command"))))))
+
+abbrev pub is_command_key : Text → Bool
+is_command_key key = bytes_eq key (codes "command") || bytes_eq key (codes "ansible.builtin.command")
+
+unfoldable pub allowed_in_step_of : Text → Option Data → Text
+allowed_in_step_of key found = if is_command_key key then allowed_as_command found else allowed_in_step key
+
+unfoldable pub allowed_at : Spot → Option Data → Text
+allowed_at whole_text found = playbook_rule
+allowed_at a_play found = codes "a play is an object with hosts and tasks"
+allowed_at (play_part key) found = allowed_in_play key
+allowed_at a_task found = codes "a step is an object with exactly one of command and ansible.builtin.command"
+allowed_at (task_part key) found = allowed_in_step_of key found
+allowed_at a_handler found = codes "a handler is an object with a name and exactly one of command and ansible.builtin.command"
+allowed_at (handler_part key) found = allowed_in_step_of key found
+
+unfoldable pub shape_help_in : Data → Text → List Text
+shape_help_in document at =
+    if length at == 0 then top_help document else value_help (found_at at document) (allowed_at (spot_of at) (found_at at document))
+
+unfoldable pub shape_help : Option Data → Text → List Text
+shape_help None at = said (codes "a playbook is a list of plays")
+shape_help (Some document) at = shape_help_in document at

@@ -1,0 +1,374 @@
+//! What stands in the place of keys that Ansible knows.
+ghost use Rattle.std.specs.Prelude.{◌≡◌, option_map};
+ghost use Rattle.help_lines.specs.AnsibleKeys as spec;
+
+/// What to write in the place of a key that Ansible knows and that this program doesn't take.
+pub fn advice_on(key: &str) -> Option<&'static str>
+    ensures { option_map (λ advice. advice.now) result ≡ spec.advice_on key.now }
+{
+    if let Some(advice) = advice_on_place(key) {
+        return Some(advice);
+    }
+    if let Some(advice) = advice_on_order(key) {
+        return Some(advice);
+    }
+    if let Some(advice) = advice_on_whole(key) {
+        return Some(advice);
+    }
+    advice_on_module(key)
+}
+
+#[tactic(auto, unfolding(crate::specs::AnsibleKeys::advice_on_place))]
+fn advice_on_place(key: &str) -> Option<&'static str>
+    ensures { option_map (λ advice. advice.now) result ≡ spec.advice_on_place key.now }
+{
+    if is_of_become(key) {
+        return Some(
+            "let ssh come in as that user, or write \"sudo\", \"-n\" before the words of the program",
+        );
+    }
+    if is_of_remote_user(key) {
+        return Some(
+            "let ssh do it: \"ssh\", \"-l\", \"deploy\", \"--\", \"{{ inventory_hostname }}\" before the words of the program",
+        );
+    }
+    if is_of_delegation(key) {
+        return Some(
+            "programs run on this machine: write \"ssh\", \"--\", \"lb1\" before the words, or nothing",
+        );
+    }
+    if is_of_local(key) {
+        return Some("programs run on this machine: write `command`");
+    }
+    if is_of_once(key) {
+        return Some("write a play of its own whose `hosts` names one host");
+    }
+    if is_of_variables(key) {
+        return Some(
+            "variables stand in the inventory, under `vars` of all, of a group or of a host",
+        );
+    }
+    if is_of_environment(key) {
+        return Some("write \"env\", \"LANG=C\" before the words of the program");
+    }
+    None
+}
+
+#[tactic(auto, unfolding(crate::specs::AnsibleKeys::advice_on_order))]
+fn advice_on_order(key: &str) -> Option<&'static str>
+    ensures { option_map (λ advice. advice.now) result ≡ spec.advice_on_order key.now }
+{
+    if is_of_lists(key) {
+        return Some("put its steps into `tasks`, in that order; handlers come behind all of them");
+    }
+    if is_of_roles(key) {
+        return Some("write its steps into `tasks`, in order");
+    }
+    if is_of_blocks(key) {
+        return Some(
+            "write its steps into `tasks`; what is to be done after a failure belongs into the program",
+        );
+    }
+    if is_of_loops(key) {
+        return Some("write a step for each, or a loop in a script");
+    }
+    if is_of_retries(key) {
+        return Some(
+            "write a loop in a script: \"timeout\", \"60\", \"sh\", \"-c\", \"until ..; do sleep 2; done\"",
+        );
+    }
+    if is_of_waits(key) {
+        return Some(
+            "a step ends when its program does: let the program wait, as by \"timeout\", \"60\"",
+        );
+    }
+    if is_of_flushes(key) {
+        return Some(
+            "for flush_handlers write what comes behind as a play of its own, or the handler as a task with `when`",
+        );
+    }
+    None
+}
+
+#[tactic(auto, unfolding(crate::specs::AnsibleKeys::advice_on_whole))]
+fn advice_on_whole(key: &str) -> Option<&'static str>
+    ensures { option_map (λ advice. advice.now) result ≡ spec.advice_on_whole key.now }
+{
+    if is_of_strategies(key) {
+        return Some(
+            "leave it out: batches are planned by the limits of groups and by `serial`, and go in lock-step",
+        );
+    }
+    if is_of_fatal(key) {
+        return Some("write \"max_fail_percentage\": 0");
+    }
+    if is_of_unreachable(key) {
+        return Some(
+            "a host that ssh can't reach has failed the step: write \"ignore_errors\": true",
+        );
+    }
+    if is_of_listeners(key) {
+        return Some("a handler is notified by its `name` alone");
+    }
+    if is_of_tags(key) {
+        return Some("leave it out, and put what is to be run alone into a playbook of its own");
+    }
+    if is_of_trials(key) {
+        return Some("leave it out: `plan --words` and `rehearse` show what would be run");
+    }
+    if is_of_facts(key) {
+        return Some(
+            "leave it out: a step is a `command` with all its words, and no facts are gathered",
+        );
+    }
+    None
+}
+
+#[tactic(auto, unfolding(crate::specs::AnsibleKeys::advice_on_module))]
+fn advice_on_module(key: &str) -> Option<&'static str>
+    ensures { option_map (λ advice. advice.now) result ≡ spec.advice_on_module key.now }
+{
+    if is_of_shells(key) {
+        return Some(
+            "write \"command\": {\"argv\": [\"sh\", \"-c\", \"..\"]}, and for a shell of the host \"ssh\", \"--\", \"{{ inventory_hostname }}\", \"..\"",
+        );
+    }
+    if is_of_packages(key) {
+        return Some(
+            "modules are not taken: write a `command` whose program does it, on a host by ssh",
+        );
+    }
+    if is_of_services(key) {
+        return Some(
+            "modules are not taken: write a `command` whose program does it, on a host by ssh",
+        );
+    }
+    if is_of_files(key) {
+        return Some(
+            "modules are not taken: write a `command` whose program does it, on a host by ssh",
+        );
+    }
+    if is_of_others(key) {
+        return Some(
+            "modules are not taken: write a `command` whose program does it, on a host by ssh",
+        );
+    }
+    if is_of_checks(key) {
+        return Some(
+            "modules are not taken: write a `command` whose program does it, on a host by ssh",
+        );
+    }
+    None
+}
+
+fn is_of_become(key: &str) -> bool
+    ensures { result ≡ spec.is_one spec.become_keys key.now }
+{
+    matches!(
+        key,
+        "become" | "become_user" | "become_method" | "become_flags"
+    )
+}
+
+fn is_of_remote_user(key: &str) -> bool
+    ensures { result ≡ spec.is_one spec.remote_user_keys key.now }
+{
+    matches!(key, "remote_user" | "port")
+}
+
+fn is_of_delegation(key: &str) -> bool
+    ensures { result ≡ spec.is_one spec.delegation_keys key.now }
+{
+    matches!(key, "delegate_to" | "delegate_facts")
+}
+
+fn is_of_local(key: &str) -> bool
+    ensures { result ≡ spec.is_one spec.local_keys key.now }
+{
+    matches!(key, "local_action")
+}
+
+fn is_of_once(key: &str) -> bool
+    ensures { result ≡ spec.is_one spec.once_keys key.now }
+{
+    matches!(key, "run_once")
+}
+
+fn is_of_variables(key: &str) -> bool
+    ensures { result ≡ spec.is_one spec.variables_keys key.now }
+{
+    matches!(
+        key,
+        "vars" | "vars_files" | "vars_prompt" | "set_fact" | "include_vars"
+    )
+}
+
+fn is_of_environment(key: &str) -> bool
+    ensures { result ≡ spec.is_one spec.environment_keys key.now }
+{
+    matches!(key, "environment")
+}
+
+fn is_of_lists(key: &str) -> bool
+    ensures { result ≡ spec.is_one spec.lists_keys key.now }
+{
+    matches!(key, "pre_tasks" | "post_tasks")
+}
+
+fn is_of_roles(key: &str) -> bool
+    ensures { result ≡ spec.is_one spec.roles_keys key.now }
+{
+    matches!(
+        key,
+        "roles"
+            | "include_tasks"
+            | "import_tasks"
+            | "include_role"
+            | "import_role"
+            | "import_playbook"
+            | "include"
+    )
+}
+
+fn is_of_blocks(key: &str) -> bool
+    ensures { result ≡ spec.is_one spec.blocks_keys key.now }
+{
+    matches!(key, "block" | "rescue" | "always")
+}
+
+fn is_of_loops(key: &str) -> bool
+    ensures { result ≡ spec.is_one spec.loops_keys key.now }
+{
+    matches!(
+        key,
+        "loop" | "with_items" | "with_list" | "with_dict" | "with_sequence" | "loop_control"
+    )
+}
+
+fn is_of_retries(key: &str) -> bool
+    ensures { result ≡ spec.is_one spec.retries_keys key.now }
+{
+    matches!(key, "until" | "retries" | "delay")
+}
+
+fn is_of_waits(key: &str) -> bool
+    ensures { result ≡ spec.is_one spec.waits_keys key.now }
+{
+    matches!(key, "async" | "poll" | "timeout")
+}
+
+fn is_of_flushes(key: &str) -> bool
+    ensures { result ≡ spec.is_one spec.flushes_keys key.now }
+{
+    matches!(key, "meta")
+}
+
+fn is_of_strategies(key: &str) -> bool
+    ensures { result ≡ spec.is_one spec.strategies_keys key.now }
+{
+    matches!(key, "strategy" | "order" | "throttle" | "forks")
+}
+
+fn is_of_fatal(key: &str) -> bool
+    ensures { result ≡ spec.is_one spec.fatal_keys key.now }
+{
+    matches!(key, "any_errors_fatal")
+}
+
+fn is_of_unreachable(key: &str) -> bool
+    ensures { result ≡ spec.is_one spec.unreachable_keys key.now }
+{
+    matches!(key, "ignore_unreachable")
+}
+
+fn is_of_listeners(key: &str) -> bool
+    ensures { result ≡ spec.is_one spec.listeners_keys key.now }
+{
+    matches!(key, "listen")
+}
+
+fn is_of_tags(key: &str) -> bool
+    ensures { result ≡ spec.is_one spec.tags_keys key.now }
+{
+    matches!(key, "tags")
+}
+
+fn is_of_trials(key: &str) -> bool
+    ensures { result ≡ spec.is_one spec.trials_keys key.now }
+{
+    matches!(key, "check_mode" | "diff")
+}
+
+fn is_of_facts(key: &str) -> bool
+    ensures { result ≡ spec.is_one spec.facts_keys key.now }
+{
+    matches!(
+        key,
+        "setup" | "gather_subset" | "module_defaults" | "collections"
+    )
+}
+
+fn is_of_shells(key: &str) -> bool
+    ensures { result ≡ spec.is_one spec.shells_keys key.now }
+{
+    matches!(key, "shell" | "raw" | "script")
+}
+
+fn is_of_packages(key: &str) -> bool
+    ensures { result ≡ spec.is_one spec.packages_keys key.now }
+{
+    matches!(
+        key,
+        "apt" | "yum" | "dnf" | "package" | "pip" | "apt_repository" | "apt_key" | "rpm_key"
+    )
+}
+
+fn is_of_services(key: &str) -> bool
+    ensures { result ≡ spec.is_one spec.services_keys key.now }
+{
+    matches!(
+        key,
+        "service" | "systemd" | "reboot" | "user" | "group" | "cron" | "mount" | "sysctl"
+    )
+}
+
+fn is_of_files(key: &str) -> bool
+    ensures { result ≡ spec.is_one spec.files_keys key.now }
+{
+    matches!(
+        key,
+        "copy"
+            | "template"
+            | "file"
+            | "lineinfile"
+            | "blockinfile"
+            | "stat"
+            | "fetch"
+            | "synchronize"
+    )
+}
+
+fn is_of_others(key: &str) -> bool
+    ensures { result ≡ spec.is_one spec.others_keys key.now }
+{
+    matches!(
+        key,
+        "uri"
+            | "get_url"
+            | "git"
+            | "unarchive"
+            | "wait_for"
+            | "wait_for_connection"
+            | "debug"
+            | "pause"
+    )
+}
+
+fn is_of_checks(key: &str) -> bool
+    ensures { result ≡ spec.is_one spec.checks_keys key.now }
+{
+    matches!(
+        key,
+        "assert" | "fail" | "ping" | "slurp" | "find" | "replace" | "docker_container" | "k8s"
+    )
+}

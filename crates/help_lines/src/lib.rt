@@ -1,0 +1,41 @@
+//! Lines that help with a fault of a text: what stands at a place of it, what is allowed there, and advice by keys, names and
+//! conditions.
+#![tactic(auto)]
+
+mod ansible_keys;
+mod conditions;
+mod document;
+mod fleets;
+mod group_walk;
+mod groups;
+mod handlers;
+mod laws;
+mod line;
+mod names;
+mod path;
+mod patterns;
+mod piece;
+mod place;
+mod shapes;
+mod steps;
+mod told;
+mod unknown_keys;
+mod value;
+mod yaml;
+
+pub use ansible_keys::advice_on;
+pub use conditions::help_at;
+pub use document::{Document, help_on_text};
+pub use fleets::{tell_crossing, tell_down, tell_twice};
+pub use groups::{group_key_help, group_shape_help};
+pub use handlers::{no_handler_help, twice_handler_help};
+pub use laws::each_line_is_short_and_printable;
+pub use line::{LONGEST_LINE, line_of};
+pub use names::{tell_bad_name, tell_nearest};
+pub use path::{find_at, last_key};
+pub use patterns::tell_unknown_name;
+pub use piece::Piece;
+pub use shapes::shape_help;
+pub use steps::{step_at, steps_in};
+pub use told::{tell, tell_at, tell_value};
+pub use unknown_keys::unknown_key_help;

@@ -1,0 +1,54 @@
+use Rattle.std.proofs.Common.{◌≡◌, [], ◌∷◌, ◌++◌, Bor, List, ℕ, map, sym, ap, ◌∙◌, arith, rules}
+use Rattle.std.specs.String.{string_bytes}
+use Rattle.std.proofs.lemmas.List.{map-append}
+use Rattle.serde_json.specs.View.{view, members_view}
+use Rattle.inventory_read.specs.Documents.{below_body, groups_among}
+use Rattle.inventory_read.specs.Listings.{broken_from}
+use Rattle.inventory_read.specs.Paths.{text_path}
+use Rattle.inventory_read.specs.Rules.{placed, broken_by_group}
+use Rattle.inventory_read.proofs.Checks.{pop_last}
+use Rattle.inventory_read.proofs.Groups.{below_body-is}
+use Rattle.inventory_faults.specs.Telling.{with_breaches}
+use Rattle.inventory_faults.proofs.Walks.{texts, pass_below, told_alone, told_with_below}
+use Rattle.inventory_faults.proofs.groups.+tell_from.Goals as goal
+
+pub returns-in_default-clause-told : goal.returns-in_default-clause-told
+returns-in_default-clause-told t c =
+    let body = view c.args.body.now in
+    let own : c.tell_own.new.teller ≡ with_breaches c.args.teller.now (map (placed (text_path (texts c.args.names.now.items))) (broken_by_group c.args.name.now body)) =
+    rw c.as_slice.ensures.value at c.in_ok-tell_own.ensures in
+    told_alone _ _ (texts c.args.names.now.items) c.args.name.now body own (below_body-is body ∙ ap groups_among c.in_default.ensures.entries)
+
+pub loop-name-preserved : goal.loop-name-preserved
+loop-name-preserved t c =
+    let l = c.loop-name in
+    let way = texts c.args.names.now.items in
+    let child = string_bytes c.in-Some-2.name.now in
+    let child_body = view c.in-Some-2.body.now in
+    let steps = c.in-Some-2.ensures.steps in
+    let more = groups_among (members_view c.next.new.self) in
+    let pushed : c.push.new.self.items ≡ c.args.names.now.items ++ c.as_str.result ∷ [] =
+    c.in_ok-push.ensures.items ∙ ap (λ list. list ++ c.as_str.result ∷ []) l.invariant.back in
+    let names : texts c.push.new.self.items ≡ way ++ child ∷ [] =
+    ap texts pushed ∙ map-append (λ (name : Bor (List ℕ)). name.now) c.args.names.now.items (c.as_str.result ∷ []) ∙ ap (λ name. way ++ name ∷ []) c.as_str.ensures.value in
+    let own : c.tell_from.new.teller ≡ with_breaches l.teller (broken_from (way ++ child ∷ []) child child_body) =
+    rw (names, c.as_str-in-loop-name.ensures.value) at c.in_ok-tell_from.ensures.told in
+    let nested = rw steps at l.invariant.nested in
+    record {
+      back = pop_last c.tell_from.new.names.items c.args.names.now.items c.pop.new.self.items c.as_str.result c.tell_from.new.names.len
+          (c.in_ok-tell_from.ensures.back ∙ pushed) (omega (arith, c.tell_from.new.names.ok)) c.pop.ensures.rest;
+      rest = pass_below _ _ way child child_body more _ own (rw steps at l.invariant.rest);
+      nested = omega arith;
+    }
+
+pub returns-clause-told : goal.returns-clause-told
+returns-clause-told t c =
+    let way = texts c.args.names.now.items in
+    let body = view c.args.body.now in
+    let own : c.tell_own.new.teller ≡ with_breaches c.args.teller.now (map (placed (text_path way)) (broken_by_group c.args.name.now body)) =
+    rw c.as_slice.ensures.value at c.in_ok-tell_own.ensures in
+    let left : c.loop-name.name-iterator ≡ [] = c.in-None.ensures.steps.0 in
+    let start : c.into_iter-name-iterator.result ≡ c.in-Some.children.now.entries = search rules in
+    let below : groups_among (members_view c.into_iter-name-iterator.result) ≡ below_body body =
+    ap (λ entries. groups_among (members_view entries)) start ∙ ap groups_among c.in-Some.ensures.entries ∙ sym (below_body-is body) in
+    told_with_below _ _ _ way c.args.name.now body (groups_among (members_view c.into_iter-name-iterator.result)) own below (rw left at c.loop-name.invariant.rest)

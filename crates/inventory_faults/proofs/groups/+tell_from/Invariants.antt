@@ -1,0 +1,20 @@
+-- What is left to tell of the groups below, and that the names lead to the group again.
+use Rattle.std.proofs.Common.{◌≡◌, ◌≤◌, map}
+use Rattle.std.specs.List.{flat_map}
+use Rattle.serde_json.specs.Data.{depth, members_depth}
+use Rattle.serde_json.specs.View.{view, members_view}
+use Rattle.inventory_read.specs.Documents.{groups_among}
+use Rattle.inventory_read.specs.Listings.{broken_under}
+use Rattle.inventory_faults.specs.Telling.{with_breaches}
+use Rattle.inventory_faults.proofs.groups.+tell_from.Given as goal
+
+abbrev pub invariant-loop-name : goal.invariant-loop-name
+invariant-loop-name l = record {
+  back : l.names.items ≡ l.initial.names.items;
+  rest : with_breaches l.teller (flat_map (broken_under (map (λ name. name.now) l.initial.names.items)) (groups_among (members_view l.name-iterator)))
+      ≡ with_breaches l.initial.teller (flat_map (broken_under (map (λ name. name.now) l.initial.names.items)) (groups_among (members_view l.initial.name-iterator)));
+  nested : members_depth (members_view l.name-iterator) ≤ members_depth (members_view l.initial.name-iterator);
+}
+
+abbrev pub decreases-tell_from : goal.decreases-tell_from
+decreases-tell_from l = depth (view l.body.now)

@@ -1,0 +1,13 @@
+use Rattle.std.proofs.Common.{◌≡◌, ◌∷◌, ◌++◌, map, drop}
+use Rattle.std.specs.List.{flat_map}
+use Rattle.serde_json.specs.View.{view}
+use Rattle.inventory_read.specs.Keys.{all_key}
+use Rattle.inventory_read.specs.Documents.{groups_from}
+use Rattle.inventory_read.specs.Listings.{outline_at}
+use Rattle.inventory_faults.specs.Listings.{child_of, outline_of}
+use Rattle.inventory_faults.proofs.listing.list_groups.Given as goal
+
+abbrev pub invariant-loop-child : goal.invariant-loop-child
+invariant-loop-child l =
+    map outline_of l.groups.items ++ map (outline_at 2) (flat_map groups_from (map child_of (drop l.child-index l.children))) ≡ record
+    { name = all_key; body = view l.all; depth = 1 } ∷ map (outline_at 2) (flat_map groups_from (map child_of l.children))

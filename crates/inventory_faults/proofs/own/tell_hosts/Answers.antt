@@ -1,0 +1,35 @@
+use Rattle.std.proofs.Common.{◌≡◌, [], map, sym, ap, ◌∙◌, rules}
+use Rattle.std.specs.String.{string_bytes}
+use Rattle.serde_json.specs.View.{view, members_view}
+use Rattle.text_parts.specs.Shapes.{Entry, entries}
+use Rattle.inventory_read.specs.Paths.{text_path}
+use Rattle.inventory_read.specs.Rules.{placed, broken_by_host, broken_by_hosts}
+use Rattle.inventory_faults.specs.Telling.{with_breaches}
+use Rattle.inventory_faults.proofs.Tellings.{all_told, pass_map, with_none}
+use Rattle.inventory_faults.proofs.Walks.{texts}
+use Rattle.inventory_faults.proofs.own.tell_hosts.Goals as goal
+
+pub returns-in_default : goal.returns-in_default
+returns-in_default c =
+    sym (with_none c.args.teller.now)
+    ∙ ap (λ members. with_breaches c.args.teller.now (map (placed (text_path (texts c.args.names.now))) (broken_by_hosts (entries members)))) (sym c.in_default.ensures.entries)
+
+pub loop-host-preserved : goal.loop-host-preserved
+loop-host-preserved c =
+    let l = c.loop-host in
+    let steps = c.in-Some-2.ensures.steps in
+    let entry : Entry = record { name = string_bytes c.in-Some-2.host.now; value = view c.in-Some-2.variables.now } in
+    let path = text_path (texts c.args.names.now) in
+    let own : c.tell_host.new.teller ≡ with_breaches l.teller (map (placed path) (broken_by_host entry)) =
+    rw c.as_str.ensures.value at c.in_ok-tell_host.ensures in
+    pass_map _ _ (placed path) (broken_by_host entry) (broken_by_hosts (entries (members_view c.next.new.self))) _ own (rw steps at l.invariant)
+
+pub returns : goal.returns
+returns c =
+    let l = c.loop-host in
+    let left : l.host-iterator ≡ [] = c.in-None.ensures.steps.0 in
+    let start : c.into_iter-host-iterator.result ≡ c.in-Some.hosts.now.entries = search rules in
+    let path = text_path (texts c.args.names.now) in
+    all_told l.teller _ (rw left at l.invariant)
+    ∙ ap (λ list. with_breaches c.args.teller.now (map (placed path) (broken_by_hosts (entries (members_view list))))) start
+    ∙ ap (λ members. with_breaches c.args.teller.now (map (placed path) (broken_by_hosts (entries members)))) c.in-Some.ensures.entries

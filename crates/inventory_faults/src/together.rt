@@ -1,0 +1,80 @@
+//! All that a document's groups break together.
+ghost use Rattle.std.specs.Prelude.{◌≡◌, List, map, min, nat_le, ◌&&◌, length, OnOk};
+ghost use Rattle.std.specs.List.{list_all, flat_map};
+ghost use Rattle.serde_json.specs.View.{view};
+ghost use Rattle.group_tree.specs.Bounds.{depth_bound, groups_bound, rows_bound};
+ghost use Rattle.inventory_read.specs.Documents as documents;
+ghost use Rattle.inventory_read.specs.Listings.{listing_of, most};
+ghost use Rattle.inventory_read.specs.Values as values;
+ghost use Rattle.inventory_faults.specs.AllBroken.{all_broken_by_tree, repeats};
+ghost use Rattle.inventory_faults.specs.Listings.{outline_of, name_of, rows_at};
+ghost use Rattle.inventory_faults.specs.Telling.{with_breaches};
+
+use crate::entries::entries_at;
+use crate::keys::HOSTS;
+use crate::listing::Listed;
+use crate::teller::Teller;
+use group_tree::{DEPTH_BOUND, GROUPS_BOUND, ROWS_BOUND};
+use inventory_read::ReadFault;
+use serde_json::Value;
+use std::alloc::{AllocError, Global};
+use std::collections::BTreeSet;
+
+/// Tells each group whose name stood before, by its number, counted from 1.
+fn tell_repeats(alloc: Global, teller: &mut Teller, groups: &[Listed<'_>]) -> Result<(), AllocError>
+    ensures { OnOk result (teller.new ≡ with_breaches teller.old (repeats (map name_of groups.now))) }
+{
+    let mut names = BTreeSet::new(alloc);
+    for index in 0..groups.len() {
+        teller.tell_unless(
+            names.insert(groups[index].name)?,
+            ReadFault::TwicePlaced { group: index + 1 },
+        )?;
+    }
+    Ok(())
+}
+
+fn are_within_depth(groups: &[Listed<'_>]) -> bool
+    ensures { result ≡ list_all (λ group. nat_le group.depth depth_bound) groups.now }
+{
+    groups.iter().all(|group| group.depth <= DEPTH_BOUND)
+}
+
+fn count_hosts(body: &Value) -> usize
+    ensures { result ≡ length (values.hosts_in (view body.now)) }
+{
+    match entries_at(body, HOSTS) {
+        Some(hosts) => hosts.len(),
+        None => 0,
+    }
+}
+
+fn count_rows(groups: &[Listed<'_>]) -> usize
+    ensures { result ≡ min (length (flat_map rows_at groups.now)) most }
+{
+    let mut rows = 0usize;
+    for group in groups {
+        rows = rows.saturating_add(count_hosts(group.body));
+    }
+    rows
+}
+
+fn are_few(groups: &[Listed<'_>]) -> bool
+    ensures { result ≡ (nat_le (length groups.now) groups_bound && nat_le (length (flat_map rows_at groups.now)) rows_bound) }
+{
+    groups.len() <= GROUPS_BOUND && count_rows(groups) <= ROWS_BOUND
+}
+
+/// Tells the names that stand twice, the depth, and the number of groups or of rows.
+pub(crate) fn tell_tree(
+    alloc: Global,
+    teller: &mut Teller,
+    groups: &[Listed<'_>],
+) -> Result<(), AllocError>
+    ensures { (listed : List documents.Listed) → map outline_of groups.now ≡ listing_of listed
+        → OnOk result (teller.new ≡ with_breaches teller.old (all_broken_by_tree (values.inventory_from listed))) }
+{
+    tell_repeats(alloc, teller, groups)?;
+    teller.tell_unless(are_within_depth(groups), ReadFault::TooDeep)?;
+    teller.tell_unless(are_few(groups), ReadFault::TooMany)
+}

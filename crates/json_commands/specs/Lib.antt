@@ -1,0 +1,4 @@
+pub mod LimitsTexts
+pub mod PlanTexts
+pub mod CourseTexts
+pub mod Laws

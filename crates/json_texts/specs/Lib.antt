@@ -1,0 +1,4 @@
+pub mod Arrays
+pub mod LimitsJson
+pub mod PlanJson
+pub mod PlayJson

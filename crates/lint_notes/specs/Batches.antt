@@ -1,0 +1,64 @@
+-- What is noted of the batches of a play.
+use Rattle.std.specs.Prelude.{◌≡◌, ℕ, ◌*◌, ◌<◌, Bool, ◌&&◌, nat_lt, min, if◌then◌else◌, Option, None, Some, option_map, List, [], ◌∷◌, length, map, slice_index_or}
+use Rattle.std.specs.List.{find}
+use Rattle.domains.specs.FleetViews.{FleetView}
+use Rattle.play_model.specs.declared.play.Play.{Play}
+use Rattle.play_model.specs.declared.size.Size.{Size}
+use Rattle.play_model.specs.declared.size.Size.TheVariants.{Count, Percent}
+use Rattle.batch_plan.specs.declared.answers.Answer.{Answer}
+use Rattle.batch_plan.specs.declared.answers.Answer.TheVariants.{Planned, Blocked}
+use Rattle.play_course.specs.PlayPlans.{IsPlanOf}
+use Rattle.fleet_states.specs.Batches.{is_past}
+use Rattle.lint_notes.specs.Notes.{Note, idle_serial, one_failure}
+
+-- the number of hosts that a size says; a percentage says none
+abbrev pub counted_hosts : Size → ℕ
+counted_hosts (Count hosts) = hosts
+counted_hosts (Percent share) = 0
+
+-- where so many hosts wait, a batch of this size could have more
+abbrev pub is_idle : ℕ → Size → Bool
+is_idle waiting size = nat_lt waiting (counted_hosts size)
+
+-- the first such size of the play with this number, where somebody waits for it
+abbrev pub size_note : ℕ → List Size → ℕ → Option Note
+size_note number sizes waiting =
+    if nat_lt 0 waiting then option_map (λ size. idle_serial number (counted_hosts size) waiting) (find (is_idle waiting) sizes) else None
+
+-- the least of a number and others
+abbrev pub least_of : ℕ → List ℕ → ℕ
+least_of number [] = number
+least_of number (other ∷ others) = least_of (min number other) others
+
+abbrev pub smallest : List (List ℕ) → Option ℕ
+smallest [] = None
+smallest (batch ∷ batches) = Some (least_of (length batch) (map length batches))
+
+-- how many hosts the smallest batch of a plan has, if there is a plan and somebody waits
+abbrev pub smallest_batch : Answer → Option ℕ
+smallest_batch (Planned plan) = smallest plan.batches
+smallest_batch (Blocked group waiting) = None
+
+-- one failure in a batch of several hosts is more than the percentage, which is above 0
+abbrev pub bears_none : ℕ → ℕ → Bool
+bears_none percent size = nat_lt 0 percent && (nat_lt 1 size && is_past (Some percent) 1 size)
+
+-- The play with this number may go on while no more than this percentage of a batch has failed. That is meant to bear a failure; but of a batch of several hosts, of which one is more than that, it
+-- bears none. Of a batch of one host any failure is all of it.
+abbrev pub failure_note : ℕ → Option ℕ → Option ℕ → Option Note
+failure_note number None size = None
+failure_note number (Some percent) None = None
+failure_note number (Some percent) (Some size) =
+    if bears_none percent size then Some (one_failure number percent size) else None
+
+-- the size of the smallest batch of the plan with which the play begins
+pub record IsSmallestOf (fleet : FleetView) (play : Play) (size : Option ℕ) : Type 0 where
+  pub answer : Answer
+  pub held : List ℕ
+  pub plan : IsPlanOf fleet play answer held
+  pub size_is : size ≡ smallest_batch answer
+
+-- of each play
+pub record AreSmallestOf (fleet : FleetView) (plays : List Play) (sizes : List (Option ℕ)) : Type 0 where
+  pub len : length sizes ≡ length plays
+  pub each : (number : ℕ) (none : Play) → number < length plays → IsSmallestOf fleet (slice_index_or plays number none) (slice_index_or sizes number None)

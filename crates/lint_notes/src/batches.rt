@@ -1,0 +1,135 @@
+//! The notes on a play's batches.
+ghost use Rattle.std.specs.Prelude.{◌≡◌, ◌<◌, IfOk, length, option_map};
+ghost use Rattle.std.specs.List.{find};
+ghost use Rattle.fleet_numbers.specs.NumberLists.{list_at};
+ghost use Rattle.lint_notes.specs.Batches as model;
+ghost use Rattle.lint_notes.specs.Batches.{AreSmallestOf, IsSmallestOf};
+ghost use Rattle.lint_notes.specs.Notes.{seen};
+
+use crate::note::Note;
+use batch_plan::{Answer, Batches};
+use domains::Fleet;
+use group_tree::Percentage;
+use play_course::plan_play;
+use play_model::{Play, Size};
+use std::alloc::{AllocError, Global};
+
+fn counted_hosts(size: Size) -> u16
+    ensures { result ≡ model.counted_hosts size }
+{
+    match size {
+        Size::Count(hosts) => hosts,
+        Size::Percent(_) => 0,
+    }
+}
+
+/// The first of the sizes that is above the number of waiting hosts.
+fn first_idle(sizes: &[Size], waiting: usize) -> Option<Size>
+    ensures { result ≡ find (model.is_idle waiting) sizes.now }
+{
+    sizes
+        .iter()
+        .copied()
+        .find(|size| waiting < usize::from(counted_hosts(*size)))
+}
+
+/// What is noted of the sizes of the play with this number, for which so many hosts wait.
+pub(crate) fn size_note(number: usize, sizes: &[Size], waiting: usize) -> Option<Note<'static>>
+    ensures { option_map seen result ≡ model.size_note number sizes.now waiting }
+{
+    if waiting == 0 {
+        return None;
+    }
+    match first_idle(sizes, waiting) {
+        Some(size) => Some(Note::IdleSerial {
+            play: number,
+            size: counted_hosts(size),
+            waiting,
+        }),
+        None => None,
+    }
+}
+
+/// Whether one failed host of a batch of several is more than the percentage, which is above 0.
+fn bears_none(percent: u8, size: usize) -> bool
+    ensures { result ≡ model.bears_none percent size }
+{
+    percent > 0 && size > 1 && usize::from(percent).saturating_mul(size) < 100
+}
+
+/// What is noted of the failures that the smallest batch of the play with this number bears.
+pub(crate) fn failure_note(
+    number: usize,
+    max_fail: Option<Percentage>,
+    smallest: Option<usize>,
+) -> Option<Note<'static>>
+    ensures { option_map seen result ≡ model.failure_note number max_fail smallest }
+{
+    let percent = max_fail?.value();
+    let size = smallest?;
+    if bears_none(percent, size) {
+        Some(Note::OneFailure {
+            play: number,
+            percent,
+            size,
+        })
+    } else {
+        None
+    }
+}
+
+fn hosts_in(batches: &Batches, place: usize) -> usize
+    requires { place < length batches.now }
+    ensures { result ≡ length (list_at batches.now place) }
+{
+    batches.at(place).len()
+}
+
+/// How many hosts the smallest of the batches has.
+#[tactic(auto, using(crate::proofs::BatchLemmas::smallest_of_some, crate::proofs::BatchLemmas::smallest_of_none, crate::proofs::BatchLemmas::least_more))]
+fn smallest(batches: &Batches) -> Option<usize>
+    ensures { result ≡ model.smallest batches.now }
+{
+    if batches.is_empty() {
+        return None;
+    }
+    let mut least = hosts_in(batches, 0);
+    for place in 1..batches.len() {
+        least = least.min(hosts_in(batches, place));
+    }
+    Some(least)
+}
+
+fn smallest_batch(answer: &Answer) -> Option<usize>
+    ensures { result ≡ model.smallest_batch answer.now }
+{
+    match answer {
+        Answer::Planned(plan) => smallest(&plan.batches),
+        Answer::Blocked { .. } => None,
+    }
+}
+
+/// How many hosts the smallest batch of a play has whose pattern was looked up. It fails for want of memory alone.
+fn smallest_of(alloc: Global, fleet: &Fleet, play: &Play) -> Result<Option<usize>, AllocError>
+    ensures { IfOk result (IsSmallestOf fleet.now play.now) }
+{
+    match plan_play(alloc, fleet, play) {
+        Ok(planned) => Ok(smallest_batch(&planned.answer)),
+        Err(_refused) => Err(AllocError),
+    }
+}
+
+/// The same of each play.
+pub(crate) fn list_smallest(
+    alloc: Global,
+    fleet: &Fleet,
+    plays: &[Play],
+) -> Result<Vec<Option<usize>>, AllocError>
+    ensures { IfOk result (λ sizes. AreSmallestOf fleet.now plays.now sizes.items) }
+{
+    let mut sizes = Vec::with_capacity(alloc, plays.len())?;
+    for play in plays {
+        sizes.push(smallest_of(alloc, fleet, play)?)?;
+    }
+    Ok(sizes)
+}

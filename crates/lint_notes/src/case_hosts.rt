@@ -1,0 +1,91 @@
+//! The notes on hosts whose names differ in case alone.
+ghost use Rattle.std.specs.Prelude.{◌≡◌, ◌++◌, OnOk, IfOk, Some, cond, option_map, string_bytes};
+ghost use Rattle.group_tree.specs.Names.{Name, same_name};
+ghost use Rattle.lint_notes.specs.CaseHosts as model;
+ghost use Rattle.lint_notes.specs.CaseHosts.{fleet_notes, hosts_notes, small_letters};
+ghost use Rattle.lint_notes.specs.Inside.{first_kept, kept_with};
+ghost use Rattle.lint_notes.specs.Notes.{noted, seen};
+
+use crate::groups::note_groups;
+use crate::note::Note;
+use crate::notes::Notes;
+use domains::Fleet;
+use group_tree::{HostId, Tree};
+use indexmap::IndexMap;
+use std::alloc::{AllocError, Allocator, Global};
+
+/// What is noted of a host that is like this one, which comes first.
+fn alike_note<'a>(first: &'a str, name: &'a str) -> Option<Note<'a>>
+    ensures { option_map seen result ≡ model.alike_note name.now (Some first.now) }
+{
+    if first == name {
+        None
+    } else {
+        Some(Note::CaseHosts {
+            host: first,
+            other: name,
+        })
+    }
+}
+
+/// The name that is kept under these letters.
+fn kept_first<'a>(firsts: &IndexMap<String, &'a str>, letters: &str) -> Option<&'a str>
+    ensures { option_map (λ name. name.now) result ≡ first_kept firsts.now letters.now }
+{
+    firsts.get(letters).copied()
+}
+
+fn keep_first<'a>(
+    firsts: &mut IndexMap<String, &'a str>,
+    letters: String,
+    name: &'a str,
+) -> Result<(), AllocError>
+    ensures { OnOk result ((other : Name) → first_kept firsts.new other
+        ≡ cond (same_name (string_bytes letters) other) (Some name.now) (first_kept firsts.old other)) }
+{
+    firsts.insert(letters, name)?;
+    Ok(())
+}
+
+/// Adds what is noted of a host, and keeps its name where it is the first of its like. The names stand under their small letters.
+fn note_host<'a>(
+    alloc: Global,
+    notes: &mut Notes<'a>,
+    firsts: &mut IndexMap<String, &'a str>,
+    name: &'a str,
+) -> Result<(), AllocError>
+    ensures notes { OnOk result (notes.new ≡ notes.old ++ noted (model.alike_note name.now (first_kept firsts.old (small_letters name.now)))) }
+    ensures firsts { OnOk result ((letters : Name) → first_kept firsts.new letters ≡ kept_with (first_kept firsts.old) name.now letters) }
+{
+    let letters = name.to_ascii_lowercase(alloc)?;
+    match kept_first(firsts, letters.as_str()) {
+        Some(first) => notes.add(alike_note(first, name))?,
+        None => keep_first(firsts, letters, name)?,
+    }
+    Ok(())
+}
+
+/// Adds what is noted of the names of the fleet's hosts, in their order.
+fn note_hosts<'a>(alloc: Global, notes: &mut Notes<'a>, fleet: &'a Fleet) -> Result<(), AllocError>
+    ensures { OnOk result (notes.new ≡ notes.old ++ hosts_notes fleet.now.hosts) }
+{
+    let mut firsts = IndexMap::new(alloc);
+    for index in 0..fleet.hosts() {
+        note_host(alloc, notes, &mut firsts, fleet.name(HostId { index }))?;
+    }
+    Ok(())
+}
+
+/// The notes on the groups of a tree and on the hosts of its fleet. It fails for want of memory alone.
+pub(crate) fn list_fleet_notes<'a, A: Allocator>(
+    alloc: Global,
+    tree: &'a Tree<A>,
+    fleet: &'a Fleet,
+) -> Result<Notes<'a>, AllocError>
+    ensures { IfOk result (λ notes. notes ≡ fleet_notes tree.now fleet.now) }
+{
+    let mut notes = Notes::new(alloc);
+    note_groups(&mut notes, tree, fleet)?;
+    note_hosts(alloc, &mut notes, fleet)?;
+    Ok(notes)
+}

@@ -1,0 +1,11 @@
+use Rattle.std.proofs.Common.{◌≡◌, drop}
+use Rattle.missing_names.specs.Gaps.{names_found}
+use Rattle.missing_names.specs.Misses.{missed_in_words, once_behind}
+use Rattle.missing_names.proofs.Onces.{once_words}
+use Rattle.missing_names.proofs.gaps.add_words.Given as goal
+
+-- what is left goes behind what was found
+abbrev pub invariant-loop-place : goal.invariant-loop-place
+invariant-loop-place g l =
+    once_words (g.F.Foresight.outset l.foresight) (names_found l.found) (drop l.place l.words)
+    ≡ once_behind (names_found l.initial.found) (missed_in_words (g.F.Foresight.outset l.foresight) l.words)

@@ -1,0 +1,17 @@
+-- What is lent of the outset and of names.
+use Rattle.std.specs.Prelude.{List, map}
+use Rattle.std.specs.Borrow.{Bor}
+use Rattle.group_tree.specs.Names.{Name}
+use Rattle.group_tree.specs.Scalars.{lent_scalar}
+use Rattle.missing_names.specs.Outset as outset
+use Rattle.missing_names.specs.declared.standing.Standing.{Standing}
+use Rattle.missing_names.specs.declared.standing.Standing.TheVariants as standing
+
+abbrev pub stood : Standing → outset.Standing
+stood (standing.Variable scalar) = outset.variable (lent_scalar scalar)
+stood standing.Registered = outset.registered
+stood (standing.Perhaps is_variable) = outset.perhaps is_variable
+stood standing.Nothing = outset.nothing
+
+abbrev pub lent_names : List (Bor Name) → List Name
+lent_names names = map (λ (name : Bor Name). name.now) names

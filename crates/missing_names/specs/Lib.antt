@@ -1,0 +1,12 @@
+pub mod Outset
+pub mod Outlook
+pub mod Lent
+pub mod Accords
+pub mod Past
+pub mod Misses
+pub mod Spots
+pub mod Gaps
+pub mod Places
+pub mod Inside
+pub mod NoValues
+pub mod Laws

@@ -1,0 +1,6 @@
+//! The one of some names that was probably meant where another was written.
+#![tactic(auto)]
+
+mod nearness;
+
+pub use nearness::{LONGEST, nearest};

@@ -1,0 +1,15 @@
+pub mod Paths
+pub mod Firsts
+pub mod Faults
+pub mod Rules
+pub mod Findings
+pub mod Entries
+pub mod Commands
+pub mod Seen
+pub mod StepFindings
+pub mod Settings
+pub mod PlayFindings
+pub mod Names
+pub mod Telling
+pub mod Patterns
+pub mod Laws

@@ -1,0 +1,30 @@
+-- Paths in a text: the keys and the places in lists, from 0, on the way from the top value, joined by `/`.
+use Rattle.std.specs.Prelude.{ℕ, List, ◌∷◌, ◌++◌, decimal}
+use Rattle.group_tree.specs.Names.{Name}
+use Rattle.play_rules.specs.Keys.{tasks_key, handlers_key}
+use Rattle.play_rules.specs.declared.flaw.Below.{Below}
+use Rattle.play_rules.specs.declared.flaw.Below.TheVariants.{Itself, Key, Element, Parameter, ParameterElement}
+
+abbrev pub Path : Type 0
+Path = List ℕ
+
+-- the value under a key, and the element at a place
+abbrev pub under : Path → Name → Path
+under path key = path ++ 47 ∷ key
+
+abbrev pub element : Path → ℕ → Path
+element path place = under path (decimal place)
+
+-- what stands below a play or a step
+abbrev pub below : Path → Below → Path
+below path Itself = path
+below path (Key key) = under path key.now
+below path (Element key place) = element (under path key.now) place
+below path (Parameter key parameter) = under (under path key.now) parameter.now
+below path (ParameterElement key parameter place) = element (under (under path key.now) parameter.now) place
+
+abbrev pub task_path : Path → ℕ → Path
+task_path play place = element (under play tasks_key) place
+
+abbrev pub handler_path : Path → ℕ → Path
+handler_path play place = element (under play handlers_key) place

@@ -1,0 +1,37 @@
+//! The lists `tasks` and `handlers` of a play.
+ghost use Rattle.std.specs.Prelude.{◌≡◌, [], map, unwrap_or};
+ghost use Rattle.serde_json.specs.View.{view};
+ghost use Rattle.text_parts.specs.Shapes as shapes;
+ghost use Rattle.play_rules.specs.Plays as spec;
+
+use serde_json::Value;
+use text_parts::elements_of;
+
+/// The tasks of a play; none where `tasks` is missing or no list.
+pub(crate) fn tasks_of(play: &Value) -> &[Value]
+    ensures { map view result.now ≡ spec.tasks_in (view play.now) }
+{
+    match play.get("tasks") {
+        Some(tasks) => elements(tasks),
+        None => &[],
+    }
+}
+
+/// The handlers of a play; none where `handlers` is missing or no list.
+pub(crate) fn handlers_of(play: &Value) -> &[Value]
+    ensures { map view result.now ≡ spec.handlers_in (view play.now) }
+{
+    match play.get("handlers") {
+        Some(handlers) => elements(handlers),
+        None => &[],
+    }
+}
+
+fn elements(value: &Value) -> &[Value]
+    ensures { map view result.now ≡ unwrap_or (shapes.elements_of (view value.now)) [] }
+{
+    match elements_of(value) {
+        Some(list) => list,
+        None => &[],
+    }
+}

@@ -1,0 +1,66 @@
+#!/bin/sh
+# Wrong files, of which `lint` tells each fault and what helps behind it, and the other commands the first one: a table of them (tests/faults/README.md), worked ones of other scripts, and files at
+# the bounds; and where the files come from and the lines go to. Drawn ones stand in tests/drawn.sh, beside the slow program. It needs Python 3.11 and crates/rollout/out/rollout; ROLLOUT is another
+# program.
+. "$(dirname "$0")/common.sh"
+counting python3 "$top/tests/faults/check.py" "$rollout"
+
+inventory=$work/inventory.json
+playbook=$work/playbook.json
+printf '{"web": {"hosts": {"web1": {"down": 1}}}}' >"$inventory"
+printf '[{"hosts": "web", "tasks": [{"command": "true", "when": "web_size > 3"}]}]' >"$playbook"
+down='rollout: 205 BadDown at=web/hosts/web1/down'
+when='rollout: 501 BadToken step=1 key=when at=9'
+
+# without_help: the last run's output, without the lines that help; `helped` counts these.
+without_help() {
+    helped=$(grep -c '^  [^ ]' "$work/out")
+    sed -i '/^  [^ ]/d' "$work/out"
+}
+
+run lint "$inventory" "$playbook"
+without_help
+check 'faults of both files' 1 "$down$newline$when${newline}faults=2$newline" ''
+run lint "$inventory" "$playbook" --allow no-hosts,unknown-name
+without_help
+check 'kinds of notes that are switched off switch no fault off' 1 "$down$newline$when${newline}faults=2$newline" ''
+run lint "$inventory"
+without_help
+check 'the inventory alone' 1 "$down${newline}faults=1$newline" ''
+
+# A pipe is read once: lint helps all the same, and the others say nothing behind the fault.
+cat "$inventory" | "$rollout" lint /dev/stdin "$playbook" >"$work/out" 2>"$work/errors"
+status=$?
+without_help
+check 'an inventory from a pipe' 1 "$down$newline$when${newline}faults=2$newline" ''
+[ "$helped" -eq 2 ] && pass || fail "an inventory from a pipe: $helped lines help"
+cat "$inventory" | "$rollout" plan -v /dev/stdin "$playbook" >"$work/out" 2>"$work/errors"
+status=$?
+check 'a plan of an inventory from a pipe' 1 '' "$down$newline"
+cat "$inventory" | "$rollout" limits -v /dev/stdin >"$work/out" 2>"$work/errors"
+status=$?
+check 'limits of an inventory from a pipe' 1 '' "$down$newline"
+
+# What keeps a file from being read goes to standard error, alone.
+run lint "$inventory" "$work/missing"
+check 'a playbook that is not there, beside an inventory with faults' 1 '' "rollout: 902 File name=$work/missing$newline"
+head -c 16777217 /dev/zero >"$work/large"
+run lint "$inventory" "$work/large"
+check 'a playbook that is too large' 1 '' "rollout: 903 InputTooLarge$newline"
+
+for command in 'run -v' 'rehearse -v'; do
+    # shellcheck disable=SC2086
+    run $command "$inventory" "$playbook"
+    [ "$(head -n 1 "$work/errors")" = "$down" ] && [ "$(wc -l <"$work/errors")" -eq 2 ] && [ "$status" -eq 1 ] && pass || fail "$command: status $status, $(cat "$work/errors")"
+done
+for command in plan run rehearse; do
+    run "$command" "$inventory" "$playbook"
+    check "$command says the first fault alone" 1 '' "$down$newline"
+done
+if [ -w /dev/full ]; then
+    "$rollout" lint "$inventory" "$playbook" >/dev/full 2>"$work/errors" </dev/null
+    status=$?
+    : >"$work/out"
+    check 'an output that takes nothing' 1 '' "rollout: 904 Write written=0$newline"
+fi
+finish
