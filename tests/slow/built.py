@@ -32,10 +32,11 @@ def unhelped(out):
 
 
 def _told(case, errors):
-    """Standard error; of a run that tells of itself without its times and what helps behind a fault, and where programs run at once, in the order of one at a time."""
+    """Standard error; without what helps behind a fault where more is asked for, and of a run that tells of itself without its times, and where programs run at once, in the order of one at a time."""
+    if any(word in ("-v", "--verbose") for word in case.words):
+        errors = unhelped(errors)
     if not case.is_verbose:
         return errors
-    errors = unhelped(errors)
     return timeless(errors) if case.words[-1] == "1" else in_order(errors)
 
 
