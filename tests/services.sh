@@ -137,7 +137,7 @@ if [ -n "$as_others" ]; then
 end fault
 ' "rollout: memory
 a waits
-next: run what is left, with a narrower \"hosts\" (docs/FROM_ANSIBLE.md)
+next: go on, by --resume JOURNAL, or without a journal by a narrower \"hosts\" (docs/DURING_AND_AFTER.md)
 "
 fi
 
