@@ -702,7 +702,7 @@ bad jump 'rollout <COMMAND>' "unrecognized subcommand 'jump'"
 bad plan 'rollout plan <INV> <PLAY>' "the following required arguments were not provided:$newline  <INV>$newline  <PLAY>"
 bad 'plan a' 'rollout plan <INV> <PLAY>' "the following required arguments were not provided:$newline  <PLAY>"
 bad 'plan a b c' 'rollout plan [OPTIONS] <INV> <PLAY>' "unexpected argument 'c' found"
-bad 'plan --quiet a b' 'rollout plan [OPTIONS] <INV> <PLAY>' "unexpected argument '--quiet' found$newline$newline  tip: to pass '--quiet' as a value, use '-- --quiet'"
+bad 'plan --quiet a b' 'rollout plan [OPTIONS] <INV> <PLAY>' "unexpected argument '--quiet' found"
 bad run 'rollout run <INV> <PLAY>' "the following required arguments were not provided:$newline  <INV>$newline  <PLAY>"
 bad 'run a' 'rollout run <INV> <PLAY>' "the following required arguments were not provided:$newline  <PLAY>"
 bad 'run a b c' 'rollout run [OPTIONS] <INV> <PLAY>' "unexpected argument 'c' found"
@@ -735,39 +735,51 @@ lacks expect LIST 'plan a b --expect batches=1'
 lacks mended HOSTS 'limits a --from --mended'
 lacks journal FILE 'run a b --resume --journal'
 
-# apart WORDS: options that don't go together
+# apart WHY WORDS: options that don't go together
 apart() {
-    run $1
-    check "the line '$1'" 1 '' "rollout: 901 BadLine$newline"
+    run $2
+    check "the line '$2'" 1 '' "rollout: 901 BadLine${newline}error: $1$newline"
 }
-for words in '--changed-inputs' '--mended c --changed-inputs' '--resume c --journal d' '--journal d --resume c' '--journal=d --resume=c'; do
-    apart "run a b $words"
+for words in '--changed-inputs' '--mended c --changed-inputs'; do
+    apart '--changed-inputs goes with --resume, with --from and with state' "run a b $words"
 done
-for words in '--failing c' '--failing c --from d' '--mended c' '--changed-inputs' '--course --mended c' '--from c --groups' '--from c --picture d' '--course --groups --from c' '--groups --picture d --from=c'; do
-    apart "plan a b $words"
+for words in '--resume c --journal d' '--journal d --resume c' '--journal=d --resume=c'; do
+    apart "--journal doesn't go with --resume: a run that goes on is kept in the journal that --resume names" "run a b $words"
 done
-for words in '--words --course' '--words --groups' '--words --picture c' '--from c --words' '--words --expect batches=1' '--expect batches=1 --course' '--expect x --groups' '--expect batches=1 --picture c' \
-    '--from c --expect=batches=1'; do
-    apart "plan a b $words"
+for words in '--failing c' '--failing c --from d'; do
+    apart '--failing goes with --course' "plan a b $words"
 done
-apart 'limits a --expect hosts=1 --from c'
+for words in 'plan a b --mended c' 'plan a b --course --mended c' 'rehearse a b --mended c' 'limits a --mended c'; do
+    apart '--mended goes with run, and else with --from' "$words"
+done
+for words in 'plan a b' 'rehearse a b' 'limits a'; do
+    apart '--changed-inputs goes with --resume, with --from and with state' "$words --changed-inputs"
+    apart '--changed-inputs goes with --resume, with --from and with state' "$words --mended=c --changed-inputs"
+done
+for words in '--from c --groups' '--from c --picture d' '--course --groups --from c' '--groups --picture d --from=c'; do
+    apart "--from doesn't go with --groups and --picture" "plan a b $words"
+done
+for words in '--words --course' '--words --groups' '--words --picture c' '--from c --words' '--words --expect batches=1'; do
+    apart "--words doesn't go with --course, --groups, --picture, --from and --expect" "plan a b $words"
+done
+for words in 'plan a b --expect batches=1 --course' 'plan a b --expect x --groups' 'plan a b --expect batches=1 --picture c' 'plan a b --from c --expect=batches=1' 'limits a --expect hosts=1 --from c'; do
+    apart "--expect doesn't go with --course, --groups, --picture and --from" "$words"
+done
 for words in --groups '--picture c' --words '--expect batches=1' '--from c'; do
-    apart "plan a b --json $words"
+    apart "--json doesn't go with --groups, --picture, --from, --expect and --words" "plan a b --json $words"
 done
 for words in '--expect hosts=1' '--from c'; do
-    apart "limits a $words --json"
+    apart "--json doesn't go with --groups, --picture, --from, --expect and --words" "limits a $words --json"
 done
 for words in '--resume c' '--mended c'; do
-    apart "run a b --strict $words"
+    apart "--strict of a run doesn't go with --resume and --mended" "run a b --strict $words"
 done
 for words in --color= --color=red '--color Always' '--groups --color on'; do
-    apart "plan a b $words"
+    apart '--color has the values auto, always and never' "plan a b $words"
 done
-for words in 'rehearse a b' 'limits a'; do
-    apart "$words --mended c"
-    apart "$words --changed-inputs"
-    apart "$words --mended=c --changed-inputs"
-done
+# Where several rules are broken, the first is told.
+apart '--failing goes with --course' 'plan a b --failing c --mended d --json --words'
+apart "--from doesn't go with --groups and --picture" 'plan a b --json --color red --from c --groups'
 
 # read_by WORDS NAME: the words are a line, by which this file is missing
 read_by() {
@@ -818,19 +830,19 @@ bad 'run -- a b --lock' 'rollout run [OPTIONS] <INV> <PLAY>' "unexpected argumen
 bad 'limits -- a --from c' 'rollout limits [OPTIONS] <INV>' "unexpected argument '--from' found"
 bad 'rehearse -- a b --from c' 'rollout rehearse [OPTIONS] <INV> <PLAY>' "unexpected argument '--from' found"
 bad 'state -- a b --changed-inputs' 'rollout state [OPTIONS] <INV> <JOURNAL>' "unexpected argument '--changed-inputs' found"
-bad 'state a b --from c' 'rollout state <INV> <JOURNAL>' "unexpected argument '--from' found$newline$newline  tip: to pass '--from' as a value, use '-- --from'"
-bad 'state a b --mended c' 'rollout state <INV> <JOURNAL>' "unexpected argument '--mended' found$newline$newline  tip: to pass '--mended' as a value, use '-- --mended'"
-bad 'run a b --from c' 'rollout run <INV> <PLAY>' "unexpected argument '--from' found$newline$newline  tip: to pass '--from' as a value, use '-- --from'"
+bad 'state a b --from c' 'rollout state <INV> <JOURNAL>' "unexpected argument '--from' found"
+bad 'state a b --mended c' 'rollout state <INV> <JOURNAL>' "unexpected argument '--mended' found"
+bad 'run a b --from c' 'rollout run <INV> <PLAY>' "unexpected argument '--from' found"
 bad 'run -- a b --journal c' 'rollout run [OPTIONS] <INV> <PLAY>' "unexpected argument '--journal' found"
 bad 'run -- a b --stop-file c' 'rollout run [OPTIONS] <INV> <PLAY>' "unexpected argument '--stop-file' found"
 bad 'plan -- a b --color always' 'rollout plan [OPTIONS] <INV> <PLAY>' "unexpected argument '--color' found"
 bad 'plan -- a b --picture c' 'rollout plan [OPTIONS] <INV> <PLAY>' "unexpected argument '--picture' found"
 bad 'rehearse -- a b --strict' 'rollout rehearse [OPTIONS] <INV> <PLAY>' "unexpected argument '--strict' found"
-bad 'limits a --strict' 'rollout limits <INV>' "unexpected argument '--strict' found$newline$newline  tip: to pass '--strict' as a value, use '-- --strict'"
+bad 'limits a --strict' 'rollout limits <INV>' "unexpected argument '--strict' found"
 bad '-v run a b' 'rollout <COMMAND>' "unexpected argument '-v' found"
 bad rehearse 'rollout rehearse <INV> <PLAY>' "the following required arguments were not provided:$newline  <INV>$newline  <PLAY>"
 bad 'rehearse a b c' 'rollout rehearse [OPTIONS] <INV> <PLAY>' "unexpected argument 'c' found"
-bad 'rehearse --forks 3 a b' 'rollout rehearse [OPTIONS] <INV> <PLAY>' "unexpected argument '--forks' found$newline$newline  tip: to pass '--forks' as a value, use '-- --forks'"
+bad 'rehearse --forks 3 a b' 'rollout rehearse [OPTIONS] <INV> <PLAY>' "unexpected argument '--forks' found"
 bad 'rehears a b' 'rollout <COMMAND>' "unrecognized subcommand 'rehears'$newline$newline  tip: a similar subcommand exists: 'rehearse'"
 bad state 'rollout state <INV> <JOURNAL>' "the following required arguments were not provided:$newline  <INV>$newline  <JOURNAL>"
 bad 'state a' 'rollout state <INV> <JOURNAL>' "the following required arguments were not provided:$newline  <JOURNAL>"
@@ -838,11 +850,11 @@ bad 'state a b c' 'rollout state [OPTIONS] <INV> <JOURNAL>' "unexpected argument
 bad check 'rollout check <INV> <PLAY> <PLAN>' "the following required arguments were not provided:$newline  <INV>$newline  <PLAY>$newline  <PLAN>"
 bad 'check a b' 'rollout check <INV> <PLAY> <PLAN>' "the following required arguments were not provided:$newline  <PLAN>"
 bad 'check a b c d' 'rollout check <INV> <PLAY> <PLAN>' "unexpected argument 'd' found"
-bad 'check a b c --words' 'rollout check <INV> <PLAY> <PLAN>' "unexpected argument '--words' found$newline$newline  tip: to pass '--words' as a value, use '-- --words'"
+bad 'check a b c --words' 'rollout check <INV> <PLAY> <PLAN>' "unexpected argument '--words' found"
 bad explain 'rollout explain <NUMBER>' "the following required arguments were not provided:$newline  <NUMBER>"
 bad 'explain 1 2' 'rollout explain <NUMBER>' "unexpected argument '2' found"
 apart 'explain 1'
-bad 'rehearse a b --expect batches=1' 'rollout rehearse <INV> <PLAY>' "unexpected argument '--expect' found$newline$newline  tip: to pass '--expect' as a value, use '-- --expect'"
+bad 'rehearse a b --expect batches=1' 'rollout rehearse <INV> <PLAY>' "unexpected argument '--expect' found"
 bad 'plan -- a b --words' 'rollout plan [OPTIONS] <INV> <PLAY>' "unexpected argument '--words' found"
 bad 'limits -- a --expect b' 'rollout limits [OPTIONS] <INV>' "unexpected argument '--expect' found"
 bad 'plan a b --words=all' 'rollout plan --words <INV> <PLAY>' "unexpected value 'all' for '--words' found; no more were expected"

@@ -3,7 +3,7 @@ use Rattle.std.proofs.Common.{◌≡◌, ◌&&◌, ◌++◌, ◌∷◌, Bool, tr
 use Rattle.std.specs.Prelude.{option_and_then}
 use Rattle.std.specs.Str.{bytes_eq}
 use Rattle.command_line.specs.Operands.{Word, dashes}
-use Rattle.command_line.specs.OptionReads.{Given, Reading, Spelling, awaits, flag, holds, leading, nothing, read, read_behind, spelled, taken, with_given, with_spelled, with_word}
+use Rattle.command_line.specs.OptionReads.{Given, Reading, Spelling, awaits, flag, holds, leading, read, read_behind, spelled, taken, with_given, with_spelled, with_word}
 use Rattle.command_line.specs.declared.option_name.OptionName.{OptionName}
 
 abbrev pub goes_on : Bool → Word → Bool

@@ -1,5 +1,5 @@
 -- What is refused is no command, no request for a text is a bad line, and only a request gets a text.
-use Rattle.std.proofs.Common.{◌≡◌, ◌≢◌, ℕ, true, false, List, [], ◌∷◌, Option, Some, None, codes, length, map, eqb, ap, refl, sym, inl, inr, ◌⊎◌, subst, ◌∙◌, ⊎_elim}
+use Rattle.std.proofs.Common.{◌≡◌, ◌≢◌, true, false, List, [], ◌∷◌, Option, Some, None, codes, length, map, eqb, ap, refl, sym, inl, inr, ◌⊎◌, subst, ◌∙◌, ⊎_elim}
 use Rattle.clap.specs.Words.{HasKind, IsAmong, fault_of, kind_of, subcommand_of, takes}
 use Rattle.clap.specs.declared.error.Error.{Error}
 use Rattle.clap.specs.declared.error.kind.ErrorKind.{ErrorKind}
@@ -9,7 +9,7 @@ use Rattle.std.specs.Prelude.{Result, Ok, Err, IfOk, IfErr}
 use Rattle.command_line.specs.declared.command.Line.{Line}
 use Rattle.command_line.specs.declared.command.Line.TheVariants.{Limits, Plan, Run, Rehearse, State, Check, Lint, Explain, Print}
 use Rattle.command_line.specs.declared.fault.LineFault.{LineFault}
-use Rattle.command_line.specs.declared.fault.LineFault.TheVariants.{BadLine, Unexplained, Memory}
+use Rattle.command_line.specs.declared.fault.LineFault.TheVariants.{BadLine, Apart, Unexplained, Memory}
 use Rattle.command_line.specs.Answers.{AnswersFor, Disagrees, FindsOthers}
 use Rattle.command_line.specs.Messages as messages
 use Rattle.command_line.specs.Messages.{IsAskedFor}
@@ -205,6 +205,7 @@ explains words e message is other help version has = record {
 pub refused : (words : List Word) (e : Error) (answer : Result Line LineFault) → is_empty words ≡ false → (takes rollout words ≡ true → kind_of e ≡ OutOfMemory) → HasKind (fault_of rollout words) e
     → AnswersFor (kind_of e) answer → IfErr answer (Refuses words)
 refused words e (Err Memory) some taken has answers = some
+refused words e (Err (Apart clash)) some taken has answers = absurd answers
 refused words e (Err Unexplained) some taken has answers = absurd answers
 refused words e (Err (BadLine message)) some taken has answers =
     let memory = answers.1 in
@@ -249,6 +250,7 @@ pub mismatched : (words : List Word) (fault : LineFault) → is_empty words ≡ 
     → Disagrees words (subcommand_of rollout words) fault → Refuses words fault
 mismatched words Memory some taken disagrees = some
 mismatched words (BadLine message) some taken disagrees = absurd disagrees
+mismatched words (Apart clash) some taken disagrees = absurd disagrees
 mismatched words Unexplained some taken disagrees = (
   others_by words (asked_by words) refl some disagrees,
   no_request words (λ request kind faults which is. let none : [] ≡ kind ∷ [] = sym taken ∙ ap (fault_of rollout) is ∙ faults in cc),

@@ -6,7 +6,7 @@ use Rattle.clap.specs.Simple.{App, Shape, built, entered, help_rule, names_of, n
 use Rattle.clap.specs.Takes.{default_passes, entered_passes, is_valid, level_passes, settle_passes, walk_passes}
 use Rattle.clap.specs.ValueTests.{accepts}
 use Rattle.clap.specs.Walk.{Names, Rule, Text, Walk, finished, nothing_held, rows_after, walk, walk_from, walked}
-use Rattle.clap.specs.Words.{first_of, new_app, one_of, subcommand_of, takes, with_rule}
+use Rattle.clap.specs.Words.{first_of, one_of, subcommand_of, takes}
 use Rattle.clap.specs.declared.builder.action.ArgAction.TheVariants.{Set}
 use Rattle.clap.specs.declared.builder.value_parser.ValueParser.{ValueParser}
 use Rattle.clap.specs.declared.builder.range.ValueRange.{ValueRange}

@@ -1,5 +1,5 @@
 -- What clap's answers say of the words.
-use Rattle.std.specs.Prelude.{◌≡◌, ◌≢◌, ℕ, List, Option, Some, None, Result, Ok, Err, codes, ⊤}
+use Rattle.std.specs.Prelude.{◌≡◌, ◌≢◌, List, Option, Some, None, Result, Ok, Err, codes, ⊤}
 use Rattle.clap.specs.Words.{Row, Text}
 use Rattle.clap.specs.declared.error.kind.ErrorKind.{ErrorKind}
 use Rattle.clap.specs.declared.error.kind.ErrorKind.TheVariants.{DisplayHelp, DisplayVersion, OutOfMemory}
@@ -7,7 +7,7 @@ use Rattle.command_line.specs.declared.command.Line.{Line}
 use Rattle.command_line.specs.declared.command.Line.TheVariants.{Limits, Plan, Run, Rehearse, State, Check, Lint, Explain, Print}
 use Rattle.command_line.specs.declared.command.Source.{Source}
 use Rattle.command_line.specs.declared.fault.LineFault.{LineFault}
-use Rattle.command_line.specs.declared.fault.LineFault.TheVariants.{BadLine, Unexplained, Memory}
+use Rattle.command_line.specs.declared.fault.LineFault.TheVariants.{BadLine, Apart, Unexplained, Memory}
 use Rattle.command_line.specs.Messages as messages
 use Rattle.command_line.specs.Messages.{IsAskedFor}
 use Rattle.command_line.specs.Syntax.{file_in, forks_found}
@@ -32,6 +32,7 @@ AnswersFor kind (Ok (Check inventory playbook plan)) = ⊥
 AnswersFor kind (Ok (Lint inventory playbook)) = ⊥
 AnswersFor kind (Ok (Explain number)) = ⊥
 AnswersFor kind (Err Memory) = ⊤
+AnswersFor kind (Err (Apart clash)) = ⊥
 AnswersFor kind (Err Unexplained) = ⊥
 AnswersFor kind (Err (BadLine message)) =
     (messages.kind_of message ≡ kind) × (kind ≢ OutOfMemory) × (kind ≢ DisplayHelp) × (kind ≢ DisplayVersion)
@@ -64,6 +65,7 @@ FindsOthers (Some wanted) found = Finds wanted found → ⊥
 abbrev pub Disagrees : List Word → Option (Text × List Row) → LineFault → Type 0
 Disagrees words found Memory = ⊤
 Disagrees words found (BadLine message) = ⊥
+Disagrees words found (Apart clash) = ⊥
 Disagrees words found Unexplained = FindsOthers (asked_by words) found
 
 -- the line that asks for this
@@ -85,4 +87,5 @@ AreThree names sources = three_names sources.0 sources.1 sources.2 ≡ Some name
 abbrev pub IsUnmade : Type 0 → LineFault → Type 0
 IsUnmade agreed Memory = ⊤
 IsUnmade agreed (BadLine message) = ⊥
+IsUnmade agreed (Apart clash) = ⊥
 IsUnmade agreed Unexplained = agreed → ⊥

@@ -1,5 +1,6 @@
 pub mod Answers
 pub mod Asked
+pub mod Clashes
 pub mod Faults
 pub mod Forks
 pub mod Messages

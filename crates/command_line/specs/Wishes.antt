@@ -1,8 +1,10 @@
 -- What the words of a line ask for beside it, by their options.
-use Rattle.std.specs.Prelude.{Bool, true, false, ◌&&◌, ◌||◌, not, if◌then◌else◌, List, [], ◌∷◌, ◌++◌, Option, Some, None, option_map, codes, flat_map, map, string_bytes}
+use Rattle.std.specs.Prelude.{Bool, ◌&&◌, ◌||◌, not, if◌then◌else◌, List, [], ◌∷◌, ◌++◌, Option, Some, None, option_map, codes, flat_map, string_bytes}
 use Rattle.std.specs.List.{last_or, list_all, list_any}
 use Rattle.std.specs.Option.{option_or}
 use Rattle.std.specs.Str.{bytes_eq}
+use Rattle.command_line.specs.declared.clash.Clash.{Clash}
+use Rattle.command_line.specs.declared.clash.Clash.TheVariants.{FailingAlone, JournalOfResume, ChangedInputsAlone, MendedAlone, GroupsFrom, ExpectBeyond, WordsBeside, NoJson, StrictOfOthers, NoColor}
 use Rattle.command_line.specs.declared.option_name.OptionName.{OptionName}
 use Rattle.command_line.specs.declared.option_name.OptionName.TheVariants.{Allow, ChangedInputs, Color, Course, Expect, Failing, From, Groups, Journal, Json, Lock, Mended, Picture, Quiet, Resume, StopFile, Strict, Verbose, Words}
 use Rattle.command_line.specs.declared.wishes.Wishes as declared
@@ -79,29 +81,46 @@ are_colours given = list_all says_when given
 abbrev goes_with : Bool → Bool → Bool
 goes_with given holds = not given || holds
 
--- these options go together: failing hosts with a course; a run that goes on is kept where it was; and where nothing begins from a journal or tells of one, no inputs are others than its own,
--- and of a run alone hosts are up by now. What begins from a journal has no table of its groups and no picture. Numbers are expected of the table of limits
--- and of the plan at the start, and words are told in place of all else. What is told of the start or the end, and of a course, has a form in JSON. Names may be missing
--- as the inventory has the hosts: where others are up, or a run goes on, nobody looks for them.
-abbrev pub go_together : Word → List Given → Bool
-go_together command given =
-    goes_with (has Failing given) (has Course given)
-    && (goes_with (has Journal given) (not (has Resume given))
-    && (goes_with (has ChangedInputs given) (begins_from given || bytes_eq command (codes "state"))
-    && (goes_with (has Mended given) (begins_from given || bytes_eq command (codes "run"))
-    && (goes_with (has From given) (not (tells_groups given))
-    && (goes_with (has Expect given) (not (tells_beyond given))
-    && (goes_with (has Words given) (stand_alone given)
-    && (goes_with (has Json given) (has_json given)
-    && (goes_with (begins_strictly command given) (not (begins_with_others given)) && are_colours given))))))))
+-- unless what a rule asks for holds there is this clash
+abbrev unless : Bool → Clash → Option Clash → Option Clash
+unless holds clash others = if holds then others else Some clash
 
--- the words are taken as they are where their options don't go together: they are no line then
-abbrev pub kept : Bool → List Word → Reading → Reading
-kept true words reading = reading
-kept false words reading = record { plain = words; given = [] }
+-- hosts fail in a course; a run that goes on is kept where it was; and where nothing begins from a journal or tells of one, no inputs are others than its own,
+-- and of a run alone hosts are up by now. What begins from a journal has no table of its groups and no picture.
+abbrev pub clash_of_beginning : Word → List Given → Option Clash
+clash_of_beginning command given =
+    unless (goes_with (has Failing given) (has Course given)) FailingAlone (
+    unless (goes_with (has Journal given) (not (has Resume given))) JournalOfResume (
+    unless (goes_with (has ChangedInputs given) (begins_from given || bytes_eq command (codes "state"))) ChangedInputsAlone (
+    unless (goes_with (has Mended given) (begins_from given || bytes_eq command (codes "run"))) MendedAlone (
+    unless (goes_with (has From given) (not (tells_groups given))) GroupsFrom None))))
+
+-- numbers are expected of the table of limits and of the plan at the start, and words are told in place of all else. What is told of the start or the end, and of a course, has a form
+-- in JSON. Names may be missing as the inventory has the hosts: where others are up, or a run goes on, nobody looks for them.
+abbrev pub clash_of_form : Word → List Given → Option Clash
+clash_of_form command given =
+    unless (goes_with (has Expect given) (not (tells_beyond given))) ExpectBeyond (
+    unless (goes_with (has Words given) (stand_alone given)) WordsBeside (
+    unless (goes_with (has Json given) (has_json given)) NoJson (
+    unless (goes_with (begins_strictly command given) (not (begins_with_others given))) StrictOfOthers (
+    unless (are_colours given) NoColor None))))
+
+-- why these options don't go together, if they don't: the first rule that they break
+abbrev pub clash_of : Word → List Given → Option Clash
+clash_of command given = option_or (clash_of_beginning command given) (clash_of_form command given)
+
+-- the words are taken as they are where their options don't go together
+abbrev pub kept : Option Clash → List Word → Reading → Reading
+kept None words reading = reading
+kept (Some clash) words reading = record { plain = words; given = [] }
 
 abbrev pub reading_of : Word → List Word → Reading
-reading_of command words = kept (go_together command (read (options_of command) words).given) words (read (options_of command) words)
+reading_of command words = kept (clash_of command (read (options_of command) words).given) words (read (options_of command) words)
+
+-- why the options of a line don't go together, if they don't
+abbrev pub clash_in : List Word → Option Clash
+clash_in [] = None
+clash_in (command ∷ words) = clash_of command (read (options_of command) words).given
 
 -- the words of a line without their options
 abbrev pub plain : List Word → List Word

@@ -1,7 +1,6 @@
 -- What a line of words says, the program's own name left out.
-use Rattle.std.specs.Prelude.{◌≡◌, ◌≢◌, Bool, true, false, ◌||◌, if◌then◌else◌, List, [], ◌∷◌}
-use Rattle.std.specs.Prelude.{Option, Some, None, is_some, codes, string_bytes, ⊤}
-use Rattle.std.specs.Str.{bytes_eq}
+use Rattle.std.specs.Prelude.{◌≡◌, ◌≢◌, Bool, true, false, ◌||◌, List, [], ◌∷◌}
+use Rattle.std.specs.Prelude.{Option, Some, None, is_some, codes, ⊤}
 use Rattle.clap.specs.Words.{IsAmong, fault_of}
 use Rattle.command_line.specs.Messages as messages
 use Rattle.command_line.specs.Messages.{IsAskedFor}
@@ -10,9 +9,11 @@ use Rattle.command_line.specs.declared.command.Line.{Line}
 use Rattle.command_line.specs.declared.command.Line.TheVariants.{Limits, Plan, Run, Rehearse, State, Check, Lint, Explain, Print}
 use Rattle.command_line.specs.declared.fault.LineFault.{LineFault}
 use Rattle.command_line.specs.declared.message.Message.{Message}
-use Rattle.command_line.specs.declared.fault.LineFault.TheVariants.{BadLine, Unexplained, Memory}
+use Rattle.command_line.specs.declared.fault.LineFault.TheVariants.{BadLine, Apart, Unexplained, Memory}
 use Rattle.command_line.specs.declared.command.Source.TheVariants.{StandardInput, File}
 use Rattle.command_line.specs.Asked.{Asked, asked_by, line_asks}
+use Rattle.command_line.specs.declared.clash.Clash.{Clash}
+use Rattle.command_line.specs.Wishes.{clash_in, plain}
 use Rattle.command_line.specs.Operands.{Word}
 
 abbrev pub is_empty : List Word → Bool
@@ -73,4 +74,17 @@ pub record Explains (words : List Word) (message : Message) : Type 0 where
 abbrev pub Refuses : List Word → LineFault → Type 0
 Refuses words Memory = is_empty words ≡ false
 Refuses words (BadLine message) = (is_command words ≡ false) × IsNoneOf words requests × Explains words message
+Refuses words (Apart clash) = ⊥
 Refuses words Unexplained = (is_command words ≡ false) × IsNoneOf words requests × (fault_of rollout words ≡ [])
+
+-- the same, where the words hold options that don't go together: that is told where clap would take them
+abbrev pub RefusesWith : Option Clash → List Word → LineFault → Type 0
+RefusesWith None words fault = Refuses words fault
+RefusesWith (Some clash) words Memory = Refuses words Memory
+RefusesWith (Some clash) words (BadLine message) = Refuses words (BadLine message)
+RefusesWith (Some clash) words (Apart other) = Refuses words Unexplained × (other ≡ clash)
+RefusesWith (Some clash) words Unexplained = ⊥
+
+-- a line with its options may be refused so
+abbrev pub RefusesLine : List Word → LineFault → Type 0
+RefusesLine words fault = RefusesWith (clash_in words) (plain words) fault

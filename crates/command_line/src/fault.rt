@@ -2,6 +2,7 @@
 ghost use Rattle.std.specs.Prelude.{◌≡◌};
 ghost use Rattle.command_line.specs.Faults.{number_of};
 
+use crate::clash::Clash;
 use crate::message::Message;
 use std::fmt;
 
@@ -10,6 +11,8 @@ use std::fmt;
 pub enum LineFault {
     /// The words are no line of the program; clap says what is wrong with them.
     BadLine(Message),
+    /// Options of the words don't go together.
+    Apart(Clash),
     /// The words are no line, and clap has nothing to say of them: they are no text, or it reads them in another way.
     Unexplained,
     Memory,
@@ -21,7 +24,7 @@ impl LineFault {
         ensures { result ≡ number_of self.now }
     {
         match self {
-            LineFault::BadLine(_) | LineFault::Unexplained => Some(901),
+            LineFault::BadLine(_) | LineFault::Apart(_) | LineFault::Unexplained => Some(901),
             LineFault::Memory => None,
         }
     }
@@ -36,6 +39,7 @@ impl fmt::Display for LineFault {
     fn fmt<W: fmt::Write>(&self, f: &mut fmt::Formatter<W>) -> fmt::Result {
         match self {
             LineFault::BadLine(message) => f.write_str(message.as_str()),
+            LineFault::Apart(clash) => f.write_str(clash.text()),
             LineFault::Unexplained => f.write_str("no line of the program"),
             LineFault::Memory => f.write_str("want of memory"),
         }

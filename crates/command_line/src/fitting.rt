@@ -5,6 +5,7 @@ ghost use Rattle.command_line.specs.OptionReads.{given_as};
 ghost use Rattle.command_line.specs.OptionsOf as options;
 ghost use Rattle.command_line.specs.Wishes as spec;
 
+use crate::clash::Clash;
 use crate::given::has;
 use crate::option_name::OptionName;
 use crate::option_reading::Given;
@@ -80,29 +81,65 @@ pub(crate) fn options_of(command: &String) -> &'static [OptionName]
     }
 }
 
-/// Whether these options of the command go together.
-pub(crate) fn go_together(command: &String, given: &[Given]) -> bool
-    ensures { result ≡ spec.go_together (string_bytes command.now) (map given_as given.now) }
+/// Why these options of the command don't go together, if they don't.
+pub(crate) fn clash_of(command: &String, given: &[Given]) -> Option<Clash>
+    ensures { result ≡ spec.clash_of (string_bytes command.now) (map given_as given.now) }
+{
+    match clash_of_beginning(command, given) {
+        None => clash_of_form(command, given),
+        clash => clash,
+    }
+}
+
+/// By how the play begins.
+fn clash_of_beginning(command: &String, given: &[Given]) -> Option<Clash>
+    ensures { result ≡ spec.clash_of_beginning (string_bytes command.now) (map given_as given.now) }
 {
     let from = begins_from(given);
-    goes_with(
+    if !goes_with(
         has(given, OptionName::Failing),
         has(given, OptionName::Course),
-    ) && goes_with(
+    ) {
+        Some(Clash::FailingAlone)
+    } else if !goes_with(
         has(given, OptionName::Journal),
         !has(given, OptionName::Resume),
-    ) && goes_with(
+    ) {
+        Some(Clash::JournalOfResume)
+    } else if !goes_with(
         has(given, OptionName::ChangedInputs),
         from || is_word(command, "state"),
-    ) && goes_with(
+    ) {
+        Some(Clash::ChangedInputsAlone)
+    } else if !goes_with(
         has(given, OptionName::Mended),
         from || is_word(command, "run"),
-    ) && goes_with(has(given, OptionName::From), !tells_groups(given))
-        && goes_with(has(given, OptionName::Expect), !tells_beyond(given))
-        && goes_with(has(given, OptionName::Words), stand_alone(given))
-        && goes_with(has(given, OptionName::Json), has_json(given))
-        && goes_with(begins_strictly(command, given), !begins_with_others(given))
-        && are_colours(given)
+    ) {
+        Some(Clash::MendedAlone)
+    } else if !goes_with(has(given, OptionName::From), !tells_groups(given)) {
+        Some(Clash::GroupsFrom)
+    } else {
+        None
+    }
+}
+
+/// By what goes out.
+fn clash_of_form(command: &String, given: &[Given]) -> Option<Clash>
+    ensures { result ≡ spec.clash_of_form (string_bytes command.now) (map given_as given.now) }
+{
+    if !goes_with(has(given, OptionName::Expect), !tells_beyond(given)) {
+        Some(Clash::ExpectBeyond)
+    } else if !goes_with(has(given, OptionName::Words), stand_alone(given)) {
+        Some(Clash::WordsBeside)
+    } else if !goes_with(has(given, OptionName::Json), has_json(given)) {
+        Some(Clash::NoJson)
+    } else if !goes_with(begins_strictly(command, given), !begins_with_others(given)) {
+        Some(Clash::StrictOfOthers)
+    } else if !are_colours(given) {
+        Some(Clash::NoColor)
+    } else {
+        None
+    }
 }
 
 /// Whether each value of the option for colours is one that it has.

@@ -3,6 +3,7 @@
 
 mod arguments;
 mod asked;
+mod clash;
 pub mod command;
 mod fault;
 mod fitting;
@@ -23,6 +24,7 @@ mod syntax;
 mod wishes;
 mod words;
 
+pub use clash::Clash;
 pub use command::Source;
 pub use fault::LineFault;
 pub use forks::Forks;

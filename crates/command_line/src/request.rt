@@ -1,12 +1,13 @@
 //! A line, with what is asked for beside it.
-ghost use Rattle.std.specs.Prelude.{◌≡◌, ◌∷◌, [], IfErr, IfOk, map, string_bytes};
+ghost use Rattle.std.specs.Prelude.{◌≡◌, ◌∷◌, [], IfErr, IfOk, Some, map, string_bytes};
 ghost use Rattle.command_line.specs.OptionReads.{given_as};
 ghost use Rattle.command_line.specs.Wishes as spec;
-ghost use Rattle.command_line.specs.Words.{Refuses, Says};
+ghost use Rattle.command_line.specs.Words.{Refuses, RefusesLine, RefusesWith, Says};
 
+use crate::clash::Clash;
 use crate::command::Line;
 use crate::fault::LineFault;
-use crate::fitting::{go_together, options_of};
+use crate::fitting::{clash_of, options_of};
 use crate::option_reading::{Given, read_options};
 use crate::reading::line;
 use crate::wishes::{Wishes, wishes_of};
@@ -25,7 +26,7 @@ pub struct Request {
 pub fn request_of(alloc: Global, words: &[String]) -> Result<Request, LineFault>
     ensures ok { IfOk result (λ asked. Says (spec.plain (map string_bytes words.now)) asked.line) }
     ensures wishes { IfOk result (λ asked. spec.wish_as asked.wishes ≡ spec.wished (map string_bytes words.now)) }
-    ensures err { IfErr result (Refuses (spec.plain (map string_bytes words.now))) }
+    ensures err { IfErr result (RefusesLine (map string_bytes words.now)) }
 {
     match words {
         [command, rest @ ..] => command_request(alloc, words, command, rest),
@@ -43,15 +44,27 @@ fn command_request(
     requires { map string_bytes words.now ≡ string_bytes command.now ∷ map string_bytes rest.now }
     ensures ok { IfOk result (λ asked. Says (spec.plain (map string_bytes words.now)) asked.line) }
     ensures wishes { IfOk result (λ asked. spec.wish_as asked.wishes ≡ spec.wished (map string_bytes words.now)) }
-    ensures err { IfErr result (Refuses (spec.plain (map string_bytes words.now))) }
+    ensures err { IfErr result (RefusesLine (map string_bytes words.now)) }
 {
     let Ok((plain, given)) = read_options(alloc, options_of(command), rest) else {
         return Err(LineFault::Memory);
     };
-    if go_together(command, given.as_slice()) {
-        wished_request(alloc, command, plain, given.as_slice())
-    } else {
-        bare_request(alloc, words)
+    match clash_of(command, given.as_slice()) {
+        None => wished_request(alloc, command, plain, given.as_slice()),
+        Some(clash) => clashing_request(alloc, words, clash),
+    }
+}
+
+/// What these words ask for, whose options don't go together: the help, if anything.
+fn clashing_request(alloc: Global, words: &[String], clash: Clash) -> Result<Request, LineFault>
+    ensures ok { IfOk result (λ asked. Says (map string_bytes words.now) asked.line) }
+    ensures wishes { IfOk result (λ asked. spec.wish_as asked.wishes ≡ spec.wish_of []) }
+    ensures err { IfErr result (RefusesWith (Some clash) (map string_bytes words.now)) }
+{
+    match bare_request(alloc, words) {
+        Ok(request) => Ok(request),
+        Err(LineFault::Unexplained) => Err(LineFault::Apart(clash)),
+        Err(fault) => Err(fault),
     }
 }
 

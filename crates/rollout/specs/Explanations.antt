@@ -1,5 +1,6 @@
 -- What is said behind the line of a fault.
 use Rattle.std.specs.Prelude.{ℕ, ◌&&◌, ◌||◌, ◌==◌, not, nat_lt, if◌then◌else◌, List, [], ◌∷◌, codes, flat_map}
+use Rattle.command_line.specs.Clashes as clashes
 use Rattle.command_line.specs.Messages as messages
 use Rattle.command_line.specs.declared.fault.LineFault.TheVariants as line_fault
 use Rattle.json_texts.specs.declared.form.Form.{Form}
@@ -21,6 +22,7 @@ ignored = codes "SIGCHLD is ignored here, so no program's end could be had. Star
 -- what is said behind the line of a fault: what is wrong with bad words, and what to do
 abbrev pub explanation_of : Fault → List ℕ
 explanation_of (Line (line_fault.BadLine explanation)) = told_text (messages.text_of explanation)
+explanation_of (Line (line_fault.Apart clash)) = clashes.text_of clash
 explanation_of (Line line_fault.Unexplained) = []
 explanation_of (Line line_fault.Memory) = []
 explanation_of (Input source fault) = []

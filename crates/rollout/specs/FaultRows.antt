@@ -58,6 +58,7 @@ name_of (File name) = string_bytes name
 
 abbrev pub line_row : LineFault → Row
 line_row (line_fault.BadLine explanation) = row (codes "BadLine") []
+line_row (line_fault.Apart clash) = row (codes "BadLine") []
 line_row line_fault.Unexplained = row (codes "BadLine") []
 line_row line_fault.Memory = no_row
 

@@ -108,7 +108,7 @@ pub record FollowsLine (may : Work → Ending → Type 0) (is_watched : Bool) (s
 pub record RefusesWords (words_given : List Word) (input_old input_new out_old out_new : Option (List ℕ)) (reporting : Reporting) (result : Result Status Fault) (logs : List (List Event)) : Type 0 where
   pub plainly : reporting ≡ plain_reporting
   pub fault : LineFault
-  pub refuses : words.Refuses (plain words_given) fault
+  pub refuses : words.RefusesLine words_given fault
   pub is : result ≡ Err (Line fault)
   pub unread : Keeps input_old input_new
   pub unwritten : Keeps out_old out_new

@@ -33,6 +33,7 @@ fn write_plain<W: Write>(text: &mut TextWriter<'_, W>, fault: &Fault)
         Fault::Line(LineFault::BadLine(explanation)) => {
             write_told(text, explanation.as_str().as_bytes());
         }
+        Fault::Line(LineFault::Apart(clash)) => text.write_str(clash.text()),
         Fault::ChildrenIgnored => text.write_str(IGNORED),
         _ => {}
     }

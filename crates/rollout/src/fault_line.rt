@@ -123,7 +123,9 @@ fn write_line_row<W: Write>(text: &mut TextWriter<'_, W>, form: Form, fault: &Li
     ensures { Writes W.contents text.old text.new (row_text form (rows.line_row fault.now)) }
 {
     match fault {
-        LineFault::BadLine(_) | LineFault::Unexplained => row(text, form, "BadLine", &[]),
+        LineFault::BadLine(_) | LineFault::Apart(_) | LineFault::Unexplained => {
+            row(text, form, "BadLine", &[]);
+        }
         LineFault::Memory => no_row(text, form),
     }
 }

@@ -1,4 +1,4 @@
-use Rattle.std.proofs.Common.{◌++◌, ◌∙◌, List, ap, codes, flat_map, string_bytes, sym}
+use Rattle.std.proofs.Common.{◌++◌, ◌∙◌, ap, codes, flat_map, string_bytes, sym}
 use Rattle.std.proofs.lemmas.List.Folds.{flat_map-map}
 use Rattle.std.proofs.lemmas.Result.{IfOk-weaker}
 use Rattle.command_line.specs.Operands.{Word}

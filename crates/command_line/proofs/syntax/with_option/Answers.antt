@@ -1,4 +1,4 @@
-use Rattle.std.proofs.Common.{◌||◌, Bool, ap, ap₂, refl, ◌∙◌}
+use Rattle.std.proofs.Common.{◌||◌, Bool, ap, ◌∙◌}
 use Rattle.std.proofs.Math.Bool.{or-false}
 use Rattle.std.proofs.lemmas.Result.{IfOk-weaker}
 use Rattle.clap.specs.Words.{app_of, with_rule}

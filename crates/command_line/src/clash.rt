@@ -1,0 +1,60 @@
+//! Options that don't go together.
+ghost use Rattle.std.specs.Prelude.{◌≡◌};
+ghost use Rattle.command_line.specs.Clashes as spec;
+
+/// Why the options of a line don't go together.
+#[derive(Clone, Copy, Debug)]
+pub enum Clash {
+    /// Hosts fail in a course that isn't asked for.
+    FailingAlone,
+    /// A run that goes on is to be kept in another journal than its own.
+    JournalOfResume,
+    /// Other inputs than those of no journal.
+    ChangedInputsAlone,
+    /// Hosts are up by now where no run began before.
+    MendedAlone,
+    /// A table of groups, or a picture, of what a journal leaves.
+    GroupsFrom,
+    /// A number is expected of more than the start.
+    ExpectBeyond,
+    /// The words of the steps, and something else.
+    WordsBeside,
+    /// What has no form in JSON.
+    NoJson,
+    /// Names are looked for where other hosts are up than the inventory has.
+    StrictOfOthers,
+    /// A word that is no time for colours.
+    NoColor,
+}
+
+impl Clash {
+    /// What is said of it, in one line.
+    pub fn text<'a>(self) -> &'a str
+        ensures { result.now ≡ spec.text_of self }
+    {
+        match self {
+            Clash::FailingAlone => "error: --failing goes with --course\n",
+            Clash::JournalOfResume => {
+                "error: --journal doesn't go with --resume: a run that goes on is kept in the journal that --resume names\n"
+            }
+            Clash::ChangedInputsAlone => {
+                "error: --changed-inputs goes with --resume, with --from and with state\n"
+            }
+            Clash::MendedAlone => "error: --mended goes with run, and else with --from\n",
+            Clash::GroupsFrom => "error: --from doesn't go with --groups and --picture\n",
+            Clash::ExpectBeyond => {
+                "error: --expect doesn't go with --course, --groups, --picture and --from\n"
+            }
+            Clash::WordsBeside => {
+                "error: --words doesn't go with --course, --groups, --picture, --from and --expect\n"
+            }
+            Clash::NoJson => {
+                "error: --json doesn't go with --groups, --picture, --from, --expect and --words\n"
+            }
+            Clash::StrictOfOthers => {
+                "error: --strict of a run doesn't go with --resume and --mended\n"
+            }
+            Clash::NoColor => "error: --color has the values auto, always and never\n",
+        }
+    }
+}
