@@ -179,7 +179,8 @@ said 'who is not among them is' 'note: e is down and stays down: 1 host of the p
 
 printf '%s' '[{"hosts":"all","tasks":[{"command":"true"}]},{"hosts":"d","tasks":[{"command":{"argv":["sh","-c","exit 7"]}}]}]' >fails
 written fails HEAD 'play: a b c d' 'open: a d' 'closed: updated:a updated:d' 'open: b' 'closed: updated:b' 'open: c' 'closed: updated:c' 'end finished'
-said 'in which play a host failed, and nothing of the plays before' 'd failed in play 2 at step 1: rc=7
+said 'in which play a host failed, and nothing of the plays before' 'play 2
+d failed in play 2 at step 1: rc=7
 e off from the start
 next: mend what is down, or mark it as down in the inventory ("down": true); then go on, by --resume JOURNAL --mended NAMES, or without a journal by a narrower "hosts" (docs/DURING_AND_AFTER.md)' inventory fails --resume journal
 mkfifo pipe

@@ -283,7 +283,7 @@ quiet 'stopped' 1 "rollout: 917 Stopped$newline" "$work/one.json" "$work/true.js
 run run "$work/one.json" "$work/none.json"
 check 'no such playbook' 1 '' "rollout: 902 File name=$work/none.json$newline"
 run run -v "$work/one.json" "$work/none.json"
-check 'no such playbook, with -v' 1 '' "rollout: 902 File name=$work/none.json$newline"
+check 'no such playbook, with -v' 1 '' "rollout: 902 File name=$work/none.json$newline  there is no file of this name, or a folder on the way to it may not be searched$newline"
 run plan "$work/full.json" "$work/hold.json"
 check 'a plan that leaves a host out' 3 "plan batches=0 bound=nothing${newline}held: b$newline" ''
 
@@ -300,7 +300,7 @@ done
 run plan -v "$work/one.json" "$work/true.json"
 check 'a plan that leaves nobody out, with -v' 0 "plan batches=1 bound=one-host${newline}batch 1: a$newline" ''
 run plan -v "$work/one.json" "$work/none.json"
-check 'a plan of no playbook, with -v' 1 '' "rollout: 902 File name=$work/none.json$newline"
+check 'a plan of no playbook, with -v' 1 '' "rollout: 902 File name=$work/none.json$newline  there is no file of this name, or a folder on the way to it may not be searched$newline"
 # Twelve hosts that are down, of which ten are named; one that no play names isn't; and several plays.
 awk 'BEGIN { printf "{\"all\":{\"hosts\":{\"up\":null,\"other\":{\"down\":true}"; for (i = 0; i < 12; i++) printf ",\"h%02d\":{\"down\":true}", i; printf "}}}" }' >"$work/twelve.json"
 twelve=$(awk 'BEGIN { for (i = 0; i < 12; i++) printf "%s\"h%02d\"", (i ? "," : ""), i }')
