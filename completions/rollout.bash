@@ -1,23 +1,42 @@
-# Completes the words of rollout in bash: commands, options, the numbers of --forks, and files. It needs bash 4.4 or a later one, and nothing else.
+# Completes the words of rollout in bash: commands, options and their values, the numbers of faults, and files. It needs bash 4.4 or a later one, and nothing else.
 # `make install` puts it where bash-completion finds it; without that: source completions/rollout.bash
 
-# The words up to the cursor, as the program gets them: what bash parts at a mark, as `=` and `:`, is put together again. `kept` is what stands of the
-# last one before the part that a reply takes the place of.
+# The words up to the cursor, as the program gets them: what bash parts at a mark, as `=` and `:`, is put together again, and what redirects an input or an output is
+# left out, though the last word may be its file: then `redirects` is 2. `kept` is what stands of the last word before the part that a reply takes the place of.
 _rollout_words() {
-    local line=$COMP_LINE word='' rest i
+    local line=$COMP_LINE word='' rest joined i
     words=()
+    redirects=0
     for ((i = 0; i <= COMP_CWORD; i++)); do
         word=${COMP_WORDS[i]}
         rest=${line#"${line%%[![:blank:]]*}"}
-        if [[ $i -gt 0 && -n $line && $rest == "$line" && $rest == "$word"* ]]; then
+        joined=
+        [[ $i -eq 0 || -z $line || $rest != "$line" || $rest != "$word"* ]] || joined=yes
+        line=${rest#"$word"}
+        # Of a file the first part stands behind its mark, and further ones behind that.
+        if [[ $redirects -eq 2 && -z $joined ]]; then
+            unset "words[${#words[@]} - 1]"
+            redirects=0
+        fi
+        if [[ $word == [\<\>]* ]]; then
+            # The number of a descriptor stands right before it.
+            [[ -z $joined || ${words[${#words[@]} - 1]} == *[!0-9]* ]] || unset "words[${#words[@]} - 1]"
+            words+=('')
+            redirects=2
+            [[ $line != [[:blank:]]* ]] || redirects=1
+        elif [[ $redirects -eq 1 ]]; then
+            words[${#words[@]} - 1]=$word
+            redirects=2
+        elif [[ -n $joined ]]; then
             words[${#words[@]} - 1]+=$word
         else
             words+=("$word")
         fi
-        line=${rest#"$word"}
     done
     kept=${words[${#words[@]} - 1]}
     [[ -n $word && $COMP_WORDBREAKS == *"$word"* ]] || kept=${kept%"$word"}
+    # To readline a `@` is the first sign of what it completes.
+    kept=${kept%@}
 }
 
 # Words that fit what stands at the cursor.
@@ -26,6 +45,14 @@ _rollout_offer() {
     for word in "$@"; do
         word=$option$word
         [[ $word != "$option$current"* ]] || COMPREPLY+=("${word#"$kept"}")
+    done
+}
+
+# The same of names of a list that don't stand in it before the cursor.
+_rollout_names() {
+    local name
+    for name in "$@"; do
+        [[ ,${option#*=}, == *[,:]"$name"[,:]* ]] || _rollout_offer "$name"
     done
 }
 
@@ -46,10 +73,15 @@ _rollout_files() {
 }
 
 _rollout() {
-    local words kept current command options most files=0 ends='' wants='' option='' i
+    local words kept redirects current command options most files=0 ends='' wants='' option='' i
+    local IFS=$' \t\n'
     COMPREPLY=()
     _rollout_words
     current=${words[${#words[@]} - 1]}
+    if [[ $redirects -gt 0 ]]; then
+        _rollout_files
+        return
+    fi
     if [[ ${#words[@]} -le 2 ]]; then
         case $current in
         -*) _rollout_offer -h --help -V --version ;;
@@ -66,7 +98,7 @@ _rollout() {
     state) most=2 options=(--changed-inputs -h --help) ;;
     check) most=3 options=(-h --help) ;;
     lint) most=2 options=(--allow -h --help) ;;
-    explain) most=0 options=(-h --help) ;;
+    explain) most=1 options=(-h --help) ;;
     help)
         [[ ${#words[@]} -gt 3 ]] || _rollout_offer limits plan run rehearse state check lint explain help
         return
@@ -106,14 +138,16 @@ _rollout() {
             current=${current##*[,:]}
         fi
         compopt -o nospace 2>/dev/null
-        _rollout_offer zero-limit empty-limit group-down near-key case-hosts no-hosts down-hosts idle-serial one-failure unknown-name missing-name constant-condition shell-word local-step long-word dash-name idle-handler
+        _rollout_names zero-limit empty-limit group-down near-key case-hosts no-hosts down-hosts idle-serial one-failure unknown-name missing-name constant-condition shell-word local-step long-word dash-name idle-handler
         ;;
     --failing | --mended | --expect) ;;
     *)
         if [[ -z $ends && $current == -* ]]; then
             _rollout_offer "${options[@]}"
-        elif [[ $command == check && $files -eq 2 ]]; then
+        elif [[ $command == check && $files -eq 2 || $command == state && $files -eq 1 ]]; then
             _rollout_files
+        elif [[ $command == explain ]]; then
+            [[ $files -gt 0 ]] || _rollout_offer 101 102 103 104 201 202 203 204 205 301 302 303 304 501 502 503 504 602 701 702 703 704 705 706 707 708 709 822 901 902 903 904 906 907 908 909 910 911 912 913 914 915 916 917 918
         elif [[ $files -lt $most ]]; then
             _rollout_files '*.json'
         fi

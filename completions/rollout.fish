@@ -1,4 +1,4 @@
-# Completes the words of rollout in fish: commands, options, the numbers of --forks, and files, those of JSON first.
+# Completes the words of rollout in fish: commands, options and their values, the numbers of faults, and files, those of JSON first.
 # `make install` puts it into share/fish/vendor_completions.d, where fish finds it if that share is its own or stands in XDG_DATA_DIRS; without that:
 # source completions/rollout.fish
 
@@ -16,7 +16,8 @@ end
 function __rollout_lacks
     __rollout_of $argv[2..-1]; or return
     set -l words (commandline -opc)
-    set -l files 0
+    # The words have the files of redirections too, without their marks.
+    set -l files (math 0 - (commandline -pc | string match -ar -- '(?<=\s)[0-9]*(?:&>|<|>)[>?|&]?' | count))
     set -l ends 0
     set -l wants 0
     for word in $words[3..-1]
@@ -39,6 +40,22 @@ function __rollout_lacks
         end
     end
     test $files -lt $argv[1]
+end
+
+# __rollout_notes NAME ..: the list of notes at the cursor, with each of these names behind it that doesn't stand in it.
+function __rollout_notes
+    set -l list (commandline -tc | string replace -r -- '^--allow=' '' | string replace -r '[^,]*$' '')
+    for name in $argv
+        string match -q -- "*,$name,*" ",$list"; or echo $list$name\t
+    end
+end
+
+# The numbers of faults, with their names.
+function __rollout_faults
+    string replace : \t 101:BadName 102:TwicePlaced 103:TooDeep 104:TooMany 201:NotJson 202:BadShape 203:UnknownKey 204:BadLimit 205:BadDown 301:NotNested 302:StartOver \
+        303:TooManyHosts 304:NoSuchName 501:BadToken 502:Unexpected 503:TooDeep 504:TooLong 602:BadBraces 701:NotJson 702:BadShape 703:UnknownKey 704:NoSuchHandler \
+        705:TwiceHandler 706:BadSerial 707:BadPercent 708:ManyPlays 709:TooManySteps 822:Mixed 901:BadLine 902:File 903:InputTooLarge 904:Write 906:LongLine 907:Unexpected \
+        908:BadPlan 909:BadList 910:JournalThere 911:JournalWrite 912:BadJournal 913:OtherInputs 914:NeedsResult 915:NoValue 916:ChildrenIgnored 917:Stopped 918:Locked
 end
 
 complete -c rollout -f
@@ -66,7 +83,7 @@ complete -c rollout -n '__rollout_lacks 1 limits' -k -a '(__fish_complete_suffix
 complete -c rollout -n '__rollout_of plan' -l course -d 'Prints what a run would open to its end, play by play, where no program fails'
 complete -c rollout -n '__rollout_of plan' -l failing -x -d 'Beside --course these hosts and groups, parted by commas, fail at their first step'
 complete -c rollout -n '__rollout_of plan' -l groups -d 'Prints below it how many hosts of each limited group are down while each batch runs'
-complete -c rollout -n '__rollout_of plan' -l color -x -k -a "always never auto" -d 'Colours groups that are full: auto (at a terminal, unless NO_COLOR is set), always or never'
+complete -c rollout -n '__rollout_of plan' -l color -x -k -a '(string join \n always never auto)\t' -d 'Colours groups that are full: auto (at a terminal, unless NO_COLOR is set), always or never'
 complete -c rollout -n '__rollout_of plan' -l picture -r -F -d 'Writes the course as a picture, in SVG, into this file'
 complete -c rollout -n '__rollout_of plan' -l words -d 'Prints in its place which words each step would run on which host'
 complete -c rollout -n '__rollout_of plan' -l expect -x -d "Ends with status 1 where a number isn't as this list says: NAME=NUMBER or NAME<=NUMBER, parted by commas"
@@ -77,7 +94,7 @@ complete -c rollout -n '__rollout_of plan' -l json -d 'Prints it, and a fault, a
 complete -c rollout -n '__rollout_of plan' -s v -l verbose -d 'Tells more on standard error: which hosts are left out, and behind a refusal what was expected'
 complete -c rollout -n '__rollout_of plan' -s h -l help -d 'Print help'
 
-complete -c rollout -n '__rollout_of run' -l forks -x -k -a '1 2 3 4 5 6 7 8 9 10 11 12 13 14 15 16 17 18 19 20 21 22 23 24 25 26 27 28 29 30 31 32 33 34 35 36 37 38 39 40 41 42 43 44 45 46 47 48 49 50 51 52 53 54 55 56 57 58 59 60 61 62 63 64' -d 'How many hosts are worked on at once, 1 to 64'
+complete -c rollout -n '__rollout_of run' -l forks -x -k -a '(seq 64)\t' -d 'How many hosts are worked on at once, 1 to 64'
 complete -c rollout -n '__rollout_of run' -s v -l verbose -d 'Tells on standard error of each batch, and of each step of each host'
 complete -c rollout -n '__rollout_of run' -l quiet -d 'Tells nothing unasked, also at a terminal; beside -v it changes nothing'
 complete -c rollout -n '__rollout_of run' -l stop-file -r -F -d 'Ends the run before the next batch once this file is there'
@@ -102,11 +119,14 @@ complete -c rollout -n '__rollout_of state' -s h -l help -d 'Print help'
 
 complete -c rollout -n '__rollout_of check' -s h -l help -d 'Print help'
 
-complete -c rollout -n '__rollout_of lint' -l allow -x -a "(__fish_append , zero-limit empty-limit group-down near-key case-hosts no-hosts down-hosts idle-serial one-failure unknown-name missing-name constant-condition shell-word local-step long-word dash-name idle-handler)" -d 'These kinds of notes, parted by commas, are not told'
+complete -c rollout -n '__rollout_of lint' -l allow -x -a "(__rollout_notes zero-limit empty-limit group-down near-key case-hosts no-hosts down-hosts idle-serial one-failure unknown-name missing-name constant-condition shell-word local-step long-word dash-name idle-handler)" -d 'These kinds of notes, parted by commas, are not told'
 complete -c rollout -n '__rollout_of lint' -s h -l help -d 'Print help'
 
 complete -c rollout -n '__rollout_of explain' -s h -l help -d 'Print help'
+complete -c rollout -n '__rollout_lacks 1 explain' -k -a '(__rollout_faults)'
 
-complete -c rollout -n '__rollout_lacks 2 plan run rehearse state check lint' -k -a '(__fish_complete_suffix .json)'
+complete -c rollout -n '__rollout_lacks 2 plan run rehearse check lint' -k -a '(__fish_complete_suffix .json)'
+complete -c rollout -n '__rollout_lacks 1 state' -k -a '(__fish_complete_suffix .json)'
+complete -c rollout -n 'not __rollout_lacks 1 state; and __rollout_lacks 2 state' -F
 complete -c rollout -n 'not __rollout_lacks 2 check; and __rollout_lacks 3 check' -F
 complete -c rollout -n '__rollout_lacks 1 help' -a 'limits plan run rehearse state check lint explain help'

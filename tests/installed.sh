@@ -258,8 +258,8 @@ listed() {
     echo 'rollout lint --allow a inv.json p>play.json'
     echo 'rollout lint inv.json play.json i>'
     echo 'rollout lint --allow >zero-limit/empty-limit/group-down/near-key/case-hosts/no-hosts/down-hosts/idle-serial/one-failure/unknown-name/missing-name/constant-condition/shell-word/local-step/long-word/dash-name/idle-handler'
-    echo 'rollout lint inv.json --allow n>no-hosts'
-    echo 'rollout explain i>'
+    echo 'rollout lint inv.json --allow n>near-key/no-hosts'
+    echo 'rollout explain q>'
     echo 'rollout run -- ->'
     echo 'rollout run inv.json play.json i>'
     echo 'rollout limits inv.json p>'
@@ -330,9 +330,9 @@ rollout run --forks=7>7
 rollout run --stop-file=no>notes.txt
 rollout limits --from=no>notes.txt
 rollout plan --color=a>always auto
-rollout lint --allow=n>no-hosts
-rollout lint --allow=shell-word,n>shell-word,no-hosts
-rollout lint --allow no-hosts,shell-word:d>down-hosts
+rollout lint --allow=n>near-key no-hosts
+rollout lint --allow=shell-word,n>shell-word,near-key shell-word,no-hosts
+rollout lint --allow no-hosts,shell-word:d>down-hosts dash-name
 rollout run --from=no>
 rollout limits a:>b.json
 rollout limits a:b>b.json
@@ -382,7 +382,7 @@ ASK
         timeout 30 zsh -f -c 'zmodload zsh/zpty; zpty asked "zsh -d -i"; while zpty -r asked line; do :; done'
     ) </dev/null >/dev/null 2>&1
     # Behind the last file it offers options, which may stand there too.
-    grep -v '^rollout \(run inv.json play.json i\|limits inv.json p\|check inv.json play.json notes.txt i\|lint inv.json play.json i\|explain i\)>-' "$work/answers.zsh" >"$work/answers"
+    grep -v '^rollout \(run inv.json play.json i\|limits inv.json p\|check inv.json play.json notes.txt i\|lint inv.json play.json i\|explain q\)>-' "$work/answers.zsh" >"$work/answers"
     offered zsh
 fi
 
