@@ -61,7 +61,7 @@ run_block() {
             line=${line:2}
             while [ "${line: -1}" = '\' ] && [ $((index + 1)) -lt "${#block[@]}" ]; do
                 index=$((index + 1))
-                line=${line%?}${block[index]}
+                line+=$'\n'${block[index]}
             done
             printf '%s\n' "$line" >"$work/command.$count"
             : >"$work/expected.$count"
