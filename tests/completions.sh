@@ -105,7 +105,7 @@ ask() {
     asked="$asked $1"
     name=$1
     shift
-    TERM=xterm HOME="$work/home" PATH="$work/installed/bin:$PATH" timeout -k 5 300 python3 "$top/tests/programs/keys.py" "$@" >"$work/said.$name" 2>&1 </dev/null &
+    TERM=xterm HOME="$work/home" PATH="$work/installed/bin:$PATH" timeout -k 5 900 python3 "$top/tests/programs/keys.py" "$@" >"$work/said.$name" 2>&1 </dev/null &
 }
 # has FILE|NAME: whether this is here
 has() {

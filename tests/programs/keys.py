@@ -17,8 +17,8 @@ import termios
 import time
 
 COLUMNS, ROWS = 200, 70
-# The longest that a shell may take to show what it should, on a machine that is busy with other things, in seconds.
-PATIENCE = 12
+# The longest that a shell may take to answer, on a machine that is busy with other things, and that one that has answered may be silent before it shows more, in seconds.
+PATIENCE, SILENCE = 60, 3
 PIECE = re.compile(rb"\x1b\[[<=>?]*([\d;:]*)[ !\"#$'*]*([@-~])|\x1b[\]P_^].*?(?:\x07|\x1b\\)|\x1b[()*+#%].|\x1b([^\[\]P_^()*+#%])|([\x00-\x1a\x1c-\x1f\x7f])|([^\x00-\x1f\x7f]+)", re.S)
 
 
@@ -147,29 +147,30 @@ class Shell:
             self.screen.asked = b""
         return True
 
-    def shows(self, fits, seconds=PATIENCE):
-        """Whether the screen comes to show what fits, and goes on to."""
-        until = time.monotonic() + seconds
-        while time.monotonic() < until:
+    def shows(self, fits, seconds=PATIENCE, answered=lambda lines: False):
+        """Whether the screen comes to show what fits, and goes on to. Of a shell that has answered no more is waited for once it is silent."""
+        until, heard = time.monotonic() + seconds, time.monotonic()
+        while time.monotonic() < until and not (answered(self.screen.lines()) and time.monotonic() > heard + SILENCE):
             if fits(self.screen.lines()):
                 while self.read(0.05):
                     pass
                 if fits(self.screen.lines()):
                     return True
-            self.read(0.2)
+            if self.read(0.2):
+                heard = time.monotonic()
         return False
 
     def type(self, keys):
         os.write(self.file, keys.replace("<Tab>", "\t").encode())
 
     def fresh(self):
-        """An empty line at the top of an empty screen."""
-        self.type("\x03")
-        while self.read(0.05):
-            pass
-        for _ in range(3):
+        """An empty line at the top of an empty screen. An interrupt may come while the shell is still at the last completion, and end just that."""
+        for _ in range(PATIENCE // SILENCE):
+            self.type("\x03")
+            while self.read(0.05):
+                pass
             self.type("\x0c")
-            if self.shows(lambda lines: lines == ["$"], PATIENCE / 3):
+            if self.shows(lambda lines: lines == ["$"], SILENCE):
                 return True
         return False
 
@@ -199,13 +200,13 @@ def listed(lines):
     return names
 
 
-def fits_line(shown):
-    return lambda lines: line_of(lines) == shown
+def shows_line(asked, shown):
+    return asked.shows(lambda lines: line_of(lines) == shown, answered=lambda lines: line_of(lines).endswith("_"))
 
 
-def fits_list(shown):
+def shows_list(asked, shown):
     wanted = {name.replace("|", "/") for name in shown[1:].split("/")}
-    return lambda lines: listed(lines) == wanted
+    return asked.shows(lambda lines: listed(lines) == wanted, answered=listed)
 
 
 def main(shell, path, *words):
@@ -224,7 +225,7 @@ def main(shell, path, *words):
         lists = shown.startswith("/")
         # The last sign shows that the keys before it were heard.
         asked.type(keys + ("<Tab>" * (shell == "bash") if lists else "_"))
-        if fresh and asked.shows(fits_list(shown) if lists else fits_line(shown)):
+        if fresh and (shows_list if lists else shows_line)(asked, shown):
             passed += 1
         else:
             failed += 1
