@@ -4,10 +4,11 @@ ghost use Rattle.help_lines.specs.Lines.{IsHelpLine};
 use crate::inventory::memory_help;
 use crate::words::word_with_braces;
 use cond::{CondFault, parse};
-use help_lines::{Piece, help_at, line_of, step_at, tell};
+use help_lines::{Piece, help_at, help_in_list, line_of, step_at, tell};
 use play_rules::ConditionKey;
 use serde_json::Value;
 use std::alloc::{AllocError, Global};
+use text_parts::listed;
 
 /// A step by the numbers of its play and itself, each from 1.
 #[derive(Clone, Copy)]
@@ -34,12 +35,9 @@ pub(crate) fn condition_help(
 {
     match fault {
         CondFault::BadToken { at } | CondFault::Unexpected { at } => {
-            match condition_text(alloc, top, number, key, fault) {
-                Some(text) => help_at(alloc, text.as_bytes(), at),
-                None => tell(
-                    alloc,
-                    "conditions have and, or, not, brackets, ==, !=, is, is not and in group_names",
-                ),
+            match condition_at(top, number, key) {
+                Some(value) => place_help(alloc, value, fault, at),
+                None => rule_help(alloc),
             }
         }
         CondFault::TooDeep { .. } => tell(
@@ -54,24 +52,54 @@ pub(crate) fn condition_help(
     }
 }
 
-fn condition_text(
-    alloc: Global,
-    top: Option<&Value>,
+fn condition_at<'a>(
+    top: Option<&'a Value>,
     number: StepNumber,
     key: ConditionKey,
-    fault: CondFault,
-) -> Option<&str> {
+) -> Option<&'a Value> {
     let step = step_at(top?, number.play, number.step)?;
-    let value = step.get(key.name())?;
-    match value.as_array() {
-        Some(list) => first_with(alloc, list.as_slice(), fault),
-        None => value.as_str(),
+    step.get(key.name())
+}
+
+/// The fault doesn't say which condition of a list it means: where several have it, the first is shown, and how many they
+/// are.
+fn place_help(
+    alloc: Global,
+    value: &Value,
+    fault: CondFault,
+    at: usize,
+) -> Result<String, AllocError>
+    ensures { IsHelpLine result }
+{
+    let conditions = listed(value);
+    match first_with(alloc, conditions, fault) {
+        Some(text) => tell_place(alloc, text, at, count_with(alloc, conditions, fault)),
+        None => rule_help(alloc),
     }
 }
 
-/// The first text of a list that has this fault.
-fn first_with(alloc: Global, list: &[Value], fault: CondFault) -> Option<&str> {
-    for value in list {
+fn tell_place(alloc: Global, text: &str, at: usize, count: usize) -> Result<String, AllocError>
+    ensures { IsHelpLine result }
+{
+    if count > 1 {
+        help_in_list(alloc, text.as_bytes(), at, count)
+    } else {
+        help_at(alloc, text.as_bytes(), at)
+    }
+}
+
+fn rule_help(alloc: Global) -> Result<String, AllocError>
+    ensures { IsHelpLine result }
+{
+    tell(
+        alloc,
+        "conditions have and, or, not, brackets, ==, !=, is, is not and in group_names",
+    )
+}
+
+/// The first text that has this fault.
+fn first_with(alloc: Global, conditions: &[Value], fault: CondFault) -> Option<&str> {
+    for value in conditions {
         if let Some(text) = value.as_str() {
             if has_fault(alloc, text, fault) {
                 return Some(text);
@@ -79,6 +107,20 @@ fn first_with(alloc: Global, list: &[Value], fault: CondFault) -> Option<&str> {
         }
     }
     None
+}
+
+fn count_with(alloc: Global, conditions: &[Value], fault: CondFault) -> usize {
+    conditions
+        .iter()
+        .filter(|value| is_faulty(alloc, *value, fault))
+        .count()
+}
+
+fn is_faulty(alloc: Global, value: &Value, fault: CondFault) -> bool {
+    match value.as_str() {
+        Some(text) => has_fault(alloc, text, fault),
+        None => false,
+    }
 }
 
 fn has_fault(alloc: Global, text: &str, fault: CondFault) -> bool {

@@ -3,9 +3,10 @@ ghost use Rattle.std.specs.Prelude.{MatchOption};
 ghost use Rattle.help_lines.specs.Lines.{IsHelpLine, IsLine};
 ghost use Rattle.fault_help.specs.FleetHelps as spec;
 
+use crate::down::down_help;
 use crate::inventory::memory_help;
 use domains::FleetFault;
-use help_lines::{Document, tell, tell_crossing, tell_down};
+use help_lines::{Document, tell, tell_crossing};
 use std::alloc::{AllocError, Global};
 
 /// What to do about limits that cross, too many hosts down or too many hosts; the document is that of the inventory's
@@ -22,7 +23,7 @@ pub fn fleet_help(
         FleetFault::NotNested { first, second, .. } => {
             tell_crossing(alloc, first.as_str(), second.as_str())
         }
-        FleetFault::StartOver { group, .. } => tell_down(alloc, document.top(), group.as_str()),
+        FleetFault::StartOver { group, .. } => down_help(alloc, document.top(), group.as_str()),
         FleetFault::Memory => memory_help(alloc),
     }
 }

@@ -3,9 +3,9 @@ ghost use Rattle.std.specs.Prelude.{MatchOption};
 ghost use Rattle.help_lines.specs.Lines.{IsHelpLine, IsLine};
 ghost use Rattle.fault_help.specs.ReadHelps as spec;
 
+use crate::twice::twice_help;
 use help_lines::{
     Document, group_key_help, group_shape_help, help_on_text, tell, tell_at, tell_bad_name,
-    tell_twice,
 };
 use inventory_read::ReadFault;
 use std::alloc::{AllocError, Global};
@@ -26,7 +26,7 @@ pub fn read_help(
         ReadFault::BadLimit { at } => limit_help(alloc, document, at.as_str()),
         ReadFault::BadDown { at } => down_help(alloc, document, at.as_str()),
         ReadFault::BadName { name } => tell_bad_name(alloc, name.as_str()),
-        ReadFault::TwicePlaced { .. } => tell_twice(alloc, document.top()),
+        ReadFault::TwicePlaced { group } => twice_help(alloc, document.top(), *group),
         ReadFault::TooDeep => depth_help(alloc),
         ReadFault::TooMany => number_help(alloc),
         ReadFault::Memory => memory_help(alloc),

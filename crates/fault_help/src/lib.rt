@@ -2,10 +2,15 @@
 #![tactic(auto)]
 
 mod conditions;
+mod down;
 mod fleet;
+mod groups;
 mod inventory;
 mod pattern;
 mod playbook;
+mod rows;
+mod twice;
+mod ways;
 mod words;
 
 pub use fleet::fleet_help;

@@ -91,6 +91,9 @@ tags_keys = codes "tags" ∷ []
 abbrev pub trials_keys : List Text
 trials_keys = codes "check_mode" ∷ codes "diff" ∷ []
 
+abbrev pub secrecy_keys : List Text
+secrecy_keys = codes "no_log" ∷ []
+
 abbrev pub facts_keys : List Text
 facts_keys = codes "setup" ∷ codes "gather_subset" ∷ codes "module_defaults" ∷ codes "collections" ∷ []
 
@@ -102,8 +105,9 @@ advice_on_whole key =
     if is_one listeners_keys key then Some (codes "a handler is notified by its `name` alone") else (
     if is_one tags_keys key then Some (codes "leave it out, and put what is to be run alone into a playbook of its own") else (
     if is_one trials_keys key then Some (codes "leave it out: `plan --words` and `rehearse` show what would be run") else (
+    if is_one secrecy_keys key then Some (codes "leave it out: outputs are shown behind failed and ignored steps alone, and kept in no journal") else (
     if is_one facts_keys key then Some (codes "leave it out: a step is a `command` with all its words, and no facts are gathered") else (
-    None)))))))
+    None))))))))
 
 abbrev pub shells_keys : List Text
 shells_keys = codes "shell" ∷ codes "raw" ∷ codes "script" ∷ []

@@ -1,5 +1,5 @@
 -- What to write where a condition goes wrong.
-use Rattle.std.specs.Prelude.{ℕ, ◌-◌, Bool, if◌then◌else◌, List, [], ◌∷◌, length, min, take, drop, nat_eq, codes}
+use Rattle.std.specs.Prelude.{ℕ, ◌-◌, Bool, if◌then◌else◌, List, [], ◌∷◌, length, min, take, drop, nat_eq, codes, decimal}
 use Rattle.std.specs.List.{starts_with}
 use Rattle.help_lines.specs.Values.{Text, cut}
 
@@ -52,3 +52,9 @@ shown_behind at text = take (min (length (drop at text)) 40) (drop at text)
 unfoldable pub place_help : ℕ → Text → List Text
 place_help at text =
     codes "it goes wrong at <here>: " ∷ cut (shown_before at text) ∷ codes "<here>" ∷ cut (shown_behind at text) ∷ advice_at at text ∷ []
+
+-- the same of one of so many conditions of a list that go wrong at the same byte
+unfoldable pub list_help : ℕ → ℕ → Text → List Text
+list_help count at text =
+    codes "it goes wrong at <here>: " ∷ cut (shown_before at text) ∷ codes "<here>" ∷ cut (shown_behind at text) ∷ advice_at at text
+    ∷ codes " (" ∷ decimal count ∷ codes " conditions of the list have this fault)" ∷ []

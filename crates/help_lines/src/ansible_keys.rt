@@ -116,6 +116,11 @@ fn advice_on_whole(key: &str) -> Option<&'static str>
     if is_of_trials(key) {
         return Some("leave it out: `plan --words` and `rehearse` show what would be run");
     }
+    if is_of_secrecy(key) {
+        return Some(
+            "leave it out: outputs are shown behind failed and ignored steps alone, and kept in no journal",
+        );
+    }
     if is_of_facts(key) {
         return Some(
             "leave it out: a step is a `command` with all its words, and no facts are gathered",
@@ -297,6 +302,12 @@ fn is_of_trials(key: &str) -> bool
     ensures { result ≡ spec.is_one spec.trials_keys key.now }
 {
     matches!(key, "check_mode" | "diff")
+}
+
+fn is_of_secrecy(key: &str) -> bool
+    ensures { result ≡ spec.is_one spec.secrecy_keys key.now }
+{
+    matches!(key, "no_log")
 }
 
 fn is_of_facts(key: &str) -> bool

@@ -11,6 +11,8 @@ use std::alloc::{AllocError, Global};
 // How much of a text is shown on each side of a place in it, in bytes.
 const ASIDE: usize = 40;
 
+const FRONT: &str = "it goes wrong at <here>: ";
+
 /// A line that shows the text of a condition around the byte at which it goes wrong, and says what to write in the place
 /// of what Ansible's conditions have there. A place behind the end is the end. It fails for want of memory alone.
 #[tactic(auto, unfolding(crate::specs::Conditions::place_help))]
@@ -21,11 +23,37 @@ pub fn help_at(alloc: Global, text: &[u8], at: usize) -> Result<String, AllocErr
     line_of(
         alloc,
         &[
-            Piece::Said("it goes wrong at <here>: "),
+            Piece::Said(FRONT),
             Piece::Cut(shown_before(text, at)),
             Piece::Said("<here>"),
             Piece::Cut(shown_behind(text, at)),
             Piece::Said(advice_at(text, at)),
+        ],
+    )
+}
+
+/// The same of one of so many conditions of a list that go wrong at the same byte.
+#[tactic(auto, unfolding(crate::specs::Conditions::list_help))]
+pub fn help_in_list(
+    alloc: Global,
+    text: &[u8],
+    at: usize,
+    count: usize,
+) -> Result<String, AllocError>
+    ensures line { IsLine result (spec.list_help count at text.now) }
+    ensures help { IsHelpLine result }
+{
+    line_of(
+        alloc,
+        &[
+            Piece::Said(FRONT),
+            Piece::Cut(shown_before(text, at)),
+            Piece::Said("<here>"),
+            Piece::Cut(shown_behind(text, at)),
+            Piece::Said(advice_at(text, at)),
+            Piece::Said(" ("),
+            Piece::Number(count as u64),
+            Piece::Said(" conditions of the list have this fault)"),
         ],
     )
 }

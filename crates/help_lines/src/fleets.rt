@@ -2,28 +2,13 @@
 ghost use Rattle.help_lines.specs.Fleets as spec;
 ghost use Rattle.help_lines.specs.Lines.{IsHelpLine, IsLine};
 
-use crate::group_walk::{find_down, find_twice};
 use crate::line::line_of;
 use crate::piece::Piece;
-use crate::told::tell;
-use serde_json::Value;
 use std::alloc::{AllocError, Global};
 
 /// The places of two groups of one name, and what to do about them.
-pub fn tell_twice(alloc: Global, top: Option<&Value>) -> Result<String, AllocError>
-    ensures { IsHelpLine result }
-{
-    let Some(top) = top else {
-        return tell(alloc, "each group has a name of its own");
-    };
-    match find_twice(alloc, top)? {
-        Some((first, second)) => tell_places(alloc, first.as_str(), second.as_str()),
-        None => tell(alloc, "each group has a name of its own"),
-    }
-}
-
 #[tactic(auto, unfolding(crate::specs::Fleets::twice_help))]
-fn tell_places<'t>(alloc: Global, first: &'t str, second: &'t str) -> Result<String, AllocError>
+pub fn tell_twice<'t>(alloc: Global, first: &'t str, second: &'t str) -> Result<String, AllocError>
     ensures line { IsLine result (spec.twice_help first.now second.now) }
     ensures help { IsHelpLine result }
 {
@@ -64,21 +49,9 @@ pub fn tell_crossing<'t>(
     )
 }
 
-/// What to do about a group of which too many hosts are down, and up to three of them, as the document marks them.
-pub fn tell_down(alloc: Global, top: Option<&Value>, group: &str) -> Result<String, AllocError>
-    ensures { IsHelpLine result }
-{
-    let Some(top) = top else {
-        return tell_hosts(alloc, group, "unknown");
-    };
-    let mut down = find_down(alloc, top, group)?;
-    down.truncate(3);
-    let names = down.as_slice().join(alloc, ", ")?;
-    tell_hosts(alloc, group, names.as_str())
-}
-
+/// What to do about a group of which too many hosts are down, and the names of some of them.
 #[tactic(auto, unfolding(crate::specs::Fleets::down_help))]
-fn tell_hosts<'t>(alloc: Global, group: &'t str, hosts: &'t str) -> Result<String, AllocError>
+pub fn tell_down<'t>(alloc: Global, group: &'t str, hosts: &'t str) -> Result<String, AllocError>
     ensures line { IsLine result (spec.down_help group.now hosts.now) }
     ensures help { IsHelpLine result }
 {

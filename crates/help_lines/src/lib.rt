@@ -6,7 +6,6 @@ mod ansible_keys;
 mod conditions;
 mod document;
 mod fleets;
-mod group_walk;
 mod groups;
 mod handlers;
 mod laws;
@@ -24,7 +23,7 @@ mod value;
 mod yaml;
 
 pub use ansible_keys::advice_on;
-pub use conditions::help_at;
+pub use conditions::{help_at, help_in_list};
 pub use document::{Document, help_on_text};
 pub use fleets::{tell_crossing, tell_down, tell_twice};
 pub use groups::{group_key_help, group_shape_help};

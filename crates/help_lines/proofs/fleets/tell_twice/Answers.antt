@@ -1,7 +1,7 @@
 use Rattle.std.proofs.Common.{List, ℕ, subst}
 use Rattle.help_lines.specs.Fleets.{twice_help}
 use Rattle.help_lines.specs.Lines.{IsLine}
-use Rattle.help_lines.proofs.fleets.tell_places.Goals as goal
+use Rattle.help_lines.proofs.fleets.tell_twice.Goals as goal
 
 pub returns-clause-line : goal.returns-clause-line
 unfolding twice_help

@@ -1,7 +1,7 @@
 use Rattle.std.proofs.Common.{List, ℕ, subst}
 use Rattle.help_lines.specs.Fleets.{down_help}
 use Rattle.help_lines.specs.Lines.{IsLine}
-use Rattle.help_lines.proofs.fleets.tell_hosts.Goals as goal
+use Rattle.help_lines.proofs.fleets.tell_down.Goals as goal
 
 pub returns-clause-line : goal.returns-clause-line
 unfolding down_help
