@@ -94,7 +94,7 @@ _rollout() {
     limits) most=1 options=(--expect --from --mended --changed-inputs --json -v --verbose -h --help) ;;
     plan) most=2 options=(--course --failing --groups --color --picture --words --expect --from --mended --changed-inputs --json -v --verbose -h --help) ;;
     run) most=2 options=(--forks -v --verbose --quiet --stop-file --journal --resume --mended --changed-inputs --lock --strict --json -h --help) ;;
-    rehearse) most=2 options=(--strict --from --mended --changed-inputs -v --verbose -h --help) ;;
+    rehearse) most=2 options=(--strict --from --mended --changed-inputs --json -v --verbose -h --help) ;;
     state) most=2 options=(--changed-inputs -h --help) ;;
     check) most=3 options=(-h --help) ;;
     lint) most=2 options=(--allow -h --help) ;;

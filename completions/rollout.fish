@@ -111,6 +111,7 @@ complete -c rollout -n '__rollout_of rehearse' -l strict -d 'Ends with status 1 
 complete -c rollout -n '__rollout_of rehearse' -l from -r -F -d 'Begins where the run of this journal stands, as --resume would have it go on'
 complete -c rollout -n '__rollout_of rehearse' -l mended -x -d 'Beside --from these hosts and groups, parted by commas, are up by now'
 complete -c rollout -n '__rollout_of rehearse' -l changed-inputs -d 'The inputs may be others than those with which the run of the journal began'
+complete -c rollout -n '__rollout_of rehearse' -l json -d 'Prints it, and a fault, as JSON'
 complete -c rollout -n '__rollout_of rehearse' -s v -l verbose -d 'Tells more on standard error: which hosts are left out, and behind a refusal what was expected'
 complete -c rollout -n '__rollout_of rehearse' -s h -l help -d 'Print help'
 

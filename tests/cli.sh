@@ -599,6 +599,7 @@ Options:
       --from <JOURNAL>  Begins where the run of this journal stands, as --resume would have it go on
       --mended <HOSTS>  Beside --from these hosts and groups, parted by commas, are up by now
       --changed-inputs  The inputs may be others than those with which the run of the journal began
+      --json            Prints it, and a fault, as JSON
   -v, --verbose         Tells more on standard error: which hosts are left out, and behind a refusal what was expected
   -h, --help            Print help
 
@@ -771,6 +772,7 @@ done
 for words in '--expect hosts=1' '--from c'; do
     apart "--json doesn't go with --groups, --picture, --from, --expect and --words" "limits a $words --json"
 done
+apart "--json doesn't go with --groups, --picture, --from, --expect and --words" 'rehearse a b --json --from c'
 for words in '--resume c' '--mended c'; do
     apart "--strict of a run doesn't go with --resume and --mended" "run a b --strict $words"
 done

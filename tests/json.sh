@@ -1,5 +1,5 @@
 #!/bin/sh
-# What `--json` prints of limits, plans, courses, runs and faults: worked texts, whole; the same with `jq`, where that is; what goes out beside it; and drawn ones beside the slow program, each held
+# What `--json` prints of limits, plans, courses, runs, rehearsals and faults: worked texts, whole; the same with `jq`, where that is; what goes out beside it; and drawn ones beside the slow program, each held
 # against docs/rollout.schema.json. CASES says how many, 300 if it doesn't, and SEED which. It needs crates/rollout/out/rollout and Python.
 . "$(dirname "$0")/common.sh"
 
@@ -298,6 +298,115 @@ if proved 'want of memory'; then
     fits 'want of memory' fault "$work/errors"
 fi
 
+# ---- rehearse
+
+# session WHAT STATUS TYPED OBJECT..: what is typed is answered by these objects, each on a line of its own and as the schema has it; $words stands beside the files
+words=
+session() {
+    what=$1
+    ends=$2
+    printf "$3" >"$work/typed"
+    shift 3
+    said=
+    for object in "$@"; do
+        said=$said$object$newline
+        printf '%s\n' "$object" >"$work/reply"
+        fits "$what" reply "$work/reply"
+    done
+    input=$work/typed
+    # shellcheck disable=SC2086
+    run rehearse "$inventory" "$playbook" --json $words
+    input=/dev/null
+    check "$what" "$ends" "$said" ''
+}
+
+# refusing NUMBER KIND [MEMBER]: what is answered to a line that is refused
+refusing() {
+    printf '{"reply":"refused","number":%s,"kind":"%s"%s}' "$1" "$2" "${3:+,$3}"
+}
+at() {
+    printf '{"host":"%s","state":"%s"}' "$@"
+}
+in_batch() {
+    printf '{"host":"%s","state":"%s","batch":%s}' "$@"
+}
+first='{"answer":{"batches":3,"bound":{"kind":"group","group":"r1","waiting":3,"room":1}},"batches":[["a","d"],["b","e"],["c"]]}'
+all='{"reply":"advanced","batches":[["a","d"],["b","e"],["c"]]}'
+
+texts "$racks" "[$(play "$true")]"
+session 'nothing is typed' 0 ''
+session 'lines without an answer' 0 '\n \t\r\nquit\nshow\n'
+session 'the plan' 0 'plan' "{\"reply\":\"plan\",${first#\{}"
+session 'a batch in which a host fails, and back' 0 'advance a\nshow\nplan\nnext 1\nfinish\nfail b\nadvance\nundo\nundo\n' \
+    '{"reply":"advanced","batches":[["a","d"]]}' \
+    "{\"reply\":\"show\",\"hosts\":[$(at a failed),$(at b waiting),$(at c waiting),$(at d updated),$(at e waiting)],\"end\":{\"kind\":\"blocked\",\"group\":\"r1\"}}" \
+    '{"reply":"plan","answer":{"blocked":{"group":"r1","waiting":2}},"batches":[]}' \
+    "$(refusing 832 Over)" "$(refusing 832 Over)" "$(refusing 832 Over)" "$(refusing 832 Over)" '{"reply":"undone"}' '{"reply":"nothing-to-undo"}'
+session 'a marked host' 0 'show\nfail c\nfail c\nfinish\nshow\nhosts r1\nundo\nundo\nundo\n' \
+    "{\"reply\":\"show\",\"hosts\":[$(at a waiting),$(at b waiting),$(at c waiting),$(at d waiting),$(at e waiting)],\"end\":null}" \
+    '{"reply":"marked","host":"c"}' '{"reply":"marked","host":"c"}' "$all" \
+    "{\"reply\":\"show\",\"hosts\":[$(at a updated),$(at b updated),$(at c failed),$(at d updated),$(at e updated)],\"end\":{\"kind\":\"all-failed\"}}" \
+    "{\"reply\":\"hosts\",\"hosts\":[$(in_batch a updated null),$(in_batch b updated null),$(in_batch c failed null)]}" \
+    '{"reply":"undone"}' '{"reply":"undone"}' '{"reply":"nothing-to-undo"}'
+session 'batches one by one, and several at once' 0 'advance\nnext 65535\nshow' '{"reply":"advanced","batches":[["a","d"]]}' '{"reply":"advanced","batches":[["b","e"],["c"]]}' \
+    "{\"reply\":\"show\",\"hosts\":[$(at a updated),$(at b updated),$(at c updated),$(at d updated),$(at e updated)],\"end\":{\"kind\":\"finished\"}}"
+session 'the hosts of a group, and of one below it' 0 'hosts eu\nnext 1\nhosts r2\n' \
+    "{\"reply\":\"hosts\",\"hosts\":[$(in_batch a waiting 1),$(in_batch b waiting 2),$(in_batch c waiting 3),$(in_batch d waiting 1),$(in_batch e waiting 2)]}" \
+    '{"reply":"advanced","batches":[["a","d"]]}' "{\"reply\":\"hosts\",\"hosts\":[$(in_batch d updated null),$(in_batch e waiting 1)]}"
+session 'lines that are refused' 0 'advance a e b\nadvance nobody e\nfail r1\nhosts a\nnext\nnext 0\nshow me\n advance\t\nfail a\nfail d\n' \
+    "$(refusing 831 NotInBatch '"host":"e"')" "$(refusing 304 NoSuchName '"name":"nobody"')" "$(refusing 304 NoSuchName '"name":"r1"')" "$(refusing 304 NoSuchName '"name":"a"')" \
+    "$(refusing 905 BadCommand)" "$(refusing 905 BadCommand)" "$(refusing 905 BadCommand)" '{"reply":"advanced","batches":[["a","d"]]}' \
+    "$(refusing 833 NotWaiting '"host":"a"')" "$(refusing 833 NotWaiting '"host":"d"')"
+session 'names that have to be escaped, byte by byte' 0 'fail "a"\nfail \\\nhosts caf\303\251\001\177~\nadvance a "\\\n' \
+    "$(refusing 304 NoSuchName '"name":"\"a\""')" "$(refusing 304 NoSuchName '"name":"\\"')" "$(refusing 304 NoSuchName '"name":"caf????~"')" "$(refusing 304 NoSuchName '"name":"\"\\"')"
+listed=$(
+    while read -r command does; do
+        printf '%s{"command":"%s","does":"%s"}' "${listed:+,}" "$(printf '%s' "$command" | tr _ ' ')" "$does"
+        listed=yes
+    done <<'COMMANDS'
+advance_NAMES the next batch is over; these hosts failed in it (no names: none)
+next_N the next N batches are over; just the marked hosts failed in them
+finish the same of all batches, to the end of the play
+fail_HOST mark a host, which then fails as soon as its batch is over
+undo take the last of these back, whole
+plan the plan of the hosts that still wait
+show the state of each host, and the end of the play
+hosts_GROUP the state of each host of a group, and its batch in the plan
+help,_? this list
+quit end the session
+COMMANDS
+)
+session 'the commands' 0 'help\n?\n' "{\"reply\":\"help\",\"commands\":[$listed]}" "{\"reply\":\"help\",\"commands\":[$listed]}"
+words=--strict
+session 'where none is to be refused, and none is' 0 'finish\nundo\nundo\n' "$all" '{"reply":"undone"}' '{"reply":"nothing-to-undo"}'
+session 'where none is to be refused, and one is' 1 'nonsense\nfinish\n' "$(refusing 905 BadCommand)" "$all"
+words=
+texts '{"all":{"hosts":{"a":{"down":true},"b":null,"c":null}},"g":{"hosts":{"b":null}}}' "[{\"hosts\":\"g\",\"tasks\":[$true]}]"
+session 'who is down, and who has no part' 0 'show\nhosts all\n' "{\"reply\":\"show\",\"hosts\":[$(at a off),$(at b waiting)],\"end\":null}" \
+    "{\"reply\":\"hosts\",\"hosts\":[$(in_batch a off null),$(in_batch b waiting 1),$(in_batch c idle null)]}"
+texts '{}' "[$(play "$true")]"
+session 'nobody at all' 0 'plan\nshow\nhosts all\nnext 1\n' '{"reply":"plan","answer":{"batches":0,"bound":{"kind":"nothing"}},"batches":[]}' '{"reply":"show","hosts":[],"end":{"kind":"finished"}}' \
+    '{"reply":"hosts","hosts":[]}' "$(refusing 832 Over)"
+# A fault that ends a session stands behind the answers to the lines before.
+texts "$one" "[$(play "$true")]"
+{
+    printf 'finish\n'
+    head -c 65537 /dev/zero | tr '\0' x
+} >"$work/typed"
+input=$work/typed
+run rehearse --json "$inventory" "$playbook"
+input=/dev/null
+check 'a line that is too long' 1 '{"reply":"advanced","batches":[["a"]]}'"$newline" '{"fault":{"number":906,"kind":"LongLine"}}'"$newline"
+fits 'a line that is too long' fault "$work/errors"
+texts "$one" '{'
+refused 'a playbook that is none' '"number":701,"kind":"NotJson"' rehearse "$inventory" "$playbook" --json
+if [ -e /dev/full ]; then
+    printf 'help\n' | "$rollout" rehearse --json "$top/examples/two-racks.json" "$top/examples/restart-web.json" >/dev/full 2>"$work/errors"
+    status=$?
+    : >"$work/out"
+    check 'answers that can not be written' 1 '' '{"fault":{"number":904,"kind":"Write","written":0}}'"$newline"
+fi
+
 # ---- where it doesn't stand
 
 # A bad line is told in plain words: nobody knows in which form it was to be.
@@ -309,7 +418,6 @@ bad() {
 }
 bad 'without a command' --json
 bad 'with a value' limits --json=yes "$inventory"
-bad 'of a rehearsal' rehearse "$inventory" "$playbook" --json
 bad 'of a state' state "$inventory" "$work/journal" --json
 bad 'of a check' check "$inventory" "$playbook" "$playbook" --json
 bad 'of notes' lint "$inventory" --json
@@ -324,6 +432,7 @@ for words in '--expect hosts=1' "--from $top/examples/killed.journal"; do
     # shellcheck disable=SC2086
     bad "a table beside $words" limits "$inventory" $words --json
 done
+bad 'a rehearsal that begins from a journal' rehearse "$inventory" "$playbook" --json --from "$top/examples/killed.journal"
 [ ! -e "$work/picture.svg" ] && pass || fail 'a picture is drawn by a bad line'
 
 # ---- read by others

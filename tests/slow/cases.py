@@ -216,6 +216,11 @@ def _run(random, further=lambda play: None):
             continue
 
 
+def draw_rehearsed(seed, number):
+    """The rehearsal of this number."""
+    return _rehearse(Random(f"{seed}/rehearsed/{number}"))
+
+
 def _rehearse(random):
     inventory = write(draw_right_inventory(random, crossing=0.02, down=0.05, limited=0.4), random)
     value = draw_right_playbook(random, names_in(inventory), RunStyle([]))

@@ -2,6 +2,7 @@
 
 import json_form
 from aftermath import left_out, why
+from answers import Lines
 from checking import judged, read_batches
 from course import next_boundary
 from entries import digest
@@ -13,6 +14,7 @@ from fleet import Fleet, parts_of
 from foreseen import foreseen_text
 from foretold import foretold
 from inventory import read_inventory
+from json_answers import Objects
 from linting import lint_lines, read_allowed
 from missing import first_missed
 from planning import start
@@ -31,6 +33,8 @@ from texts import as_text, limits_text, plan_text
 def command(words, files, typed):
     """What is said to a line of words, its files having been read; `typed` is standard input."""
     if json_form.is_wanted(words):
+        if words[0] == "rehearse":
+            return rehearse(*files, typed, Objects, json_form.refused)
         return json_form.said(words, files, names_to_fail(words), mended_names(words))
     try:
         expectations, allowed = expected_in(words), allowed_in(words)
@@ -226,15 +230,16 @@ def resume(inventory, playbook, journal, names, takes_others):
     return Said(recaps(courses, len(plays) > 1, plays_before(rest)), "", status_of(courses), gone_on(journal, rest, courses))
 
 
-def rehearse(inventory, playbook, typed):
-    """The answers to what is typed, for the first play."""
+def rehearse(inventory, playbook, typed, tell=Lines, say=None):
+    """The answers to what is typed, for the first play, and how a fault is said."""
+    say = say or refused
     try:
         fleet, plays, targets = accepted(inventory, playbook)
     except Fault as fault:
-        return refused(fault)
+        return say(fault)
     state = start(fleet, targets[0])
-    out, fault = answers(Rehearsal(fleet, plays[0], state, targeted(fleet, targets[0])), typed)
-    return refused(fault, out) if fault else Said(out, "", 0)
+    out, fault = answers(Rehearsal(fleet, plays[0], state, targeted(fleet, targets[0]), tell), typed)
+    return say(fault, out=out) if fault else Said(out, "", 0)
 
 
 def refused(fault, out="", journal=None):

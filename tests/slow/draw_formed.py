@@ -1,9 +1,9 @@
-"""Drawn cases that are asked for JSON: tables of limits, plans, courses, runs, and runs that broke off and go on, as others draw them."""
+"""Drawn cases that are asked for JSON: tables of limits, plans, courses, runs, runs that broke off and go on, and rehearsals, as others draw them."""
 
 from dataclasses import replace
 from random import Random
 
-from cases import MISSING, draw_case, draw_foreseen, draw_grouped
+from cases import MISSING, draw_case, draw_foreseen, draw_grouped, draw_rehearsed
 from draw_resumed import draw_resumed
 
 
@@ -15,10 +15,12 @@ def draw_formed(seed, number):
         # The plan of texts that are asked for their groups: there hosts are down more often.
         case = draw_grouped(f"{seed}/formed", number)
         case = replace(case, words=case.words[:3])
-    elif kind < 0.35:
+    elif kind < 0.3:
         case = draw_foreseen(f"{seed}/formed", number)
-    elif kind < 0.55:
+    elif kind < 0.45:
         case = draw_resumed(f"{seed}/formed", number)
+    elif kind < 0.65:
+        case = draw_rehearsed(f"{seed}/formed", number)
     else:
         case = _of_a_command(seed, number)
     words = list(case.words)

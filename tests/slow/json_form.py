@@ -1,4 +1,4 @@
-"""What `--json` prints: the facts of `limits`, `plan`, `plan --course` and `run`, and faults, each as one JSON object on one line."""
+"""What `--json` prints: the facts of `limits`, `plan`, `plan --course` and `run`, and faults, each as one JSON object on one line; and what comes of a rehearsal that is told so."""
 
 import json
 
@@ -47,9 +47,9 @@ def _said(value, status, journal=None):
     return Said(written(value), "", status, journal)
 
 
-def refused(fault, journal=None):
-    """What is said of a refused input."""
-    return Said("", written(told(fault)), 1, journal)
+def refused(fault, journal=None, out=""):
+    """What is said of a refused input, behind what went out before."""
+    return Said(out, written(told(fault)), 1, journal)
 
 
 def written(value):
@@ -84,10 +84,14 @@ def answer(found):
     return {"batches": len(found.batches), "bound": {"kind": kind, **dict(zip(keys, numbers))}}
 
 
+def batches_of(found):
+    """The batches of a plan; none where a group has no room."""
+    return [] if isinstance(found, Blocked) else found.batches
+
+
 def plan(boundary):
     """The plan of a first boundary, and who was set aside at it."""
-    batches = [] if isinstance(boundary.answer, Blocked) else boundary.answer.batches
-    value = {"answer": answer(boundary.answer), "batches": batches, "held": boundary.aside}
+    value = {"answer": answer(boundary.answer), "batches": batches_of(boundary.answer), "held": boundary.aside}
     if isinstance(boundary.answer, Blocked) and turned("form-blocked-plans-have-a-list"):
         del value["batches"]
     return value

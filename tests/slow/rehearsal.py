@@ -1,33 +1,22 @@
 """A rehearsal: lines are read one after the other, and the batches of a play are advanced and undone without anything that runs."""
 
+from answers import Lines
 from course import close, end_at, halting, next_boundary
 from faults import Fault
-from plays import end_line
 from rules import turned
 from sizes import cap
-from texts import as_text, listed, plan_text
+from texts import as_text
 
 LONGEST_LINE = 65_536
 MOST_BYTES = 16_777_216
-HELP = """advance NAMES  the next batch is over; these hosts failed in it (no names: none)
-next N         the next N batches are over; just the marked hosts failed in them
-finish         the same of all batches, to the end of the play
-fail HOST      mark a host, which then fails as soon as its batch is over
-undo           take the last of these back, whole
-plan           the plan of the hosts that still wait
-show           the state of each host, and the end of the play
-hosts GROUP    the state of each host of a group, and its batch in the plan
-help, ?        this list
-quit           end the session
-"""
 
 
 class Rehearsal:
     """A stack of states, each with the planner's answer and the end, if it has one; the hosts that are marked to fail; and for each command that can be taken back what
-    stack and marks were before it."""
+    stack and marks were before it. `tell` says how answers are told."""
 
-    def __init__(self, fleet, play, state, targeted):
-        self.fleet, self.play, self.targeted = fleet, play, targeted
+    def __init__(self, fleet, play, state, targeted, tell=Lines):
+        self.fleet, self.play, self.targeted, self.tell = fleet, play, targeted, tell()
         self.stack = []
         self.marked = []
         self.past = []
@@ -42,24 +31,20 @@ class Rehearsal:
 
     def answer(self, line):
         """The lines that answer a line; nothing to one without words."""
-        lines = self._answer(words_of(line))
-        self.refused = self.refused or any(isinstance(line, Refused) for line in lines)
-        return lines
-
-    def _answer(self, words):
+        words = words_of(line)
         if not words:
             return []
         if words[0] == b"advance":
-            return [self.advance(words[1:])]
+            return self.advance(words[1:])
         if words[0] == b"next" and len(words) == 2 and number_in(words[1]):
             return self.next(number_in(words[1]))
         if words[0] == b"fail" and len(words) == 2:
-            return [self.fail(words[1])]
+            return self.fail(words[1])
         if words[0] == b"hosts" and len(words) == 2:
             return self.hosts(words[1])
         if words[0] in ALONE and (len(words) == 1 or turned("no-words-behind-a-command")):
             return ALONE[words[0]](self)
-        return [refused(Fault(905, "BadCommand"))]
+        return self._refuse(Fault(905, "BadCommand"))
 
     def advance(self, names):
         """Opens the plan's first batch and closes it, the named hosts failing at the first step, and the marked ones."""
@@ -72,21 +57,21 @@ class Rehearsal:
         for test in tests:
             fault = test(names, found, end)
             if fault:
-                return refused(fault)
+                return self._refuse(fault)
         self._remember()
-        return self._pass([*names, *self.marked])
+        return self.tell.advanced([self._pass([*names, *self.marked])])
 
     def next(self, count):
-        """Opens and closes so many batches, or as many as there are, in which just the marked hosts fail; a line for each."""
+        """Opens and closes so many batches, or as many as there are, in which just the marked hosts fail."""
         if self.stack[-1][2]:
-            return [refused(Fault(832, "Over"))]
+            return self._refuse(Fault(832, "Over"))
         self._remember()
-        lines = []
-        while len(lines) < count and not self.stack[-1][2]:
-            if lines and turned("undo-takes-all-of-next-back"):
+        batches = []
+        while len(batches) < count and not self.stack[-1][2]:
+            if batches and turned("undo-takes-all-of-next-back"):
                 self._remember()
-            lines.append(self._pass([] if turned("marked-hosts-fail-in-next") else self.marked))
-        return lines
+            batches.append(self._pass([] if turned("marked-hosts-fail-in-next") else self.marked))
+        return self.tell.advanced(batches)
 
     def finish(self):
         """The same of all batches to the end."""
@@ -98,22 +83,22 @@ class Rehearsal:
         host = next((host for host in self.fleet.hosts if host.encode() == name), None)
         waits = host and (state[host] == "waiting" or turned("marked-hosts-wait"))
         if not host:
-            return refused(Fault(304, "NoSuchName", name=name))
+            return self._refuse(Fault(304, "NoSuchName", name=name))
         if end and (waits or not turned("over-before-not-waiting")):
-            return refused(Fault(832, "Over"))
+            return self._refuse(Fault(832, "Over"))
         if not waits:
-            return refused(Fault(833, "NotWaiting", host=name))
+            return self._refuse(Fault(833, "NotWaiting", host=name))
         if name not in self.marked or turned("marked-twice-is-marked-once"):
             self._remember()
             self.marked.append(name)
-        return listed("marked:", [host])
+        return self.tell.marked(host)
 
     def _remember(self):
         """What `undo` goes back to."""
         self.past.append((list(self.stack), list(self.marked)))
 
     def _pass(self, names):
-        """Opens the plan's first batch and closes it, these hosts of it failing."""
+        """Opens the plan's first batch and closes it, these hosts of it failing; that batch."""
         state, found, end = self.stack[-1]
         batch = found.batches[0]
         failing = {host: 1 if host.encode() in names else None for host in batch}
@@ -123,7 +108,7 @@ class Rehearsal:
         after = dict(state)
         end = close(after, batch, failing, halt, self.play.most_failed)
         self._push(after, end)
-        return listed("advanced:", batch)
+        return batch
 
     def _unknown(self, names, found, end):
         hosts = {host.encode() for host in self.fleet.hosts}
@@ -145,28 +130,28 @@ class Rehearsal:
     def undo(self):
         """Goes back to what was before the last command that led on, with its end."""
         if not self.past:
-            return ["nothing to undo"]
+            return self.tell.undone(False)
         end = self.stack[-1][2]
         self.stack, marked = self.past.pop()
         if not turned("undo-takes-marks-back"):
             self.marked = marked
         if turned("undo-takes-the-end-back") and end:
             self.stack[-1] = (*self.stack[-1][:2], end)
-        return ["undone"]
+        return self.tell.undone(True)
 
     def plan(self):
         """The plan of the state, also behind an end."""
         _, found, end = self.stack[-1]
         if end and turned("plan-behind-an-end"):
-            return [refused(Fault(832, "Over"))]
-        return plan_text(found).splitlines()
+            return self._refuse(Fault(832, "Over"))
+        return self.tell.plan(found)
 
     def show(self):
         """The status of each host that isn't idle, and the end."""
         state, _, end = self.stack[-1]
         listed_too = ("idle",) if turned("idle-hosts-are-not-shown") else ()
-        lines = [f"{host} {status}" for host, status in state.items() if status != "idle" or status in listed_too]
-        return [*lines, end_line(end)]
+        shown = [(host, status) for host, status in state.items() if status != "idle" or status in listed_too]
+        return self.tell.show(shown, end)
 
     def hosts(self, name):
         """The status of each host of a group, and the number of the batch in which the plan has it."""
@@ -175,14 +160,23 @@ class Rehearsal:
         if turned("a-host-is-no-group") and not group:
             members = [host for host in self.fleet.hosts if host.encode() == name]
         if not group and not members:
-            return [refused(Fault(304, "NoSuchName", name=name))]
+            return self._refuse(Fault(304, "NoSuchName", name=name))
         state = self.stack[-1][0]
         found = self.stack[0 if turned("batches-as-the-plan-stands") else -1][1]
         batches = enumerate(getattr(found, "batches", []), 1)
         numbers = {host: number for number, batch in batches for host in batch}
         passed_over = ("idle",) if turned("hosts-lists-idle-hosts") else ()
         listed_hosts = [host for host in self.fleet.hosts if host in members and state[host] not in passed_over]
-        return [f"{host} state={state[host]} batch={numbers.get(host, '-')}" for host in listed_hosts]
+        return self.tell.hosts([(host, state[host], numbers.get(host)) for host in listed_hosts])
+
+    def help(self):
+        """Every command."""
+        return self.tell.help()
+
+    def _refuse(self, fault):
+        """Refuses the line at hand."""
+        self.refused = True
+        return self.tell.refused(fault)
 
 
 # The commands behind which nothing stands.
@@ -191,8 +185,8 @@ ALONE = {
     b"undo": Rehearsal.undo,
     b"plan": Rehearsal.plan,
     b"show": Rehearsal.show,
-    b"help": lambda rehearsal: HELP.splitlines(),
-    b"?": lambda rehearsal: HELP.splitlines(),
+    b"help": Rehearsal.help,
+    b"?": Rehearsal.help,
     b"quit": lambda rehearsal: [],
 }
 
@@ -209,15 +203,6 @@ def number_in(word):
         return None
     number = int(word)
     return number if 1 <= number <= 65_535 else None
-
-
-class Refused(str):
-    """The answer to a line that is refused."""
-
-
-def refused(fault):
-    """The answer to a line that is refused."""
-    return Refused(f"refused {fault.words()}")
 
 
 def rehearse(rehearsal, typed):

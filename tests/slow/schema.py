@@ -37,10 +37,12 @@ def misfit(text, part=None):
 
 
 def misfit_of(said):
-    """What is wrong with what a command said with `--json`: an object on one of both outputs."""
-    if said.out and said.errors:
-        return misfit(said.out) or misfit(said.errors, "fault")
-    return misfit(said.errors, "fault") if said.errors else misfit(said.out)
+    """What is wrong with what a command said with `--json`: an object on one of both outputs, or on both; of a rehearsal one for each line that is answered, so several, or none."""
+    *lines, last = said.out.splitlines(keepends=True) or [""]
+    found = [misfit(line, "reply") for line in lines]
+    found += [misfit(last, "reply" if lines else None)] if last else []
+    found += [misfit(said.errors, "fault")] if said.errors else []
+    return next((wrong for wrong in found if wrong), None)
 
 
 def _once(pairs):

@@ -10,7 +10,7 @@ abbrev pub options_of : Word → List OptionName
 options_of command =
     if bytes_eq command (codes "run") then Verbose ∷ Quiet ∷ StopFile ∷ Journal ∷ Resume ∷ Mended ∷ ChangedInputs ∷ Lock ∷ Strict ∷ Json ∷ []
     else (if bytes_eq command (codes "plan") then Course ∷ Failing ∷ Groups ∷ Color ∷ Picture ∷ Words ∷ Expect ∷ From ∷ Mended ∷ ChangedInputs ∷ Json ∷ Verbose ∷ []
-    else (if bytes_eq command (codes "rehearse") then Strict ∷ From ∷ Mended ∷ ChangedInputs ∷ Verbose ∷ []
+    else (if bytes_eq command (codes "rehearse") then Strict ∷ From ∷ Mended ∷ ChangedInputs ∷ Json ∷ Verbose ∷ []
     else (if bytes_eq command (codes "limits") then Expect ∷ From ∷ Mended ∷ ChangedInputs ∷ Json ∷ Verbose ∷ []
     else (if bytes_eq command (codes "state") then ChangedInputs ∷ []
     else (if bytes_eq command (codes "lint") then Allow ∷ [] else [])))))

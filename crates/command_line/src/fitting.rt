@@ -44,6 +44,7 @@ pub(crate) const OF_REHEARSAL: &[OptionName] = &[
     OptionName::From,
     OptionName::Mended,
     OptionName::ChangedInputs,
+    OptionName::Json,
     OptionName::Verbose,
 ];
 

@@ -7,7 +7,7 @@ use std::io::Write;
 
 /// Writes a string that has no byte to escape, as the names of hosts and groups have none.
 #[tactic(auto, using(bounded_io::proofs::Pieces::pieces_of_text))]
-pub(crate) fn write_quoted<W: Write>(text: &mut TextWriter<'_, W>, name: &str)
+pub fn write_quoted<W: Write>(text: &mut TextWriter<'_, W>, name: &str)
     ensures { Writes W.contents text.old text.new (quoted name.now) }
 {
     text.write_str("\"");

@@ -30,7 +30,7 @@ fn write_too_many<W: Write>(text: &mut TextWriter<'_, W>, step: u64, failed: u64
 }
 
 /// Writes how a play ended.
-pub(crate) fn write_ended<W: Write>(text: &mut TextWriter<'_, W>, fleet: &Fleet, end: End)
+pub fn write_ended<W: Write>(text: &mut TextWriter<'_, W>, fleet: &Fleet, end: End)
     ensures { Writes W.contents text.old text.new (ended_json fleet.now end) }
 {
     match end {

@@ -42,7 +42,7 @@ fn write_host<W: Write>(text: &mut TextWriter<'_, W>, name: &str, counts: Counts
 }
 
 /// The status of a host; idle past the end of the list.
-fn status_of(statuses: &[Status], host: usize) -> Status
+pub(crate) fn status_of(statuses: &[Status], host: usize) -> Status
     ensures { result ≡ status_at statuses.now host }
 {
     match statuses.get(host) {
@@ -62,7 +62,7 @@ fn counts_of(counts: &[Counts], host: usize) -> Counts
 }
 
 /// Whether the host has a part in the play.
-fn is_told(status: Status) -> bool
+pub(crate) fn is_told(status: Status) -> bool
     ensures { result ≡ spec.is_told status }
 {
     match status {

@@ -1,4 +1,4 @@
-//! What commands tell, as JSON texts: the limits of groups, a plan, and what came of plays.
+//! What commands tell, as JSON texts: the limits of groups, a plan, what came of plays, and the parts of which other texts are made.
 #![tactic(auto)]
 
 mod arrays;
@@ -10,9 +10,15 @@ mod limits;
 mod names;
 mod plan;
 mod plays;
+mod states;
+mod strings;
 
-pub use arrays::write_comma;
+pub use arrays::{write_comma, write_quoted};
+pub use ends::write_ended;
 pub use form::Form;
 pub use limits::write_limits_json;
-pub use plan::write_plan_json;
+pub use names::write_names;
+pub use plan::{write_answer, write_batch, write_batches, write_plan_json};
 pub use plays::{write_course_json, write_play_json};
+pub use states::write_states;
+pub use strings::write_string;

@@ -31,7 +31,7 @@ fn write_each_name<W: Write>(text: &mut TextWriter<'_, W>, fleet: &Fleet, hosts:
 
 /// Writes the names of the hosts.
 #[tactic(auto, using(bounded_io::proofs::Pieces::pieces_of_text))]
-pub(crate) fn write_names<W: Write>(text: &mut TextWriter<'_, W>, fleet: &Fleet, hosts: &[HostId])
+pub fn write_names<W: Write>(text: &mut TextWriter<'_, W>, fleet: &Fleet, hosts: &[HostId])
     ensures { Writes W.contents text.old text.new (names_json fleet.now (host_numbers hosts.now)) }
 {
     text.write_str("[");

@@ -75,7 +75,7 @@ fn write_blocked<W: Write>(text: &mut TextWriter<'_, W>, group: &str, waiting: u
 }
 
 /// Writes how many batches a plan has and why no fewer, or the group that blocks it.
-pub(crate) fn write_answer<W: Write>(text: &mut TextWriter<'_, W>, fleet: &Fleet, answer: &Answer)
+pub fn write_answer<W: Write>(text: &mut TextWriter<'_, W>, fleet: &Fleet, answer: &Answer)
     ensures { Writes W.contents text.old text.new (answer_json fleet.now answer.now) }
 {
     match answer {
@@ -89,8 +89,9 @@ pub(crate) fn write_answer<W: Write>(text: &mut TextWriter<'_, W>, fleet: &Fleet
     }
 }
 
+/// Writes the names of a batch behind so many.
 #[tactic(auto, using(bounded_io::proofs::Pieces::pieces_of_text))]
-fn write_batch<W: Write>(
+pub fn write_batch<W: Write>(
     text: &mut TextWriter<'_, W>,
     fleet: &Fleet,
     place: usize,
@@ -110,7 +111,7 @@ fn write_each_batch<W: Write>(text: &mut TextWriter<'_, W>, fleet: &Fleet, batch
     }
 }
 
-/// Writes the names of each batch, where there is a plan.
+/// Writes the entries of the batches, where there is a plan.
 #[tactic(auto, using(bounded_io::proofs::Pieces::pieces_of_text))]
 fn write_answer_batches<W: Write>(text: &mut TextWriter<'_, W>, fleet: &Fleet, answer: &Answer)
     ensures { Writes W.contents text.old text.new (entries_text (λ place hosts. names_json fleet.now hosts) (batches_of answer.now)) }
@@ -120,8 +121,9 @@ fn write_answer_batches<W: Write>(text: &mut TextWriter<'_, W>, fleet: &Fleet, a
     }
 }
 
+/// Writes the names of each batch, where there is a plan.
 #[tactic(auto, using(bounded_io::proofs::Pieces::pieces_of_text))]
-fn write_batches<W: Write>(text: &mut TextWriter<'_, W>, fleet: &Fleet, answer: &Answer)
+pub fn write_batches<W: Write>(text: &mut TextWriter<'_, W>, fleet: &Fleet, answer: &Answer)
     ensures { Writes W.contents text.old text.new (batches_json fleet.now (batches_of answer.now)) }
 {
     text.write_str("[");

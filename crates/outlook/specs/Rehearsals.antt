@@ -1,5 +1,6 @@
 -- A rehearsal of the rest of a run.
 use Rattle.std.specs.Prelude.{ℕ, Bool, Option, List}
+use Rattle.rehearsing.specs.PlainReplies.{plain_reply}
 use Rattle.rehearsing.specs.RehearseTexts.{IsFaultFrom, IsUnbegun, RehearsesFrom}
 use Rattle.rehearsing.specs.declared.fault.RehearseFault.{RehearseFault}
 use Rattle.resuming.specs.declared.inputs.Resumption.{Resumption}
@@ -11,13 +12,13 @@ use Rattle.outlook.specs.declared.fault.RestFault.TheVariants.{Resume, Session}
 pub record RehearsesRest (asked : Question) (old new out_old out_new : Option (List ℕ)) (refused : Bool) : Type 0 where
   pub resumption : Resumption
   pub goes : GoesOnWith asked resumption
-  pub session : RehearsesFrom resumption.fleet goes.gone.first resumption.beginning.start.statuses.items old new out_old out_new refused
+  pub session : RehearsesFrom plain_reply resumption.fleet goes.gone.first resumption.beginning.start.statuses.items old new out_old out_new refused
 
 -- the fault is true of such a session
 pub record EndsRest (is_reliable : Bool) (asked : Question) (old new out_old out_new : Option (List ℕ)) (fault : RehearseFault) : Type 0 where
   pub resumption : Resumption
   pub goes : GoesOnWith asked resumption
-  pub session : IsFaultFrom is_reliable resumption.fleet goes.gone.first resumption.beginning.start.statuses.items old new out_old out_new fault
+  pub session : IsFaultFrom plain_reply is_reliable resumption.fleet goes.gone.first resumption.beginning.start.statuses.items old new out_old out_new fault
 
 -- what the fault says is true: the run doesn't go on, no command was read, and nothing went out; or the session ended so
 abbrev pub IsTrueOfRehearsal : Bool → Question → Option (List ℕ) → Option (List ℕ) → Option (List ℕ) → Option (List ℕ) → RestFault → Type 0

@@ -7,6 +7,7 @@ ghost use Rattle.outlook.specs.Rehearsals.{IsTrueOfRehearsal, RehearsesRest};
 use crate::asked::Asked;
 use crate::fault::RestFault;
 use bounded_io::Input;
+use json_texts::Form;
 use rehearsing::{Opening, Prompt, rehearse_play};
 use resuming::resume_inputs;
 use std::alloc::Global;
@@ -34,7 +35,7 @@ pub fn rehearse_from<P: Prompt, I: Input, W: Write>(
         play: &resumption.plays[resumption.beginning.plays_before],
         statuses: resumption.beginning.start.statuses.as_slice(),
     };
-    match rehearse_play(alloc, &opening, prompt, input, out) {
+    match rehearse_play(alloc, Form::Plain, &opening, prompt, input, out) {
         Ok(refused) => Ok(refused),
         Err(fault) => Err(RestFault::Session(fault)),
     }

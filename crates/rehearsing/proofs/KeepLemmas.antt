@@ -10,6 +10,7 @@ use Rattle.rehearsing.specs.Histories.{HistoryView, Place, back_at, led_on, refu
 use Rattle.rehearsing.proofs.StackLemmas.{above-push}
 use Rattle.rehearsing.proofs.LeadLemmas.{Leads, goes_back, leads_on, leads_somehow, refuses, stays}
 use Rattle.rehearsing.specs.Answers.{LeadsTo}
+use Rattle.rehearsing.specs.Replies.{Telling}
 use Rattle.rehearsing.specs.Commands.{Command, command_in}
 use Rattle.rehearsing.specs.Laws.{SessionsRehearse}
 use Rattle.rehearsing.specs.Sessions.{Session}
@@ -52,11 +53,11 @@ module _ (fleet : FleetView) (play : Play) (statuses : List Status) where
       by_way (leads_on place kept to_place) = subst Are (sym to_place) (kept are.0, are)
       by_way (goes_back undoes same) = subst Are (sym same) (are_back before.place before.earlier before.refused are)
 
-  all_lead : (before : HistoryView) (lines : List (List ℕ)) (text : List ℕ) (after : HistoryView) → Session before lines text after → Are before → Are after
-  all_lead before [] text after session are = subst Are (sym session.1) are
-  all_lead before (line ∷ lines) text after session are =
-      all_lead session.0 lines session.1 after session.3 (leads before (command_in line) session.0 session.2 are)
+  all_lead : (tell : Telling) (before : HistoryView) (lines : List (List ℕ)) (text : List ℕ) (after : HistoryView) → Session tell before lines text after → Are before → Are after
+  all_lead tell before [] text after session are = subst Are (sym session.1) are
+  all_lead tell before (line ∷ lines) text after session are =
+      all_lead tell session.0 lines session.1 after session.3 (leads before (command_in line) session.0 session.2 are)
 
 pub sessions_rehearse : SessionsRehearse
-sessions_rehearse inventory playbook before lines text after opening session =
-    (all_lead opening.fleet opening.play _ _ lines text after session (opening.opening.of, tt)).0
+sessions_rehearse tell inventory playbook before lines text after opening session =
+    (all_lead opening.fleet opening.play _ tell _ lines text after session (opening.opening.of, tt)).0

@@ -6,6 +6,7 @@ use Rattle.rehearsing.specs.Stacks.{IsAdvanced, RehearsalView, top}
 use Rattle.rehearsing.specs.Histories.{HistoryView, Place, back_at, led_on, refusing, undone}
 use Rattle.rehearsing.specs.GoingOn.{AreAdvances, UnlessOver, is_marked, marking}
 use Rattle.rehearsing.specs.Answers.{AdvancesTo, FinishesTo, GoesOnTo, LeadsTo, LooksUpTo, MarksTo, mark_refusal, over, refusal}
+use Rattle.rehearsing.specs.Replies.{Refused, Telling}
 use Rattle.rehearsing.specs.Commands.{Command, advance, command_in, fail, finish, help, hosts, next, nothing, plan, quit, show, undo, unknown}
 use Rattle.rehearsing.specs.Sessions.{Session}
 use Rattle.rehearsing.specs.HistoryLaws.{UndoneCommandIsAsBefore, UndoneSessionIsOpening}
@@ -32,18 +33,18 @@ module _ (Keeps : RehearsalView → Type 0) (keep : (named : List HostId) (old n
   leads_somehow before nothing after to = stays to
   leads_somehow before (advance names) after to = by_refusal (refusal before.place.rehearsal names) to
     where
-      by_refusal : (refused : Option (List ℕ)) → AdvancesTo before names refused after → Leads Keeps before (advance names) after
-      by_refusal (Some line) is = refuses is
+      by_refusal : (refused : Option Refused) → AdvancesTo before names refused after → Leads Keeps before (advance names) after
+      by_refusal (Some why) is = refuses is
       by_refusal None is = leads_on _ (λ kept. keep _ before.place.rehearsal is.rehearsal is.advanced kept) is.leads
   leads_somehow before (next count) after to = by_refusal (over before.place.rehearsal) to
     where
-      by_refusal : (refused : Option (List ℕ)) → GoesOnTo before count refused after → Leads Keeps before (next count) after
-      by_refusal (Some line) is = refuses is
+      by_refusal : (refused : Option Refused) → GoesOnTo before count refused after → Leads Keeps before (next count) after
+      by_refusal (Some why) is = refuses is
       by_refusal None is = leads_on _ (λ kept. kept_by count before.place.marked before.place.rehearsal is.rehearsal is.advances kept) is.leads
   leads_somehow before finish after to = by_refusal (over before.place.rehearsal) to
     where
-      by_refusal : (refused : Option (List ℕ)) → FinishesTo before refused after → Leads Keeps before finish after
-      by_refusal (Some line) is = refuses is
+      by_refusal : (refused : Option Refused) → FinishesTo before refused after → Leads Keeps before finish after
+      by_refusal (Some why) is = refuses is
       by_refusal None is = leads_on _ (λ kept. kept_by is.advances.count before.place.marked before.place.rehearsal is.rehearsal is.advances.advances kept) is.leads
   leads_somehow before (fail name) after to = by_refusal (mark_refusal before.place.rehearsal name) to
     where
@@ -51,8 +52,8 @@ module _ (Keeps : RehearsalView → Type 0) (keep : (named : List HostId) (old n
       by_mark host true is = stays is
       by_mark host false is = leads_on _ (λ kept. kept) is
 
-      by_refusal : (refused : Option (List ℕ)) → MarksTo before name refused after → Leads Keeps before (fail name) after
-      by_refusal (Some line) is = refuses is
+      by_refusal : (refused : Option Refused) → MarksTo before name refused after → Leads Keeps before (fail name) after
+      by_refusal (Some why) is = refuses is
       by_refusal None is = by_mark _ (is_marked before _) is
   leads_somehow before undo after to = goes_back refl to
   leads_somehow before plan after to = stays to
@@ -106,11 +107,11 @@ same_first before command after to = by_way (leads_any before command after to)
     by_way (leads_on place kept leads) = ap first_place leads
     by_way (goes_back undoes same) = ap first_place same ∙ back_same before.place before.earlier before.refused
 
-same_first_of_all : (before : HistoryView) (lines : List (List ℕ)) (text : List ℕ) (after : HistoryView) → Session before lines text after → first_place after ≡ first_place before
-same_first_of_all before [] text after session = ap first_place session.1
-same_first_of_all before (line ∷ lines) text after session =
-    same_first_of_all session.0 lines session.1 after session.3 ∙ same_first before (command_in line) session.0 session.2
+same_first_of_all : (tell : Telling) (before : HistoryView) (lines : List (List ℕ)) (text : List ℕ) (after : HistoryView) → Session tell before lines text after → first_place after ≡ first_place before
+same_first_of_all tell before [] text after session = ap first_place session.1
+same_first_of_all tell before (line ∷ lines) text after session =
+    same_first_of_all tell session.0 lines session.1 after session.3 ∙ same_first before (command_in line) session.0 session.2
 
 pub undone_session_is_opening : UndoneSessionIsOpening
-undone_session_is_opening before lines text after none session back =
-    sym (ap (first_of after.place) back) ∙ same_first_of_all before lines text after session ∙ ap (first_of before.place) none
+undone_session_is_opening tell before lines text after none session back =
+    sym (ap (first_of after.place) back) ∙ same_first_of_all tell before lines text after session ∙ ap (first_of before.place) none

@@ -13,17 +13,18 @@ use Rattle.rehearsing.specs.declared.fault.RehearseFault.TheVariants.{Refused, M
 use Rattle.rehearsing.specs.Inside.{Hears, HearsEnd, HearsUntil, LastAnswer, ListensInVain, ListensToEnd, ListensUntil, StopsAt, Unheard}
 use Rattle.rehearsing.specs.Lines.{HasNoFeed, IsLine, IsLong, joined, max_line, max_read}
 use Rattle.rehearsing.specs.Sessions.{Heard}
+use Rattle.rehearsing.specs.Replies.{Telling}
 use Rattle.rehearsing.specs.Answers.{Answers}
 use Rattle.rehearsing.proofs.SessionLemmas.{session_of}
 use Rattle.rehearsing.proofs.HearingLemmas.{hears_none, hears_on, hears_silence}
 
 -- what was heard of a reader that gave so many bytes
-pub record Listening {W : Type 0} (contents : W → Option (List ℕ)) (before : HistoryView) (old new : Option (List ℕ)) (given : ℕ) (line : List ℕ) (after : HistoryView) (text_old text_new : TextWriter W) : Type 0 where
+pub record Listening {W : Type 0} (contents : W → Option (List ℕ)) (tell : Telling) (before : HistoryView) (old new : Option (List ℕ)) (given : ℕ) (line : List ℕ) (after : HistoryView) (text_old text_new : TextWriter W) : Type 0 where
   pub bytes : List ℕ
   pub consumed : Consumes old new bytes
   pub many : length bytes ≡ given
   pub within : given ≤ max_input
-  pub hears : Hears contents before bytes line after text_old text_new
+  pub hears : Hears contents tell before bytes line after text_old text_new
   pub is_line : IsLine line
 
 long_before : (rest more : List ℕ) → IsLong rest → IsLong (rest ++ more)
@@ -40,8 +41,8 @@ stops_before rest more TooLarge is = absurd is
 stops_before rest more (Refused fault) is = absurd is
 stops_before rest more (Write fault) is = absurd is
 
-module _ {W : Type 0} (contents : W → Option (List ℕ)) (before : HistoryView) (old : Option (List ℕ)) (t0 : TextWriter W) where
-  pub begins_listening : Listening contents before old old 0 [] before t0 t0
+module _ {tell : Telling} {W : Type 0} (contents : W → Option (List ℕ)) (before : HistoryView) (old : Option (List ℕ)) (t0 : TextWriter W) where
+  pub begins_listening : Listening contents tell before old old 0 [] before t0 t0
   begins_listening = record {
     bytes = [];
     consumed = Consumes-nil old;
@@ -51,9 +52,9 @@ module _ {W : Type 0} (contents : W → Option (List ℕ)) (before : HistoryView
     is_line = record { feedless = refl; within = omega arith };
   }
 
-  module _ (mid : Option (List ℕ)) (given : ℕ) (line : List ℕ) (between : HistoryView) (t1 : TextWriter W) (so_far : Listening contents before old mid given line between t0 t1) where
+  module _ (mid : Option (List ℕ)) (given : ℕ) (line : List ℕ) (between : HistoryView) (t1 : TextWriter W) (so_far : Listening contents tell before old mid given line between t0 t1) where
     -- nothing was written meanwhile
-    pub still_listening : (t2 : TextWriter W) → Writes contents t1 t2 [] → Listening contents before old mid given line between t0 t2
+    pub still_listening : (t2 : TextWriter W) → Writes contents t1 t2 [] → Listening contents tell before old mid given line between t0 t2
     still_listening t2 silent = record {
       bytes = so_far.bytes;
       consumed = so_far.consumed;
@@ -67,7 +68,7 @@ module _ {W : Type 0} (contents : W → Option (List ℕ)) (before : HistoryView
       is_line = so_far.is_line;
     }
 
-    pub in_vain : ListensInVain contents before old mid t0 t1
+    pub in_vain : ListensInVain contents tell before old mid t0 t1
     in_vain = record {
       text = so_far.hears.text;
       heard = record {
@@ -81,7 +82,7 @@ module _ {W : Type 0} (contents : W → Option (List ℕ)) (before : HistoryView
       written = so_far.hears.written;
     }
 
-    pub until_file : (new : Option (List ℕ)) (is_reliable : Bool) → Keeps mid new → is_reliable ≡ false → ListensUntil contents is_reliable before old new t0 t1 File
+    pub until_file : (new : Option (List ℕ)) (is_reliable : Bool) → Keeps mid new → is_reliable ≡ false → ListensUntil contents tell is_reliable before old new t0 t1 File
     until_file new is_reliable keeps fails = record {
       text = so_far.hears.text;
       ended = record {
@@ -99,7 +100,7 @@ module _ {W : Type 0} (contents : W → Option (List ℕ)) (before : HistoryView
       consumed_all : Consumes old new so_far.bytes
       consumed_all = subst (Consumes old new) (append-nil so_far.bytes) (Consumes-trans old mid new so_far.bytes [] so_far.consumed none)
 
-      pub to_all : (after : HistoryView) (t2 : TextWriter W) → IsAtEnd new → LastAnswer contents between line after t1 t2 → ListensToEnd contents before after old new t0 t2
+      pub to_all : (after : HistoryView) (t2 : TextWriter W) → IsAtEnd new → LastAnswer contents tell between line after t1 t2 → ListensToEnd contents tell before after old new t0 t2
       to_all after t2 end last = record {
         text = so_far.hears.text ++ last.text;
         over = inl (record {
@@ -120,7 +121,7 @@ module _ {W : Type 0} (contents : W → Option (List ℕ)) (before : HistoryView
       }
 
       -- no memory for the answer to the last line
-      pub until_memory : (is_reliable : Bool) (t2 : TextWriter W) → Writes contents t1 t2 [] → ListensUntil contents is_reliable before old new t0 t2 Memory
+      pub until_memory : (is_reliable : Bool) (t2 : TextWriter W) → Writes contents t1 t2 [] → ListensUntil contents tell is_reliable before old new t0 t2 Memory
       until_memory is_reliable t2 silent = record {
         text = so_far.hears.text;
         ended = record {
@@ -136,7 +137,7 @@ module _ {W : Type 0} (contents : W → Option (List ℕ)) (before : HistoryView
 
     module _ (new : Option (List ℕ)) (after : HistoryView) (t2 : TextWriter W) where
       pub one_read_more : (chunk now : List ℕ) (count : ℕ) → Consumes mid new chunk → length chunk ≡ count → given + count ≤ max_input
-          → Hears contents between (line ++ chunk) now after t1 t2 → IsLine now → Listening contents before old new (given + count) now after t0 t2
+          → Hears contents tell between (line ++ chunk) now after t1 t2 → IsLine now → Listening contents tell before old new (given + count) now after t0 t2
       one_read_more chunk now count read many within hears is_line = record {
         bytes = so_far.bytes ++ chunk;
         consumed = Consumes-trans old mid new so_far.bytes chunk so_far.consumed read;
@@ -148,9 +149,9 @@ module _ {W : Type 0} (contents : W → Option (List ℕ)) (before : HistoryView
 
       -- one byte past the bound came behind the chunk
       pub until_too_large : (is_reliable : Bool) (chunk now : List ℕ) (byte : ℕ) → Consumes mid new (chunk ++ byte ∷ []) → given + length chunk ≡ max_input
-          → Hears contents between (line ++ chunk) now after t1 t2 → IsLine now → ListensUntil contents is_reliable before old new t0 t2 TooLarge
+          → Hears contents tell between (line ++ chunk) now after t1 t2 → IsLine now → ListensUntil contents tell is_reliable before old new t0 t2 TooLarge
       until_too_large is_reliable chunk now byte read many hears is_line =
-          let all : Hears contents before (so_far.bytes ++ chunk) now after t0 t2 = hears_on contents before so_far.bytes line between chunk now after t0 t1 t2 so_far.hears hears in
+          let all : Hears contents tell before (so_far.bytes ++ chunk) now after t0 t2 = hears_on contents before so_far.bytes line between chunk now after t0 t1 t2 so_far.hears hears in
           record {
             text = all.text;
             ended = record {
@@ -175,11 +176,11 @@ module _ {W : Type 0} (contents : W → Option (List ℕ)) (before : HistoryView
 
       -- a line of the chunk ended the session; perhaps a byte past the bound came behind the chunk
       pub to_line : (chunk past : List ℕ) → Consumes mid new (chunk ++ past) → length (chunk ++ past) ≤ max_read → given + length (chunk ++ past) ≤ max_input + 1 → given + length chunk ≤ max_input
-          → HearsEnd contents between line chunk after t1 t2 → ListensToEnd contents before after old new t0 t2
+          → HearsEnd contents tell between line chunk after t1 t2 → ListensToEnd contents tell before after old new t0 t2
       to_line chunk past read short few within hears =
           let bytes : List ℕ = so_far.bytes ++ (chunk ++ past) in
           let rest : List ℕ = hears.line ++ 10 ∷ hears.behind in
-          let all : Hears contents before (so_far.bytes ++ chunk) rest after t0 t2 = hears_on contents before so_far.bytes line between chunk rest after t0 t1 t2 so_far.hears hears.hears in
+          let all : Hears contents tell before (so_far.bytes ++ chunk) rest after t0 t2 = hears_on contents before so_far.bytes line between chunk rest after t0 t1 t2 so_far.hears hears.hears in
           record {
             text = all.text;
             over = inr (record {
@@ -206,10 +207,10 @@ module _ {W : Type 0} (contents : W → Option (List ℕ)) (before : HistoryView
 
       -- a line was too long, or memory was wanting, in the chunk; perhaps bytes came behind it
       until : (is_reliable : Bool) (chunk behind : List ℕ) (fault : RehearseFault) → Consumes mid new (chunk ++ behind) → given + length (chunk ++ behind) ≤ max_input + 1
-          → (hears : HearsUntil contents between (line ++ chunk) after t1 t2 fault) → (rest : List ℕ) × (text : List ℕ) × Heard before (so_far.bytes ++ (chunk ++ behind)) rest text after
+          → (hears : HearsUntil contents tell between (line ++ chunk) after t1 t2 fault) → (rest : List ℕ) × (text : List ℕ) × Heard tell before (so_far.bytes ++ (chunk ++ behind)) rest text after
           × Writes contents t0 t2 text × StopsAt rest fault × (length rest ≡ length hears.rest + length behind)
       until is_reliable chunk behind fault read few hears =
-          let all : Hears contents before (so_far.bytes ++ chunk) hears.rest after t0 t2 =
+          let all : Hears contents tell before (so_far.bytes ++ chunk) hears.rest after t0 t2 =
           hears_on contents before so_far.bytes line between chunk hears.rest after t0 t1 t2 so_far.hears hears.hears in (
             hears.rest ++ behind,
             all.text,
@@ -226,7 +227,7 @@ module _ {W : Type 0} (contents : W → Option (List ℕ)) (before : HistoryView
           )
 
       pub until_fault : (is_reliable : Bool) (chunk behind : List ℕ) (fault : RehearseFault) → Consumes mid new (chunk ++ behind) → given + length (chunk ++ behind) ≤ max_input + 1
-          → given + length chunk ≤ max_input → HearsUntil contents between (line ++ chunk) after t1 t2 fault → Unheard contents is_reliable before old new t0 t2 fault
+          → given + length chunk ≤ max_input → HearsUntil contents tell between (line ++ chunk) after t1 t2 fault → Unheard contents tell is_reliable before old new t0 t2 fault
       until_fault is_reliable chunk behind LongLine read few within hears =
           let all = until is_reliable chunk behind LongLine read few hears in record {
             text = all.1;
@@ -263,8 +264,8 @@ module _ {W : Type 0} (contents : W → Option (List ℕ)) (before : HistoryView
       until_fault is_reliable chunk behind (Write fault) read few within hears = absurd hears.stops
 
 -- the last line was answered
-pub last_told : {W : Type 0} (contents : W → Option (List ℕ)) (before : HistoryView) (line answer : List ℕ) (after : HistoryView) (t0 t1 : TextWriter W) → 0 < length line
-    → Answers before line answer after → Writes contents t0 t1 answer → LastAnswer contents before line after t0 t1
+pub last_told : {tell : Telling} {W : Type 0} (contents : W → Option (List ℕ)) (before : HistoryView) (line answer : List ℕ) (after : HistoryView) (t0 t1 : TextWriter W) → 0 < length line
+    → Answers tell before line answer after → Writes contents t0 t1 answer → LastAnswer contents tell before line after t0 t1
 last_told contents before [] answer after t0 t1 some is written = absurd (omega (arith, some))
 last_told contents before (byte ∷ bytes) answer after t0 t1 some is written =
     record { text = answer; answers = session_of before (byte ∷ bytes) answer after is; written = written }

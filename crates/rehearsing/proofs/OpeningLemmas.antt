@@ -20,15 +20,16 @@ use Rattle.rehearsing.specs.declared.fault.RehearseFault.TheVariants.{Refused, M
 use Rattle.rehearsing.specs.declared.opening.FirstPlay.{FirstPlay}
 use Rattle.rehearsing.specs.Inside.{IsFirstOfTexts, ListensToEnd, ListensUntil, RefusesOpening, Unheard}
 use Rattle.rehearsing.specs.Openings.{IsFirstPlay, IsOpeningFrom, IsOpeningIn}
+use Rattle.rehearsing.specs.Replies.{Telling}
 use Rattle.rehearsing.specs.Plays.{rules_of}
 use Rattle.rehearsing.specs.RehearseTexts.{BreaksSession, EndsFrom, EndsRehearsal, EndsSession, HoldsSession, IsFaultFrom, IsTrueFault, IsTrueOfSession, IsUnbegun, Rehearses, RehearsesFrom}
 
 abbrev pub rules_by : FleetView → OnBlocked → List (Option ℕ) → Option ℕ → Rules
 rules_by fleet mode caps share = record { fleet = fleet; mode = mode; caps = caps; percentage = share }
 
-module _ (is_reliable : Bool) (inventory playbook : List ℕ) (old new out_old out_new : Option (List ℕ)) where
+module _ (tell : Telling) (is_reliable : Bool) (inventory playbook : List ℕ) (old new out_old out_new : Option (List ℕ)) where
   pub refusal_is_true : (fault : RehearseFault) → Keeps old new → Keeps out_old out_new → RefusesOpening inventory playbook fault
-      → IsTrueFault is_reliable inventory playbook old new out_old out_new fault
+      → IsTrueFault tell is_reliable inventory playbook old new out_old out_new fault
   refusal_is_true (Refused fault) unread silent refused = (refused, record { unread = unread; silent = silent })
   refusal_is_true Memory unread silent refused = inl (record { unread = unread; silent = silent })
   refusal_is_true File unread silent refused = absurd refused
@@ -46,9 +47,9 @@ first_at inventory playbook read is play at =
     )
 
 -- what a fault says of a session on a play whose hosts have these statuses
-module _ (is_reliable : Bool) (fleet : FleetView) (play : Play) (statuses : List Status) (old new out_old out_new : Option (List ℕ)) where
+module _ (tell : Telling) (is_reliable : Bool) (fleet : FleetView) (play : Play) (statuses : List Status) (old new out_old out_new : Option (List ℕ)) where
   pub session_is_true : (before : RehearsalView) (fault : RehearseFault) → IsOpeningFrom fleet play statuses before
-      → IsTrueOfSession is_reliable (unbegun before) old new out_old out_new fault → IsFaultFrom is_reliable fleet play statuses old new out_old out_new fault
+      → IsTrueOfSession tell is_reliable (unbegun before) old new out_old out_new fault → IsFaultFrom tell is_reliable fleet play statuses old new out_old out_new fault
   session_is_true before (Refused fault) opening told = absurd told
   session_is_true before Memory opening told = inr (record { before = before; opening = opening; session = told })
   session_is_true before File opening told = record { before = before; opening = opening; session = told }
@@ -61,15 +62,15 @@ module _ (is_reliable : Bool) (fleet : FleetView) (play : Play) (statuses : List
     pub opens_first : (before : RehearsalView) → IsOpeningFrom fleet play statuses before → IsOpeningIn inventory playbook before
     opens_first before opening = record { fleet = fleet; play = play; first = first; opening = subst (λ (l : List Status). IsOpeningFrom fleet play l before) begins opening }
 
-    ends_first : (fault : RehearseFault) → EndsFrom is_reliable fleet play statuses old new out_old out_new fault → EndsRehearsal is_reliable inventory playbook old new out_old out_new fault
+    ends_first : (fault : RehearseFault) → EndsFrom tell is_reliable fleet play statuses old new out_old out_new fault → EndsRehearsal tell is_reliable inventory playbook old new out_old out_new fault
     ends_first fault ends = record { before = ends.before; opening = opens_first ends.before ends.opening; session = ends.session }
 
-    memory_first : IsUnbegun old new out_old out_new ⊎ EndsFrom is_reliable fleet play statuses old new out_old out_new Memory
-        → IsTrueFault is_reliable inventory playbook old new out_old out_new Memory
+    memory_first : IsUnbegun old new out_old out_new ⊎ EndsFrom tell is_reliable fleet play statuses old new out_old out_new Memory
+        → IsTrueFault tell is_reliable inventory playbook old new out_old out_new Memory
     memory_first (inl unbegun) = inl unbegun
     memory_first (inr ends) = inr (ends_first Memory ends)
 
-    fault_first : (fault : RehearseFault) → IsFaultFrom is_reliable fleet play statuses old new out_old out_new fault → IsTrueFault is_reliable inventory playbook old new out_old out_new fault
+    fault_first : (fault : RehearseFault) → IsFaultFrom tell is_reliable fleet play statuses old new out_old out_new fault → IsTrueFault tell is_reliable inventory playbook old new out_old out_new fault
     fault_first (Refused fault) told = absurd told
     fault_first Memory told = memory_first told
     fault_first File told = ends_first File told
@@ -78,13 +79,13 @@ module _ (is_reliable : Bool) (fleet : FleetView) (play : Play) (statuses : List
     fault_first (Write fault) told = ends_first (Write fault) told
 
     -- whatever came of it
-    pub told_first : (told : Result Bool RehearseFault) → IfErr told (IsFaultFrom is_reliable fleet play statuses old new out_old out_new)
-        → IfErr told (IsTrueFault is_reliable inventory playbook old new out_old out_new)
+    pub told_first : (told : Result Bool RehearseFault) → IfErr told (IsFaultFrom tell is_reliable fleet play statuses old new out_old out_new)
+        → IfErr told (IsTrueFault tell is_reliable inventory playbook old new out_old out_new)
     told_first (Ok refused) is = is
     told_first (Err fault) is = fault_first fault is
 
-    pub rehearses_first : (told : Result Bool RehearseFault) → IfOk told (RehearsesFrom fleet play statuses old new out_old out_new)
-        → IfOk told (Rehearses inventory playbook old new out_old out_new)
+    pub rehearses_first : (told : Result Bool RehearseFault) → IfOk told (RehearsesFrom tell fleet play statuses old new out_old out_new)
+        → IfOk told (Rehearses tell inventory playbook old new out_old out_new)
     rehearses_first (Ok refused) is = record { before = is.before; after = is.after; opening = opens_first is.before is.opening; session = is.session; refused_is = is.refused_is }
     rehearses_first (Err fault) is = is
 
@@ -95,32 +96,32 @@ same_rules fleet mode other caps others share part e f h =
     ap (λ m. rules_by fleet m caps share) e ∙ ap (λ l. rules_by fleet other l share) f ∙ ap (rules_by fleet other others) h
 
 -- whatever came of the session, the text writer kept its reference
-pub same_reference : {W : Type 0} (contents : W → Option (List ℕ)) (is_reliable : Bool) (before after : HistoryView) (old new : Option (List ℕ)) (t0 t1 : TextWriter W) (told : Result (Unit {0}) RehearseFault)
-    → OnOk told (ListensToEnd contents before after old new t0 t1) → IfErr told (Unheard contents is_reliable before old new t0 t1) → t1.out.ghost_name ≡ t0.out.ghost_name
-same_reference contents is_reliable before after old new t0 t1 (Ok done) all none = all.written.same_reference
-same_reference contents is_reliable before after old new t0 t1 (Err Memory) none all = all.written.same_reference
-same_reference contents is_reliable before after old new t0 t1 (Err File) none all = all.written.same_reference
-same_reference contents is_reliable before after old new t0 t1 (Err TooLarge) none all = all.written.same_reference
-same_reference contents is_reliable before after old new t0 t1 (Err LongLine) none all = all.written.same_reference
-same_reference contents is_reliable before after old new t0 t1 (Err (Write fault)) none all = all.0.written.same_reference
-same_reference contents is_reliable before after old new t0 t1 (Err (Refused fault)) none all = absurd all
+pub same_reference : (tell : Telling) {W : Type 0} (contents : W → Option (List ℕ)) (is_reliable : Bool) (before after : HistoryView) (old new : Option (List ℕ)) (t0 t1 : TextWriter W) (told : Result (Unit {0}) RehearseFault)
+    → OnOk told (ListensToEnd contents tell before after old new t0 t1) → IfErr told (Unheard contents tell is_reliable before old new t0 t1) → t1.out.ghost_name ≡ t0.out.ghost_name
+same_reference tell contents is_reliable before after old new t0 t1 (Ok done) all none = all.written.same_reference
+same_reference tell contents is_reliable before after old new t0 t1 (Err Memory) none all = all.written.same_reference
+same_reference tell contents is_reliable before after old new t0 t1 (Err File) none all = all.written.same_reference
+same_reference tell contents is_reliable before after old new t0 t1 (Err TooLarge) none all = all.written.same_reference
+same_reference tell contents is_reliable before after old new t0 t1 (Err LongLine) none all = all.written.same_reference
+same_reference tell contents is_reliable before after old new t0 t1 (Err (Write fault)) none all = all.0.written.same_reference
+same_reference tell contents is_reliable before after old new t0 t1 (Err (Refused fault)) none all = absurd all
 
 -- the answers broke off, in the session or when it was over
-pub broken_session : {W : Type 0} (contents : W → Option (List ℕ)) (is_reliable : Bool) (before after : HistoryView) (old new out_old out_new : Option (List ℕ)) (t0 t1 : TextWriter W) (count : ℕ)
-    (told : Result (Unit {0}) RehearseFault) → OnOk told (ListensToEnd contents before after old new t0 t1) → IfErr told (Unheard contents is_reliable before old new t0 t1)
-    → ((text : List ℕ) → Writes contents t0 t1 text → SendsFirst out_old out_new text count) → BreaksSession before old new out_old out_new count
-broken_session contents is_reliable before after old new out_old out_new t0 t1 count told ok err sends = by_result told ok err
+pub broken_session : (tell : Telling) {W : Type 0} (contents : W → Option (List ℕ)) (is_reliable : Bool) (before after : HistoryView) (old new out_old out_new : Option (List ℕ)) (t0 t1 : TextWriter W) (count : ℕ)
+    (told : Result (Unit {0}) RehearseFault) → OnOk told (ListensToEnd contents tell before after old new t0 t1) → IfErr told (Unheard contents tell is_reliable before old new t0 t1)
+    → ((text : List ℕ) → Writes contents t0 t1 text → SendsFirst out_old out_new text count) → BreaksSession tell before old new out_old out_new count
+broken_session tell contents is_reliable before after old new out_old out_new t0 t1 count told ok err sends = by_result told ok err
   where
-    until : (fault : RehearseFault) (all : ListensUntil contents is_reliable before old new t0 t1 fault) → length all.ended.bytes ≤ max_input + 1
-        → BreaksSession before old new out_old out_new count
+    until : (fault : RehearseFault) (all : ListensUntil contents tell is_reliable before old new t0 t1 fault) → length all.ended.bytes ≤ max_input + 1
+        → BreaksSession tell before old new out_old out_new count
     until fault all within = record {
       text = all.text;
       heard = inl (record { bytes = all.ended.bytes; rest = all.ended.rest; after = all.ended.after; consumed = all.ended.consumed; within = within; heard = all.ended.heard });
       written = sends all.text all.written;
     }
 
-    by_result : (r : Result (Unit {0}) RehearseFault) → OnOk r (ListensToEnd contents before after old new t0 t1) → IfErr r (Unheard contents is_reliable before old new t0 t1)
-        → BreaksSession before old new out_old out_new count
+    by_result : (r : Result (Unit {0}) RehearseFault) → OnOk r (ListensToEnd contents tell before after old new t0 t1) → IfErr r (Unheard contents tell is_reliable before old new t0 t1)
+        → BreaksSession tell before old new out_old out_new count
     by_result (Ok done) all none = record { text = all.text; heard = inr (after, all.over); written = sends all.text all.written }
     by_result (Err Memory) none all = until Memory all all.ended.ends
     by_result (Err File) none all = until File all (omega (arith, all.ended.ends.2))
@@ -135,26 +136,26 @@ pub opens : (fleet : FleetView) (play : Play) (statuses : List Status) (before :
 opens fleet play statuses before rules begins alone is = record { of = record { is_rehearsal = is; rules = rules; opening = begins }; nothing_above = alone }
 
 -- what is told of a session is true
-abbrev pub IsTold : Bool → HistoryView → HistoryView → Option (List ℕ) → Option (List ℕ) → Option (List ℕ) → Option (List ℕ) → Result (Unit {0}) RehearseFault → Type 0
-IsTold is_reliable before after old new out_old out_new ended =
-    OnOk ended (HoldsSession before after old new out_old out_new) × IfErr ended (IsTrueOfSession is_reliable before old new out_old out_new)
+abbrev pub IsTold : Telling → Bool → HistoryView → HistoryView → Option (List ℕ) → Option (List ℕ) → Option (List ℕ) → Option (List ℕ) → Result (Unit {0}) RehearseFault → Type 0
+IsTold tell is_reliable before after old new out_old out_new ended =
+    OnOk ended (HoldsSession tell before after old new out_old out_new) × IfErr ended (IsTrueOfSession tell is_reliable before old new out_old out_new)
 
 -- a session ended, and its text did
-pub session_ends : {W : Type 0} (contents : W → Option (List ℕ)) (is_reliable : Bool) (before after : HistoryView) (old new : Option (List ℕ)) (out : MutBor W) (out_new : Option (List ℕ)) (t0 t1 : TextWriter W)
-    (told ended : Result (Unit {0}) RehearseFault) (sent : Result (Unit {0}) WriteFault) → Begins out t0 → OnOk told (ListensToEnd contents before after old new t0 t1)
-    → IfErr told (Unheard contents is_reliable before old new t0 t1) → Finishes contents t1 out_new sent → IfSome (fault_of t1) (λ fault. sent ≡ Err fault)
+pub session_ends : (tell : Telling) {W : Type 0} (contents : W → Option (List ℕ)) (is_reliable : Bool) (before after : HistoryView) (old new : Option (List ℕ)) (out : MutBor W) (out_new : Option (List ℕ)) (t0 t1 : TextWriter W)
+    (told ended : Result (Unit {0}) RehearseFault) (sent : Result (Unit {0}) WriteFault) → Begins out t0 → OnOk told (ListensToEnd contents tell before after old new t0 t1)
+    → IfErr told (Unheard contents tell is_reliable before old new t0 t1) → Finishes contents t1 out_new sent → IfSome (fault_of t1) (λ fault. sent ≡ Err fault)
     → MatchResult sent (λ _. ended ≡ told) (λ fault. ended ≡ Err (Write fault))
-    → IsTold is_reliable before after old new (contents out.now) out_new ended
-session_ends contents is_reliable before after old new out out_new t0 t1 told ended (Err fault) begins ok err finishes broke is =
-    subst (IsTold is_reliable before after old new (contents out.now) out_new) (sym is)
-    (tt, broken_session contents is_reliable before after old new (contents out.now) out_new t0 t1 fault.written told ok err (λ text written. finishes out t0 text begins written))
-session_ends contents is_reliable before after old new out out_new t0 t1 told ended (Ok done) begins ok err finishes broke is =
-    subst (IsTold is_reliable before after old new (contents out.now) out_new) (sym is) (by_told told ok err)
+    → IsTold tell is_reliable before after old new (contents out.now) out_new ended
+session_ends tell contents is_reliable before after old new out out_new t0 t1 told ended (Err fault) begins ok err finishes broke is =
+    subst (IsTold tell is_reliable before after old new (contents out.now) out_new) (sym is)
+    (tt, broken_session tell contents is_reliable before after old new (contents out.now) out_new t0 t1 fault.written told ok err (λ text written. finishes out t0 text begins written))
+session_ends tell contents is_reliable before after old new out out_new t0 t1 told ended (Ok done) begins ok err finishes broke is =
+    subst (IsTold tell is_reliable before after old new (contents out.now) out_new) (sym is) (by_told told ok err)
   where
-    until : (fault : RehearseFault) → ListensUntil contents is_reliable before old new t0 t1 fault → EndsSession is_reliable before old new (contents out.now) out_new fault
+    until : (fault : RehearseFault) → ListensUntil contents tell is_reliable before old new t0 t1 fault → EndsSession tell is_reliable before old new (contents out.now) out_new fault
     until fault all = record { text = all.text; ended = all.ended; written = finishes out t0 all.text begins all.written }
 
-    by_told : (r : Result (Unit {0}) RehearseFault) → OnOk r (ListensToEnd contents before after old new t0 t1) → IfErr r (Unheard contents is_reliable before old new t0 t1) → IsTold is_reliable before after old new (contents out.now) out_new r
+    by_told : (r : Result (Unit {0}) RehearseFault) → OnOk r (ListensToEnd contents tell before after old new t0 t1) → IfErr r (Unheard contents tell is_reliable before old new t0 t1) → IsTold tell is_reliable before after old new (contents out.now) out_new r
     by_told (Ok whole) all none = (record { text = all.text; over = all.over; written = finishes out t0 all.text begins all.written }, tt)
     by_told (Err Memory) none all = (tt, until Memory all)
     by_told (Err File) none all = (tt, until File all)

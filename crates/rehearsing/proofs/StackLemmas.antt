@@ -1,5 +1,5 @@
 -- Stages above one another.
-use Rattle.std.proofs.Common.{◌≡◌, ℕ, zero, suc, ◌+◌, ◌-◌, ◌<◌, true, Option, Some, None, List, [], ◌∷◌, ◌++◌, length, get_or, slice_get, take, refl, sym, ap, ◌∙◌, subst, arith}
+use Rattle.std.proofs.Common.{◌≡◌, ℕ, zero, suc, ◌+◌, ◌-◌, ◌<◌, true, Option, Some, None, List, [], ◌∷◌, ◌++◌, length, slice_get, take, refl, sym, ap, ◌∙◌, subst, arith}
 use Rattle.std.proofs.lemmas.Option.{same_Some}
 use Rattle.group_tree.specs.declared.ids.HostId.{HostId}
 use Rattle.fleet_numbers.specs.NumberLists.{has_number}
@@ -15,7 +15,7 @@ use Rattle.play_course.specs.declared.end.End.{End}
 use Rattle.play_course.specs.Courses.{IsBoundary, IsPlannedFrom, end_behind, end_here, halt_of, next_batch, statuses_behind}
 use Rattle.play_course.proofs.OpenedLemmas.{opened_waits}
 use Rattle.rehearsing.specs.declared.stage.Stage.{Stage}
-use Rattle.rehearsing.specs.Stacks.{AreAbove, IsBehind, RehearsalView, Rules, cap_at, cut_to, fail_first, first_outside, last_batch_of, named_at, pushed, top, top_of, where_fail}
+use Rattle.rehearsing.specs.Stacks.{AreAbove, IsBehind, RehearsalView, Rules, cap_at, cut_to, fail_first, first_outside, named_at, pushed, top, top_of, where_fail}
 use Rattle.rehearsing.specs.Advances.{AreFirstSteps, IsEndOfBatch, halt_by}
 use Rattle.rehearsing.specs.Kept.{IsKept}
 use Rattle.rehearsing.proofs.BatchLemmas.{end_is_behind, statuses_are_behind}
@@ -86,20 +86,6 @@ last_is_top below (next ∷ second ∷ above) (suc i) stage at there = last_is_t
 pub last_stage : (below : Stage) (above : List Stage) (stage : Stage) → slice_get above (length above - 1) ≡ Some stage → stage ≡ top_of below above
 last_stage below [] stage there = absurd (cc)
 last_stage below (next ∷ above) stage there = last_is_top below (next ∷ above) (length (next ∷ above) - 1) stage (omega arith) there
-
--- the batch by which it advanced last is that of the stage below the uppermost
-pub last_batch_is : (below : Stage) (above : List Stage) (i : ℕ) (default : Stage) → i + 2 ≡ length above → next_batch (get_or above i default).boundary.answer ≡ last_batch_of below above
-last_batch_is below [] i default at = absurd (omega (arith, at))
-last_batch_is below (next ∷ []) i default at = absurd (omega (arith, at))
-last_batch_is below (next ∷ second ∷ []) zero default at = refl
-last_batch_is below (next ∷ second ∷ []) (suc i) default at = absurd (omega (arith, at))
-last_batch_is below (next ∷ second ∷ third ∷ above) zero default at = absurd (omega (arith, at))
-last_batch_is below (next ∷ second ∷ third ∷ above) (suc i) default at = last_batch_is next (second ∷ third ∷ above) i default (omega (arith, at))
-
-pub first_batch_is : (below : Stage) (above : List Stage) → length above ≡ 1 → next_batch below.boundary.answer ≡ last_batch_of below above
-first_batch_is below [] one = absurd (omega (arith, one))
-first_batch_is below (stage ∷ []) one = refl
-first_batch_is below (stage ∷ second ∷ above) one = absurd (omega (arith, one))
 
 -- where a rehearsal stands
 pub kept_stands : (rehearsal : RehearsalView) → IsKept rehearsal → Stands rehearsal.rules (top rehearsal)

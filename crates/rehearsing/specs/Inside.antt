@@ -8,6 +8,7 @@ use Rattle.play_model.specs.declared.play.Play.{Play}
 use Rattle.play_course.specs.PlayPlans.{targets}
 use Rattle.planning.specs.PlanTexts.{ArePlaysIn, IsFleetIn}
 use Rattle.rehearsing.specs.Histories.{HistoryView}
+use Rattle.rehearsing.specs.Replies.{Telling}
 use Rattle.rehearsing.specs.declared.opening.FirstPlay.{FirstPlay}
 use Rattle.rehearsing.specs.declared.fault.RehearseFault.{RehearseFault}
 use Rattle.rehearsing.specs.declared.fault.RehearseFault.TheVariants.{Refused, Memory, File, TooLarge, LongLine, Write}
@@ -34,58 +35,58 @@ StopsAt rest (Refused fault) = ⊥
 StopsAt rest (Write fault) = ⊥
 
 -- the bytes were heard, and a text writer was given the answers
-pub record Hears {W : Type 0} (contents : W → Option (List ℕ)) (before : HistoryView) (bytes rest : List ℕ) (after : HistoryView) (old new : TextWriter W) : Type 0 where
+pub record Hears {W : Type 0} (contents : W → Option (List ℕ)) (tell : Telling) (before : HistoryView) (bytes rest : List ℕ) (after : HistoryView) (old new : TextWriter W) : Type 0 where
   pub text : List ℕ
-  pub heard : Heard before bytes rest text after
+  pub heard : Heard tell before bytes rest text after
   pub written : Writes contents old new text
 
 -- with these bytes behind those of a line that has begun, a line ended the session
-pub record HearsEnd {W : Type 0} (contents : W → Option (List ℕ)) (before : HistoryView) (begun bytes : List ℕ) (after : HistoryView) (old new : TextWriter W) : Type 0 where
+pub record HearsEnd {W : Type 0} (contents : W → Option (List ℕ)) (tell : Telling) (before : HistoryView) (begun bytes : List ℕ) (after : HistoryView) (old new : TextWriter W) : Type 0 where
   pub line : List ℕ
   pub behind : List ℕ
-  pub hears : Hears contents before (begun ++ bytes) (line ++ 10 ∷ behind) after old new
+  pub hears : Hears contents tell before (begun ++ bytes) (line ++ 10 ∷ behind) after old new
   pub is_line : IsLine line
   pub is_quit : quits line ≡ true
   pub fewer : length behind < length bytes
 
 -- the bytes were heard as far as the fault let
-pub record HearsUntil {W : Type 0} (contents : W → Option (List ℕ)) (before : HistoryView) (bytes : List ℕ) (after : HistoryView) (old new : TextWriter W) (fault : RehearseFault) : Type 0 where
+pub record HearsUntil {W : Type 0} (contents : W → Option (List ℕ)) (tell : Telling) (before : HistoryView) (bytes : List ℕ) (after : HistoryView) (old new : TextWriter W) (fault : RehearseFault) : Type 0 where
   pub rest : List ℕ
-  pub hears : Hears contents before bytes rest after old new
+  pub hears : Hears contents tell before bytes rest after old new
   pub stops : StopsAt rest fault
 
 -- commands were heard until the session was over, and a text writer was given their answers
-pub record ListensToEnd {W : Type 0} (contents : W → Option (List ℕ)) (before after : HistoryView) (old new : Option (List ℕ)) (text_old text_new : TextWriter W) : Type 0 where
+pub record ListensToEnd {W : Type 0} (contents : W → Option (List ℕ)) (tell : Telling) (before after : HistoryView) (old new : Option (List ℕ)) (text_old text_new : TextWriter W) : Type 0 where
   pub text : List ℕ
-  pub over : IsOver before after old new text
+  pub over : IsOver tell before after old new text
   pub written : Writes contents text_old text_new text
 
 -- commands were heard until the fault
-pub record ListensUntil {W : Type 0} (contents : W → Option (List ℕ)) (is_reliable : Bool) (before : HistoryView) (old new : Option (List ℕ)) (text_old text_new : TextWriter W) (fault : RehearseFault) : Type 0 where
+pub record ListensUntil {W : Type 0} (contents : W → Option (List ℕ)) (tell : Telling) (is_reliable : Bool) (before : HistoryView) (old new : Option (List ℕ)) (text_old text_new : TextWriter W) (fault : RehearseFault) : Type 0 where
   pub text : List ℕ
-  pub ended : IsEndedBy is_reliable before old new text fault
+  pub ended : IsEndedBy tell is_reliable before old new text fault
   pub written : Writes contents text_old text_new text
 
 -- commands were heard until the text broke off
-pub record ListensInVain {W : Type 0} (contents : W → Option (List ℕ)) (before : HistoryView) (old new : Option (List ℕ)) (text_old text_new : TextWriter W) : Type 0 where
+pub record ListensInVain {W : Type 0} (contents : W → Option (List ℕ)) (tell : Telling) (before : HistoryView) (old new : Option (List ℕ)) (text_old text_new : TextWriter W) : Type 0 where
   pub text : List ℕ
-  pub heard : IsHeard before old new text
+  pub heard : IsHeard tell before old new text
   pub written : Writes contents text_old text_new text
 
 -- why no more commands are heard
-abbrev pub Unheard : {W : Type 0} → (W → Option (List ℕ)) → Bool → HistoryView → Option (List ℕ) → Option (List ℕ) → TextWriter W → TextWriter W → RehearseFault → Type 0
-Unheard contents is_reliable before old new text_old text_new Memory = ListensUntil contents is_reliable before old new text_old text_new Memory
-Unheard contents is_reliable before old new text_old text_new File = ListensUntil contents is_reliable before old new text_old text_new File
-Unheard contents is_reliable before old new text_old text_new TooLarge = ListensUntil contents is_reliable before old new text_old text_new TooLarge
-Unheard contents is_reliable before old new text_old text_new LongLine = ListensUntil contents is_reliable before old new text_old text_new LongLine
-Unheard contents is_reliable before old new text_old text_new (Write fault) =
-    ListensInVain contents before old new text_old text_new × (fault_of text_new ≡ Some fault)
-Unheard contents is_reliable before old new text_old text_new (Refused fault) = ⊥
+abbrev pub Unheard : {W : Type 0} → (W → Option (List ℕ)) → Telling → Bool → HistoryView → Option (List ℕ) → Option (List ℕ) → TextWriter W → TextWriter W → RehearseFault → Type 0
+Unheard contents tell is_reliable before old new text_old text_new Memory = ListensUntil contents tell is_reliable before old new text_old text_new Memory
+Unheard contents tell is_reliable before old new text_old text_new File = ListensUntil contents tell is_reliable before old new text_old text_new File
+Unheard contents tell is_reliable before old new text_old text_new TooLarge = ListensUntil contents tell is_reliable before old new text_old text_new TooLarge
+Unheard contents tell is_reliable before old new text_old text_new LongLine = ListensUntil contents tell is_reliable before old new text_old text_new LongLine
+Unheard contents tell is_reliable before old new text_old text_new (Write fault) =
+    ListensInVain contents tell before old new text_old text_new × (fault_of text_new ≡ Some fault)
+Unheard contents tell is_reliable before old new text_old text_new (Refused fault) = ⊥
 
 -- what stands behind the last line feed was answered, where anything does
-pub record LastAnswer {W : Type 0} (contents : W → Option (List ℕ)) (before : HistoryView) (line : List ℕ) (after : HistoryView) (old new : TextWriter W) : Type 0 where
+pub record LastAnswer {W : Type 0} (contents : W → Option (List ℕ)) (tell : Telling) (before : HistoryView) (line : List ℕ) (after : HistoryView) (old new : TextWriter W) : Type 0 where
   pub text : List ℕ
-  pub answers : Session before (last_line line) text after
+  pub answers : Session tell before (last_line line) text after
   pub written : Writes contents old new text
 
 -- what both texts say: the fleet, the plays, and the statuses with which a run of the first one begins

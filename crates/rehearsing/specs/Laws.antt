@@ -6,10 +6,11 @@ use Rattle.rehearsing.specs.Plays.{IsRehearsalOf}
 use Rattle.rehearsing.specs.Stacks.{RehearsalView}
 use Rattle.rehearsing.specs.Openings.{IsOpeningIn}
 use Rattle.rehearsing.specs.Histories.{HistoryView, unbegun}
+use Rattle.rehearsing.specs.Replies.{Telling}
 use Rattle.rehearsing.specs.Sessions.{Session}
 
--- wherever a session comes that begins with the opening of two texts, there stands a rehearsal of their first play
+-- wherever a session comes that begins with the opening of two texts, however it is answered, there stands a rehearsal of their first play
 abbrev pub SessionsRehearse : Type 0
 SessionsRehearse =
-    (inventory playbook : List ℕ) (before : RehearsalView) (lines : List (List ℕ)) (text : List ℕ) (after : HistoryView) (opening : IsOpeningIn inventory playbook before)
-    → Session (unbegun before) lines text after → IsRehearsalOf opening.fleet opening.play (start_statuses opening.fleet (targets opening.fleet opening.play)) after.place.rehearsal
+    (tell : Telling) (inventory playbook : List ℕ) (before : RehearsalView) (lines : List (List ℕ)) (text : List ℕ) (after : HistoryView) (opening : IsOpeningIn inventory playbook before)
+    → Session tell (unbegun before) lines text after → IsRehearsalOf opening.fleet opening.play (start_statuses opening.fleet (targets opening.fleet opening.play)) after.place.rehearsal

@@ -11,8 +11,12 @@ pub mod Help
 pub mod Histories
 pub mod GoingOn
 pub mod Points
+pub mod Replies
 pub mod Answers
 pub mod AnswersInside
+pub mod PlainReplies
+pub mod JsonReplies
+pub mod Tellings
 pub mod Lines
 pub mod Sessions
 pub mod Openings

@@ -96,12 +96,6 @@ pub record IsUndone (old new : RehearsalView) : Type 0 where
   pub stage : Stage
   pub shrunk : old ≡ pushed stage new
 
--- the batch by which it advanced last; nobody where it has not
-abbrev pub last_batch_of : Stage → List Stage → List ℕ
-last_batch_of below [] = []
-last_batch_of below (stage ∷ []) = next_batch below.boundary.answer
-last_batch_of below (stage ∷ next ∷ above) = last_batch_of stage (next ∷ above)
-
 -- the batches by which it advanced, the first one first
 abbrev pub batches_to : Stage → List Stage → List (List ℕ)
 batches_to below [] = []

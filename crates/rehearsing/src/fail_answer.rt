@@ -1,20 +1,18 @@
 //! Marking a host, which then fails when its batch comes.
-ghost use Rattle.std.specs.Prelude.{◌≡◌, OnErr, OnOk, []};
-ghost use Rattle.bounded_io.specs.Writing.{Writes};
-ghost use Rattle.rehearsing.specs.Answers.{MarksTo, answer_to, mark_refusal};
-ghost use Rattle.rehearsing.specs.AnswersInside.{IsMarkable};
-ghost use Rattle.rehearsing.specs.Commands.{fail};
+ghost use Rattle.std.specs.Prelude.{◌≡◌, IfOk, OnErr, OnOk};
+ghost use Rattle.rehearsing.specs.Answers.{MarksTo, mark_refusal, unless};
+ghost use Rattle.rehearsing.specs.AnswersInside.{IsMarkable, said};
+ghost use Rattle.rehearsing.specs.Names.{host_named};
+ghost use Rattle.rehearsing.specs.Replies as replies;
 
 use crate::history::History;
 use crate::names::find_host;
 use crate::refusal::{Refusal, refuse};
 use crate::rehearsal::Rehearsal;
-use bounded_io::TextWriter;
+use crate::reply::Reply;
 use fleet_states::{Status, status_of};
 use group_tree::HostId;
-use recap::write_names_line;
 use std::alloc::AllocError;
-use std::io::Write;
 
 /// The host of a name, if its batch may come.
 fn find_waiting<'l>(rehearsal: &Rehearsal<'_>, name: &'l [u8]) -> Result<HostId, Refusal<'l>>
@@ -32,23 +30,21 @@ fn find_waiting<'l>(rehearsal: &Rehearsal<'_>, name: &'l [u8]) -> Result<HostId,
     }
 }
 
-/// Answers a line that asks to mark the host of a name. Only want of memory fails it; then the session stands where it stood, and nothing is written.
-pub(crate) fn answer_fail<W: Write>(
-    history: &mut History<'_>,
-    name: &[u8],
-    text: &mut TextWriter<'_, W>,
-) -> Result<(), AllocError>
-    ensures text { OnOk result (Writes W.contents text.old text.new (answer_to history.old (fail name.now) history.new)) }
+/// Answers a line that asks to mark the host of a name. Only want of memory fails it; then the session stands where it stood.
+pub(crate) fn answer_fail<'f, 'l>(
+    history: &mut History<'f>,
+    name: &'l [u8],
+) -> Result<Reply<'f, 'l>, AllocError>
+    ensures reply { IfOk result (λ reply. said history.new.place.rehearsal reply
+        ≡ unless (mark_refusal history.old.place.rehearsal name.now) (replies.marked (host_named history.old.place.rehearsal.rules.fleet name.now))) }
     ensures leads { OnOk result (MarksTo history.old name.now (mark_refusal history.old.place.rehearsal name.now) history.new) }
     ensures unchanged { OnErr result (history.new ≡ history.old) }
-    ensures silent { OnErr result (Writes W.contents text.old text.new []) }
 {
     match find_waiting(history.rehearsal(), name) {
         Ok(host) => {
             history.mark(host)?;
-            write_names_line(text, "marked:", history.rehearsal().fleet(), &[host]);
+            Ok(Reply::Marked(host))
         }
-        Err(refusal) => refuse(history, refusal, text),
+        Err(refusal) => Ok(refuse(history, refusal)),
     }
-    Ok(())
 }

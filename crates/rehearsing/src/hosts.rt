@@ -1,16 +1,11 @@
-//! The hosts of a group, with their states and their batches.
+//! The lines of a group's hosts, with their states and their batches.
 ghost use Rattle.std.specs.Prelude.{flat_map};
 ghost use Rattle.bounded_io.specs.Writing.{Writes};
 ghost use Rattle.domains.specs.Ids.{host_numbers};
 ghost use Rattle.rehearsing.specs.Stacks.{top};
-ghost use Rattle.rehearsing.specs.Answers.{LooksUpTo, hosts_text};
 ghost use Rattle.rehearsing.specs.Hosts.{batch_text, member_line, member_lines};
-ghost use Rattle.rehearsing.specs.Names.{group_named};
 
 use crate::batch::batch_number;
-use crate::history::History;
-use crate::names::find_group;
-use crate::refusal::{Refusal, refuse};
 use crate::rehearsal::Rehearsal;
 use bounded_io::TextWriter;
 use fleet_states::status_of;
@@ -53,7 +48,7 @@ fn write_each_member<W: Write>(
 }
 
 /// Writes the lines of these hosts.
-fn write_members<W: Write>(
+pub(crate) fn write_members<W: Write>(
     text: &mut TextWriter<'_, W>,
     rehearsal: &Rehearsal<'_>,
     hosts: &[HostId],
@@ -61,21 +56,4 @@ fn write_members<W: Write>(
     ensures { Writes W.contents text.old text.new (member_lines rehearsal.now.rules.fleet (top rehearsal.now) (host_numbers hosts.now)) }
 {
     write_each_member(text, rehearsal, hosts);
-}
-
-/// Answers a line that asks for the hosts of the group of this name.
-pub(crate) fn answer_hosts<W: Write>(
-    history: &mut History<'_>,
-    name: &[u8],
-    text: &mut TextWriter<'_, W>,
-)
-    ensures text { Writes W.contents text.old text.new (hosts_text history.old.place.rehearsal.rules.fleet (top history.old.place.rehearsal) name.now
-        (group_named history.old.place.rehearsal.rules.fleet name.now)) }
-    ensures leads { LooksUpTo history.old (group_named history.old.place.rehearsal.rules.fleet name.now) history.new }
-{
-    let rehearsal = history.rehearsal();
-    match find_group(rehearsal.fleet(), name) {
-        Some(group) => write_members(text, rehearsal, rehearsal.fleet().members(group)),
-        None => refuse(history, Refusal::NoSuchName(name), text),
-    }
 }

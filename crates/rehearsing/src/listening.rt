@@ -3,6 +3,7 @@ ghost use Rattle.std.specs.Prelude.{◌≡◌, IfErr, MatchResult, OnErr, OnOk, 
 ghost use Rattle.bounded_io.specs.Writing.{Writes};
 ghost use Rattle.rehearsing.specs.Inside.{LastAnswer, ListensToEnd, Unheard};
 ghost use Rattle.rehearsing.specs.RehearseTexts.{HoldsSession, IsTrueOfSession};
+ghost use Rattle.rehearsing.specs.Tellings.{telling_of};
 
 use crate::fault::RehearseFault;
 use crate::hearing::hear;
@@ -10,6 +11,7 @@ use crate::history::History;
 use crate::line::answer;
 use crate::prompt::Prompt;
 use bounded_io::{Input, MAX_INPUT, TextWriter, WriteFault};
+use json_texts::Form;
 use std::alloc::{AllocError, Global};
 use std::io::Write;
 use std::ops::ControlFlow;
@@ -20,18 +22,19 @@ const CHUNK: usize = 8_192;
 /// Answers what stands behind the last line feed, where anything does.
 fn answer_last<W: Write>(
     alloc: Global,
+    form: Form,
     history: &mut History<'_>,
     line: &[u8],
     text: &mut TextWriter<'_, W>,
 ) -> Result<(), AllocError>
-    ensures last { OnOk result (LastAnswer W.contents history.old line.now history.new text.old text.new) }
+    ensures last { OnOk result (LastAnswer W.contents (telling_of form) history.old line.now history.new text.old text.new) }
     ensures unchanged { OnErr result (history.new ≡ history.old) }
     ensures silent { OnErr result (Writes W.contents text.old text.new []) }
 {
     if line.is_empty() {
         return Ok(());
     }
-    answer(alloc, history, line, text)?;
+    answer(alloc, form, history, line, text)?;
     Ok(())
 }
 
@@ -39,13 +42,14 @@ fn answer_last<W: Write>(
 /// one byte past the bound of an input. Behind a line that ends the session, and where the text breaks off, nothing more is read.
 fn listen<P: Prompt, I: Input, W: Write>(
     alloc: Global,
+    form: Form,
     history: &mut History<'_>,
     prompt: &P,
     input: &mut I,
     text: &mut TextWriter<'_, W>,
 ) -> Result<(), RehearseFault>
-    ensures ok { OnOk result (ListensToEnd W.contents history.old history.new (I.remaining input.old) (I.remaining input.new) text.old text.new) }
-    ensures err { IfErr result (Unheard W.contents (I.is_reliable input.old) history.old (I.remaining input.old) (I.remaining input.new) text.old text.new) }
+    ensures ok { OnOk result (ListensToEnd W.contents (telling_of form) history.old history.new (I.remaining input.old) (I.remaining input.new) text.old text.new) }
+    ensures err { IfErr result (Unheard W.contents (telling_of form) (I.is_reliable input.old) history.old (I.remaining input.old) (I.remaining input.new) text.old text.new) }
 {
     let mut line = Vec::new(alloc);
     let mut chunk = [0; CHUNK];
@@ -63,13 +67,13 @@ fn listen<P: Prompt, I: Input, W: Write>(
             return Err(RehearseFault::File);
         };
         if count == 0 {
-            return match answer_last(alloc, history, line.as_slice(), text) {
+            return match answer_last(alloc, form, history, line.as_slice(), text) {
                 Ok(()) => Ok(()),
                 Err(_refused) => Err(RehearseFault::Memory),
             };
         }
         let (kept, _past) = room.split_at(count.min(left));
-        match hear(alloc, history, &mut line, kept, text) {
+        match hear(alloc, form, history, &mut line, kept, text) {
             Ok(ControlFlow::Continue(())) => {}
             Ok(ControlFlow::Break(())) => return Ok(()),
             Err(fault) => return Err(fault),
@@ -95,16 +99,17 @@ fn tell(heard: Result<(), RehearseFault>, sent: Result<(), WriteFault>) -> Resul
 /// answers went out, as many as the fault says.
 pub(crate) fn hold_session<P: Prompt, I: Input, W: Write>(
     alloc: Global,
+    form: Form,
     history: &mut History<'_>,
     prompt: &P,
     input: &mut I,
     out: &mut W,
 ) -> Result<(), RehearseFault>
-    ensures ok { OnOk result (HoldsSession history.old history.new (I.remaining input.old) (I.remaining input.new) (W.contents out.old) (W.contents out.new)) }
-    ensures err { IfErr result (IsTrueOfSession (I.is_reliable input.old) history.old (I.remaining input.old) (I.remaining input.new) (W.contents out.old) (W.contents out.new)) }
+    ensures ok { OnOk result (HoldsSession (telling_of form) history.old history.new (I.remaining input.old) (I.remaining input.new) (W.contents out.old) (W.contents out.new)) }
+    ensures err { IfErr result (IsTrueOfSession (telling_of form) (I.is_reliable input.old) history.old (I.remaining input.old) (I.remaining input.new) (W.contents out.old) (W.contents out.new)) }
 {
     let mut text = TextWriter::new(out);
-    let heard = listen(alloc, history, prompt, input, &mut text);
+    let heard = listen(alloc, form, history, prompt, input, &mut text);
     let sent = text.finish();
     tell(heard, sent)
 }

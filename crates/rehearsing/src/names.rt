@@ -1,18 +1,13 @@
 //! The hosts and the groups of names.
 ghost use Rattle.std.specs.Prelude.{◌≡◌, ◌<◌, false, true, IfOk, IfSome, MatchOption, length, option_map};
-ghost use Rattle.bounded_io.specs.Writing.{Writes};
-ghost use Rattle.rehearsing.specs.Answers.{nobody_line};
 ghost use Rattle.rehearsing.specs.Commands.{words_of};
 ghost use Rattle.rehearsing.specs.Names.{group_named, host_named, is_nobody};
 ghost use Rattle.rehearsing.specs.AnswersInside.{AreNamed};
 
 use crate::words::cut_word;
-use bounded_io::TextWriter;
 use domains::Fleet;
 use group_tree::{GroupId, HostId};
-use recap::write_printable;
 use std::alloc::{AllocError, Global};
-use std::io::Write;
 use std::str;
 
 /// The hosts of names, or the first name that is no host's.
@@ -62,14 +57,4 @@ pub(crate) fn find_group(fleet: &Fleet, name: &[u8]) -> Option<GroupId>
         Ok(name) => fleet.group(name),
         Err(_) => None,
     }
-}
-
-/// Tells a name that nobody has.
-#[tactic(auto, using(bounded_io::proofs::Pieces::pieces_of_text))]
-pub(crate) fn write_nobody<W: Write>(text: &mut TextWriter<'_, W>, name: &[u8])
-    ensures { Writes W.contents text.old text.new (nobody_line name.now) }
-{
-    text.write_str("refused 304 NoSuchName name=");
-    write_printable(text, name);
-    text.write_str("\n");
 }

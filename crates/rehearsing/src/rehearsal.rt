@@ -3,7 +3,7 @@ ghost use Rattle.std.specs.Prelude.{◌≡◌, ◌<◌, [], All, IfErr, IfOk, If
 ghost use Rattle.domains.specs.Ids.{host_numbers};
 ghost use Rattle.play_course.specs.Courses.{next_batch};
 ghost use Rattle.rehearsing.specs.Refusals.{IsRefused};
-ghost use Rattle.rehearsing.specs.Stacks.{IsAdvanced, IsBehind, IsRehearsal, IsUndone, cap_at, first_outside, last_batch_of, top};
+ghost use Rattle.rehearsing.specs.Stacks.{IsAdvanced, IsBehind, IsRehearsal, IsUndone, cap_at, first_outside, top};
 
 use crate::advance::{close_batch, first_outside, first_steps};
 use crate::advance_fault::AdvanceFault;
@@ -211,20 +211,5 @@ impl<'a> Rehearsal<'a> {
         ensures { host_numbers result.now ≡ next_batch (top self.now).boundary.answer }
     {
         self.top().boundary.next_batch()
-    }
-
-    /// The batch by which it went on last; nobody where it has not gone on.
-    pub fn last_batch(&self) -> &[HostId]
-        ensures { host_numbers result.now ≡ last_batch_of self.now.first self.now.above }
-    {
-        let above = self.above.as_slice();
-        let count = above.len();
-        if count == 0 {
-            &[]
-        } else if count == 1 {
-            self.first.boundary.next_batch()
-        } else {
-            above[count - 2].boundary.next_batch()
-        }
     }
 }

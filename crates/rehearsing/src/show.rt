@@ -3,7 +3,7 @@ ghost use Rattle.std.specs.Prelude.{◌≡◌, ◌++◌, codes};
 ghost use Rattle.bounded_io.specs.Writing.{Writes};
 ghost use Rattle.fleet_states.specs.Statuses.{status_at};
 ghost use Rattle.rehearsing.specs.Stacks.{top};
-ghost use Rattle.rehearsing.specs.Answers.{end_so_far, show_text, status_line, status_lines};
+ghost use Rattle.rehearsing.specs.PlainReplies.{end_so_far, show_text, status_line, status_lines};
 
 use crate::rehearsal::Rehearsal;
 use bounded_io::TextWriter;

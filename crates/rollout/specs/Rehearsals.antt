@@ -2,6 +2,8 @@
 use Rattle.std.specs.Prelude.{◌≡◌, ◌⊎◌, ◌&&◌, ℕ, Bool, if◌then◌else◌, List, Option, Result, Ok, Err}
 use Rattle.std.specs.Io.KnownBytes.{Keeps}
 use Rattle.command_line.specs.declared.command.Source.{Source}
+use Rattle.json_texts.specs.declared.form.Form.{Form}
+use Rattle.rehearsing.specs.Tellings.{telling_of}
 use Rattle.rehearsing.specs.RehearseTexts.{Rehearses, IsTrueFault}
 use Rattle.rehearsing.specs.declared.fault.RehearseFault.{RehearseFault}
 use Rattle.rollout.specs.Inputs.{LacksInput, ReadsBoth}
@@ -16,37 +18,37 @@ abbrev pub status_of_session : Bool → Bool → Status
 status_of_session strict refused = if strict && refused then Refused else Done
 
 -- the first play of both texts was rehearsed, all commands were answered, and nothing more is told of it but that one was refused, where none is to be
-pub record AnswersAll (strict : Bool) (inventory playbook : List ℕ) (input_old input_new out_old out_new : Option (List ℕ)) (status : Status) : Type 0 where
+pub record AnswersAll (form : Form) (strict : Bool) (inventory playbook : List ℕ) (input_old input_new out_old out_new : Option (List ℕ)) (status : Status) : Type 0 where
   pub refused : Bool
-  pub rehearses : Rehearses inventory playbook input_old input_new out_old out_new refused
+  pub rehearses : Rehearses (telling_of form) inventory playbook input_old input_new out_old out_new refused
   pub tells : status ≡ status_of_session strict refused
 
 -- the fault is true of both texts, of a session on their first play, or of where its answers broke off
-pub record EndsEarly (is_reliable : Bool) (inventory playbook : List ℕ) (input_old input_new out_old out_new : Option (List ℕ)) (fault : Fault) : Type 0 where
+pub record EndsEarly (form : Form) (is_reliable : Bool) (inventory playbook : List ℕ) (input_old input_new out_old out_new : Option (List ℕ)) (fault : Fault) : Type 0 where
   pub cause : RehearseFault
   pub is : fault ≡ fault_of cause
-  pub is_true : IsTrueFault is_reliable inventory playbook input_old input_new out_old out_new cause
+  pub is_true : IsTrueFault (telling_of form) is_reliable inventory playbook input_old input_new out_old out_new cause
 
 -- both inputs were read, and behind them, where they are files, the commands, all of which were answered
-pub record HoldsRehearsal (strict : Bool) (sources : Sources) (inventory playbook : Source) (input_old input_new out_old out_new : Option (List ℕ)) (status : Status) : Type 0 where
+pub record HoldsRehearsal (form : Form) (strict : Bool) (sources : Sources) (inventory playbook : Source) (input_old input_new out_old out_new : Option (List ℕ)) (status : Status) : Type 0 where
   pub first : List ℕ
   pub second : List ℕ
   pub between : Option (List ℕ)
   pub texts : ReadsBoth sources inventory playbook input_old between first second
-  pub answers : AnswersAll strict first second between input_new out_old out_new status
+  pub answers : AnswersAll form strict first second between input_new out_old out_new status
 
 -- both inputs were read, and the fault is true of their texts or of the session
-pub record EndsRehearsal (sources : Sources) (inventory playbook : Source) (input_old input_new out_old out_new : Option (List ℕ)) (fault : Fault) : Type 0 where
+pub record EndsRehearsal (form : Form) (sources : Sources) (inventory playbook : Source) (input_old input_new out_old out_new : Option (List ℕ)) (fault : Fault) : Type 0 where
   pub first : List ℕ
   pub second : List ℕ
   pub between : Option (List ℕ)
   pub texts : ReadsBoth sources inventory playbook input_old between first second
-  pub ends : EndsEarly sources.is_reliable first second between input_new out_old out_new fault
+  pub ends : EndsEarly form sources.is_reliable first second between input_new out_old out_new fault
 
--- the command `rehearse`: no command is read before both inputs were
-abbrev pub RehearsesInputs : Bool → Sources → Source → Source → Option (List ℕ) → Option (List ℕ) → Option (List ℕ) → Option (List ℕ) → Result Status Fault → Type 0
-RehearsesInputs strict sources inventory playbook input_old input_new out_old out_new (Ok status) =
-    HoldsRehearsal strict sources inventory playbook input_old input_new out_old out_new status
-RehearsesInputs strict sources inventory playbook input_old input_new out_old out_new (Err fault) =
+-- the command `rehearse`: no command is read before both inputs were; its answers are in the form
+abbrev pub RehearsesInputs : Form → Bool → Sources → Source → Source → Option (List ℕ) → Option (List ℕ) → Option (List ℕ) → Option (List ℕ) → Result Status Fault → Type 0
+RehearsesInputs form strict sources inventory playbook input_old input_new out_old out_new (Ok status) =
+    HoldsRehearsal form strict sources inventory playbook input_old input_new out_old out_new status
+RehearsesInputs form strict sources inventory playbook input_old input_new out_old out_new (Err fault) =
     (LacksInput sources inventory playbook input_old input_new fault × Keeps out_old out_new)
-    ⊎ EndsRehearsal sources inventory playbook input_old input_new out_old out_new fault
+    ⊎ EndsRehearsal form sources inventory playbook input_old input_new out_old out_new fault

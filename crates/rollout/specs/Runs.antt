@@ -70,7 +70,7 @@ PlansFrom (Some journal) wish sources inventory playbook input_old input_new out
 
 -- the command `rehearse`, likewise
 abbrev pub RehearsesBy : Option (List ℕ) → Wish → Sources → Source → Source → Option (List ℕ) → Option (List ℕ) → Option (List ℕ) → Option (List ℕ) → Result Status Fault → Type 0
-RehearsesBy None wish sources inventory playbook input_old input_new out_old out_new result = RehearsesInputs wish.strict sources inventory playbook input_old input_new out_old out_new result
+RehearsesBy None wish sources inventory playbook input_old input_new out_old out_new result = RehearsesInputs (form_of wish.json) wish.strict sources inventory playbook input_old input_new out_old out_new result
 RehearsesBy (Some journal) wish sources inventory playbook input_old input_new out_old out_new result =
     RehearsesFrom wish.strict sources inventory playbook (resume_wish journal wish) input_old input_new out_old out_new result
 

@@ -242,7 +242,16 @@ pub fn rehearse_by<S: System, I: Input, O: Write>(
                 system, alloc, inventory, playbook, wish, is_strict, input, out,
             )
         }
-        None => rehearse(system, alloc, inventory, playbook, is_strict, input, out),
+        None => rehearse(
+            system,
+            alloc,
+            form_of(wishes.is_json),
+            inventory,
+            playbook,
+            is_strict,
+            input,
+            out,
+        ),
     }
 }
 

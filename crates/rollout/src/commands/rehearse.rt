@@ -9,30 +9,34 @@ use crate::status::Status;
 use crate::system::System;
 use bounded_io::Input;
 use command_line::Source;
+use json_texts::Form;
 use rehearsing::{Prompt, rehearse_text};
 use std::alloc::Global;
 use std::io::Write;
 
-/// Reads the inventory and the playbook, and answers the commands on standard input, each as it comes: they rehearse the playbook's first play. Where none is to be refused, the
+/// Reads the inventory and the playbook, and answers the commands on standard input, each as it comes, in the form: they rehearse the playbook's first play. Where none is to be refused, the
 /// status tells whether one was.
 #[allow(clippy::too_many_arguments)]
 pub fn rehearse<S: System, I: Input, W: Write>(
     system: &S,
     alloc: Global,
+    form: Form,
     inventory: Source,
     playbook: Source,
     is_strict: bool,
     input: &mut I,
     out: &mut W,
 ) -> Result<Status, Fault>
-    ensures { RehearsesInputs is_strict (sources_of (S.files system.now) (I.is_reliable input.old)) inventory playbook (I.remaining input.old) (I.remaining input.new)
+    ensures { RehearsesInputs form is_strict (sources_of (S.files system.now) (I.is_reliable input.old)) inventory playbook (I.remaining input.old) (I.remaining input.new)
         (W.contents out.old) (W.contents out.new) result }
 {
     match read_both(system, alloc, inventory, playbook, input) {
         Ok((inventory, playbook)) => {
             let inventory = inventory.as_slice();
             let playbook = playbook.as_slice();
-            answer_all(alloc, inventory, playbook, system, is_strict, input, out)
+            answer_all(
+                alloc, form, inventory, playbook, system, is_strict, input, out,
+            )
         }
         Err(fault) => Err(fault),
     }
@@ -42,6 +46,7 @@ pub fn rehearse<S: System, I: Input, W: Write>(
 #[allow(clippy::too_many_arguments)]
 fn answer_all<P: Prompt, I: Input, W: Write>(
     alloc: Global,
+    form: Form,
     inventory: &[u8],
     playbook: &[u8],
     prompt: &P,
@@ -49,10 +54,10 @@ fn answer_all<P: Prompt, I: Input, W: Write>(
     input: &mut I,
     out: &mut W,
 ) -> Result<Status, Fault>
-    ensures ok { IfOk result (AnswersAll is_strict inventory.now playbook.now (I.remaining input.old) (I.remaining input.new) (W.contents out.old) (W.contents out.new)) }
-    ensures err { IfErr result (EndsEarly (I.is_reliable input.old) inventory.now playbook.now (I.remaining input.old) (I.remaining input.new) (W.contents out.old) (W.contents out.new)) }
+    ensures ok { IfOk result (AnswersAll form is_strict inventory.now playbook.now (I.remaining input.old) (I.remaining input.new) (W.contents out.old) (W.contents out.new)) }
+    ensures err { IfErr result (EndsEarly form (I.is_reliable input.old) inventory.now playbook.now (I.remaining input.old) (I.remaining input.new) (W.contents out.old) (W.contents out.new)) }
 {
-    match rehearse_text(alloc, inventory, playbook, prompt, input, out) {
+    match rehearse_text(alloc, form, inventory, playbook, prompt, input, out) {
         Ok(is_refused) => Ok(status_of(is_strict, is_refused)),
         Err(fault) => Err(Fault::from(fault)),
     }

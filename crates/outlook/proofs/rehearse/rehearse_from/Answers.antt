@@ -1,6 +1,7 @@
 use Rattle.std.proofs.Common.{◌≡◌, ℕ, Bool, Option, List, length, ap, ◌∙◌, subst}
 use Rattle.fleet_states.specs.declared.status.Status.{Status}
 use Rattle.play_model.specs.declared.play.Play.{Play}
+use Rattle.rehearsing.specs.PlainReplies.{plain_reply}
 use Rattle.rehearsing.specs.RehearseTexts.{IsFaultFrom, RehearsesFrom}
 use Rattle.outlook.specs.Asked.{question_of}
 use Rattle.outlook.proofs.RestLemmas.{goes_first}
@@ -14,7 +15,7 @@ returns-in-Ok-rehearse_play-clause-ok g c =
     let resumption = c.in-Ok.resumption in
     let goes = c.in-Ok.ensures.ok in
     let is = goes_first (question_of c.args.asked.now) resumption goes c.index.result.now c.in-Ok.ensures.can.play c.index.ensures in
-    let Is : Play → List Status → Type 0 = λ (play : Play) (statuses : List Status). RehearsesFrom resumption.fleet play statuses (g.I.Read.remaining c.args.input.now) (g.I.Read.remaining c.rehearse_play.new.input)
+    let Is : Play → List Status → Type 0 = λ (play : Play) (statuses : List Status). RehearsesFrom plain_reply resumption.fleet play statuses (g.I.Read.remaining c.args.input.now) (g.I.Read.remaining c.rehearse_play.new.input)
     (g.W.Write.contents c.args.out.now) (g.W.Write.contents c.rehearse_play.new.out) c.in-Ok-rehearse_play.refused in
     record {
       resumption = resumption;
@@ -27,7 +28,7 @@ returns-clause-err g c =
     let resumption = c.in-Ok.resumption in
     let goes = c.in-Ok.ensures.ok in
     let is = goes_first (question_of c.args.asked.now) resumption goes c.index.result.now c.in-Ok.ensures.can.play c.index.ensures in
-    let Is : Play → List Status → Type 0 = λ (play : Play) (statuses : List Status). IsFaultFrom (g.I.Input.is_reliable c.args.input.now) resumption.fleet play statuses (g.I.Read.remaining c.args.input.now)
+    let Is : Play → List Status → Type 0 = λ (play : Play) (statuses : List Status). IsFaultFrom plain_reply (g.I.Input.is_reliable c.args.input.now) resumption.fleet play statuses (g.I.Read.remaining c.args.input.now)
     (g.I.Read.remaining c.rehearse_play.new.input) (g.W.Write.contents c.args.out.now) (g.W.Write.contents c.rehearse_play.new.out) c.in-Err-rehearse_play.fault in
     record {
       resumption = resumption;

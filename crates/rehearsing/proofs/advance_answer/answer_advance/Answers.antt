@@ -1,8 +1,10 @@
+use Rattle.std.proofs.Common.{length, ap, ◌∙◌}
 use Rattle.rehearsing.specs.Commands.{words_of}
-use Rattle.rehearsing.proofs.StageLemmas.{advanced_text}
+use Rattle.rehearsing.specs.Stacks.{RehearsalView}
+use Rattle.rehearsing.proofs.StageLemmas.{advanced_reply}
 use Rattle.rehearsing.proofs.advance_answer.answer_advance.Goals as goal
 
-pub returns-in-None-clause-text : goal.returns-in-None-clause-text
-returns-in-None-clause-text g c =
-    advanced_text c.args.history.now c.advance_by.new.history (words_of c.args.names.now) c.in_ok-refusal.field-0 c.in_ok-refusal.ensures.settled
-    g.W.Write.contents c.args.text.now c.write_last.new.text c.in-None.is c.write_last.ensures
+pub returns-in-None-clause-reply : goal.returns-in-None-clause-reply
+returns-in-None-clause-reply c =
+    advanced_reply c.args.history.now c.advance_by.new.history (words_of c.args.names.now) c.in_ok-refusal.field-0 c.in_ok-refusal.ensures.settled c.advances-from.result
+    (c.advances-from.ensures ∙ ap (λ (r : RehearsalView). length r.above) c.rehearsal.ensures) c.in-None.is

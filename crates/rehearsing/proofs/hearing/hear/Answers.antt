@@ -1,5 +1,6 @@
 use Rattle.std.proofs.Common.{ℕ, List, refl, sym, subst}
 use Rattle.bounded_io.proofs.WritingLemmas.{writes_none}
+use Rattle.rehearsing.specs.Tellings.{telling_of}
 use Rattle.rehearsing.proofs.FlowLemmas.{breaks_off, goes_on}
 use Rattle.rehearsing.proofs.HearingLemmas.{Hearing, begins_hearing, hears_end, hears_line, hears_no_line, hears_no_rest}
 use Rattle.rehearsing.proofs.hearing.hear.Goals as goal
@@ -20,7 +21,7 @@ returns-in-Ok-Break-clause-hears g c =
 pub loop-front-preserved : goal.loop-front-preserved
 loop-front-preserved g c =
     subst
-    (λ (now : List ℕ). Hearing g.W.Write.contents c.args.history.now c.args.line.now.items c.args.bytes.now c.in-Some.behind.now now c.end_line.new.history c.args.text.now c.end_line.new.text)
+    (λ (now : List ℕ). Hearing g.W.Write.contents (telling_of c.args.form) c.args.history.now c.args.line.now.items c.args.bytes.now c.in-Some.behind.now now c.end_line.new.history c.args.text.now c.end_line.new.text)
     (sym c.in-Ok-Continue.ensures.next)
     (hears_line _ _ _ _ _ _ _ _ _ _ _ c.loop-front.invariant c.in-Some.front.now c.in-Some.behind.now _ c.in-Some.ensures.cut c.in-Ok-Continue.ensures.within
     (goes_on c.in-Ok-Continue.field-0 _ _ c.in-Ok-Continue.field-0-is c.in-Ok-Continue.ensures.flow)

@@ -1,6 +1,7 @@
 use Rattle.std.proofs.Common.{◌<◌, length, arith}
 use Rattle.std.proofs.lemmas.Bool.Decides.{nat_tests}
-use Rattle.rehearsing.specs.Answers.{answer_to}
+use Rattle.rehearsing.specs.Answers.{text_to}
+use Rattle.rehearsing.specs.Tellings.{telling_of}
 use Rattle.rehearsing.specs.Commands.{command_in}
 use Rattle.rehearsing.proofs.ListeningLemmas.{last_told}
 use Rattle.rehearsing.proofs.listening.answer_last.Goals as goal
@@ -9,5 +10,5 @@ pub returns-clause-last : goal.returns-clause-last
 returns-clause-last g c =
     let line = c.args.line.now in
     let some : 0 < length c.args.line.now = grind (arith, nat_tests, c.is_empty.ensures, c.if-is_empty.false) in
-    last_told g.W.Write.contents c.args.history.now line (answer_to c.args.history.now (command_in line) c.answer.new.history) c.answer.new.history c.args.text.now c.answer.new.text some
+    last_told g.W.Write.contents c.args.history.now line (text_to (telling_of c.args.form) c.args.history.now (command_in line) c.answer.new.history) c.answer.new.history c.args.text.now c.answer.new.text some
     c.in_ok-answer.ensures.answers c.in_ok-answer.ensures.writes

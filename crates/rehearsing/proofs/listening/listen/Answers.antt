@@ -1,6 +1,7 @@
 use Rattle.std.proofs.Common.{◌≡◌, ℕ, ◌+◌, ◌<◌, ◌≤◌, ◌++◌, ◌∷◌, [], List, length, take, drop, get_or, refl, sym, ap, ◌∙◌, subst, arith, length-take, length-drop}
 use Rattle.std.specs.Io.KnownBytes.{Consumes}
 use Rattle.rehearsing.specs.Inside.{LastAnswer}
+use Rattle.rehearsing.specs.Tellings.{telling_of}
 use Rattle.rehearsing.proofs.FlowLemmas.{where_off, where_on}
 use Rattle.rehearsing.proofs.ListeningLemmas.{in_vain, one_read_more, still_listening, to_all, to_line, until_fault, until_file, until_memory, until_too_large}
 use Rattle.rehearsing.proofs.ReadLemmas.{read_all, read_one_more, read_parts}
@@ -23,7 +24,7 @@ returns-then-count-eq0-clause-ok g c =
     elim c.match-answer_last.branch [
       | in-Ok w ↦ rw w.result-is (to_all _ _ _ _ _ _ _ _ _ (still_listening _ _ _ _ _ _ _ _ _ c.reads.invariant.so_far c.flush.new.self c.flush.ensures.writes) (g.I.Read.remaining c.read_some.new.self) none
           c.answer_last.new.history c.answer_last.new.text (c.in-Some-read_some.ensures.end c.if-count-eq0.true)
-          (subst (λ (l : List ℕ). LastAnswer g.W.Write.contents c.reads.history l c.answer_last.new.history c.flush.new.self c.answer_last.new.text) c.as_slice.ensures.value w.in-Ok.ensures.last))
+          (subst (λ (l : List ℕ). LastAnswer g.W.Write.contents (telling_of c.args.form) c.reads.history l c.answer_last.new.history c.flush.new.self c.answer_last.new.text) c.as_slice.ensures.value w.in-Ok.ensures.last))
       | in-Err w ↦ rw w.result-is tt
     ]
 

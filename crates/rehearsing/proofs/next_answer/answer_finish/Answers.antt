@@ -6,7 +6,7 @@ use Rattle.rehearsing.proofs.NextLemmas.{finishes_where}
 use Rattle.rehearsing.proofs.next_answer.answer_finish.Goals as goal
 
 pub returns-clause-leads : goal.returns-clause-leads
-returns-clause-leads g c =
+returns-clause-leads c =
     let before = c.args.history.now in
     let all : c.hosts-hosts.result ≡ length before.place.rehearsal.rules.fleet.hosts =
     c.hosts-hosts.ensures.count ∙ ap (λ (f : FleetView). length f.hosts) c.fleet.ensures ∙ ap (λ (r : RehearsalView). length r.rules.fleet.hosts) c.rehearsal.ensures in

@@ -5,6 +5,7 @@ use Rattle.fleet_states.specs.declared.status.Status.{Status}
 use Rattle.play_course.specs.PlayPlans.{targets}
 use Rattle.play_model.specs.declared.play.Play.{Play}
 use Rattle.rehearsing.proofs.OpeningLemmas.{first_at, rehearses_first, told_first}
+use Rattle.rehearsing.specs.Tellings.{telling_of}
 use Rattle.rehearsing.specs.Openings.{IsFirstPlay}
 use Rattle.rehearsing.proofs.rehearse.rehearse_text.Goals as goal
 
@@ -13,7 +14,7 @@ returns-clause-ok g c =
     let read = c.in-Ok.first in
     let first = c.in-Ok.ensures.ok in
     let at = first_at c.args.inventory.now c.args.playbook.now read first c.index.result.now c.index.ensures in
-    rehearses_first (g.I.Input.is_reliable c.args.input.now) read.fleet c.index.result.now c.as_slice.result.now _ _ _ _ c.args.inventory.now c.args.playbook.now at.0 (c.as_slice.ensures.value ∙ at.1)
+    rehearses_first (telling_of c.args.form) (g.I.Input.is_reliable c.args.input.now) read.fleet c.index.result.now c.as_slice.result.now _ _ _ _ c.args.inventory.now c.args.playbook.now at.0 (c.as_slice.ensures.value ∙ at.1)
     c.rehearse_play.result c.rehearse_play.ensures.ok
 
 pub returns-clause-err : goal.returns-clause-err
@@ -21,5 +22,5 @@ returns-clause-err g c =
     let read = c.in-Ok.first in
     let first = c.in-Ok.ensures.ok in
     let at = first_at c.args.inventory.now c.args.playbook.now read first c.index.result.now c.index.ensures in
-    told_first (g.I.Input.is_reliable c.args.input.now) read.fleet c.index.result.now c.as_slice.result.now _ _ _ _ c.args.inventory.now c.args.playbook.now at.0 (c.as_slice.ensures.value ∙ at.1)
+    told_first (telling_of c.args.form) (g.I.Input.is_reliable c.args.input.now) read.fleet c.index.result.now c.as_slice.result.now _ _ _ _ c.args.inventory.now c.args.playbook.now at.0 (c.as_slice.ensures.value ∙ at.1)
     c.rehearse_play.result c.rehearse_play.ensures.err

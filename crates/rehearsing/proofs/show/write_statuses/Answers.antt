@@ -5,7 +5,7 @@ use Rattle.bounded_io.proofs.WritingLemmas.{writes_two}
 use Rattle.domains.specs.Numbered.{host_at}
 use Rattle.fleet_states.specs.Statuses.{status_at}
 use Rattle.recap.proofs.PlanLemmas.{lines_more}
-use Rattle.rehearsing.specs.Answers.{status_line}
+use Rattle.rehearsing.specs.PlainReplies.{status_line}
 use Rattle.rehearsing.proofs.show.write_statuses.Goals as goal
 
 pub loop-index-preserved : goal.loop-index-preserved

@@ -3,7 +3,7 @@ use Rattle.std.specs.List.{range_with_len}
 use Rattle.bounded_io.specs.Writing.{Writes}
 use Rattle.domains.specs.Numbered.{host_at}
 use Rattle.fleet_states.specs.Statuses.{status_at}
-use Rattle.rehearsing.specs.Answers.{status_line}
+use Rattle.rehearsing.specs.PlainReplies.{status_line}
 use Rattle.rehearsing.proofs.show.write_statuses.Given as goal
 
 abbrev pub invariant-loop-index : goal.invariant-loop-index

@@ -5,4 +5,4 @@ pub returns-in-Ok : goal.returns-in-Ok
 returns-in-Ok g c =
     let answers = rw (c.as_slice-inventory.ensures.value, c.as_slice-playbook.ensures.value) at c.answer_all.ensures.ok in
     let ends = rw (c.as_slice-inventory.ensures.value, c.as_slice-playbook.ensures.value, c.read_both.ensures.stays) at c.answer_all.ensures.err in
-    RehearsesInputs-of_texts c.args.is_strict _ _ _ _ _ _ _ _ c.in-Ok.inventory.items c.in-Ok.playbook.items c.answer_all.result c.in-Ok.ensures.ok answers ends
+    RehearsesInputs-of_texts c.args.form c.args.is_strict _ _ _ _ _ _ _ _ c.in-Ok.inventory.items c.in-Ok.playbook.items c.answer_all.result c.in-Ok.ensures.ok answers ends

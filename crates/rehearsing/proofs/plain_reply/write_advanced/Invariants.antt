@@ -3,7 +3,7 @@ use Rattle.std.specs.Prelude.{codes}
 use Rattle.bounded_io.specs.Writing.{Writes}
 use Rattle.recap.specs.PlanText.{names_line}
 use Rattle.rehearsing.specs.Stacks.{batches_to}
-use Rattle.rehearsing.proofs.next_answer.write_advanced.Given as goal
+use Rattle.rehearsing.proofs.plain_reply.write_advanced.Given as goal
 
 abbrev pub invariant-loop-place : goal.invariant-loop-place
 invariant-loop-place g l = record {

@@ -8,7 +8,7 @@ use Rattle.domains.specs.Ids.{host_numbers}
 use Rattle.recap.specs.PlanText.{names_line}
 use Rattle.rehearsing.specs.Stacks.{batches_to}
 use Rattle.rehearsing.proofs.GoingOnLemmas.{many_batches}
-use Rattle.rehearsing.proofs.next_answer.write_advanced.Goals as goal
+use Rattle.rehearsing.proofs.plain_reply.write_advanced.Goals as goal
 
 pub loop-place-preserved : goal.loop-place-preserved
 loop-place-preserved g c =
