@@ -855,7 +855,8 @@ bad 'check a b c d' 'rollout check <INV> <PLAY> <PLAN>' "unexpected argument 'd'
 bad 'check a b c --words' 'rollout check <INV> <PLAY> <PLAN>' "unexpected argument '--words' found"
 bad explain 'rollout explain <NUMBER>' "the following required arguments were not provided:$newline  <NUMBER>"
 bad 'explain 1 2' 'rollout explain <NUMBER>' "unexpected argument '2' found"
-apart 'explain 1'
+run explain 1
+check "the line 'explain 1'" 1 '' "rollout: 901 BadLine$newline"
 bad 'rehearse a b --expect batches=1' 'rollout rehearse <INV> <PLAY>' "unexpected argument '--expect' found"
 bad 'plan -- a b --words' 'rollout plan [OPTIONS] <INV> <PLAY>' "unexpected argument '--words' found"
 bad 'limits -- a --expect b' 'rollout limits [OPTIONS] <INV>' "unexpected argument '--expect' found"
