@@ -4,7 +4,7 @@ usage: python3 tests/hostile/shapes.py NAME BYTES     prints the text
        python3 tests/hostile/shapes.py                lists the names
 
 A text is an inventory or a playbook, and goes with a small one of the other kind. It is refused by a line, or accepted: then the host `h0` is in no limited group, and it is the
-one host of each play. Some are what they are only from so many bytes on.
+one host of each play. Some are what they are only from so many bytes on. A byte that is no UTF-8 stands in a text as Python's `surrogateescape` has it.
 """
 
 import sys
@@ -100,6 +100,7 @@ variable("a text of pairs of escapes", text_of("\\ud83d\\ude00"))
 variable("a text of short escapes", text_of("\\n\\\\"))
 variable("a text of letters of three bytes", text_of("€"))
 variable("a number of many digits", lambda size: "0." + "3" * size)
+variable("a number with a long exponent", lambda size: "1e-" + "9" * size)
 variable("blanks", lambda size: " \t\r\n" * (size // 4) + "0")
 variable("blanks between numbers", listed("0", " , "))
 
@@ -136,6 +137,12 @@ def nested_groups(size):
     return '{"g0":%s}' % text, Told()
 
 
+def rows_of_one_host(size):
+    """One host in as many groups as may be, which share the text in its variables."""
+    variables = filled(size // 1023 - 30, lambda number: f'"n{number:04}":0')
+    return "{%s}" % ",".join('"g%04d":{"hosts":{"h0":{%s}}}' % (group, variables) for group in range(1023)), Told()
+
+
 def below(head, unit, tail, told, between=","):
     return lambda size: (head + filled(size, unit, between) + tail, told)
 
@@ -164,6 +171,12 @@ inventory("cut off", below('{"all":{"vars":{"x":[', NESTED_KEYS, "", "201 NotJso
 inventory("bytes of no meaning", lambda size: ("\0" * size, "201 NotJson"))
 inventory("no text at the end", below('{"all":{"vars":{"x":[', '{"a":1}', ',"\\ud800"]}}}', "201 NotJson"), True)
 inventory("a number past all numbers", lambda size: ('{"all":{"vars":{"x":%s}}}' % ("9" * size), "201 NotJson"))
+inventory("no UTF-8 at the end", below('{"all":{"vars":{"x":[', '{"a":1}', ',"\udcff"]}}}', "201 NotJson"), True)
+inventory("a second text behind the end", lambda size: (INVENTORY + " " * size + "{}", "201 NotJson"))
+inventory("blanks alone", lambda size: (" \t\r\n" * (size // 4), "201 NotJson"))
+inventory("a list in place of an inventory", below("[", NESTED_KEYS, "]", "202 BadShape at="), True)
+inventory("a text in place of an inventory", lambda size: ('"%s"' % ("x" * size), "202 BadShape at="))
+inventory("a host in each of a thousand groups", rows_of_one_host, True, least=300_000)
 
 
 # ---- playbooks
@@ -252,6 +265,8 @@ command("a bad brace at the end", lambda size: '"%s {%%"' % ("{{v}}" * (size // 
 command("a word of escapes", text_of("\\u0061"), SKIPPED)
 command("a word of quotes", text_of("'"), "702 BadShape at=0/tasks/0/command")
 play("a list of sizes that is too long", lambda size: '"serial":' + listed("1")(size), "706 BadSerial at=0/serial")
+play("a size of many digits", lambda size: '"serial":"%s"' % ("0" * size), "706 BadSerial at=0/serial")
+play("a percentage of many digits", lambda size: '"max_fail_percentage":0.%s' % ("0" * size), "707 BadPercent at=0/max_fail_percentage")
 play("one-key objects, nested, that mean nothing", lambda size: '"gather_facts":' + listed(NESTED_KEYS)(size), RAN, True)
 play('a list of {"a":1} that means nothing', lambda size: '"connection":' + listed('{"a":1}')(size), RAN)
 playbook("a pattern of many parts", below('[{"hosts":"', "h0", '","tasks":[{"command":"true"}]}]', RAN, ":"), True)
@@ -265,9 +280,16 @@ playbook("255 handlers, notified over and over", many_handlers, True, least=20_0
 playbook("too many plays", below("[", PLAYBOOK[1:-1], "]", "708 ManyPlays"), True)
 playbook("too many steps", below('[{"hosts":"h0","tasks":[', '{"command":"true"}', "]}]", "709 TooManySteps"), True, least=20_000)
 playbook("too many handlers", below('[{"hosts":"h0","tasks":[{"command":"true"}],"handlers":[', '{"name":"h","command":"true"}', "]}]", "709 TooManySteps"), least=20_000)
+playbook("an object in place of a playbook", below('{"hosts":"h0","tasks":[', '{"command":"true"}', "]}", "702 BadShape at="))
+playbook("a playbook of blanks alone", lambda size: (" \t\r\n" * (size // 4), "701 NotJson"))
+playbook("a playbook with no UTF-8 at the end", below('[{"hosts":"h0","tasks":[', '{"command":"true"}', ',{"command":"\udcff"}]}]', "701 NotJson"), True)
 playbook("a playbook of blanks", lambda size: ('[{"hosts":"h0",%s"tasks":[{"command":"true"}]}]' % (" " * size), RAN))
 playbook("an open playbook", lambda size: ('[{"hosts":' * (size // 10), "701 NotJson"))
 playbook("a playbook that is cut off", below('[{"hosts":"h0","tasks":[', '{"command":{"argv":["a"]}}', "", "701 NotJson"))
+
+
+def as_bytes(text):
+    return text.encode("utf-8", "surrogateescape")
 
 
 def named(name):
@@ -278,4 +300,4 @@ if __name__ == "__main__":
     if len(sys.argv) == 1:
         print(*(shape.name for shape in SHAPES), sep="\n")
     else:
-        sys.stdout.write(named(sys.argv[1]).made(int(sys.argv[2]))[0])
+        sys.stdout.buffer.write(as_bytes(named(sys.argv[1]).made(int(sys.argv[2]))[0]))
