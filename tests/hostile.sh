@@ -1,7 +1,7 @@
 #!/bin/sh
-# Hostile texts and systems: texts that take much memory, with all of it and under small address spaces; a stack of 256 KB; inputs that change, stop or never end while they are read;
-# outputs that take a byte at a time or don't block; limits of file size; many runs side by side. What is said is right, or a fault that is true, and no signal ends the program. It
-# needs a C compiler, Python 3 and crates/rollout/out/rollout.
+# Hostile texts and systems: texts that take much memory, with all of it and under small address spaces; a stack of 256 KB; files that are spoiled; inputs that change, stop or never end while
+# they are read; outputs that take a byte at a time, don't block or end behind any byte; limits of file size; many runs side by side. What is said is right, or a fault that is true, and no signal
+# ends the program. It needs a C compiler, Python 3 and crates/rollout/out/rollout. `SEED=7 CASES=30000 sh tests/hostile.sh` spoils the files of other cases.
 . "$(dirname "$0")/common.sh"
 . "$top/tests/programs/steps.sh"
 helpers=$top/tests/hostile
@@ -15,6 +15,12 @@ else
     counting env BYTES=2000 python3 "$helpers/spaces.py" "$rollout" "$work/texts"
 fi
 
+# ---- files that are spoiled, beside the slow program
+
+spoiled=400
+[ -z "${UNPROVED:-}" ] || spoiled=100
+counting python3 "$helpers/spoiled.py" "$rollout" "${SEED:-}" "${CASES:-$spoiled}"
+
 # ---- pipes
 
 counting python3 "$helpers/piped.py" "$rollout" "$work/pipes"
@@ -22,17 +28,19 @@ counting python3 "$helpers/piped.py" "$rollout" "$work/pipes"
 # ---- inputs that change while they are read
 
 # Before the read CHANGE_AT of the file CHANGING, or each of its reads, the program has a shell do what CHANGE says. Where ONE_BYTE is set no read and no write takes more, and once
-# one would have it makes that file.
+# one would have it makes that file. Behind OUT_ROOM bytes a write to standard output fails; where OUT_NOTHING is set it takes none.
 cat >"$work/change.c" <<'C'
 #define _GNU_SOURCE
 #include <dlfcn.h>
+#include <errno.h>
 #include <fcntl.h>
 #include <stdlib.h>
 #include <sys/stat.h>
 #include <unistd.h>
 
-static const char *change, *one_byte;
+static const char *change, *one_byte, *out_room, *out_nothing;
 static long change_at;
+static size_t out_left;
 static struct stat changing;
 
 /* What is started has none of this. */
@@ -41,6 +49,9 @@ __attribute__((constructor)) static void alone(void) {
     change_at = change ? atol(getenv("CHANGE_AT")) : 0;
     if (change && stat(getenv("CHANGING"), &changing)) _exit(95);
     one_byte = getenv("ONE_BYTE");
+    out_room = getenv("OUT_ROOM");
+    out_left = out_room ? (size_t)atol(out_room) : 0;
+    out_nothing = getenv("OUT_NOTHING");
     unsetenv("LD_PRELOAD");
 }
 
@@ -66,7 +77,15 @@ ssize_t read(int file, void *bytes, size_t count) {
 ssize_t write(int file, const void *bytes, size_t count) {
     static ssize_t (*real)(int, const void *, size_t);
     if (!real) real = (ssize_t (*)(int, const void *, size_t))dlsym(RTLD_NEXT, "write");
-    return real(file, bytes, taken(count));
+    if (file != 1 || !out_room || count == 0) return real(file, bytes, taken(count));
+    if (out_left == 0 && out_nothing) return 0;
+    if (out_left == 0) {
+        errno = ENOSPC;
+        return -1;
+    }
+    ssize_t wrote = real(file, bytes, count < out_left ? count : out_left);
+    if (wrote > 0) out_left -= wrote;
+    return wrote;
 }
 C
 ${CC:-cc} -shared -fPIC -O1 -o "$work/change.so" "$work/change.c" -ldl || {
@@ -129,6 +148,22 @@ fi
 # The playbook is opened behind the inventory, and what a run has read it goes by.
 changing 2 'cp true.json late.json' plan "$work/changing.json" "$work/late.json"
 check 'a playbook that comes as the inventory is read' 0 "plan batches=1 bound=one-host${newline}batch 1: a b$newline" ''
+# A journal grows while its run is under way: whole lines count as far as they were there, and what broke off is passed over.
+"$rollout" run "$work/one.json" "$work/true.json" --journal "$work/whole.journal" >/dev/null 2>&1 </dev/null
+# growing WHAT AT SCRIPT STATUS OUT: what `state` says of a journal with the first three lines of the whole one, to which this happens before that read of it
+growing() {
+    head -n 3 "$work/whole.journal" >"$work/changing.json"
+    timeout -k 5 "$limit" env CHANGING="$work/changing.json" CHANGE_AT="$2" CHANGE="cd '$work' && $3" LD_PRELOAD="$work/change.so" "$rollout" state "$work/one.json" "$work/changing.json" >"$work/out" 2>"$work/errors" </dev/null
+    status=$?
+    check "a journal that is $1 before the read $2" "$4" "$5" ''
+}
+open="a state=running${newline}end broken-off$newline"
+for at in 1 2; do
+    growing 'gone on with' $at 'tail -n 2 whole.journal >>changing.json' 0 "a state=updated${newline}end finished$newline"
+    growing 'gone on with by half of a line' $at 'tail -n 2 whole.journal | head -c 9 >>changing.json' 6 "$open"
+    growing 'gone on with by a line and a half' $at 'tail -n 2 whole.journal | head -c 32 >>changing.json' 6 "a state=updated${newline}end broken-off$newline"
+    growing 'renamed over' $at 'cp whole.journal new && mv new changing.json' 6 "$open"
+done
 hosts 3 >"$work/kept/hosts.json"
 printf '[{"hosts":"all","tasks":[{"command":{"argv":["sh","-c","rm -f %s"]}},{"command":"true"}]}]' "$work/kept/hosts.json $work/kept/play.json" >"$work/kept/play.json"
 run run "$work/kept/hosts.json" "$work/kept/play.json"
@@ -140,6 +175,20 @@ for command in plan run rehearse; do
     run "$command" "$work/one.json" "$work"
     check "$command: a folder as the playbook" 1 '' "rollout: 902 File name=$work$newline"
 done
+run check "$work/one.json" "$work/true.json" "$work"
+check 'a folder as the plan that is checked' 1 '' "rollout: 902 File name=$work$newline"
+run state "$work/one.json" "$work"
+check 'a folder as the journal' 1 '' "rollout: 902 File name=$work$newline"
+run lint "$work" "$work/true.json"
+check 'lint: a folder as the inventory' 1 '' "rollout: 902 File name=$work$newline"
+run check "$work/one.json" "$work/true.json" /dev/zero
+check '/dev/zero as the plan that is checked' 1 '' "rollout: 903 InputTooLarge$newline"
+run state "$work/one.json" /dev/zero
+check '/dev/zero as the journal' 1 '' "rollout: 903 InputTooLarge$newline"
+run check "$work/one.json" "$work/true.json" /dev/null
+check 'the null device as the plan that is checked' 1 "missing host=a$newline" ''
+run state "$work/one.json" /dev/null
+check 'the null device as the journal' 1 '' "rollout: 912 BadJournal line=1$newline"
 run limits /dev/null
 check 'the null device' 1 '' "$no_json"
 run plan "$work/one.json" /dev/null
@@ -184,17 +233,60 @@ at_a_time() {
     [ -e "$work/cut" ] && [ "$status" -eq "$answered" ] && cmp -s "$work/out" "$work/out.whole" && cmp -s "$work/errors" "$work/errors.whole" && pass || fail "$what, a byte at a time: status $status"
 }
 printf 'plan\nadvance a\nshow\njump\nquit\n' >"$work/lines"
+printf '[{"hosts":"all","tasks":[{"command":"true","when":false}]}]' >"$work/skips.json"
 sized 3000 a b >"$work/some.json"
 printf '[{"hosts":"all","serial":1,"tasks":[{"command":"echo out","register":"r"},{"command":"true","when":"r.stdout == %s"}]}]' "'out'" >"$work/said.json"
 at_a_time 'a table' limits "$work/some.json"
 at_a_time 'a plan' plan "$work/some.json" "$work/said.json"
 at_a_time 'a run' run "$work/some.json" "$work/said.json"
+at_a_time 'a course' plan "$work/some.json" "$work/said.json" --course --failing b
+at_a_time 'groups' plan "$work/some.json" "$work/said.json" --groups
+at_a_time 'words' plan "$work/some.json" "$work/said.json" --words
+at_a_time 'a plan for programs' plan "$work/some.json" "$work/said.json" --json
+at_a_time 'notes' lint "$work/some.json" "$work/skips.json"
+printf '{"all":{"x":1,"y":2}}' >"$work/faulty.json"
+at_a_time 'all faults' lint "$work/faulty.json" "$work/said.json"
+printf 'a\nb\n' >"$work/plan.txt"
+at_a_time 'a check' check "$work/some.json" "$work/said.json" "$work/plan.txt"
+at_a_time 'where a run stands' state "$work/one.json" "$work/whole.journal"
+at_a_time 'an explanation' explain 302
 at_a_time 'a bad line' limits one two
 at_a_time 'a missing file' limits "$work/none"
 at_a_time 'the help' --help
 input=$work/lines
 at_a_time 'a rehearsal' rehearse "$work/some.json" "$work/said.json"
 input=/dev/null
+
+# cut STEP WORD..: behind each byte, or each STEP bytes, standard output takes no more: just the first ones of the text went out
+cut() {
+    step=$1
+    shift
+    run "$@"
+    mv "$work/out" "$work/out.whole"
+    size=$(wc -c <"$work/out.whole")
+    for room in $(seq 0 "$step" $((size - 2))) $((size - 1)); do
+        for way in OUT_ROOM="$room" "OUT_ROOM=$room OUT_NOTHING=yes"; do
+            # shellcheck disable=SC2086
+            timeout -k 5 "$limit" env $way LD_PRELOAD="$work/change.so" "$rollout" "$@" >"$work/out" 2>"$work/errors" <"$input"
+            status=$?
+            [ "$status" -eq 1 ] && head -c "$room" "$work/out.whole" | cmp -s - "$work/out" && [ "$(cat "$work/errors")" = "rollout: 904 Write written=$room" ] && pass ||
+                fail "$* where standard output ends: $way, status $status, $(cat "$work/errors")"
+        done
+    done
+}
+each=1
+far=40
+[ -z "${UNPROVED:-}" ] || each=20 far=100
+printf '%s' "$racks" >"$work/two.json"
+printf '[{"hosts":"all","tasks":[{"command":{"argv":["sh","-c","test {{ inventory_hostname }} != a"]}}]}]' >"$work/fails.json"
+cut $each run "$work/two.json" "$work/fails.json"
+cut $far plan "$work/two.json" "$work/true.json" --course --failing a
+cut $far plan "$work/two.json" "$work/true.json" --groups
+cut $far plan "$work/two.json" "$work/true.json" --words
+cut $far lint "$work/faulty.json" "$work/true.json"
+cut 7 check "$work/some.json" "$work/said.json" "$work/plan.txt"
+cut 7 state "$work/one.json" "$work/whole.journal"
+cut $((far * 20)) explain 302
 
 "$rollout" rehearse "$work/one.json" "$work/true.json" >/dev/full 2>"$work/errors" <"$work/lines"
 status=$?
@@ -220,6 +312,22 @@ closed() {
 }
 answer="plan batches=1 bound=one-host${newline}batch 1: a$newline"
 closed plan "$work/one.json" "$work/true.json"
+echo a >"$work/plan.txt"
+answer="boundary 1: plan batches=1 bound=one-host${newline}open: a${newline}boundary 2: plan batches=0 bound=nothing${newline}end finished${newline}batches=1$newline"
+closed plan "$work/one.json" "$work/true.json" --course
+answer="plan batches=1 bound=one-host${newline}batch 1: a${newline}no limited group$newline"
+closed plan "$work/one.json" "$work/true.json" --groups
+answer="a step=1 runs: true$newline"
+closed plan "$work/one.json" "$work/true.json" --words
+answer="valid batches=1 least=1$newline"
+closed check "$work/one.json" "$work/true.json" "$work/plan.txt"
+answer="notes=0$newline"
+closed lint "$work/one.json" "$work/true.json"
+answer="a state=updated${newline}end finished$newline"
+closed state "$work/one.json" "$work/whole.journal"
+answer="hosts=1 limited=0$newline"
+closed limits "$work/one.json"
+answer="plan batches=1 bound=one-host${newline}batch 1: a$newline"
 echo plan >"$work/lines"
 input=$work/lines
 closed rehearse "$work/one.json" "$work/true.json"
@@ -235,17 +343,28 @@ of_8_kib() {
     timeout -k 5 "$limit" env --"$handled"-signal=XFSZ sh -c 'ulimit -f 16; exec "$@"' sh "$rollout" "$@" <"$input"
 }
 hosts 2000 >"$work/hosts.json"
-printf '[{"hosts":"all","tasks":[{"command":"true","when":false}]}]' >"$work/skips.json"
+"$rollout" run "$work/hosts.json" "$work/skips.json" --journal "$work/hosts.journal" >/dev/null 2>&1 </dev/null
+printf '[{"hosts":"all","serial":1,"tasks":[{"command":"true","when":"not a or b"}]}]' >"$work/many.json"
 seq 9 | sed 's/.*/plan/' >"$work/lines"
-for command in plan run rehearse; do
-    input=$work/lines
-    run "$command" "$work/hosts.json" "$work/skips.json"
+# cut_at_8_kib WORD..: what goes out into such a file is the first of what goes out into any
+cut_at_8_kib() {
+    run "$@"
     mv "$work/out" "$work/out.whole"
-    of_8_kib ignore "$command" "$work/hosts.json" "$work/skips.json" >"$work/out" 2>"$work/errors"
+    of_8_kib ignore "$@" >"$work/out" 2>"$work/errors"
     status=$?
-    check "$command: a file that may have 8 KiB" 1 "$(head -c 8192 "$work/out.whole")" "rollout: 904 Write written=8192$newline"
+    case $* in *--json*) fault='{"fault":{"number":904,"kind":"Write","written":8192}}' ;; *) fault='rollout: 904 Write written=8192' ;; esac
+    check "$*: a file that may have 8 KiB" 1 "$(head -c 8192 "$work/out.whole")" "$fault$newline"
+}
+input=$work/lines
+for command in plan run rehearse; do
+    cut_at_8_kib "$command" "$work/hosts.json" "$work/skips.json"
 done
 input=/dev/null
+cut_at_8_kib plan "$work/hosts.json" "$work/many.json" --course
+cut_at_8_kib plan "$work/hosts.json" "$work/skips.json" --course --groups
+cut_at_8_kib plan "$work/hosts.json" "$work/skips.json" --words
+cut_at_8_kib plan "$work/hosts.json" "$work/skips.json" --json
+cut_at_8_kib state "$work/hosts.json" "$work/hosts.journal"
 # What is told of a run is left out where it can't be written, and the run goes on.
 run run "$work/hosts.json" "$work/skips.json"
 mv "$work/out" "$work/out.whole"
@@ -254,6 +373,29 @@ mv "$work/out" "$work/out.whole"
     echo $? >"$work/status"
 } | cat >"$work/out"
 [ "$(cat "$work/status")" -eq 0 ] && cmp -s "$work/out" "$work/out.whole" && [ "$(wc -c <"$work/told")" -le 8192 ] && pass || fail "what is told has no room: status $(cat "$work/status")"
+
+# ---- memory that is wanting as the first program is to be started
+
+# Each allocation behind those of the plan is refused in turn. Where that of the first program's start is, just this is said, and nothing has been started.
+printf '[{"hosts":"all","tasks":[{"command":{"argv":["sh","-c","echo >>%s"]}}]}]' "$work/begun" >"$work/begun.json"
+recap="boundary 1: plan batches=3 bound=group r1 waiting=3 room=1${newline}open: a d${newline}"
+for host in a b c d e; do
+    case $host in a | d) state=running ;; *) state=waiting ;; esac
+    recap="${recap}$host ok=0 changed=0 failed=0 skipped=0 ignored=0 state=$state$newline"
+done
+found=0
+if proved 'memory that is wanting as the first program is to be started'; then
+    number=0
+    while [ "$number" -lt 5000 ]; do
+        number=$((number + 1))
+        rm -f "$work/begun" "$work/failed"
+        timeout -k 5 "$limit" env FAIL=malloc FAIL_AT="$number" FAILED="$work/failed" LD_PRELOAD="$work/fail.so" "$rollout" run "$work/two.json" "$work/begun.json" --forks 1 >"$work/out" 2>"$work/errors" </dev/null
+        status=$?
+        [ -e "$work/failed" ] || break
+        printf '%send fault\n' "$recap" | cmp -s - "$work/out" && [ "$status" -eq 5 ] && [ "$(cat "$work/errors")" = 'rollout: memory' ] && [ ! -e "$work/begun" ] && found=$((found + 1))
+    done
+    [ "$number" -gt 100 ] && [ "$number" -lt 5000 ] && [ "$found" -gt 0 ] && pass || fail "memory is wanting as the first program is to be started: of $number allocations $found"
+fi
 
 # ---- side by side
 

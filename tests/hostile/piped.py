@@ -86,12 +86,27 @@ def slowly(rows, words, size, told=b""):
 
 
 def outputs(rows, files):
-    for words, told in ((["limits", files["groups"]], b""), (["plan", files["hosts"], files["skips"]], b""), (["run", files["hosts"], files["skips"]], b""), (["rehearse", files["hosts"], files["skips"]], b"plan\nshow\n" * 20)):
+    both = [files["hosts"], files["skips"]]
+    whole(rows, ["run", *both, "--journal", files["journal"]])
+    plan = ["plan", *both]
+    for words, told, status in (
+        (["limits", files["groups"]], b"", 0),
+        (plan, b"", 0),
+        ([*plan, "--course"], b"", 0),
+        ([*plan, "--groups"], b"", 0),
+        ([*plan, "--words"], b"", 0),
+        ([*plan, "--json"], b"", 0),
+        (["lint", files["groups"]], b"", 1),
+        (["state", files["hosts"], files["journal"]], b"", 0),
+        (["run", *both], b"", 0),
+        (["rehearse", *both], b"plan\nshow\n" * 20, 0),
+    ):
         right = whole(rows, words, told)
-        rows.row(f"{words[0]}: an output that is longer than a pipe", (right[0], len(right[1]) > ROOM, right[2]), (0, True, b""))
+        rows.row(f"{words[0]} {words[-1]}: an output that is longer than a pipe", (right[0], len(right[1]) > ROOM, right[2]), (status, True, b""))
         status, out, errors = unread(rows, words, told)
-        rows.row(f"{words[0]} into a pipe that doesn't block and is full", (status, right[1].startswith(out), len(out) > ROOM // 2, errors), (1, True, True, b"rollout: 904 Write written=%d\n" % len(out)))
-        rows.row(f"{words[0]} to a slow reader", slowly(rows, words, 509, told), right)
+        fault = b'{"fault":{"number":904,"kind":"Write","written":%d}}\n' if "--json" in words else b"rollout: 904 Write written=%d\n"
+        rows.row(f"{words[0]} {words[-1]} into a pipe that doesn't block and is full", (status, right[1].startswith(out), len(out) > ROOM // 2, errors), (1, True, True, fault % len(out)))
+        rows.row(f"{words[0]} {words[-1]} to a slow reader", slowly(rows, words, 509, told), right)
     rows.row("a table into a pipe that doesn't block and has room", unread(rows, ["limits", files["small"]]), (0, b"hosts=3 limited=0\n", b""))
 
 
@@ -136,20 +151,29 @@ def inputs(rows, files):
 
 
 def named_pipes(rows, folder, files):
-    """Both inputs are named pipes; of one the writer stops in the middle."""
+    """All inputs are named pipes; of one the writer stops in the middle."""
     plan = b"plan batches=1 bound=one-host\nbatch 1: a b c\n"
     inventory, playbook = (Path(files[name]).read_bytes() for name in ("small", "true"))
-    for what, texts, wanted in (
-        ("two named pipes", (inventory, playbook), (0, plan, b"")),
-        ("an inventory that stops in the middle", (inventory[:20], playbook), (1, b"", b"rollout: 201 NotJson\n")),
-        ("a playbook that stops in the middle", (inventory, playbook[:20]), (1, b"", b"rollout: 701 NotJson\n")),
+    whole(rows, ["run", files["small"], files["true"], "--journal", str(folder / "small.journal")])
+    journal = (folder / "small.journal").read_bytes()
+    states = b"".join(b"%c state=updated\n" % host for host in b"abc")
+    for what, command, texts, wanted in (
+        ("two named pipes", "plan", (inventory, playbook), (0, plan, b"")),
+        ("an inventory that stops in the middle", "plan", (inventory[:20], playbook), (1, b"", b"rollout: 201 NotJson\n")),
+        ("a playbook that stops in the middle", "plan", (inventory, playbook[:20]), (1, b"", b"rollout: 701 NotJson\n")),
+        ("three named pipes", "check", (inventory, playbook, b"a b\nc\n"), (2, b"valid batches=2 least=1\n", b"")),
+        ("a plan that stops in the middle", "check", (inventory, playbook, b"a b\n"), (1, b"missing host=c\n", b"")),
+        ("an inventory and a journal", "state", (inventory, journal), (0, states + b"end finished\n", b"")),
+        ("a journal that stops before its last byte", "state", (inventory, journal[:-1]), (6, states + b"end broken-off\n", b"")),
+        ("a journal that stops in its first line", "state", (inventory, journal[:99]), (1, b"", b"rollout: 912 BadJournal line=1\n")),
+        ("two named pipes that are looked through", "lint", (inventory, playbook), (0, b"notes=0\n", b"")),
     ):
-        pipes = [folder / "one.pipe", folder / "other.pipe"]
+        pipes = [folder / f"{number}.pipe" for number in range(len(texts))]
         for pipe, text in zip(pipes, texts):
             pipe.unlink(missing_ok=True)
             os.mkfifo(pipe)
             threading.Thread(target=pipe.write_bytes, args=(text,), daemon=True).start()
-        rows.row(what, whole(rows, ["plan", *map(str, pipes)]), wanted)
+        rows.row(f"{command}: {what}", whole(rows, [command, *map(str, pipes)]), wanted)
 
 
 def made(folder):
@@ -164,7 +188,7 @@ def made(folder):
     }
     for name, text in texts.items():
         (folder / name).write_text(json.dumps(text))
-    return {name: str(folder / name) for name in texts}
+    return {name: str(folder / name) for name in (*texts, "journal")}
 
 
 def main(rollout, folder):
