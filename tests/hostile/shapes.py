@@ -143,6 +143,13 @@ def rows_of_one_host(size):
     return "{%s}" % ",".join('"g%04d":{"hosts":{"h0":{%s}}}' % (group, variables) for group in range(1023)), Told()
 
 
+def crossing_limits(size):
+    """As many limited groups as may be, each with the same hosts: any two of them cross."""
+    hosts = ",".join(f'"h{host:02}":null' for host in range(16))
+    groups = ",".join('"g%04d":{"vars":{"max_down":1},"hosts":{%s}}' % (group, hosts) for group in range(1023))
+    return '{"all":{"vars":{"x":"%s"}},%s}' % ("x" * max(0, size - len(groups) - 30), groups), "301 NotNested host=h00 first=g0000 second=g0001"
+
+
 def below(head, unit, tail, told, between=","):
     return lambda size: (head + filled(size, unit, between) + tail, told)
 
@@ -150,6 +157,7 @@ def below(head, unit, tail, told, between=","):
 inventory("4,096 hosts with variables", hosts_with_variables, least=200_000)
 inventory("hosts of long names in four groups", hosts_of_long_names)
 inventory("many hosts in many groups", rows_in_groups, True, least=300_000)
+inventory("a thousand limits that all cross", crossing_limits, True, least=300_000)
 inventory("variables of nested groups", nested_groups, least=20_000)
 inventory("a host with many variables", below('{"all":{"hosts":{"h0":{', lambda key: f'"k{key:07}":"v"', "}}}}", Told()))
 inventory("a host again and again", below('{"all":{"hosts":{', '"h0":{"down":false}', "}}}", Told()))
@@ -238,6 +246,7 @@ step("when: or-chains", conditions("when", OR_CHAIN), RAN, True)
 step("when: and-chains", conditions("when", AND_CHAIN), RAN)
 step("when: brackets", conditions("when", BRACKETS), RAN, True)
 step("when: names", conditions("when", "v"), RAN)
+step("when: many names", lambda size: '"when":[%s]' % filled(size, lambda number: f'"n{number:07} is defined or v"'), RAN)
 step("when: true", lambda size: '"when":' + listed("true")(size), RAN)
 step("when: long texts", conditions("when", "'%s' == '%s'" % ("a" * 2000, "a" * 2000)), RAN)
 step("when: groups", conditions("when", "'g' not in group_names"), RAN)
