@@ -18,7 +18,7 @@ from pathlib import Path
 from shapes import INVENTORY, MIB, PLAYBOOK, SHAPES, as_bytes
 from third_files import PLAY, THIRDS, head, line, lines
 
-LONGEST = 120
+LONGEST = 600
 WANTING = "rollout: memory\n"
 LINES = "plan\nshow\n"
 PLAN = "plan batches=1 bound=one-host\nbatch 1: h0\n"
