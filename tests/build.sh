@@ -100,7 +100,8 @@ done
 cd "$top" || exit 1
 
 if ! grep -qx 'ended 0' "$work/log" || [ ! -x "$copy/$program" ]; then
-    grep -v '^so far: ' "$work/log" | tail -n 40
+    grep -E 'error: |: not proved|: no proof' "$work/log" | head -n 20
+    grep -v '^so far: \|^statements ' "$work/log" | tail -n 40
     echo 'FAILED: the program is not built' >&2
     exit 1
 fi
