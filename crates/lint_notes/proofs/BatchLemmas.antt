@@ -1,13 +1,13 @@
 -- Sizes of plays, one behind the other, and the smallest of batches.
 use Rattle.std.proofs.Common.{◌≡◌, ℕ, ◌+◌, ◌<◌, ◌≤◌, Option, None, Some, List, [], ◌∷◌, ◌++◌, map, drop, drop-cons, add-one, min, length, length-append, arith, refl, sym, ap, ◌∙◌, subst, inl, inr, ◌⊎◌}
-use Rattle.std.specs.Prelude.{slice_index_or}
+use Rattle.std.specs.Prelude.{IfOk, Ok, Err, Result, is_some, slice_index_or, true}
 use Rattle.std.proofs.lemmas.List.{get_or_append_left, get_or_default}
 use Rattle.std.proofs.lemmas.Bool.{cases_lt}
 use Rattle.std.proofs.Math.Seq.{get_or-append_seam}
 use Rattle.domains.specs.FleetViews.{FleetView}
 use Rattle.play_model.specs.declared.play.Play.{Play}
 use Rattle.fleet_numbers.specs.NumberLists.{list_at}
-use Rattle.lint_notes.specs.Batches.{AreSmallestOf, IsSmallestOf, least_of, smallest}
+use Rattle.lint_notes.specs.Batches.{AreSmallestOf, IsSmallestIn, IsSmallestOf, least_of, smallest}
 
 -- the first so many plays have their sizes
 pub record AreSmallestSoFar (fleet : FleetView) (plays : List Play) (sizes : List (Option ℕ)) (count : ℕ) : Type 0 where
@@ -50,3 +50,11 @@ pub least_more : (batches : List (List ℕ)) (place least : ℕ) → place < len
     → least_of least (map length (drop place batches)) ≡ least_of (min least (length (list_at batches place))) (map length (drop (place + 1) batches))
 least_more batches place least within =
     ap (λ (l : List (List ℕ)). least_of least (map length l)) (drop-cons batches place [] within ∙ ap (λ n. list_at batches place ∷ drop n batches) (sym (add-one place)))
+
+-- a plan's answer serves where it is asked for
+pub where_asked : {E : Type 0} (fleet : FleetView) (play : Play) (result : Result (Option ℕ) E) → IfOk result (IsSmallestIn fleet play) → IfOk result (IsSmallestOf fleet play)
+where_asked fleet play (Ok size) is = λ asked. is
+where_asked fleet play (Err refused) is = is
+
+pub none_asked : (fleet : FleetView) (play : Play) → play.max_fail ≡ None → IsSmallestOf fleet play None
+none_asked fleet play none asked = absurd (let wrong = sym asked ∙ ap is_some none in cc)

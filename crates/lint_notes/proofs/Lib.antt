@@ -8,3 +8,5 @@ pub mod OnceLaws
 pub mod ConstantLaws
 pub mod ProgramLemmas
 pub mod BatchLemmas
+pub mod AskedLemmas
+pub mod LacksLemmas

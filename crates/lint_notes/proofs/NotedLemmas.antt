@@ -1,12 +1,16 @@
 -- Notes on the elements of a list, one behind the other.
-use Rattle.std.proofs.Common.{◌≡◌, ℕ, ◌+◌, ◌<◌, Bool, true, false, not, ◌||◌, List, [], ◌∷◌, ◌++◌, length}
-use Rattle.std.proofs.Common.{length-append, map, take, drop, drop-cons, add-one, get_or, flat_map, refl, sym, ap, ◌∙◌, append_assoc, append-nil}
+use Rattle.std.proofs.Common.{◌≡◌, ℕ, ◌+◌, ◌<◌, ◌==◌, Bor, Bool, true, false, not, ◌||◌, List, [], ◌∷◌, ◌++◌, length}
+use Rattle.std.proofs.Common.{arith, length-append, map, take, drop, drop-cons, add-one, get_or, flat_map, refl, sym, ap, ◌∙◌, append_assoc, append-nil}
 use Rattle.std.specs.List.{list_any, range_with_len}
+use Rattle.std.specs.Prelude.{OnOk, Result, Ok, Err}
+use Rattle.std.proofs.lemmas.Bool.Decides.{nat_tests}
 use Rattle.std.proofs.lemmas.Grind.{take_at_read, flat_map-append}
 use Rattle.std.proofs.lemmas.List.{map-append}
 use Rattle.std.proofs.lemmas.List.Elements.{filter-append}
 use Rattle.std.proofs.lemmas.List.Folds.{list_any-append}
 use Rattle.fleet_states.proofs.NumberLemmas.{range_more}
+use Rattle.group_tree.specs.Names.{Name}
+use Rattle.lint_notes.specs.Inside.{names_of}
 use Rattle.lint_notes.specs.Kinds.{allows}
 use Rattle.lint_notes.specs.Notes.{Note, kind_of, seen, told}
 use Rattle.lint_notes.specs.NotesText.{note_line}
@@ -78,3 +82,14 @@ or_assoc false b c = refl
 pub set_more : (new old first earlier here both : Bool) → new ≡ (old || here) → old ≡ (first || earlier) → both ≡ (earlier || here) → new ≡ (first || both)
 set_more new old first earlier here both now so_far more =
     now ∙ ap (λ b. b || here) so_far ∙ or_assoc first earlier here ∙ ap (λ b. first || b) (sym more)
+
+-- nothing is noted of no names
+pub none_noted : (notes : Name → List Note) (lent : List (Bor Name)) (names : List Name) (before : List Note) → (length lent == 0) ≡ true → names_of lent ≡ names
+    → before ≡ before ++ flat_map notes names
+none_noted notes [] names before none are = sym (append-nil before) ∙ ap (λ (l : List Name). before ++ flat_map notes l) are
+none_noted notes (name ∷ lent) names before none are = absurd (grind (arith, nat_tests))
+
+-- what a call wrote, said otherwise
+pub on_ok : {X E : Type 0} (result : Result X E) (after one other : List Note) → OnOk result (after ≡ one) → one ≡ other → OnOk result (after ≡ other)
+on_ok (Ok x) after one other is same = is ∙ same
+on_ok (Err e) after one other is same = is

@@ -6,7 +6,7 @@ use Rattle.host_vars.specs.Layers.{HostView}
 use Rattle.host_vars.specs.Shared.{AreHostsOf}
 use Rattle.play_model.specs.declared.play.Play.{Play}
 use Rattle.lint_notes.specs.Notes.{Note}
-use Rattle.lint_notes.specs.Hosts.{lacks_of}
+use Rattle.lint_notes.specs.Hosts.{lacks_of, missed_of}
 use Rattle.lint_notes.specs.Batches.{AreSmallestOf}
 use Rattle.lint_notes.specs.CaseHosts.{fleet_notes}
 use Rattle.lint_notes.specs.Playbooks.{plays_notes}
@@ -18,4 +18,4 @@ pub record AreNotesOf (inventory : Inventory) (fleet : FleetView) (plays : List 
   pub are : AreHostsOf inventory fleet.hosts hosts
   pub sizes : List (Option ℕ)
   pub sizes_are : AreSmallestOf fleet plays sizes
-  pub notes_are : notes ≡ fleet_notes inventory fleet ++ plays_notes fleet (lacks_of hosts) sizes plays
+  pub notes_are : notes ≡ fleet_notes inventory fleet ++ plays_notes fleet (lacks_of hosts) (missed_of fleet plays hosts) sizes plays

@@ -1,5 +1,5 @@
 -- What is noted of the batches of a play.
-use Rattle.std.specs.Prelude.{◌≡◌, ℕ, ◌*◌, ◌<◌, Bool, ◌&&◌, nat_lt, min, if◌then◌else◌, Option, None, Some, option_map, List, [], ◌∷◌, length, map, slice_index_or}
+use Rattle.std.specs.Prelude.{◌≡◌, ℕ, ◌*◌, ◌<◌, Bool, true, is_some, ◌&&◌, nat_lt, min, if◌then◌else◌, Option, None, Some, option_map, List, [], ◌∷◌, length, map, slice_index_or}
 use Rattle.std.specs.List.{find}
 use Rattle.domains.specs.FleetViews.{FleetView}
 use Rattle.play_model.specs.declared.play.Play.{Play}
@@ -52,11 +52,15 @@ failure_note number (Some percent) (Some size) =
     if bears_none percent size then Some (one_failure number percent size) else None
 
 -- the size of the smallest batch of the plan with which the play begins
-pub record IsSmallestOf (fleet : FleetView) (play : Play) (size : Option ℕ) : Type 0 where
+pub record IsSmallestIn (fleet : FleetView) (play : Play) (size : Option ℕ) : Type 0 where
   pub answer : Answer
   pub held : List ℕ
   pub plan : IsPlanOf fleet play answer held
   pub size_is : size ≡ smallest_batch answer
+
+-- that of a play which may go on with failures; of any other nothing is noted for it, whatever it is
+abbrev pub IsSmallestOf : FleetView → Play → Option ℕ → Type 0
+IsSmallestOf fleet play size = is_some play.max_fail ≡ true → IsSmallestIn fleet play size
 
 -- of each play
 pub record AreSmallestOf (fleet : FleetView) (plays : List Play) (sizes : List (Option ℕ)) : Type 0 where

@@ -1,12 +1,15 @@
 -- The hosts that a play is for, and the variables that they have.
-use Rattle.std.specs.Prelude.{ℕ, ◌==◌, Bool, true, false, not, is_none, if◌then◌else◌, Option, None, Some, option_map, List, [], ◌∷◌, count_by, filter, length, slice_get, slice_index_or}
+use Rattle.std.specs.Prelude.{ℕ, ◌==◌, Bool, true, false, not, ◌&&◌, ◌||◌, is_none, is_some, if◌then◌else◌, Option, None, Some, option_map, List, [], ◌∷◌, count_by, filter, length, slice_get, slice_index_or}
 use Rattle.std.specs.List.{find, list_any}
-use Rattle.group_tree.specs.Names.{Name}
+use Rattle.group_tree.specs.Names.{Name, is_among}
 use Rattle.domains.specs.FleetViews.{FleetView}
 use Rattle.domains.specs.Numbered.{host_at}
 use Rattle.host_vars.specs.Layers.{HostView}
 use Rattle.play_model.specs.declared.play.Play.{Play}
+use Rattle.play_model.specs.declared.step.Step.{Step}
 use Rattle.play_course.specs.PlayPlans.{targets}
+use Rattle.step_words.specs.Lines.{fresh}
+use Rattle.missing_names.specs.Spots.{missed_at}
 use Rattle.lint_notes.specs.Notes.{Note, no_hosts, down_hosts, unknown_name, missing_name}
 use Rattle.lint_notes.specs.declared.step_path.StepPath.{StepPath}
 
@@ -37,6 +40,14 @@ has_none (Some host) name = is_none (host.variable name)
 abbrev pub lacks_of : List HostView → Name → ℕ → Bool
 lacks_of hosts name host = has_none (slice_get hosts host) name
 
+-- what the step at this place of the play with this number, both from 0, may look up in vain on a host before anything has run; nothing where there is no such host
+abbrev pub missed_with : FleetView → List Play → ℕ → ℕ → ℕ → Option HostView → List Name
+missed_with fleet plays number place host None = []
+missed_with fleet plays number place host (Some view) = missed_at fleet plays number place host (fresh view)
+
+abbrev pub missed_of : FleetView → List Play → List HostView → ℕ → ℕ → ℕ → List Name
+missed_of fleet plays hosts number place host = missed_with fleet plays number place host (slice_get hosts host)
+
 -- the hosts that wait for a play, and which names each host lacks
 pub record Crowd : Type 0 where
   pub fleet : FleetView
@@ -45,6 +56,21 @@ pub record Crowd : Type 0 where
 
 abbrev pub crowd_for : FleetView → (Name → ℕ → Bool) → Play → Crowd
 crowd_for fleet lacks play = record { fleet = fleet; lacks = lacks; waiting = waiting_for fleet play }
+
+abbrev pub has_conditions : Step → Bool
+has_conditions step = is_some step.when || (is_some step.changed_when || is_some step.failed_when)
+
+-- the same hosts before a step that may look up these names in vain on them: of those each lacks the ones of which it has no variable
+abbrev pub asking : Crowd → (ℕ → List Name) → Crowd
+asking crowd missed = record {
+  fleet = crowd.fleet;
+  lacks = λ name host. is_among name (missed host) && crowd.lacks name host;
+  waiting = crowd.waiting;
+}
+
+-- a step without conditions comes to all that it reads
+abbrev pub asking_by : Crowd → (ℕ → List Name) → Step → Crowd
+asking_by crowd missed step = if has_conditions step then asking crowd missed else crowd
 
 -- a waiting host has no variable of this name
 abbrev pub is_lacked : Crowd → Name → Bool
@@ -57,12 +83,11 @@ lack_count crowd name = count_by (crowd.lacks name) crowd.waiting
 abbrev pub first_lacking : Crowd → Name → Option ℕ
 first_lacking crowd name = find (crowd.lacks name) crowd.waiting
 
--- none has the name, or this one and others don't
-abbrev pub lack_note : Crowd → StepPath → Name → ℕ → Note
-lack_note crowd at name first =
-    if lack_count crowd name == length crowd.waiting then unknown_name at name
-    else missing_name at name (lack_count crowd name) (length crowd.waiting) (host_at crowd.fleet.hosts first)
+-- none has the name, or so many don't, of whom this one is the first
+abbrev pub noted_lack : Crowd → StepPath → Name → ℕ → ℕ → Note
+noted_lack crowd at name hosts first =
+    if hosts == length crowd.waiting then unknown_name at name else missing_name at name hosts (length crowd.waiting) (host_at crowd.fleet.hosts first)
 
 -- what is noted of a name that a step reads: nothing where each waiting host has it
 abbrev pub name_note : Crowd → StepPath → Name → Option Note
-name_note crowd at name = option_map (lack_note crowd at name) (first_lacking crowd name)
+name_note crowd at name = option_map (noted_lack crowd at name (lack_count crowd name)) (first_lacking crowd name)

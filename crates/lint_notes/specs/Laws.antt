@@ -1,16 +1,18 @@
 -- What holds of the names that are asked about, and of conditions that ask nothing.
-use Rattle.std.specs.Prelude.{◌≡◌, Bool, true, ◌&&◌, ◌||◌}
+use Rattle.std.specs.Prelude.{◌≡◌, ℕ, Bool, true, ◌&&◌, ◌||◌, is_some, List}
+use Rattle.std.specs.List.{list_any}
 use Rattle.group_tree.specs.Names.{Name, are_distinct, is_among}
 use Rattle.cond.specs.Meaning.{Environment}
 use Rattle.cond.specs.Trees.{verdict_of}
 use Rattle.cond.specs.declared.condition.Cond.{Cond}
 use Rattle.play_model.specs.declared.step.Step.{Step}
 use Rattle.needed_results.specs.Reads.{read_before, read_behind}
-use Rattle.lint_notes.specs.Hosts.{Crowd}
+use Rattle.lint_notes.specs.Hosts.{Crowd, asking, name_note}
 use Rattle.lint_notes.specs.Conditions.{is_constant}
 use Rattle.lint_notes.specs.NamesRead.{is_asked, is_asked_behind, names_asked}
+use Rattle.lint_notes.specs.declared.step_path.StepPath.{StepPath}
 
--- of a step none is told twice
+-- of a step none is asked about twice, so none is told twice
 abbrev pub NoNameIsToldTwice : Type 0
 NoNameIsToldTwice = (is_set : Name → Bool) (crowd : Crowd) (step : Step) → are_distinct (names_asked is_set crowd step) ≡ true
 
@@ -19,6 +21,12 @@ abbrev pub NamesAskedAreRead : Type 0
 NamesAskedAreRead =
     (is_set : Name → Bool) (crowd : Crowd) (step : Step) (name : Name) → is_among name (names_asked is_set crowd step)
     ≡ ((is_among name (read_before step) && is_asked is_set crowd name) || (is_among name (read_behind step) && is_asked_behind is_set crowd step name))
+
+-- of these a name is told just where a waiting host has no variable of it and the step may look it up there in vain
+abbrev pub NamesMissedAreTold : Type 0
+NamesMissedAreTold =
+    (crowd : Crowd) (missed : ℕ → List Name) (at : StepPath) (name : Name) → is_some (name_note (asking crowd missed) at name)
+    ≡ list_any (λ host. is_among name (missed host) && crowd.lacks name host) crowd.waiting
 
 -- what asks nothing about a host says the same of each
 abbrev pub ConstantsAreAlike : Type 0

@@ -14,4 +14,5 @@ pub mod Playbooks
 pub mod AllNotes
 pub mod LintTexts
 pub mod Laws
+pub mod Lacks
 pub mod Inside

@@ -19,13 +19,14 @@ all_noted notes place (x ∷ xs) = notes place x ++ all_noted notes (place + 1) 
 abbrev pub is_set_at : (Name → Bool) → Play → ℕ → Name → Bool
 is_set_at is_earlier play place name = is_earlier name || is_registered_by (take place play.steps.items) name
 
-abbrev pub step_notes : (Name → Bool) → Crowd → ℕ → Play → ℕ → Step → List Note
-step_notes is_earlier crowd number play place step =
-    notes_at (is_set_at is_earlier play place) crowd play (path_of number play place) step
+-- its steps miss these names, by their places, on each host
+abbrev pub step_notes : (Name → Bool) → Crowd → (ℕ → ℕ → List Name) → ℕ → Play → ℕ → Step → List Note
+step_notes is_earlier crowd missed number play place step =
+    notes_at (is_set_at is_earlier play place) crowd (missed place) play (path_of number play place) step
 
 -- the notes on its tasks and then its handlers
-abbrev pub steps_notes : (Name → Bool) → Crowd → ℕ → Play → List Note
-steps_notes is_earlier crowd number play = all_noted (step_notes is_earlier crowd number play) 0 play.steps.items
+abbrev pub steps_notes : (Name → Bool) → Crowd → (ℕ → ℕ → List Name) → ℕ → Play → List Note
+steps_notes is_earlier crowd missed number play = all_noted (step_notes is_earlier crowd missed number play) 0 play.steps.items
 
 -- the notes on its hosts, the size of its batches, and the failures that the smallest of these bears; here plays are counted from 1
 abbrev pub batch_notes : FleetView → Option ℕ → ℕ → Play → List Note
@@ -34,11 +35,11 @@ batch_notes fleet smallest number play =
     ++ (noted (size_note number play.sizes.items (length (waiting_for fleet play))) ++ noted (failure_note number play.max_fail smallest))
 
 -- those notes, and those on its steps, whose paths count plays from 0
-abbrev pub play_notes : FleetView → (Name → ℕ → Bool) → (Name → Bool) → Option ℕ → ℕ → Play → List Note
-play_notes fleet lacks is_earlier smallest number play =
-    batch_notes fleet smallest (number + 1) play ++ steps_notes is_earlier (crowd_for fleet lacks play) number play
+abbrev pub play_notes : FleetView → (Name → ℕ → Bool) → (ℕ → ℕ → List Name) → (Name → Bool) → Option ℕ → ℕ → Play → List Note
+play_notes fleet lacks missed is_earlier smallest number play =
+    batch_notes fleet smallest (number + 1) play ++ steps_notes is_earlier (crowd_for fleet lacks play) missed number play
 
--- the notes on each play behind those before it; of each, the size of its smallest batch is given
-abbrev pub plays_notes : FleetView → (Name → ℕ → Bool) → List (Option ℕ) → List Play → List Note
-plays_notes fleet lacks sizes plays =
-    all_noted (λ number play. play_notes fleet lacks (is_registered_in (take number plays)) (slice_index_or sizes number None) number play) 0 plays
+-- The notes on each play behind those before it; of each, the size of its smallest batch is given. What their steps miss is told by the play's number, the step's place and the host.
+abbrev pub plays_notes : FleetView → (Name → ℕ → Bool) → (ℕ → ℕ → ℕ → List Name) → List (Option ℕ) → List Play → List Note
+plays_notes fleet lacks missed sizes plays =
+    all_noted (λ number play. play_notes fleet lacks (missed number) (is_registered_in (take number plays)) (slice_index_or sizes number None) number play) 0 plays

@@ -6,7 +6,7 @@ use Rattle.fleet_numbers.specs.NumberLists.{has_number}
 use Rattle.play_model.specs.declared.play.Play.{Play}
 use Rattle.play_model.specs.declared.step.Step.{Step}
 use Rattle.lint_notes.specs.Notes.{Note, shell_word, idle_handler, noted}
-use Rattle.lint_notes.specs.Hosts.{Crowd, name_note}
+use Rattle.lint_notes.specs.Hosts.{Crowd, asking_by, name_note}
 use Rattle.lint_notes.specs.NamesRead.{names_asked}
 use Rattle.lint_notes.specs.Conditions.{condition_note}
 use Rattle.lint_notes.specs.Programs.{local_note, long_note, dash_note}
@@ -49,7 +49,8 @@ words_notes crowd play at step =
     noted (condition_note at step.when)
     ++ (noted (shell_note at step) ++ (noted (local_note play at step) ++ (noted (long_note at step) ++ noted (dash_note crowd at step))))
 
--- the notes on the names that it reads, those, and the one on what notifies it
-abbrev pub notes_at : (Name → Bool) → Crowd → Play → StepPath → Step → List Note
-notes_at is_set crowd play at step =
-    flat_map (λ name. noted (name_note crowd at name)) (names_asked is_set crowd step) ++ (words_notes crowd play at step ++ noted (idle_note play at))
+-- The notes on the names that it reads and that nothing gives a value, where it may come to look them up: on each host it misses these. Then those on its condition, its words and its program, and
+-- the one on what notifies it.
+abbrev pub notes_at : (Name → Bool) → Crowd → (ℕ → List Name) → Play → StepPath → Step → List Note
+notes_at is_set crowd missed play at step =
+    flat_map (λ name. noted (name_note (asking_by crowd missed step) at name)) (names_asked is_set crowd step) ++ (words_notes crowd play at step ++ noted (idle_note play at))

@@ -45,7 +45,21 @@ fn are_kinds(text: &str) -> bool
     true
 }
 
-impl Allowed<'_> {
+impl<'a> Allowed<'a> {
+    /// The kinds whose names are among the parts of the text, whatever else it names.
+    pub fn among(text: &'a str) -> Allowed<'a>
+        ensures { result ≡ text.now }
+    {
+        Allowed { text }
+    }
+
+    /// The text that names them.
+    pub fn as_str(&self) -> &str
+        ensures { result.now ≡ self.now }
+    {
+        self.text
+    }
+
     /// Whether notes of this kind aren't told.
     pub fn allows(&self, kind: Kind) -> bool
         ensures { result ≡ model.allows self.now kind }

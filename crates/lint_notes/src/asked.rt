@@ -1,22 +1,26 @@
 //! The names that a step reads, each once.
-ghost use Rattle.std.specs.Prelude.{◌≡◌, ◌&&◌, ◌++◌, [], filter, not, IfOk, OnOk};
-ghost use Rattle.group_tree.specs.Names.{is_among};
+ghost use Rattle.std.specs.Prelude.{◌≡◌, ◌&&◌, ◌∷◌, ◌++◌, [], not, IfOk, OnOk};
 ghost use Rattle.needed_results.specs.Reads as reads;
-ghost use Rattle.lint_notes.specs.NamesRead.{is_asked, is_asked_behind, names_asked, once_after};
-ghost use Rattle.lint_notes.specs.Inside.{crowd_of, has_name, names_of};
+ghost use Rattle.needed_results.specs.Reads.{names_in_word, names_in_words};
+ghost use Rattle.lint_notes.specs.NamesRead.{is_asked, is_asked_behind, names_asked};
+ghost use Rattle.lint_notes.specs.Inside.{AreListed, crowd_of, has_missed, has_name, names_of, with_fresh};
 
 use crate::crowd::Crowd;
-use crate::reading::{read_before, read_behind};
+use crate::mentioned::list_mentioned;
+use crate::missed::Missed;
+use crate::reading::first_in_word;
 use crate::registered::{Registered, registers};
+use crate::stand::Stand;
 use cond::Names;
-use play_model::Step;
+use play_model::{Step, Words};
 use std::alloc::{AllocError, Global};
 
-/// Names that no step before sets and that a waiting host lacks.
+/// Names that no step before the one that stands there sets, and that a waiting host lacks.
 #[derive(Clone, Copy)]
 pub(crate) struct Asked<'a, 's> {
     pub(crate) registered: &'s Registered<'a>,
     pub(crate) crowd: Crowd<'a, 's>,
+    pub(crate) stand: Stand<'a, 's>,
 }
 
 impl Names for Asked<'_, '_> {
@@ -42,74 +46,128 @@ impl Names for Behind<'_, '_> {
     }
 }
 
-/// Those of some names that didn't come before.
+/// Those of some names that were not found before.
 #[derive(Drop)]
-struct Fresh<'n, N: Names> {
+struct Fresh<'n, 'a, N: Names> {
     names: &'n N,
-    before: &'n [&'n str],
+    found: &'n Missed<'a>,
 }
 
-impl<N: Names> Names for Fresh<'_, N> {
-    ghost holds = { λ fresh name. N.holds fresh.names.now name && not (is_among name (names_of fresh.before.now)) };
+impl<N: Names> Names for Fresh<'_, '_, N> {
+    ghost holds = { λ fresh name. N.holds fresh.names.now name && not (has_missed fresh.found.now name) };
 
     fn has(&self, name: &str) -> bool {
-        self.names.has(name) && !stands_in(self.before, name)
+        self.names.has(name) && !self.found.has(name)
     }
 }
 
-fn stands_in(names: &[&str], name: &str) -> bool
-    ensures { result ≡ is_among name.now (names_of names.now) }
+/// Adds the name to those that were found, in their order and as a set.
+fn add<'s>(name: &'s str, list: &mut Vec<&'s str>, found: &mut Missed<'s>) -> Result<(), AllocError>
+    requires { AreListed found.old (names_of list.old.items) }
+    ensures list { OnOk result (names_of list.new.items ≡ names_of list.old.items ++ name.now ∷ []) }
+    ensures found { OnOk result (AreListed found.new (names_of list.new.items)) }
 {
-    for other in names {
-        if name == *other {
-            return true;
+    found.add(name)?;
+    list.push(name)?;
+    Ok(())
+}
+
+/// Adds those of these names that were read, each once.
+fn add_read<'s, N: Names>(
+    read: &[&'s str],
+    names: &N,
+    list: &mut Vec<&'s str>,
+    found: &mut Missed<'s>,
+) -> Result<(), AllocError>
+    requires { AreListed found.old (names_of list.old.items) }
+    ensures list { OnOk result (names_of list.new.items ≡ with_fresh (N.holds names.now) (names_of list.old.items) (names_of read.now)) }
+    ensures found { OnOk result (AreListed found.new (names_of list.new.items)) }
+{
+    for name in read {
+        if is_fresh(names, found, *name) {
+            add(*name, list, found)?;
         }
     }
-    false
+    Ok(())
+}
+
+fn is_fresh<N: Names>(names: &N, found: &Missed<'_>, name: &str) -> bool
+    ensures { result ≡ (N.holds names.now name.now && not (has_missed found.now name.now)) }
+{
+    names.has(name) && !found.has(name)
+}
+
+/// Adds those of the names in the holes of the word.
+fn add_in_word<'s, N: Names>(
+    alloc: Global,
+    word: &'s str,
+    names: &N,
+    list: &mut Vec<&'s str>,
+    found: &mut Missed<'s>,
+) -> Result<(), AllocError>
+    requires { AreListed found.old (names_of list.old.items) }
+    ensures list { OnOk result (names_of list.new.items ≡ with_fresh (N.holds names.now) (names_of list.old.items) (names_in_word word.now)) }
+    ensures found { OnOk result (AreListed found.new (names_of list.new.items)) }
+{
+    while let Some(name) = first_in_word(alloc, word, &Fresh { names, found }) {
+        add(name, list, found)?;
+    }
+    Ok(())
+}
+
+/// Adds those of the names in the holes of the words.
+#[tactic(auto, using(crate::proofs::OnceLemmas::with_words_is))]
+fn add_in_words<'s, N: Names>(
+    alloc: Global,
+    words: &'s Words,
+    names: &N,
+    list: &mut Vec<&'s str>,
+    found: &mut Missed<'s>,
+) -> Result<(), AllocError>
+    requires { AreListed found.old (names_of list.old.items) }
+    ensures list { OnOk result (names_of list.new.items ≡ with_fresh (N.holds names.now) (names_of list.old.items) (names_in_words words.now)) }
+    ensures found { OnOk result (AreListed found.new (names_of list.new.items)) }
+{
+    for place in 0..words.len() {
+        add_in_word(alloc, words.at(place), names, list, found)?;
+    }
+    Ok(())
 }
 
 /// Adds those of the names that the step reads before its program is run, each once.
+#[tactic(auto, using(crate::proofs::OnceLemmas::fresh_append))]
 fn add_before<'s, N: Names>(
     alloc: Global,
     step: &'s Step,
     names: &N,
-    found: &mut Vec<&'s str>,
+    list: &mut Vec<&'s str>,
+    found: &mut Missed<'s>,
 ) -> Result<(), AllocError>
-    ensures { OnOk result (names_of found.new.items ≡ names_of found.old.items
-        ++ once_after (names_of found.old.items) (filter (N.holds names.now) (reads.read_before step.now))) }
+    requires { AreListed found.old (names_of list.old.items) }
+    ensures list { OnOk result (names_of list.new.items ≡ with_fresh (N.holds names.now) (names_of list.old.items) (reads.read_before step.now)) }
+    ensures found { OnOk result (AreListed found.new (names_of list.new.items)) }
 {
-    while let Some(name) = read_before(
-        alloc,
-        step,
-        &Fresh {
-            names,
-            before: found.as_slice(),
-        },
-    ) {
-        found.push(name)?;
-    }
-    Ok(())
+    let read = list_mentioned(alloc, &step.when)?;
+    add_read(read.as_slice(), names, list, found)?;
+    add_in_words(alloc, &step.words, names, list, found)
 }
 
 /// Adds those that it reads behind that.
+#[tactic(auto, using(crate::proofs::OnceLemmas::fresh_append))]
 fn add_behind<'s, N: Names>(
+    alloc: Global,
     step: &'s Step,
     names: &N,
-    found: &mut Vec<&'s str>,
+    list: &mut Vec<&'s str>,
+    found: &mut Missed<'s>,
 ) -> Result<(), AllocError>
-    ensures { OnOk result (names_of found.new.items ≡ names_of found.old.items
-        ++ once_after (names_of found.old.items) (filter (N.holds names.now) (reads.read_behind step.now))) }
+    requires { AreListed found.old (names_of list.old.items) }
+    ensures { OnOk result (names_of list.new.items ≡ with_fresh (N.holds names.now) (names_of list.old.items) (reads.read_behind step.now)) }
 {
-    while let Some(name) = read_behind(
-        step,
-        &Fresh {
-            names,
-            before: found.as_slice(),
-        },
-    ) {
-        found.push(name)?;
-    }
-    Ok(())
+    let changed = list_mentioned(alloc, &step.changed_when)?;
+    add_read(changed.as_slice(), names, list, found)?;
+    let failed = list_mentioned(alloc, &step.failed_when)?;
+    add_read(failed.as_slice(), names, list, found)
 }
 
 /// The names that the step reads and that are asked about, each once, in the order of reading. It fails for want of memory alone.
@@ -120,12 +178,13 @@ pub(crate) fn list_asked<'p>(
 ) -> Result<Vec<&'p str>, AllocError>
     ensures { IfOk result (λ names. names_of names.items ≡ names_asked (has_name asked.now.registered.now) (crowd_of asked.now.crowd) step.now) }
 {
-    let mut found = Vec::new(alloc);
-    add_before(alloc, step, asked, &mut found)?;
+    let mut list = Vec::new(alloc);
+    let mut found = Missed::new(alloc);
+    add_before(alloc, step, asked, &mut list, &mut found)?;
     let behind = Behind {
         asked: *asked,
         step,
     };
-    add_behind(step, &behind, &mut found)?;
-    Ok(found)
+    add_behind(alloc, step, &behind, &mut list, &mut found)?;
+    Ok(list)
 }

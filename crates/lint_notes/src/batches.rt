@@ -3,7 +3,7 @@ ghost use Rattle.std.specs.Prelude.{◌≡◌, ◌<◌, IfOk, length, option_map
 ghost use Rattle.std.specs.List.{find};
 ghost use Rattle.fleet_numbers.specs.NumberLists.{list_at};
 ghost use Rattle.lint_notes.specs.Batches as model;
-ghost use Rattle.lint_notes.specs.Batches.{AreSmallestOf, IsSmallestOf};
+ghost use Rattle.lint_notes.specs.Batches.{AreSmallestOf, IsSmallestIn, IsSmallestOf};
 ghost use Rattle.lint_notes.specs.Notes.{seen};
 
 use crate::note::Note;
@@ -110,12 +110,22 @@ fn smallest_batch(answer: &Answer) -> Option<usize>
 }
 
 /// How many hosts the smallest batch of a play has whose pattern was looked up. It fails for want of memory alone.
-fn smallest_of(alloc: Global, fleet: &Fleet, play: &Play) -> Result<Option<usize>, AllocError>
-    ensures { IfOk result (IsSmallestOf fleet.now play.now) }
+fn smallest_in_plan(alloc: Global, fleet: &Fleet, play: &Play) -> Result<Option<usize>, AllocError>
+    ensures { IfOk result (IsSmallestIn fleet.now play.now) }
 {
     match plan_play(alloc, fleet, play) {
         Ok(planned) => Ok(smallest_batch(&planned.answer)),
         Err(_refused) => Err(AllocError),
+    }
+}
+
+/// The same where the play may go on with failures. Only there it is asked for, and a play is planned in vain where it isn't.
+fn smallest_of(alloc: Global, fleet: &Fleet, play: &Play) -> Result<Option<usize>, AllocError>
+    ensures { IfOk result (IsSmallestOf fleet.now play.now) }
+{
+    match play.max_fail() {
+        Some(_) => smallest_in_plan(alloc, fleet, play),
+        None => Ok(None),
     }
 }
 

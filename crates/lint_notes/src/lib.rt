@@ -3,6 +3,7 @@
 
 mod allowed;
 mod asked;
+mod asking;
 mod batches;
 mod blanks;
 mod bytes;
@@ -12,8 +13,12 @@ mod crowd;
 mod end;
 mod groups;
 mod kind;
+mod lack;
+mod lacks;
 mod laws;
 mod lint;
+mod mentioned;
+mod missed;
 mod near_keys;
 mod note;
 mod notes;
@@ -21,6 +26,7 @@ mod playbook;
 mod programs;
 mod reading;
 mod registered;
+mod stand;
 mod step_path;
 mod steps;
 mod targets;
@@ -32,6 +38,6 @@ pub use end::LintEnd;
 pub use kind::Kind;
 pub use laws::{
     a_constant_condition_is_the_same_on_each_host, no_name_is_told_twice,
-    the_names_told_are_those_read,
+    the_names_told_are_missed, the_names_told_are_those_read,
 };
 pub use lint::{lint_fleet_text, lint_text};

@@ -3,7 +3,7 @@ ghost use Rattle.std.specs.Prelude.{◌≡◌, ◌<◌, ◌||◌, ◌++◌, ◌^
 ghost use Rattle.group_tree.specs.Names.{Name};
 ghost use Rattle.domains.specs.Fleets.{IsFleetOf};
 ghost use Rattle.needed_results.specs.Registers.{is_registered_by};
-ghost use Rattle.lint_notes.specs.Inside.{crowd_of, has_name, lacks_in};
+ghost use Rattle.lint_notes.specs.Inside.{crowd_of, has_name, lacks_in, missed_in};
 ghost use Rattle.lint_notes.specs.AllNotes.{AreNotesOf};
 ghost use Rattle.lint_notes.specs.Hosts.{down_for, waiting_for};
 ghost use Rattle.lint_notes.specs.Playbooks.{batch_notes, play_notes, plays_notes, steps_notes};
@@ -12,14 +12,17 @@ use crate::asked::Asked;
 use crate::batches::{failure_note, list_smallest, size_note};
 use crate::case_hosts::list_fleet_notes;
 use crate::crowd::Crowd;
+use crate::lacks::Lacks;
 use crate::notes::Notes;
 use crate::registered::Registered;
+use crate::stand::{Scene, Stand};
 use crate::step_path::{Numbered, StepPath};
 use crate::steps::note_step;
 use crate::targets::{Targets, note_of};
 use domains::Fleet;
 use group_tree::Tree;
-use host_vars::{Vars, layered_all};
+use host_vars::layered_all;
+use missing_names::Registry;
 use play_model::Play;
 use std::alloc::{AllocError, Allocator, Global};
 
@@ -28,10 +31,12 @@ fn note_steps<'a>(
     alloc: Global,
     notes: &mut Notes<'a>,
     crowd: &Crowd<'a, '_>,
+    registry: &Registry<'a>,
     registered: &mut Registered<'a>,
     numbered: Numbered<'a>,
 ) -> Result<(), AllocError>
-    ensures notes { OnOk result (notes.new ≡ notes.old ++ steps_notes (has_name registered.old) (crowd_of crowd.now) numbered.entry.number numbered.entry.play.now) }
+    ensures notes { OnOk result (notes.new ≡ notes.old ++ steps_notes (has_name registered.old) (crowd_of crowd.now)
+        (missed_in registry.now.fleet.now registry.now.plays.now crowd.now.lacks.now.vars.now numbered.entry.number) numbered.entry.number numbered.entry.play.now) }
     ensures registered { OnOk result ((name : Name) → has_name registered.new name
         ≡ (has_name registered.old name || is_registered_by numbered.entry.play.now.steps.items name)) }
 {
@@ -43,6 +48,11 @@ fn note_steps<'a>(
         let asked = Asked {
             registered,
             crowd: *crowd,
+            stand: Stand {
+                registry,
+                number: numbered.number,
+                place,
+            },
         };
         note_step(alloc, notes, &asked, play, at, step)?;
         registered.add(step)?;
@@ -74,30 +84,37 @@ fn note_batches<'a>(
 fn note_play<'a>(
     alloc: Global,
     notes: &mut Notes<'a>,
-    hosts: (&'a Fleet, &[Vars]),
+    scene: Scene<'a, '_>,
     registered: &mut Registered<'a>,
     numbered: Numbered<'a>,
     smallest: Option<usize>,
 ) -> Result<(), AllocError>
     requires { numbered.number < 2 ^ 63 }
     ensures notes { OnOk result (notes.new ≡ notes.old
-        ++ play_notes hosts.entry.0.now (lacks_in hosts.entry.1.now) (has_name registered.old) smallest numbered.entry.number numbered.entry.play.now) }
+        ++ play_notes scene.entry.fleet.now (lacks_in scene.entry.vars.now)
+        (missed_in scene.entry.registry.now.fleet.now scene.entry.registry.now.plays.now scene.entry.vars.now numbered.entry.number)
+        (has_name registered.old) smallest numbered.entry.number numbered.entry.play.now) }
     ensures registered { OnOk result ((name : Name) → has_name registered.new name
         ≡ (has_name registered.old name || is_registered_by numbered.entry.play.now.steps.items name)) }
 {
-    let (fleet, vars) = hosts;
+    let fleet = scene.fleet;
     let targets = Targets::of(alloc, fleet, numbered.play)?;
     let from_one = Numbered {
         number: numbered.number + 1,
         play: numbered.play,
     };
     note_batches(notes, fleet, &targets, from_one, smallest)?;
+    let lacks = Lacks::of(
+        alloc,
+        scene.vars,
+        targets.waiting.as_slice(),
+        numbered.play.steps(),
+    )?;
     let crowd = Crowd {
         fleet,
-        vars,
-        waiting: targets.waiting.as_slice(),
+        lacks: &lacks,
     };
-    note_steps(alloc, notes, &crowd, registered, numbered)?;
+    note_steps(alloc, notes, &crowd, scene.registry, registered, numbered)?;
     Ok(())
 }
 
@@ -105,13 +122,13 @@ fn note_play<'a>(
 fn note_plays<'a>(
     alloc: Global,
     notes: &mut Notes<'a>,
-    fleet: &'a Fleet,
-    vars: &[Vars],
+    scene: Scene<'a, '_>,
     sizes: &[Option<usize>],
     plays: &'a [Play],
 ) -> Result<(), AllocError>
     requires { length sizes.now ≡ length plays.now }
-    ensures { OnOk result (notes.new ≡ notes.old ++ plays_notes fleet.now (lacks_in vars.now) sizes.now plays.now) }
+    ensures { OnOk result (notes.new ≡ notes.old ++ plays_notes scene.entry.fleet.now (lacks_in scene.entry.vars.now)
+        (missed_in scene.entry.registry.now.fleet.now scene.entry.registry.now.plays.now scene.entry.vars.now) sizes.now plays.now) }
 {
     let mut registered = Registered::new(alloc);
     for number in 0..plays.len() {
@@ -120,14 +137,7 @@ fn note_plays<'a>(
             play: &plays[number],
         };
         let smallest = sizes[number];
-        note_play(
-            alloc,
-            notes,
-            (fleet, vars),
-            &mut registered,
-            numbered,
-            smallest,
-        )?;
+        note_play(alloc, notes, scene, &mut registered, numbered, smallest)?;
     }
     Ok(())
 }
@@ -145,13 +155,12 @@ pub(crate) fn list_notes<'a, A: Allocator>(
     let vars = layered_all(alloc, tree, fleet)?;
     let sizes = list_smallest(alloc, fleet, plays)?;
     let mut notes = list_fleet_notes(alloc, tree, fleet)?;
-    note_plays(
-        alloc,
-        &mut notes,
+    let registry = Registry::of(alloc, fleet, plays)?;
+    let scene = Scene {
         fleet,
-        vars.as_slice(),
-        sizes.as_slice(),
-        plays,
-    )?;
+        vars: vars.as_slice(),
+        registry: &registry,
+    };
+    note_plays(alloc, &mut notes, scene, sizes.as_slice(), plays)?;
     Ok(notes)
 }

@@ -1,12 +1,15 @@
 //! The notes on a step.
 ghost use Rattle.std.specs.Prelude.{◌≡◌, ◌++◌, OnOk, flat_map, option_map};
-ghost use Rattle.lint_notes.specs.Hosts.{name_note};
-ghost use Rattle.lint_notes.specs.Inside.{crowd_of, has_name, names_of};
+ghost use Rattle.lint_notes.specs.Hosts as hosts;
+ghost use Rattle.lint_notes.specs.Hosts.{asking_by, name_note};
+ghost use Rattle.lint_notes.specs.Inside.{asking_of, crowd_of, has_name, missed_from, names_of};
+ghost use Rattle.lint_notes.specs.NamesRead.{names_asked};
 ghost use Rattle.lint_notes.specs.Notes.{noted, seen};
 ghost use Rattle.lint_notes.specs.Steps as model;
 ghost use Rattle.lint_notes.specs.Steps.{first_shell_word, notes_at, words_notes};
 
 use crate::asked::{Asked, list_asked};
+use crate::asking::Askers;
 use crate::conditions::condition_note;
 use crate::crowd::Crowd;
 use crate::note::Note;
@@ -73,7 +76,7 @@ fn idle_note(play: &Play, at: StepPath) -> Option<Note<'static>>
     }
 }
 
-/// Adds what is noted of these names.
+/// Adds what is noted of these names, which a step without conditions reads.
 fn note_names<'a>(
     notes: &mut Notes<'a>,
     crowd: &Crowd<'a, '_>,
@@ -86,6 +89,51 @@ fn note_names<'a>(
         notes.add(crowd.name_note(at, *name))?;
     }
     Ok(())
+}
+
+/// Adds what is noted of them where the step has some.
+fn note_missed<'a>(
+    notes: &mut Notes<'a>,
+    askers: &Askers<'a, '_>,
+    at: StepPath,
+    names: &[&'a str],
+) -> Result<(), AllocError>
+    ensures { OnOk result (notes.new ≡ notes.old
+        ++ flat_map (λ name. noted (name_note (asking_of askers.now.crowd askers.now.stand) at name)) (names_of names.now)) }
+{
+    for name in names {
+        notes.add(askers.name_note(at, *name))?;
+    }
+    Ok(())
+}
+
+fn has_conditions(step: &Step) -> bool
+    ensures { result ≡ hosts.has_conditions step.now }
+{
+    step.when.is_some() || (step.changed_when.is_some() || step.failed_when.is_some())
+}
+
+/// Adds what is noted of the names that the step reads. The hosts are looked at one by one where it has conditions and there is a name that nothing gives a value.
+fn note_asked<'a>(
+    alloc: Global,
+    notes: &mut Notes<'a>,
+    asked: &Asked<'a, '_>,
+    at: StepPath,
+    step: &'a Step,
+) -> Result<(), AllocError>
+    ensures { OnOk result (notes.new ≡ notes.old
+        ++ flat_map (λ name. noted (name_note (asking_by (crowd_of asked.now.crowd) (missed_from asked.now.stand asked.now.crowd.lacks.now.vars.now) step.now) at name))
+        (names_asked (has_name asked.now.registered.now) (crowd_of asked.now.crowd) step.now)) }
+{
+    let names = list_asked(alloc, asked, step)?;
+    if names.is_empty() {
+        return Ok(());
+    }
+    if !has_conditions(step) {
+        return note_names(notes, &asked.crowd, at, names.as_slice());
+    }
+    let askers = Askers::of(alloc, asked.crowd, asked.stand)?;
+    note_missed(notes, &askers, at, names.as_slice())
 }
 
 /// Adds what is noted of a step's condition, its words and its program.
@@ -115,10 +163,10 @@ pub(crate) fn note_step<'a>(
     at: StepPath,
     step: &'a Step,
 ) -> Result<(), AllocError>
-    ensures { OnOk result (notes.new ≡ notes.old ++ notes_at (has_name asked.now.registered.now) (crowd_of asked.now.crowd) play.now at step.now) }
+    ensures { OnOk result (notes.new ≡ notes.old
+        ++ notes_at (has_name asked.now.registered.now) (crowd_of asked.now.crowd) (missed_from asked.now.stand asked.now.crowd.lacks.now.vars.now) play.now at step.now) }
 {
-    let names = list_asked(alloc, asked, step)?;
-    note_names(notes, &asked.crowd, at, names.as_slice())?;
+    note_asked(alloc, notes, asked, at, step)?;
     note_words(notes, &asked.crowd, play, at, step)?;
     notes.add(idle_note(play, at))?;
     Ok(())

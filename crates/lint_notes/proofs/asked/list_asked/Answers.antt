@@ -14,6 +14,6 @@ returns c =
     let step = c.args.step.now in
     let names = filter (is_asked is_set crowd) (read_before step) in
     let others = filter (is_asked_behind is_set crowd step) (read_behind step) in
-    both_once names others (names_of c.add_before.new.found.items) (names_of c.add_behind.new.found.items)
-    (c.in_ok-add_before.ensures ∙ ap (λ (l : List (Bor Name)). names_of l ++ once_after (names_of l) names) c.new-found.ensures.items)
+    both_once names others (names_of c.add_before.new.list.items) (names_of c.add_behind.new.list.items)
+    (c.in_ok-add_before.ensures.list ∙ ap (λ (l : List (Bor Name)). names_of l ++ once_after (names_of l) names) c.new-list.ensures.items)
     c.in_ok-add_behind.ensures

@@ -1,10 +1,9 @@
-use Rattle.domains.specs.Ids.{host_numbers}
+use Rattle.std.proofs.Common.{◌≡◌, Bool, true, false, is_some, Option, Some, None, sym, ap, ◌∙◌}
+use Rattle.lint_notes.proofs.BatchLemmas.{none_asked, where_asked}
 use Rattle.lint_notes.proofs.batches.smallest_of.Goals as goal
 
-pub returns-in-Ok : goal.returns-in-Ok
-returns-in-Ok c = record {
-  answer = c.in-Ok.planned.answer;
-  held = host_numbers c.in-Ok.planned.held.items;
-  plan = c.in-Ok.ensures.ok;
-  size_is = c.smallest_batch.ensures;
-}
+pub returns-in-Some : goal.returns-in-Some
+returns-in-Some c = where_asked c.args.fleet.now c.args.play.now c.smallest_in_plan.result c.smallest_in_plan.ensures
+
+pub returns-in-None : goal.returns-in-None
+returns-in-None c = none_asked c.args.fleet.now c.args.play.now (sym c.max_fail.ensures ∙ c.in-None.is)
