@@ -94,7 +94,8 @@ fn judge_value(value: &Value) -> Verdict
     }
 }
 
-fn judge(step: &Value) -> Verdict
+/// What is said of the command of a step.
+pub fn judge(step: &Value) -> Verdict
     ensures { result ≡ spec.verdict_of (rules.words_in (view step.now)) }
 {
     match command_in(step) {

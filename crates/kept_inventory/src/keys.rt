@@ -1,0 +1,10 @@
+//! The keys that the format gives a meaning.
+pub(crate) const CHILDREN: &str = "children";
+
+pub(crate) const DOWN: &str = "down";
+
+pub(crate) const HOSTS: &str = "hosts";
+
+pub(crate) const MAX_DOWN: &str = "max_down";
+
+pub(crate) const VARS: &str = "vars";

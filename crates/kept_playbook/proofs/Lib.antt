@@ -1,0 +1,6 @@
+pub mod ValueLaws
+pub mod JudgingLaws
+pub mod ObjectLaws
+pub mod VerdictLaws
+pub mod HandlerLaws
+pub mod DepthLaws

@@ -1,0 +1,59 @@
+-- What is kept of a step.
+use Rattle.std.specs.Prelude.{Bool, true, false, not, ◌&&◌, Option, Some, None, option_map, unwrap_or, List, [], ◌∷◌, ◌++◌, codes, filter, if◌then◌else◌}
+use Rattle.std.specs.List.{list_all, list_any}
+use Rattle.serde_json.specs.Data.{Data, string}
+use Rattle.serde_json.specs.Find.{get, as_str}
+use Rattle.group_tree.specs.Names.{Name, is_among}
+use Rattle.text_parts.specs.Shapes.{Entry, listed}
+use Rattle.text_parts.specs.Words.{has_braces}
+use Rattle.play_rules.specs.Breaches.{where_given}
+use Rattle.play_rules.specs.Commands.{Word, words_in}
+use Rattle.play_rules.specs.Keys.{name_key, command_key, long_command_key, register_key, when_key, changed_key, failed_key, ignore_key, notify_key}
+use Rattle.play_rules.specs.Steps.{bad_task_name, bad_register, bad_ignore}
+use Rattle.kept_playbook.specs.Conditions.{Test, is_kept_part, parts_at, kept_parts}
+use Rattle.kept_playbook.specs.Objects.{entry, given, unbroken, list_if_any, object_of}
+
+-- the words `true`, in which nothing is looked up
+abbrev pub idle_entry : Entry
+idle_entry = entry command_key (string (codes "true"))
+
+-- there are words, and no bad braces in them
+abbrev pub are_good : Option (List Word) → Bool
+are_good None = false
+are_good (Some words) = not (list_any has_braces words)
+
+-- what the step runs, and when, is known: its words are good, and each part of `when` is a condition or a truth value
+abbrev pub is_known_run : Test → Data → Bool
+is_known_run is_bad step = are_good (words_in step) && list_all (is_kept_part is_bad) (parts_at when_key step)
+
+-- the command and `when` as they are; of what decides whether it changed or failed, the parts that can be read
+abbrev pub known_run : Test → Data → List Entry
+known_run is_bad step =
+    (given command_key step ++ given long_command_key step)
+    ++ (given when_key step ++ (list_if_any changed_key (kept_parts is_bad changed_key step) ++ list_if_any failed_key (kept_parts is_bad failed_key step)))
+
+-- of a run that isn't known no condition stays: a name may have been guarded by what can't be read
+abbrev pub kept_run : Test → Data → List Entry
+kept_run is_bad step = if is_known_run is_bad step then known_run is_bad step else idle_entry ∷ []
+
+abbrev pub kept_settings : Data → List Entry
+kept_settings step =
+    unbroken name_key (bad_task_name step) step ++ (unbroken register_key (bad_register step) step ++ unbroken ignore_key (bad_ignore step) step)
+
+-- other keys go; of a step that is no object only the words `true` stay
+abbrev pub kept_entries : Test → Data → List Entry
+kept_entries is_bad step = kept_settings step ++ kept_run is_bad step
+
+abbrev pub kept_handler : Test → Data → Data
+kept_handler is_bad handler = object_of (kept_entries is_bad handler)
+
+-- a text that names one of these handlers
+abbrev pub is_kept_name : List Name → Data → Bool
+is_kept_name handlers name = unwrap_or (option_map (λ text. is_among text handlers) (as_str name)) false
+
+abbrev pub kept_notify : List Name → Data → List Entry
+kept_notify handlers task =
+    list_if_any notify_key (filter (is_kept_name handlers) (where_given listed (get notify_key task)))
+
+abbrev pub kept_task : Test → List Name → Data → Data
+kept_task is_bad handlers task = object_of (kept_entries is_bad task ++ kept_notify handlers task)

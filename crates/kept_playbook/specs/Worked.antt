@@ -1,0 +1,40 @@
+-- A small playbook with faults, written out, and what is kept of it.
+use Rattle.std.specs.Prelude.{List, [], ◌∷◌, codes, true, false}
+use Rattle.serde_json.specs.Data.{unsigned, Data, boolean, number, string, object, no_members, member}
+use Rattle.group_tree.specs.Names.{Name}
+use Rattle.play_rules.specs.Keys.{hosts_key, serial_key, tasks_key, handlers_key, name_key, command_key, register_key, when_key, changed_key, notify_key}
+use Rattle.play_rules.specs.Worked.{list, runs_true}
+
+-- the texts in it that are no conditions
+abbrev pub bad : List Name
+bad = codes "v =" ∷ codes "v ==" ∷ []
+
+abbrev pub restart : Data
+restart = object (member command_key (string (codes "b")) (member name_key (string (codes "r")) no_members))
+
+-- a key that isn't known, half a condition, and a handler that isn't there
+abbrev pub half : Data
+half =
+    object (member changed_key (list (boolean false ∷ string (codes "v =") ∷ [])) (member command_key (string (codes "a")) (member (codes "loop") (boolean true) (member notify_key (list (string (codes "gone") ∷ string (codes "r") ∷ [])) (member when_key (string (codes "v == 1")) no_members)))))
+
+abbrev pub kept_half : Data
+kept_half =
+    object (member changed_key (list (boolean false ∷ [])) (member command_key (string (codes "a")) (member notify_key (list (string (codes "r") ∷ [])) (member when_key (string (codes "v == 1")) no_members))))
+
+-- whether and when it runs can't be read
+abbrev pub unknown : Data
+unknown =
+    object (member command_key (string (codes "a")) (member register_key (string (codes "s")) (member when_key (string (codes "v ==")) no_members)))
+
+abbrev pub kept_unknown : Data
+kept_unknown = object (member command_key (string (codes "true")) (member register_key (string (codes "s")) no_members))
+
+-- the second handler has the name of the first, the third task is no object, and the second play is none
+abbrev pub sample : Data
+sample =
+    list (object (member handlers_key (list (restart ∷ restart ∷ [])) (member hosts_key (string (codes "w")) (member serial_key (list []) (member tasks_key (list (half ∷ unknown ∷ number (unsigned 5) ∷ [])) no_members)))) ∷ number (unsigned 7) ∷ [])
+
+abbrev pub kept_sample : Data
+kept_sample =
+    list (object (member handlers_key (list (restart ∷ [])) (member hosts_key (string (codes "w")) (member tasks_key (list (kept_half ∷ kept_unknown ∷ runs_true ∷ [])) no_members)))
+    ∷ object (member hosts_key (string (codes "all")) (member tasks_key (list (runs_true ∷ [])) no_members)) ∷ [])

@@ -1,0 +1,79 @@
+//! What a step runs, and when.
+ghost use Rattle.std.specs.Prelude.{◌≡◌, ◌++◌, OnOk};
+ghost use Rattle.serde_json.specs.View.{view, members_view};
+ghost use Rattle.play_rules.specs.Keys.{command_key, long_command_key};
+ghost use Rattle.playbook_faults.specs.Names.{has_name};
+ghost use Rattle.kept_playbook.specs.Conditions as conditions;
+ghost use Rattle.kept_playbook.specs.Objects as objects;
+ghost use Rattle.kept_playbook.specs.Steps as spec;
+
+use crate::conditions::{is_when_kept, kept_parts};
+use crate::object::{Object, put_given, put_if_any, put_text};
+use crate::rules::has_good_words;
+use playbook_faults::NameSet;
+use serde_json::Value;
+use std::alloc::{AllocError, Global};
+
+fn is_known_run(bad: &NameSet<'_>, step: &Value) -> bool
+    ensures { result ≡ spec.is_known_run (has_name bad.now) (view step.now) }
+{
+    has_good_words(step) && is_when_kept(bad, step)
+}
+
+#[tactic(auto, using(crate::proofs::ObjectLaws::put_in_turn))]
+fn put_command(alloc: Global, object: &mut Object, step: &Value) -> Result<(), AllocError>
+    ensures { OnOk result (members_view object.new.entries
+        ≡ objects.put_all (objects.given command_key (view step.now) ++ objects.given long_command_key (view step.now)) (members_view object.old.entries)) }
+{
+    put_given(alloc, object, "command", step)?;
+    put_given(alloc, object, "ansible.builtin.command", step)
+}
+
+/// Puts the parts under the key that can be read, if there are any.
+#[tactic(auto, using(crate::proofs::ObjectLaws::put_in_turn))]
+fn put_parts(
+    alloc: Global,
+    object: &mut Object,
+    bad: &NameSet<'_>,
+    key: &str,
+    step: &Value,
+) -> Result<(), AllocError>
+    ensures { OnOk result (members_view object.new.entries
+        ≡ objects.put_all (objects.list_if_any key.now (conditions.kept_parts (has_name bad.now) key.now (view step.now))) (members_view object.old.entries)) }
+{
+    put_if_any(alloc, object, key, kept_parts(alloc, bad, key, step)?)
+}
+
+#[tactic(auto, using(crate::proofs::ObjectLaws::put_in_turn))]
+fn put_known(
+    alloc: Global,
+    object: &mut Object,
+    bad: &NameSet<'_>,
+    step: &Value,
+) -> Result<(), AllocError>
+    ensures { OnOk result (members_view object.new.entries
+        ≡ objects.put_all (spec.known_run (has_name bad.now) (view step.now)) (members_view object.old.entries)) }
+{
+    put_command(alloc, object, step)?;
+    put_given(alloc, object, "when", step)?;
+    put_parts(alloc, object, bad, "changed_when", step)?;
+    put_parts(alloc, object, bad, "failed_when", step)
+}
+
+/// Puts what a step runs and its conditions, or the words `true`.
+#[tactic(auto, using(crate::proofs::ObjectLaws::put_in_turn))]
+pub(crate) fn put_run(
+    alloc: Global,
+    object: &mut Object,
+    bad: &NameSet<'_>,
+    step: &Value,
+) -> Result<(), AllocError>
+    ensures { OnOk result (members_view object.new.entries
+        ≡ objects.put_all (spec.kept_run (has_name bad.now) (view step.now)) (members_view object.old.entries)) }
+{
+    if is_known_run(bad, step) {
+        put_known(alloc, object, bad, step)
+    } else {
+        put_text(alloc, object, "command", "true")
+    }
+}
