@@ -48,13 +48,12 @@ echo "rollout lint $inventory $playbook"
 notes=$("$rollout" lint --allow "$(setting allow)" -- "$inventory" "$playbook")
 status=$?
 [ -z "$notes" ] || echo "$notes"
-case $notes in
-*notes=*) [ "$status" -eq 0 ] || lost 'something is probably not meant' ;;
-*)
+if printf '%s\n' "$notes" | grep -q '^notes=' && ! printf '%s\n' "$notes" | grep -q '^faults='; then
+    [ "$status" -eq 0 ] || lost 'something is probably not meant'
+else
     lost 'the change is refused'
     exit 1
-    ;;
-esac
+fi
 
 limits=$(setting limits)
 [ -z "$limits" ] || ask 'the limits' limits --expect "$limits" -- "$inventory"

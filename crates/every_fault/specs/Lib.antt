@@ -1,1 +1,5 @@
+pub mod Unread
+pub mod Inventories
+pub mod Playbooks
 pub mod Every
+pub mod KeptTexts

@@ -1,43 +1,65 @@
-//! What keeps an inventory from being a fleet.
-ghost use Rattle.std.specs.Prelude.{◌≡◌, IfOk, None, true};
-ghost use Rattle.std.specs.Option.{option_map};
-ghost use Rattle.every_fault.specs.Every.{IsBuilt, IsFleetPart, is_silent};
+//! What keeps an inventory from being a fleet, and the fleet.
+ghost use Rattle.std.specs.Prelude.{◌≡◌, IfOk, option_map};
+ghost use Rattle.fleet_faults.specs.ToldFaults.{AreToldOf};
+ghost use Rattle.every_fault.specs.Inventories.{IsBuilt, IsBuiltIfRead, IsFleetIf, IsFleetPart, IsKeptPart, StandsOn, standing_of};
 
+use crate::silence::no_fleet_faults;
+use crate::standing::{Standing, stand};
+use crate::text::Text;
 use bumpalo::Bump;
-use domains::{Fleet, FleetFault};
+use domains::Fleet;
 use fleet_faults::{FleetTold, fleet_faults};
+use group_tree::Tree;
 use inventory_read::read_inventory;
-use std::alloc::{AllocError, Global};
+use kept_inventory::{Limits, keep_inventory};
+use std::alloc::{AllocError, Allocator, Global};
 
-/// Whether nothing is told, and there is nothing more.
-pub(crate) fn is_silent<F>(faults: &[F], more: usize) -> bool
-    ensures { result ≡ is_silent faults.now more }
-{
-    faults.is_empty() && more == 0
-}
-
-/// What keeps the inventory from being a fleet, of whose text this much is told or nothing; and the fleet, where nothing does.
-pub(crate) fn fleet_part(
+/// What keeps the inventory, of whose text nothing is told or something is, from being a fleet; and the fleet with the text that says it, where nothing does.
+/// Where something is told of the text, both are of what is kept of it.
+pub(crate) fn fleet_part<'a>(
     alloc: Global,
-    inventory: &[u8],
+    inventory: &'a [u8],
     most: usize,
     is_read: bool,
-) -> Result<(FleetTold, Option<Fleet>), AllocError>
-    ensures { IfOk result (λ part. IsFleetPart inventory.now most is_read part.0 (option_map (λ fleet. fleet) part.1)) }
+) -> Result<(FleetTold, Option<Standing<'a>>), AllocError>
+    ensures { IfOk result (λ part. IsFleetPart inventory.now most is_read part.0 (option_map standing_of part.1)) }
 {
     if is_read {
-        build(alloc, inventory, most)
-    } else {
-        Ok((nothing(alloc), None))
+        return whole_part(alloc, inventory, most);
+    }
+    match keep_inventory(alloc, inventory, Limits::Kept) {
+        Ok(kept) => kept_part(alloc, kept, most),
+        Err(refused) => Err(refused),
     }
 }
 
-fn nothing(alloc: Global) -> FleetTold
-    ensures { is_silent result.faults.items result.more ≡ true }
+fn whole_part<'a>(
+    alloc: Global,
+    inventory: &'a [u8],
+    most: usize,
+) -> Result<(FleetTold, Option<Standing<'a>>), AllocError>
+    ensures { IfOk result (λ part. StandsOn (IsBuilt inventory.now most) inventory.now part.0 (option_map standing_of part.1)) }
 {
-    FleetTold {
-        faults: Vec::new(alloc),
-        more: 0,
+    match build(alloc, inventory, most) {
+        Ok((told, fleet)) => Ok((told, stand(Text::Whole(inventory), fleet))),
+        Err(refused) => Err(refused),
+    }
+}
+
+/// The same of what is kept of an inventory, where anything is; of a text that still says no inventory nothing is told.
+pub(crate) fn kept_part<'a>(
+    alloc: Global,
+    kept: Option<Vec<u8>>,
+    most: usize,
+) -> Result<(FleetTold, Option<Standing<'a>>), AllocError>
+    ensures { IfOk result (λ part. IsKeptPart (option_map (λ bytes. bytes.items) kept) most part.0 (option_map standing_of part.1)) }
+{
+    let Some(text) = kept else {
+        return Ok((no_fleet_faults(alloc), None));
+    };
+    match build_if_read(alloc, text.as_slice(), most) {
+        Ok((told, fleet)) => Ok((told, stand(Text::Kept(text), fleet))),
+        Err(refused) => Err(refused),
     }
 }
 
@@ -49,17 +71,41 @@ fn build(
     ensures { IfOk result (λ part. IsBuilt inventory.now most part.0 (option_map (λ fleet. fleet) part.1)) }
 {
     let arena = Bump::new(alloc);
-    let tree = match read_inventory(&arena, alloc, inventory) {
-        Ok(tree) => tree,
-        Err(_) => return Err(AllocError),
-    };
-    let told = match fleet_faults(alloc, &tree, most) {
+    match read_inventory(&arena, alloc, inventory) {
+        Ok(tree) => tell_tree(alloc, &tree, most),
+        Err(_) => Err(AllocError),
+    }
+}
+
+fn build_if_read(
+    alloc: Global,
+    kept: &[u8],
+    most: usize,
+) -> Result<(FleetTold, Option<Fleet>), AllocError>
+    ensures { IfOk result (λ part. IsBuiltIfRead kept.now most part.0 (option_map (λ fleet. fleet) part.1)) }
+{
+    let arena = Bump::new(alloc);
+    match read_inventory(&arena, alloc, kept) {
+        Ok(tree) => tell_tree(alloc, &tree, most),
+        Err(fault) if fault.number().is_some() => Ok((no_fleet_faults(alloc), None)),
+        Err(_) => Err(AllocError),
+    }
+}
+
+fn tell_tree<A: Allocator>(
+    alloc: Global,
+    tree: &Tree<A>,
+    most: usize,
+) -> Result<(FleetTold, Option<Fleet>), AllocError>
+    ensures { IfOk result (λ part. AreToldOf tree.now most part.0 × IsFleetIf tree.now (option_map (λ fleet. fleet) part.1)) }
+{
+    let told = match fleet_faults(alloc, tree, most) {
         Ok(told) => told,
         Err(refused) => return Err(refused),
     };
-    match Fleet::build(alloc, &tree) {
+    match Fleet::build(alloc, tree) {
         Ok(fleet) => Ok((told, Some(fleet))),
-        Err(FleetFault::Memory) => Err(AllocError),
-        Err(_) => Ok((told, None)),
+        Err(fault) if fault.number().is_some() => Ok((told, None)),
+        Err(_) => Err(AllocError),
     }
 }

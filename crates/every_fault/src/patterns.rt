@@ -1,35 +1,49 @@
 //! The names in patterns that name nothing.
-ghost use Rattle.std.specs.Prelude.{◌≡◌, IfOk, true};
+ghost use Rattle.std.specs.Prelude.{◌≡◌, IfOk};
 ghost use Rattle.std.specs.Option.{option_map};
-ghost use Rattle.every_fault.specs.Every.{IsLookedUp, IsPatternPart, is_silent};
+ghost use Rattle.every_fault.specs.Inventories.{standing_of};
+ghost use Rattle.every_fault.specs.Playbooks.{IsKeptPart, IsLookedUp, IsPatternPart, IsToldIn};
 
+use crate::silence::no_pattern_faults;
+use crate::standing::Standing;
 use domains::Fleet;
+use kept_playbook::keep_playbook;
 use play_read::read_plays;
 use playbook_faults::{PatternsTold, pattern_faults};
 use std::alloc::{AllocError, Global};
 
-/// The names of the playbook's patterns that name nothing, where there are a fleet and plays to look them up for.
+/// The names of the playbook's patterns that name nothing, where there are a fleet and a playbook.
 pub(crate) fn pattern_part(
     alloc: Global,
-    fleet: &Option<Fleet>,
+    found: &Option<Standing<'_>>,
     playbook: Option<&[u8]>,
     most: usize,
     is_read: bool,
 ) -> Result<PatternsTold, AllocError>
-    ensures { IfOk result (IsPatternPart (option_map (λ fleet. fleet) fleet.now) (option_map (λ text. text.now) playbook.entry) most is_read) }
+    ensures { IfOk result (IsPatternPart (option_map standing_of found.now) (option_map (λ text. text.now) playbook.entry) most is_read) }
 {
-    match (fleet, playbook) {
-        (Some(fleet), Some(playbook)) if is_read => look_up(alloc, fleet, playbook, most),
-        _ => Ok(nothing(alloc)),
+    match (found, playbook) {
+        (Some(standing), Some(playbook)) => tell(alloc, &standing.fleet, playbook, most, is_read),
+        _ => Ok(no_pattern_faults(alloc)),
     }
 }
 
-fn nothing(alloc: Global) -> PatternsTold
-    ensures { is_silent result.faults.items result.more ≡ true }
+/// Where something is told of the playbook's text, it is what is kept of it of which patterns are told.
+fn tell(
+    alloc: Global,
+    fleet: &Fleet,
+    playbook: &[u8],
+    most: usize,
+    is_read: bool,
+) -> Result<PatternsTold, AllocError>
+    ensures { IfOk result (IsToldIn fleet.now playbook.now most is_read) }
 {
-    PatternsTold {
-        faults: Vec::new(alloc),
-        more: 0,
+    if is_read {
+        return look_up(alloc, fleet, playbook, most);
+    }
+    match keep_playbook(alloc, playbook) {
+        Ok(kept) => look_up_kept(alloc, fleet, kept, most),
+        Err(refused) => Err(refused),
     }
 }
 
@@ -43,6 +57,24 @@ fn look_up(
 {
     match read_plays(alloc, playbook) {
         Ok(plays) => pattern_faults(alloc, fleet, plays.as_slice(), most),
+        Err(_) => Err(AllocError),
+    }
+}
+
+fn look_up_kept(
+    alloc: Global,
+    fleet: &Fleet,
+    kept: Option<Vec<u8>>,
+    most: usize,
+) -> Result<PatternsTold, AllocError>
+    ensures { IfOk result (IsKeptPart fleet.now (option_map (λ bytes. bytes.items) kept) most) }
+{
+    let Some(text) = kept else {
+        return Ok(no_pattern_faults(alloc));
+    };
+    match read_plays(alloc, text.as_slice()) {
+        Ok(plays) => pattern_faults(alloc, fleet, plays.as_slice(), most),
+        Err(fault) if fault.number().is_some() => Ok(no_pattern_faults(alloc)),
         Err(_) => Err(AllocError),
     }
 }

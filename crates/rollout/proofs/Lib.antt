@@ -1,6 +1,7 @@
 pub mod Advising
 pub mod Asking
 pub mod FaultLemmas
+pub mod NoteLemmas
 pub mod Ignoring
 pub mod Rehearsing
 pub mod Rolling

@@ -1,10 +1,13 @@
 -- What the command `lint` does with the inputs that a line names.
-use Rattle.std.specs.Prelude.{◌≡◌, ◌⊎◌, ℕ, false, true, List, None, Option, Some, Result}
+use Rattle.std.specs.Prelude.{◌≡◌, ◌⊎◌, ℕ, Bool, false, true, List, None, Option, Some, Result, Ok, Err}
+use Rattle.bounded_io.specs.declared.write_fault.WriteFault.{WriteFault}
 use Rattle.command_line.specs.declared.command.Source.{Source}
+use Rattle.kept_notes.specs.Beside.{AreNotesOn, IsTrueOn, WritesOn}
 use Rattle.lint_notes.specs.Kinds.{are_kind_names}
-use Rattle.lint_notes.specs.LintTexts.{AreFleetNotesIn, AreNotesIn, IsTrueFault, IsTrueFleetFault, WritesNotes}
+use Rattle.lint_notes.specs.LintTexts.{BreaksNotes}
 use Rattle.lint_notes.specs.declared.end.LintEnd.{LintEnd}
 use Rattle.planning.specs.declared.fault.PlanFault.{PlanFault}
+use Rattle.planning.specs.declared.fault.PlanFault.TheVariants as planning
 use Rattle.rollout.specs.LintFaults.{AreFaultless, LosesFaults, PrintsFaults, WantsMemory}
 use Rattle.rollout.specs.Lists.{RefusesList}
 use Rattle.rollout.specs.PlanFaults.{fault_of}
@@ -12,51 +15,81 @@ use Rattle.rollout.specs.Status.{status_of_notes}
 use Rattle.rollout.specs.Systems.{Sources}
 use Rattle.rollout.specs.Texts.{OverOne, OverTwo}
 use Rattle.rollout.specs.declared.fault.Fault.{Fault}
+use Rattle.rollout.specs.declared.fault.Fault.TheVariants as lines
 use Rattle.rollout.specs.declared.status.Status.{Status}
 
--- the notes on both texts went out, and the status tells whether there are any
-pub record PrintsNotes (allowed inventory playbook : List ℕ) (old new : Option (List ℕ)) (status : Status) : Type 0 where
+-- the notes went out, and the status tells whether there are any
+pub record PrintsNotes (allowed inventory : List ℕ) (playbook : Option (List ℕ)) (old new : Option (List ℕ)) (status : Status) : Type 0 where
   pub end : LintEnd
-  pub notes : WritesNotes (AreNotesIn inventory playbook) allowed old new end
+  pub notes : WritesOn allowed inventory playbook old new end
   pub tells : status ≡ status_of_notes end
 
--- the same of an inventory alone
-pub record PrintsFleetNotes (allowed inventory : List ℕ) (old new : Option (List ℕ)) (status : Status) : Type 0 where
-  pub end : LintEnd
-  pub notes : WritesNotes (AreFleetNotesIn inventory) allowed old new end
-  pub tells : status ≡ status_of_notes end
+-- they broke off where the fault says
+pub record LosesNotes (allowed inventory : List ℕ) (playbook : Option (List ℕ)) (old new : Option (List ℕ)) (fault : Fault) : Type 0 where
+  pub lost : WriteFault
+  pub is : fault ≡ lines.Write lost
+  pub breaks : BreaksNotes (AreNotesOn inventory playbook) allowed old new lost.written
 
--- the fault is true of both texts, or of where the notes broke off
-pub record IsRefusedSo (allowed inventory playbook : List ℕ) (old new : Option (List ℕ)) (fault : Fault) : Type 0 where
+-- noting failed so
+pub record IsRefusedSo (allowed inventory : List ℕ) (playbook : Option (List ℕ)) (old new : Option (List ℕ)) (fault : Fault) : Type 0 where
   pub cause : PlanFault
   pub is : fault ≡ fault_of cause
-  pub is_true : IsTrueFault inventory playbook allowed old new cause
+  pub is_true : IsTrueOn allowed inventory playbook old new cause
 
--- the same of an inventory alone
-pub record IsRefusedAlone (allowed inventory : List ℕ) (old new : Option (List ℕ)) (fault : Fault) : Type 0 where
-  pub cause : PlanFault
-  pub is : fault ≡ fault_of cause
-  pub is_true : IsTrueFleetFault inventory allowed old new cause
+-- the notes went out, and so the texts are accepted; or all faults of the texts did
+abbrev pub SaysOf : List ℕ → List ℕ → Option (List ℕ) → Option (List ℕ) → Option (List ℕ) → Status → Type 0
+SaysOf allowed inventory playbook old new status =
+    PrintsNotes allowed inventory playbook old new status ⊎ PrintsFaults allowed inventory playbook old new status
 
--- all faults of the texts went out; or there is none, and the notes on them went out
-abbrev pub SaysOf : List ℕ → Option (List ℕ) → Option (List ℕ) → Option (List ℕ) → Status → Type 0 → Type 0
-SaysOf inventory playbook old new status Notes = PrintsFaults inventory playbook old new status ⊎ (AreFaultless inventory playbook × Notes)
+-- they broke off, or memory was wanting
+abbrev pub LosesAll : List ℕ → List ℕ → Option (List ℕ) → Option (List ℕ) → Option (List ℕ) → Fault → Type 0
+LosesAll allowed inventory playbook old new fault = LosesFaults allowed inventory playbook old new fault ⊎ WantsMemory old new fault
 
--- the faults broke off, or memory was wanting to find them; or there is none, and the notes failed
-abbrev pub FailsOver : List ℕ → Option (List ℕ) → Option (List ℕ) → Option (List ℕ) → Fault → Type 0 → Type 0
-FailsOver inventory playbook old new fault Fails =
-    WantsMemory old new fault ⊎ LosesFaults inventory playbook old new fault ⊎ (AreFaultless inventory playbook × Fails)
+-- the notes or the faults broke off; or memory was wanting, for texts without any fault too
+abbrev pub FailsOver : List ℕ → List ℕ → Option (List ℕ) → Option (List ℕ) → Option (List ℕ) → Fault → Type 0
+FailsOver allowed inventory playbook old new fault =
+    LosesNotes allowed inventory playbook old new fault
+    ⊎ (LosesAll allowed inventory playbook old new fault ⊎ (AreFaultless inventory playbook × IsRefusedSo allowed inventory playbook old new fault))
+
+-- nothing is wrong with the texts, and the fault tells the cause
+pub record IsFaultlessFor (inventory : List ℕ) (playbook : Option (List ℕ)) (old new : Option (List ℕ)) (cause : PlanFault) (fault : Fault) : Type 0 where
+  pub faultless : AreFaultless inventory playbook
+  pub tells : fault ≡ fault_of cause
+  pub same : new ≡ old
+
+-- all faults of the texts were told, or broke off, or memory was wanting; of texts without any the cause is
+abbrev pub TellsAll : List ℕ → List ℕ → Option (List ℕ) → Option (List ℕ) → Option (List ℕ) → PlanFault → Result Status Fault → Type 0
+TellsAll allowed inventory playbook old new cause (Ok status) = PrintsFaults allowed inventory playbook old new status
+TellsAll allowed inventory playbook old new cause (Err fault) =
+    LosesAll allowed inventory playbook old new fault ⊎ IsFaultlessFor inventory playbook old new cause fault
+
+-- notes broke off
+abbrev pub is_lost : PlanFault → Bool
+is_lost (planning.Write fault) = true
+is_lost (planning.Read fault) = false
+is_lost (planning.Fleet fault) = false
+is_lost (planning.Playbook fault) = false
+is_lost (planning.Pattern fault) = false
+
+-- that alone is told
+pub record TellsLost (old new : Option (List ℕ)) (cause : PlanFault) (result : Result Status Fault) : Type 0 where
+  pub lost : is_lost cause ≡ true
+  pub tells : result ≡ Err (fault_of cause)
+  pub same : new ≡ old
+
+-- what comes in place of notes that failed so: all faults of the texts, unless the notes themselves broke off
+abbrev pub TellsInstead : List ℕ → List ℕ → Option (List ℕ) → Option (List ℕ) → Option (List ℕ) → PlanFault → Result Status Fault → Type 0
+TellsInstead allowed inventory playbook old new cause result =
+    TellsLost old new cause result ⊎ ((is_lost cause ≡ false) × TellsAll allowed inventory playbook old new cause result)
 
 abbrev pub LintsBoth : List ℕ → Sources → Source → Source → Option (List ℕ) → Option (List ℕ) → Option (List ℕ) → Option (List ℕ) → Result Status Fault → Type 0
 LintsBoth allowed sources inventory playbook input_old input_new out_old out_new result =
-    OverTwo (λ first second status. SaysOf first (Some second) out_old out_new status (PrintsNotes allowed first second out_old out_new status))
-    (λ first second fault. FailsOver first (Some second) out_old out_new fault (IsRefusedSo allowed first second out_old out_new fault))
+    OverTwo (λ first second. SaysOf allowed first (Some second) out_old out_new) (λ first second. FailsOver allowed first (Some second) out_old out_new)
     sources inventory playbook input_old input_new out_old out_new result
 
 abbrev pub LintsOne : List ℕ → Sources → Source → Option (List ℕ) → Option (List ℕ) → Option (List ℕ) → Option (List ℕ) → Result Status Fault → Type 0
 LintsOne allowed sources inventory input_old input_new out_old out_new result =
-    OverOne (λ first status. SaysOf first None out_old out_new status (PrintsFleetNotes allowed first out_old out_new status))
-    (λ first fault. FailsOver first None out_old out_new fault (IsRefusedAlone allowed first out_old out_new fault))
+    OverOne (λ first. SaysOf allowed first None out_old out_new) (λ first. FailsOver allowed first None out_old out_new)
     sources inventory input_old input_new out_old out_new result
 
 abbrev pub LintsSo : List ℕ → Sources → Source → Option Source → Option (List ℕ) → Option (List ℕ) → Option (List ℕ) → Option (List ℕ) → Result Status Fault → Type 0

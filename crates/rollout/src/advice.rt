@@ -5,6 +5,7 @@ ghost use Rattle.rollout.specs.Endings.{MayHelp};
 
 use crate::fault::Fault;
 use domains::{Fleet, FleetFault, PatternFault};
+use every_fault::kept_texts;
 use fault_help::{fleet_help, pattern_help, play_help, read_help};
 use group_tree::{GroupId, HostId};
 use help_lines::Document;
@@ -14,7 +15,7 @@ use play_rules::PlayFault;
 use recap::{group_name, host_name};
 use std::alloc::{AllocError, Global};
 
-/// The texts of an inventory and a playbook, and the fleet that they are for, where the inventory says one.
+/// The texts of an inventory and a playbook, and the fleet that they are for, where one can be had.
 #[derive(Drop)]
 pub struct Texts<'t> {
     inventory: Document<'t>,
@@ -31,8 +32,16 @@ impl<'t> Texts<'t> {
         Ok(Texts {
             inventory: Document::read(alloc, inventory)?,
             playbook: Document::read(alloc, playbook)?,
-            fleet: read_fleet(alloc, inventory).ok(),
+            fleet: known_fleet(alloc, inventory)?,
         })
+    }
+}
+
+/// The fleet in which names are looked up, of the inventory, or of what is kept of it.
+fn known_fleet(alloc: Global, inventory: &[u8]) -> Result<Option<Fleet>, AllocError> {
+    match kept_texts(alloc, inventory, None)? {
+        Some(kept) => Ok(read_fleet(alloc, kept.inventory.as_slice()).ok()),
+        None => Ok(None),
     }
 }
 

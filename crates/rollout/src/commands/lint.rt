@@ -2,11 +2,13 @@
 ghost use Rattle.std.specs.Prelude.{◌≡◌, IfErr, IfOk, None, Some, false, true};
 ghost use Rattle.std.specs.Option.{option_map};
 ghost use Rattle.lint_notes.specs.Kinds.{are_kind_names};
+ghost use Rattle.rollout.specs.LintFaults.{IsFound, PrintsFaults};
 ghost use Rattle.rollout.specs.Lists.{IsBadList};
-ghost use Rattle.rollout.specs.Notes.{IsRefusedAlone, IsRefusedSo, Lints, LintsBoth, LintsOne, FailsOver, PrintsFleetNotes, PrintsNotes, SaysOf};
+ghost use Rattle.rollout.specs.Notes.{FailsOver, Lints, LintsBoth, LintsOne, LosesAll, SaysOf, TellsInstead};
+ghost use Rattle.rollout.specs.Notes as spec;
 ghost use Rattle.rollout.specs.Systems.{sources_of};
 
-use crate::commands::faults::{find_faults, tell_faults};
+use crate::commands::faults::{Found, find_faults, tell_faults};
 use crate::fault::Fault;
 use crate::inputs::read_both;
 use crate::list::bad_list;
@@ -15,7 +17,9 @@ use crate::status::Status;
 use crate::system::System;
 use bounded_io::Input;
 use command_line::Source;
+use kept_notes::notes_beside_faults;
 use lint_notes::{Allowed, lint_fleet_text, lint_text, read_allowed};
+use planning::PlanFault;
 use std::alloc::Global;
 use std::io::Write;
 
@@ -30,8 +34,8 @@ fn read_list(alloc: Global, list: &str) -> Result<Allowed<'_>, Fault>
     }
 }
 
-/// Reads the inventory, and the playbook where there is one, and writes all their faults, or where there is none the notes on them, but for those of the kinds that the list names. The
-/// list is read first.
+/// Reads the inventory, and the playbook where there is one, and writes the notes on them, but for those of the kinds that the list names; or, where they are refused, all their faults, and
+/// behind these the notes that hold all the same. The list is read first.
 #[allow(clippy::too_many_arguments)]
 pub fn lint<S: System, I: Input, W: Write>(
     system: &S,
@@ -72,20 +76,19 @@ fn lint_one<S: System, I: Input, W: Write>(
     }
 }
 
-/// Writes all faults of the inventory, or the notes on it, where there is none.
+/// Writes the notes on the inventory, or all its faults, where it is refused.
 fn print_on_one<W: Write>(
     alloc: Global,
     inventory: &[u8],
     allowed: &Allowed<'_>,
     out: &mut W,
 ) -> Result<Status, Fault>
-    ensures ok { IfOk result (λ status. SaysOf inventory.now None (W.contents out.old) (W.contents out.new) status (PrintsFleetNotes allowed.now inventory.now (W.contents out.old) (W.contents out.new) status)) }
-    ensures err { IfErr result (λ fault. FailsOver inventory.now None (W.contents out.old) (W.contents out.new) fault (IsRefusedAlone allowed.now inventory.now (W.contents out.old) (W.contents out.new) fault)) }
+    ensures ok { IfOk result (SaysOf allowed.now inventory.now None (W.contents out.old) (W.contents out.new)) }
+    ensures err { IfErr result (FailsOver allowed.now inventory.now None (W.contents out.old) (W.contents out.new)) }
 {
-    match find_faults(alloc, inventory, None) {
-        Ok(Some(found)) => tell_faults(alloc, &found, inventory, None, out),
-        Ok(None) => print_fleet_notes(alloc, inventory, allowed, out),
-        Err(_refused) => Err(Fault::Memory),
+    match lint_fleet_text(alloc, inventory, allowed, out) {
+        Ok(end) => Ok(Status::from(end)),
+        Err(refused) => print_instead(alloc, inventory, None, allowed, refused, out),
     }
 }
 
@@ -113,7 +116,7 @@ fn lint_both<S: System, I: Input, W: Write>(
     }
 }
 
-/// Writes all faults of both texts, or the notes on them, where there is none.
+/// Writes the notes on both texts, or all their faults, where one of them is refused.
 fn print_on_both<W: Write>(
     alloc: Global,
     inventory: &[u8],
@@ -121,43 +124,61 @@ fn print_on_both<W: Write>(
     allowed: &Allowed<'_>,
     out: &mut W,
 ) -> Result<Status, Fault>
-    ensures ok { IfOk result (λ status. SaysOf inventory.now (Some playbook.now) (W.contents out.old) (W.contents out.new) status (PrintsNotes allowed.now inventory.now playbook.now (W.contents out.old) (W.contents out.new) status)) }
-    ensures err { IfErr result (λ fault. FailsOver inventory.now (Some playbook.now) (W.contents out.old) (W.contents out.new) fault (IsRefusedSo allowed.now inventory.now playbook.now (W.contents out.old) (W.contents out.new) fault)) }
+    ensures ok { IfOk result (SaysOf allowed.now inventory.now (Some playbook.now) (W.contents out.old) (W.contents out.new)) }
+    ensures err { IfErr result (FailsOver allowed.now inventory.now (Some playbook.now) (W.contents out.old) (W.contents out.new)) }
 {
-    match find_faults(alloc, inventory, Some(playbook)) {
-        Ok(Some(found)) => tell_faults(alloc, &found, inventory, Some(playbook), out),
-        Ok(None) => print_notes(alloc, inventory, playbook, allowed, out),
+    match lint_text(alloc, inventory, playbook, allowed, out) {
+        Ok(end) => Ok(Status::from(end)),
+        Err(refused) => print_instead(alloc, inventory, Some(playbook), allowed, refused, out),
+    }
+}
+
+/// Whether notes broke off.
+fn is_lost(refused: &PlanFault) -> bool
+    ensures { result ≡ spec.is_lost refused.now }
+{
+    match refused {
+        PlanFault::Write(_) => true,
+        _ => false,
+    }
+}
+
+/// Writes all faults of texts in place of notes that failed so, unless these broke off.
+fn print_instead<W: Write>(
+    alloc: Global,
+    inventory: &[u8],
+    playbook: Option<&[u8]>,
+    allowed: &Allowed<'_>,
+    refused: PlanFault,
+    out: &mut W,
+) -> Result<Status, Fault>
+    ensures { TellsInstead allowed.now inventory.now (option_map (λ text. text.now) playbook.entry) (W.contents out.old) (W.contents out.new) refused result }
+{
+    if is_lost(&refused) {
+        return Err(Fault::from(refused));
+    }
+    match find_faults(alloc, inventory, playbook) {
+        Ok(Some(found)) => print_found(alloc, &found, inventory, playbook, allowed, out),
+        Ok(None) => Err(Fault::from(refused)),
         Err(_refused) => Err(Fault::Memory),
     }
 }
 
-fn print_fleet_notes<W: Write>(
+/// Writes the faults that were found of the texts, and the notes beside them.
+fn print_found<W: Write>(
     alloc: Global,
+    found: &Found,
     inventory: &[u8],
+    playbook: Option<&[u8]>,
     allowed: &Allowed<'_>,
     out: &mut W,
 ) -> Result<Status, Fault>
-    ensures ok { IfOk result (PrintsFleetNotes allowed.now inventory.now (W.contents out.old) (W.contents out.new)) }
-    ensures err { IfErr result (IsRefusedAlone allowed.now inventory.now (W.contents out.old) (W.contents out.new)) }
+    requires { IsFound inventory.now (option_map (λ text. text.now) playbook) found.now }
+    ensures ok { IfOk result (PrintsFaults allowed.now inventory.now (option_map (λ text. text.now) playbook.entry) (W.contents out.old) (W.contents out.new)) }
+    ensures err { IfErr result (LosesAll allowed.now inventory.now (option_map (λ text. text.now) playbook.entry) (W.contents out.old) (W.contents out.new)) }
 {
-    match lint_fleet_text(alloc, inventory, allowed, out) {
-        Ok(end) => Ok(Status::from(end)),
-        Err(fault) => Err(Fault::from(fault)),
-    }
-}
-
-fn print_notes<W: Write>(
-    alloc: Global,
-    inventory: &[u8],
-    playbook: &[u8],
-    allowed: &Allowed<'_>,
-    out: &mut W,
-) -> Result<Status, Fault>
-    ensures ok { IfOk result (PrintsNotes allowed.now inventory.now playbook.now (W.contents out.old) (W.contents out.new)) }
-    ensures err { IfErr result (IsRefusedSo allowed.now inventory.now playbook.now (W.contents out.old) (W.contents out.new)) }
-{
-    match lint_text(alloc, inventory, playbook, allowed, out) {
-        Ok(end) => Ok(Status::from(end)),
-        Err(fault) => Err(Fault::from(fault)),
+    match notes_beside_faults(alloc, inventory, playbook, allowed) {
+        Ok(beside) => tell_faults(alloc, found, beside.as_slice(), inventory, playbook, out),
+        Err(_refused) => Err(Fault::Memory),
     }
 }

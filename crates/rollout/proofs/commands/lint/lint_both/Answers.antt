@@ -1,5 +1,5 @@
 use Rattle.std.proofs.Common.{Some}
-use Rattle.rollout.specs.Notes.{FailsOver, IsRefusedSo, PrintsNotes, SaysOf}
+use Rattle.rollout.specs.Notes.{FailsOver, SaysOf}
 use Rattle.rollout.specs.Systems.{sources_of}
 use Rattle.rollout.proofs.OverTexts.{over_two}
 use Rattle.rollout.proofs.commands.lint.lint_both.Goals as goal
@@ -13,6 +13,5 @@ returns-in-Ok g c =
     let says = rw (c.as_slice.ensures.value, c.as_slice-in-Ok.ensures.value) at c.print_on_both.ensures.ok in
     let fails = rw (c.as_slice.ensures.value, c.as_slice-in-Ok.ensures.value) at c.print_on_both.ensures.err in
     over_two sources c.args.inventory (g.I.Read.remaining c.args.input.now) (g.I.Read.remaining c.read_both.new.input) old new c.args.playbook
-    (λ first second status. SaysOf first (Some second) old new status (PrintsNotes allowed first second old new status))
-    (λ first second fault. FailsOver first (Some second) old new fault (IsRefusedSo allowed first second old new fault))
+    (λ first second. SaysOf allowed first (Some second) old new) (λ first second. FailsOver allowed first (Some second) old new)
     c.in-Ok.inventory.items c.in-Ok.playbook.items c.print_on_both.result c.in-Ok.ensures.ok says fails

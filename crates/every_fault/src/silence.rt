@@ -1,0 +1,41 @@
+//! Parts of which nothing is told.
+ghost use Rattle.std.specs.Prelude.{◌≡◌, true};
+ghost use Rattle.every_fault.specs.Unread.{is_silent};
+
+use fleet_faults::FleetTold;
+use playbook_faults::{PatternsTold, Told};
+use std::alloc::Global;
+
+/// Whether nothing is told, and there is nothing more.
+pub(crate) fn is_silent<F>(faults: &[F], more: usize) -> bool
+    ensures { result ≡ is_silent faults.now more }
+{
+    faults.is_empty() && more == 0
+}
+
+pub(crate) fn no_fleet_faults(alloc: Global) -> FleetTold
+    ensures { is_silent result.faults.items result.more ≡ true }
+{
+    FleetTold {
+        faults: Vec::new(alloc),
+        more: 0,
+    }
+}
+
+pub(crate) fn no_playbook_faults(alloc: Global) -> Told
+    ensures { is_silent result.faults.items result.more ≡ true }
+{
+    Told {
+        faults: Vec::new(alloc),
+        more: 0,
+    }
+}
+
+pub(crate) fn no_pattern_faults(alloc: Global) -> PatternsTold
+    ensures { is_silent result.faults.items result.more ≡ true }
+{
+    PatternsTold {
+        faults: Vec::new(alloc),
+        more: 0,
+    }
+}

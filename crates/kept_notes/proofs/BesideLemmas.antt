@@ -1,0 +1,47 @@
+-- What the notes on kept texts come to.
+use Rattle.std.proofs.Common.{inl, inr, ◌≡◌, ℕ, true, List, [], ◌++◌, Option, Some, None, Result, Ok, Err, sym, subst}
+use Rattle.std.specs.Prelude.{IfOk}
+use Rattle.domains.specs.declared.pattern_fault.PatternFault.TheVariants.{NoSuchName, Memory}
+use Rattle.planning.specs.declared.fault.PlanFault.{PlanFault}
+use Rattle.planning.specs.declared.fault.PlanFault.TheVariants.{Read, Fleet, Playbook, Pattern, Write}
+use Rattle.lint_notes.specs.LintTexts.{IsTextOf}
+use Rattle.lint_notes.specs.declared.end.LintEnd.{LintEnd}
+use Rattle.every_fault.specs.KeptTexts.{AreKeptTexts, playbook_of}
+use Rattle.every_fault.specs.declared.choosing.KeptTexts.{KeptTexts}
+use Rattle.kept_notes.specs.Beside.{AreNotesOn, AreRefused, IsBeside, IsNotedOf, IsNotedOfOne, IsTextOn, IsTrueOn, RefusesOn, WritesOn, hidden_kinds, tells_rule}
+
+-- what went out to an empty list is all that it holds
+pub written_is : (kinds inventory : List ℕ) (playbook : Option (List ℕ)) (text : List ℕ) (end : LintEnd) → WritesOn kinds inventory playbook (Some []) (Some text) end → IsTextOn kinds inventory playbook text
+written_is kinds inventory playbook text end writes =
+    record { end = end; is = subst (λ (bytes : List ℕ). IsTextOf (AreNotesOn inventory playbook) kinds bytes end) (sym writes.written) writes.is }
+
+-- a rule that refuses the notes refuses the texts
+refuses_on : (kinds inventory : List ℕ) (playbook : Option (List ℕ)) (old new : Option (List ℕ)) (fault : PlanFault) → tells_rule fault ≡ true → IsTrueOn kinds inventory playbook old new fault
+    → RefusesOn inventory playbook fault
+refuses_on kinds inventory None old new (Read fault) rule fails = fails.0
+refuses_on kinds inventory None old new (Fleet fault) rule fails = fails.0
+refuses_on kinds inventory None old new (Playbook fault) rule fails = absurd fails
+refuses_on kinds inventory None old new (Pattern (NoSuchName name)) rule fails = absurd fails
+refuses_on kinds inventory None old new (Pattern Memory) rule fails = absurd (cc)
+refuses_on kinds inventory None old new (Write fault) rule fails = absurd (cc)
+refuses_on kinds inventory (Some playbook) old new (Read fault) rule fails = inl fails.0
+refuses_on kinds inventory (Some playbook) old new (Fleet fault) rule fails = inl fails.0
+refuses_on kinds inventory (Some playbook) old new (Playbook fault) rule fails = inr fails.0
+refuses_on kinds inventory (Some playbook) old new (Pattern fault) rule fails = inr fails.0
+refuses_on kinds inventory (Some playbook) old new (Write fault) rule fails = absurd (cc)
+
+pub are_refused : (kinds inventory : List ℕ) (playbook : Option (List ℕ)) (old new : Option (List ℕ)) (fault : PlanFault) → tells_rule fault ≡ true → IsTrueOn kinds inventory playbook old new fault
+    → AreRefused inventory playbook
+are_refused kinds inventory playbook old new fault rule fails =
+    record { fault = fault; is_rule = rule; refuses = refuses_on kinds inventory playbook old new fault rule fails }
+
+module _ {T E : Type 0} (bytes : T → List ℕ) (kinds inventory : List ℕ) where
+  pub noted_in : (playbook : List ℕ) (result : Result T E) → AreRefused inventory (Some playbook) → IfOk result (λ text. IsNotedOfOne kinds inventory (bytes text))
+      → IfOk result (λ text. IsNotedOf kinds inventory (Some playbook) (bytes text))
+  noted_in playbook (Ok text) refused noted = inr (refused, noted)
+  noted_in playbook (Err failed) refused noted = tt
+
+pub beside_in : {T E : Type 0} (bytes : T → List ℕ) (allowed inventory : List ℕ) (playbook : Option (List ℕ)) (kept : KeptTexts) (result : Result T E) → AreKeptTexts inventory playbook (Some kept)
+    → IfOk result (λ text. IsNotedOf (hidden_kinds ++ allowed) kept.inventory.items (playbook_of kept) (bytes text)) → IfOk result (λ text. IsBeside allowed inventory playbook (bytes text))
+beside_in bytes allowed inventory playbook kept (Ok text) are noted = record { kept = Some kept; are_kept = are; told = noted }
+beside_in bytes allowed inventory playbook kept (Err failed) are noted = tt

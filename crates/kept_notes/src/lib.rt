@@ -1,0 +1,7 @@
+//! What is probably not meant in texts that are refused: the notes on what is kept of them.
+#![tactic(auto)]
+
+mod beside;
+mod rule;
+
+pub use beside::notes_beside_faults;
