@@ -1,0 +1,14 @@
+mod Closings
+mod HoleLemmas
+mod Cuts
+mod Laid
+mod WordLemmas
+mod FirstWords
+mod OnlyWords
+mod Ends
+mod PatternLaws
+mod OnlyParts
+mod FreeWords
+mod References
+mod PlainTexts
+mod PartLaws

@@ -1,0 +1,5 @@
+pub mod Splits
+pub mod Words
+pub mod Patterns
+pub mod Parts
+pub mod Laws
