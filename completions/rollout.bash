@@ -1,4 +1,5 @@
-# Completes the words of rollout in bash: commands, options and their values, the numbers of faults, and files. It needs bash 4.4 or a later one, and nothing else.
+# Completes the words of rollout in bash: commands, options and their values, the numbers of faults, files, and the names of an inventory that stands before the cursor. It
+# needs bash 4.4 or a later one, and for names grep and awk.
 # `make install` puts it where bash-completion finds it; without that: source completions/rollout.bash
 
 # The words up to the cursor, as the program gets them: what bash parts at a mark, as `=` and `:`, is put together again, and what redirects an input or an output is
@@ -56,6 +57,34 @@ _rollout_names() {
     done
 }
 
+# _rollout_hosts FILE: the names of the groups and hosts of an inventory, each once.
+_rollout_hosts() {
+    local file=${1//[\\\'\"]/}
+    [[ $file != '~/'* ]] || file=$HOME/${file#'~/'}
+    # What is no file could wait for keys.
+    [[ -f $file ]] || return
+    grep -oE '"([^"\\]|\\.)*"|[][{}:]' -- "$file" 2>/dev/null | awk '
+        BEGIN { coming = "groups" }
+        /^"/ { text = substr($0, 2, length($0) - 2); next }
+        /^[{[]/ { kind[++depth] = $0 == "{" ? coming : ""; coming = ""; next }
+        /^[]}]/ { depth--; next }
+        {
+            above = kind[depth]
+            if ((above == "groups" || above == "hosts") && text ~ /^[A-Za-z0-9._-]+$/ && !seen[text]++) print text
+            coming = above == "groups" ? "group" : above != "group" ? "" : text == "hosts" ? "hosts" : text == "children" ? "groups" : ""
+        }'
+}
+
+# The words of a list at the cursor, of which the last one is completed.
+_rollout_list() {
+    if [[ $current == *[,:]* ]]; then
+        option+=${current%"${current##*[,:]}"}
+        current=${current##*[,:]}
+    fi
+    compopt -o nospace 2>/dev/null
+    _rollout_names "$@"
+}
+
 # _rollout_files [PATTERN]: folders, and files that fit the pattern; where no file fits it, all files.
 _rollout_files() {
     local found='' name
@@ -73,7 +102,7 @@ _rollout_files() {
 }
 
 _rollout() {
-    local words kept redirects current command options most files=0 ends='' wants='' option='' i
+    local words kept redirects current command options most files=0 inventory='' ends='' wants='' option='' i
     local IFS=$' \t\n'
     COMPREPLY=()
     _rollout_words
@@ -111,6 +140,7 @@ _rollout() {
             wants=''
         elif [[ -n $ends || ${words[i]} != -?* ]]; then
             files=$((files + 1))
+            [[ $files -gt 1 ]] || inventory=${words[i]}
         elif [[ ${words[i]} == -- ]]; then
             ends=yes
         elif [[ " ${options[*]} " == *" ${words[i]} "* && ${words[i]} == --@(forks|stop-file|journal|resume|mended|failing|color|picture|expect|allow|from) ]]; then
@@ -132,15 +162,12 @@ _rollout() {
     --picture) _rollout_files '*.svg' ;;
     --color) _rollout_offer always never auto ;;
     --allow)
-        # The last name of the list.
-        if [[ $current == *[,:]* ]]; then
-            option+=${current%"${current##*[,:]}"}
-            current=${current##*[,:]}
-        fi
-        compopt -o nospace 2>/dev/null
-        _rollout_names zero-limit empty-limit group-down near-key case-hosts no-hosts down-hosts idle-serial one-failure unknown-name missing-name constant-condition shell-word local-step long-word dash-name idle-handler
+        _rollout_list zero-limit empty-limit group-down near-key case-hosts no-hosts down-hosts idle-serial one-failure unknown-name missing-name constant-condition shell-word local-step long-word dash-name idle-handler
         ;;
-    --failing | --mended | --expect) ;;
+    --failing | --mended)
+        [[ $files -eq 0 ]] || _rollout_list $(_rollout_hosts "$inventory")
+        ;;
+    --expect) ;;
     *)
         if [[ -z $ends && $current == -* ]]; then
             _rollout_offer "${options[@]}"

@@ -1,4 +1,5 @@
-# Completes the words of rollout in fish: commands, options and their values, the numbers of faults, and files, those of JSON first.
+# Completes the words of rollout in fish: commands, options and their values, the numbers of faults, files, those of JSON first, and the names of an inventory that stands before
+# the cursor, for which it needs grep and awk.
 # `make install` puts it into share/fish/vendor_completions.d, where fish finds it if that share is its own or stands in XDG_DATA_DIRS; without that:
 # source completions/rollout.fish
 
@@ -12,19 +13,16 @@ function __rollout_of
     end
 end
 
-# __rollout_lacks MOST COMMAND ..: whether the command is one of these, and fewer than MOST files stand behind it.
-function __rollout_lacks
-    __rollout_of $argv[2..-1]; or return
+# The files behind the command, those of redirections too, without their marks.
+function __rollout_files
     set -l words (commandline -opc)
-    # The words have the files of redirections too, without their marks.
-    set -l files (math 0 - (commandline -pc | string match -ar -- '(?<=\s)[0-9]*(?:&>|<|>)[>?|&]?' | count))
     set -l ends 0
     set -l wants 0
     for word in $words[3..-1]
         if test $wants -eq 1
             set wants 0
         else if test $ends -eq 1; or not string match -q -- '-?*' $word
-            set files (math $files + 1)
+            printf '%s\n' $word
         else if test $word = --
             set ends 1
         else if test $words[2] = run; and contains -- $word --forks --stop-file --journal --resume --mended
@@ -39,15 +37,37 @@ function __rollout_lacks
             set wants 1
         end
     end
-    test $files -lt $argv[1]
 end
 
-# __rollout_notes NAME ..: the list of notes at the cursor, with each of these names behind it that doesn't stand in it.
-function __rollout_notes
-    set -l list (commandline -tc | string replace -r -- '^--allow=' '' | string replace -r '[^,]*$' '')
+# __rollout_lacks MOST COMMAND ..: whether the command is one of these, and fewer than MOST files stand behind it.
+function __rollout_lacks
+    __rollout_of $argv[2..-1]; or return
+    set -l marks (commandline -pc | string match -ar -- '(?<=\s)[0-9]*(?:&>|<|>)[>?|&]?' | count)
+    test (math (count (__rollout_files)) - $marks) -lt $argv[1]
+end
+
+# __rollout_names NAME ..: the list at the cursor, with each of these names behind it that doesn't stand in it.
+function __rollout_names
+    set -l list (commandline -tc | string replace -r -- '^--[a-z]*=' '' | string replace -r '[^,]*$' '')
     for name in $argv
         string match -q -- "*,$name,*" ",$list"; or echo $list$name\t
     end
+end
+
+# The same of the names of the inventory's groups and hosts; what is no file could wait for keys.
+function __rollout_hosts
+    set -l files (__rollout_files)
+    test -f "$files[1]"; or return
+    __rollout_names (grep -oE '"([^"\\\\]|\\\\.)*"|[][{}:]' -- $files[1] 2>/dev/null | awk '
+        BEGIN { coming = "groups" }
+        /^"/ { text = substr($0, 2, length($0) - 2); next }
+        /^[{[]/ { kind[++depth] = $0 == "{" ? coming : ""; coming = ""; next }
+        /^[]}]/ { depth--; next }
+        {
+            above = kind[depth]
+            if ((above == "groups" || above == "hosts") && text ~ /^[A-Za-z0-9._-]+$/ && !seen[text]++) print text
+            coming = above == "groups" ? "group" : above != "group" ? "" : text == "hosts" ? "hosts" : text == "children" ? "groups" : ""
+        }')
 end
 
 # The numbers of faults, with their names.
@@ -73,7 +93,7 @@ complete -c rollout -n __rollout_of -a help -d 'Prints the help of the program, 
 
 complete -c rollout -n '__rollout_of limits' -l expect -x -d "Ends with status 1 where a number isn't as this list says: NAME=NUMBER or NAME<=NUMBER, parted by commas"
 complete -c rollout -n '__rollout_of limits' -l from -r -F -d 'Begins where the run of this journal stands, as --resume would have it go on'
-complete -c rollout -n '__rollout_of limits' -l mended -x -d 'Beside --from these hosts and groups, parted by commas, are up by now'
+complete -c rollout -n '__rollout_of limits' -l mended -x -a '(__rollout_hosts)' -d 'Beside --from these hosts and groups, parted by commas, are up by now'
 complete -c rollout -n '__rollout_of limits' -l changed-inputs -d 'The inputs may be others than those with which the run of the journal began'
 complete -c rollout -n '__rollout_of limits' -l json -d 'Prints it, and a fault, as JSON'
 complete -c rollout -n '__rollout_of limits' -s v -l verbose -d 'Tells more on standard error: which hosts are left out, and behind a refusal what was expected'
@@ -81,14 +101,14 @@ complete -c rollout -n '__rollout_of limits' -s h -l help -d 'Print help'
 complete -c rollout -n '__rollout_lacks 1 limits' -k -a '(__fish_complete_suffix .json)'
 
 complete -c rollout -n '__rollout_of plan' -l course -d 'Prints what a run would open to its end, play by play, where no program fails'
-complete -c rollout -n '__rollout_of plan' -l failing -x -d 'Beside --course these hosts and groups, parted by commas, fail at their first step'
+complete -c rollout -n '__rollout_of plan' -l failing -x -a '(__rollout_hosts)' -d 'Beside --course these hosts and groups, parted by commas, fail at their first step'
 complete -c rollout -n '__rollout_of plan' -l groups -d 'Prints below it how many hosts of each limited group are down while each batch runs'
 complete -c rollout -n '__rollout_of plan' -l color -x -k -a '(string join \n always never auto)\t' -d 'Colours groups that are full: auto (at a terminal, unless NO_COLOR is set), always or never'
 complete -c rollout -n '__rollout_of plan' -l picture -r -F -d 'Writes the course as a picture, in SVG, into this file'
 complete -c rollout -n '__rollout_of plan' -l words -d 'Prints in its place which words each step would run on which host'
 complete -c rollout -n '__rollout_of plan' -l expect -x -d "Ends with status 1 where a number isn't as this list says: NAME=NUMBER or NAME<=NUMBER, parted by commas"
 complete -c rollout -n '__rollout_of plan' -l from -r -F -d 'Begins where the run of this journal stands, as --resume would have it go on'
-complete -c rollout -n '__rollout_of plan' -l mended -x -d 'Beside --from these hosts and groups, parted by commas, are up by now'
+complete -c rollout -n '__rollout_of plan' -l mended -x -a '(__rollout_hosts)' -d 'Beside --from these hosts and groups, parted by commas, are up by now'
 complete -c rollout -n '__rollout_of plan' -l changed-inputs -d 'The inputs may be others than those with which the run of the journal began'
 complete -c rollout -n '__rollout_of plan' -l json -d 'Prints it, and a fault, as JSON'
 complete -c rollout -n '__rollout_of plan' -s v -l verbose -d 'Tells more on standard error: which hosts are left out, and behind a refusal what was expected'
@@ -100,7 +120,7 @@ complete -c rollout -n '__rollout_of run' -l quiet -d 'Tells nothing unasked, al
 complete -c rollout -n '__rollout_of run' -l stop-file -r -F -d 'Ends the run before the next batch once this file is there'
 complete -c rollout -n '__rollout_of run' -l journal -r -F -d 'Keeps in this new file what becomes of each host, before and behind each batch'
 complete -c rollout -n '__rollout_of run' -l resume -r -F -d 'Goes on with the run of this journal, which broke off, and keeps it there'
-complete -c rollout -n '__rollout_of run' -l mended -x -d 'These hosts and groups, parted by commas, are up by now, though the inventory or the journal has them as down'
+complete -c rollout -n '__rollout_of run' -l mended -x -a '(__rollout_hosts)' -d 'These hosts and groups, parted by commas, are up by now, though the inventory or the journal has them as down'
 complete -c rollout -n '__rollout_of run' -l changed-inputs -d 'Beside --resume the inputs may be others than those with which the run began'
 complete -c rollout -n '__rollout_of run' -l lock -d "Holds the lock of the inventory's file, as --journal does: a second such run is refused meanwhile"
 complete -c rollout -n '__rollout_of run' -l strict -d 'Runs nothing where a step may look for a name that has no value on a host'
@@ -109,7 +129,7 @@ complete -c rollout -n '__rollout_of run' -s h -l help -d 'Print help'
 
 complete -c rollout -n '__rollout_of rehearse' -l strict -d 'Ends with status 1 where a command was refused'
 complete -c rollout -n '__rollout_of rehearse' -l from -r -F -d 'Begins where the run of this journal stands, as --resume would have it go on'
-complete -c rollout -n '__rollout_of rehearse' -l mended -x -d 'Beside --from these hosts and groups, parted by commas, are up by now'
+complete -c rollout -n '__rollout_of rehearse' -l mended -x -a '(__rollout_hosts)' -d 'Beside --from these hosts and groups, parted by commas, are up by now'
 complete -c rollout -n '__rollout_of rehearse' -l changed-inputs -d 'The inputs may be others than those with which the run of the journal began'
 complete -c rollout -n '__rollout_of rehearse' -l json -d 'Prints it, and a fault, as JSON'
 complete -c rollout -n '__rollout_of rehearse' -s v -l verbose -d 'Tells more on standard error: which hosts are left out, and behind a refusal what was expected'
@@ -120,7 +140,7 @@ complete -c rollout -n '__rollout_of state' -s h -l help -d 'Print help'
 
 complete -c rollout -n '__rollout_of check' -s h -l help -d 'Print help'
 
-complete -c rollout -n '__rollout_of lint' -l allow -x -a "(__rollout_notes zero-limit empty-limit group-down near-key case-hosts no-hosts down-hosts idle-serial one-failure unknown-name missing-name constant-condition shell-word local-step long-word dash-name idle-handler)" -d 'These kinds of notes, parted by commas, are not told'
+complete -c rollout -n '__rollout_of lint' -l allow -x -a "(__rollout_names zero-limit empty-limit group-down near-key case-hosts no-hosts down-hosts idle-serial one-failure unknown-name missing-name constant-condition shell-word local-step long-word dash-name idle-handler)" -d 'These kinds of notes, parted by commas, are not told'
 complete -c rollout -n '__rollout_of lint' -s h -l help -d 'Print help'
 
 complete -c rollout -n '__rollout_of explain' -s h -l help -d 'Print help'

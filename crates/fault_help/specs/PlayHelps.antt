@@ -1,6 +1,7 @@
 -- What is told of a text that is no playbook.
-use Rattle.std.specs.Prelude.{List, Option, Some, None, option_map, codes}
+use Rattle.std.specs.Prelude.{⊤, List, Option, Some, None, Result, String, option_map, codes}
 use Rattle.std.specs.String.{string_bytes}
+use Rattle.std.specs.declared.alloc.Global.{Global}
 use Rattle.serde_json.specs.View.{view}
 use Rattle.play_rules.specs.declared.fault.PlayFault.{PlayFault}
 use Rattle.play_rules.specs.declared.fault.PlayFault.TheVariants.{NotJson, BadShape, UnknownKey, NoSuchHandler, TwiceHandler, BadSerial, BadPercent, ManyPlays, TooManySteps, BadCondition, BadBraces, Memory}
@@ -9,6 +10,7 @@ use Rattle.help_lines.specs.PlayKeys.{unknown_key_help}
 use Rattle.help_lines.specs.Shapes.{shape_help}
 use Rattle.help_lines.specs.Told.{said, value_help_at}
 use Rattle.help_lines.specs.Values.{Text}
+use Rattle.fault_help.specs.ConditionHelps.{TellsCondition}
 use Rattle.fault_help.specs.ReadHelps.{memory_help, text_help}
 
 unfoldable pub part_help : Document → Text → List Text
@@ -16,7 +18,7 @@ part_help document at = shape_help (option_map view document.value) at
 
 unfoldable pub serial_help : Document → Text → List Text
 serial_help document at =
-    value_help_at (option_map view document.value) at (codes "a size is a whole number from 0 to 65535, or a text as \"30%\"; a list has 1 to 64 of them")
+    value_help_at (option_map view document.value) at (codes "a size is a whole number from 0 to 65535 without quotes, or a text as \"30%\"; a list has 1 to 64 of them")
 
 unfoldable pub percent_help : Document → Text → List Text
 percent_help document at = value_help_at (option_map view document.value) at (codes "write a whole number from 0 to 100, without quotes")
@@ -27,7 +29,23 @@ plays_help = said (codes "a playbook has at most 16 plays: put the later ones in
 unfoldable pub steps_help : List Text
 steps_help = said (codes "a play has at most 256 tasks and handlers: put the later ones into a play of their own, or several into a script")
 
--- by the fault, and by what stands in the document; of handlers that aren't there or are there twice, of conditions and of braces only the form of the line is given
+-- of a condition a text is shown that has its fault
+abbrev pub ShowsCondition : {E : Type 0} → PlayFault → Result (String Global) E → Type 0
+ShowsCondition NotJson result = ⊤
+ShowsCondition (BadShape at) result = ⊤
+ShowsCondition (UnknownKey at) result = ⊤
+ShowsCondition (NoSuchHandler name) result = ⊤
+ShowsCondition (TwiceHandler name) result = ⊤
+ShowsCondition (BadSerial at) result = ⊤
+ShowsCondition (BadPercent at) result = ⊤
+ShowsCondition ManyPlays result = ⊤
+ShowsCondition TooManySteps result = ⊤
+ShowsCondition (BadCondition play step key fault) result = TellsCondition fault result
+ShowsCondition (BadBraces play step) result = ⊤
+ShowsCondition Memory result = ⊤
+
+-- by the fault, and by what stands in the document; of handlers that aren't there or are there twice, and of braces, only the form of the line is given, and of conditions what
+-- ShowsCondition says
 abbrev pub play_help : PlayFault → Document → Option (List Text)
 play_help NotJson document = Some (text_help document)
 play_help (BadShape at) document = Some (part_help document (string_bytes at))

@@ -1,11 +1,14 @@
 -- What is told of a text that is no inventory.
-use Rattle.std.specs.Prelude.{List, Option, Some, None, option_map, codes}
+use Rattle.std.specs.Prelude.{◌≡◌, ◌⊎◌, ⊤, List, Option, Some, None, Result, IfOk, String, option_map, codes}
 use Rattle.std.specs.String.{string_bytes}
+use Rattle.std.specs.declared.alloc.Global.{Global}
 use Rattle.serde_json.specs.View.{view}
 use Rattle.inventory_read.specs.declared.fault.ReadFault.{ReadFault}
 use Rattle.inventory_read.specs.declared.fault.ReadFault.TheVariants.{NotJson, BadShape, UnknownKey, BadLimit, BadDown, BadName, TwicePlaced, TooDeep, TooMany, Memory}
 use Rattle.help_lines.specs.declared.document.Document.{Document}
+use Rattle.help_lines.specs.Fleets.{twice_help}
 use Rattle.help_lines.specs.Groups.{key_help, shape_help}
+use Rattle.help_lines.specs.Lines.{line_of}
 use Rattle.help_lines.specs.Names.{bad_name_help}
 use Rattle.help_lines.specs.Texts.{no_json_help}
 use Rattle.help_lines.specs.Told.{said, value_help_at}
@@ -22,7 +25,7 @@ limit_help document at =
     value_help_at (option_map view document.value) at (codes "a limit is a whole number from 0 to 65535 without quotes, or a text as \"25%\"")
 
 unfoldable pub down_help : Document → Text → List Text
-down_help document at = value_help_at (option_map view document.value) at (codes "write true or false, without quotes")
+down_help document at = value_help_at (option_map view document.value) at (codes "write true or false, without quotes; in INI down=True")
 
 unfoldable pub depth_help : List Text
 depth_help = said (codes "groups go 32 levels deep, of which all is the first: leave out groups that have no limit")
@@ -33,7 +36,29 @@ number_help = said (codes "at most 1024 groups and 16384 host rows, where a host
 unfoldable pub memory_help : List Text
 memory_help = said (codes "memory was refused")
 
--- by the fault, and by what stands in the document; of groups of one name only the form of the line is given
+unfoldable pub twice_rule_help : List Text
+twice_rule_help = said (codes "a group stands once: take one of its places out, or give each a name of its own")
+
+-- two places, and what to do about them
+abbrev pub IsTwiceHelp : Text → Type 0
+IsTwiceHelp line = (line ≡ line_of twice_rule_help) ⊎ ((first second : Text) × (line ≡ line_of (twice_help first second)))
+
+abbrev pub NamesPlaces : {E : Type 0} → Result (String Global) E → Type 0
+NamesPlaces result = IfOk result (λ line. IsTwiceHelp (string_bytes line))
+
+abbrev pub NamesTwice : {E : Type 0} → ReadFault → Result (String Global) E → Type 0
+NamesTwice NotJson result = ⊤
+NamesTwice (BadShape at) result = ⊤
+NamesTwice (UnknownKey at) result = ⊤
+NamesTwice (BadLimit at) result = ⊤
+NamesTwice (BadDown at) result = ⊤
+NamesTwice (BadName name) result = ⊤
+NamesTwice (TwicePlaced group) result = NamesPlaces result
+NamesTwice TooDeep result = ⊤
+NamesTwice TooMany result = ⊤
+NamesTwice Memory result = ⊤
+
+-- by the fault, and by what stands in the document; of groups of one name the line is given but for the places that it names
 abbrev pub read_help : ReadFault → Document → Option (List Text)
 read_help NotJson document = Some (text_help document)
 read_help (BadShape at) document = Some (group_help document (string_bytes at))

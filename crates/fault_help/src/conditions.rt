@@ -1,5 +1,8 @@
 //! The second line on conditions and words of a step.
-ghost use Rattle.help_lines.specs.Lines.{IsHelpLine};
+ghost use Rattle.std.specs.Prelude.{IfSome, IsTrue};
+ghost use Rattle.cond.specs.Conditions.{Breaks};
+ghost use Rattle.help_lines.specs.Lines.{IsHelpLine, IsLine};
+ghost use Rattle.fault_help.specs.ConditionHelps as spec;
 
 use crate::inventory::memory_help;
 use crate::words::word_with_braces;
@@ -31,24 +34,56 @@ pub(crate) fn condition_help(
     key: ConditionKey,
     fault: CondFault,
 ) -> Result<String, AllocError>
-    ensures { IsHelpLine result }
+    ensures help { IsHelpLine result }
+    ensures condition { spec.TellsCondition fault result }
 {
     match fault {
-        CondFault::BadToken { at } | CondFault::Unexpected { at } => {
-            match condition_at(top, number, key) {
-                Some(value) => place_help(alloc, value, fault, at),
-                None => rule_help(alloc),
-            }
+        CondFault::BadToken { at } => {
+            place_help_at(alloc, condition_at(top, number, key), fault, at)
         }
-        CondFault::TooDeep { .. } => tell(
-            alloc,
-            "at most 32 brackets and not within each other; a list under the key is joined by and",
-        ),
-        CondFault::TooLong { .. } => tell(
-            alloc,
-            "a condition has at most 4096 bytes; a list under the key is joined by and",
-        ),
+        CondFault::Unexpected { at } => {
+            place_help_at(alloc, condition_at(top, number, key), fault, at)
+        }
+        CondFault::TooDeep { .. } => brackets_help(alloc),
+        CondFault::TooLong { .. } => long_help(alloc),
         CondFault::Memory => memory_help(alloc),
+    }
+}
+
+#[tactic(auto, unfolding(crate::specs::ConditionHelps::brackets_help))]
+fn brackets_help(alloc: Global) -> Result<String, AllocError>
+    ensures line { IsLine result spec.brackets_help }
+    ensures help { IsHelpLine result }
+{
+    tell(
+        alloc,
+        "at most 32 brackets and not within each other; a list under the key is joined by and",
+    )
+}
+
+#[tactic(auto, unfolding(crate::specs::ConditionHelps::long_help))]
+fn long_help(alloc: Global) -> Result<String, AllocError>
+    ensures line { IsLine result spec.long_help }
+    ensures help { IsHelpLine result }
+{
+    tell(
+        alloc,
+        "a condition has at most 4096 bytes; a list under the key is joined by and",
+    )
+}
+
+fn place_help_at(
+    alloc: Global,
+    value: Option<&Value>,
+    fault: CondFault,
+    at: usize,
+) -> Result<String, AllocError>
+    ensures help { IsHelpLine result }
+    ensures place { spec.PlacesFault fault at result }
+{
+    match value {
+        Some(value) => help_on_list(alloc, value, fault, at),
+        None => rule_help(alloc, fault, at),
     }
 }
 
@@ -63,33 +98,68 @@ fn condition_at<'a>(
 
 /// The fault doesn't say which condition of a list it means: where several have it, the first is shown, and how many they
 /// are.
-fn place_help(
+fn help_on_list(
     alloc: Global,
     value: &Value,
     fault: CondFault,
     at: usize,
 ) -> Result<String, AllocError>
-    ensures { IsHelpLine result }
+    ensures help { IsHelpLine result }
+    ensures place { spec.PlacesFault fault at result }
 {
     let conditions = listed(value);
     match first_with(alloc, conditions, fault) {
-        Some(text) => tell_place(alloc, text, at, count_with(alloc, conditions, fault)),
-        None => rule_help(alloc),
+        Some(text) => tell_place(alloc, text, fault, at, count_with(alloc, conditions, fault)),
+        None => rule_help(alloc, fault, at),
     }
 }
 
-fn tell_place(alloc: Global, text: &str, at: usize, count: usize) -> Result<String, AllocError>
-    ensures { IsHelpLine result }
+fn tell_place(
+    alloc: Global,
+    text: &str,
+    fault: CondFault,
+    at: usize,
+    count: usize,
+) -> Result<String, AllocError>
+    requires { Breaks fault text.now }
+    ensures help { IsHelpLine result }
+    ensures place { spec.PlacesFault fault at result }
 {
     if count > 1 {
-        help_in_list(alloc, text.as_bytes(), at, count)
+        tell_one_of(alloc, text, fault, at, count)
     } else {
-        help_at(alloc, text.as_bytes(), at)
+        tell_alone(alloc, text, fault, at)
     }
 }
 
-fn rule_help(alloc: Global) -> Result<String, AllocError>
-    ensures { IsHelpLine result }
+#[tactic(auto, using(crate::proofs::NameLemmas::shown_alone))]
+fn tell_alone(alloc: Global, text: &str, fault: CondFault, at: usize) -> Result<String, AllocError>
+    requires { Breaks fault text.now }
+    ensures help { IsHelpLine result }
+    ensures place { spec.PlacesFault fault at result }
+{
+    help_at(alloc, text.as_bytes(), at)
+}
+
+#[tactic(auto, using(crate::proofs::NameLemmas::shown_in_list))]
+fn tell_one_of(
+    alloc: Global,
+    text: &str,
+    fault: CondFault,
+    at: usize,
+    count: usize,
+) -> Result<String, AllocError>
+    requires { Breaks fault text.now }
+    ensures help { IsHelpLine result }
+    ensures place { spec.PlacesFault fault at result }
+{
+    help_in_list(alloc, text.as_bytes(), at, count)
+}
+
+#[tactic(auto, using(crate::proofs::NameLemmas::conditions_told), unfolding(crate::specs::ConditionHelps::condition_rule_help))]
+fn rule_help(alloc: Global, fault: CondFault, at: usize) -> Result<String, AllocError>
+    ensures help { IsHelpLine result }
+    ensures place { spec.PlacesFault fault at result }
 {
     tell(
         alloc,
@@ -98,7 +168,9 @@ fn rule_help(alloc: Global) -> Result<String, AllocError>
 }
 
 /// The first text that has this fault.
-fn first_with(alloc: Global, conditions: &[Value], fault: CondFault) -> Option<&str> {
+fn first_with(alloc: Global, conditions: &[Value], fault: CondFault) -> Option<&str>
+    ensures { IfSome result (λ text. Breaks fault text.now) }
+{
     for value in conditions {
         if let Some(text) = value.as_str() {
             if has_fault(alloc, text, fault) {
@@ -123,7 +195,9 @@ fn is_faulty(alloc: Global, value: &Value, fault: CondFault) -> bool {
     }
 }
 
-fn has_fault(alloc: Global, text: &str, fault: CondFault) -> bool {
+fn has_fault(alloc: Global, text: &str, fault: CondFault) -> bool
+    ensures { IsTrue result → Breaks fault text.now }
+{
     match parse(alloc, text) {
         Ok(_condition) => false,
         Err(other) => other == fault,
@@ -145,13 +219,13 @@ pub(crate) fn braces_help(
                 Piece::Said("in "),
                 Piece::Cut(word.as_bytes()),
                 Piece::Said(
-                    ": behind {{ stand a name or name.field and }}; no filters, {% or {#, and no ${#x}: let a script do it",
+                    ": behind {{ stand a name or name.field and }}; no filters (a default is a variable of all), {% or {#, and no ${#x}: let a script do it",
                 ),
             ],
         ),
         None => tell(
             alloc,
-            "behind {{ stand a name or name.field and }}; no filters, {% or {#, and no ${#x}: let a script do it",
+            "behind {{ stand a name or name.field and }}; no filters (a default is a variable of all), {% or {#, and no ${#x}: let a script do it",
         ),
     }
 }

@@ -1,5 +1,6 @@
 //! The second line on a group of which too many hosts are down.
 ghost use Rattle.help_lines.specs.Lines.{IsHelpLine};
+ghost use Rattle.fault_help.specs.FleetHelps.{NamesDown};
 
 use crate::groups::{body_of_all, children_of_all};
 use crate::rows::{HostRow, list_rows};
@@ -12,12 +13,14 @@ use std::collections::BTreeMap;
 const NAMED: usize = 3;
 
 /// The first hosts of the group that are down.
+#[tactic(auto, using(crate::proofs::NameLemmas::hosts_named))]
 pub(crate) fn down_help(
     alloc: Global,
     top: Option<&Value>,
     group: &str,
 ) -> Result<String, AllocError>
-    ensures { IsHelpLine result }
+    ensures help { IsHelpLine result }
+    ensures names { NamesDown group.now result }
 {
     let Some(top) = top else {
         return tell_down(alloc, group, "unknown");

@@ -16,7 +16,8 @@ pub fn fleet_help(
     fault: &FleetFault,
     document: &Document<'_>,
 ) -> Result<String, AllocError>
-    ensures { MatchOption (spec.fleet_help fault.now) (IsHelpLine result) (IsLine result) }
+    ensures line { MatchOption (spec.fleet_help fault.now) (IsHelpLine result) (IsLine result) }
+    ensures over { spec.NamesOver fault.now result }
 {
     match fault {
         FleetFault::TooManyHosts => hosts_help(alloc),

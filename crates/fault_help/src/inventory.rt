@@ -17,7 +17,8 @@ pub fn read_help(
     fault: &ReadFault,
     document: &Document<'_>,
 ) -> Result<String, AllocError>
-    ensures { MatchOption (spec.read_help fault.now document.now) (IsHelpLine result) (IsLine result) }
+    ensures line { MatchOption (spec.read_help fault.now document.now) (IsHelpLine result) (IsLine result) }
+    ensures twice { spec.NamesTwice fault.now result }
 {
     match fault {
         ReadFault::NotJson => text_help(alloc, document),
@@ -67,7 +68,7 @@ fn down_help(alloc: Global, document: &Document<'_>, at: &str) -> Result<String,
         alloc,
         document.top(),
         at,
-        "write true or false, without quotes",
+        "write true or false, without quotes; in INI down=True",
     )
 }
 

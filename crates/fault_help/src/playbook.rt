@@ -18,7 +18,8 @@ pub fn play_help(
     fault: &PlayFault,
     document: &Document<'_>,
 ) -> Result<String, AllocError>
-    ensures { MatchOption (spec.play_help fault.now document.now) (IsHelpLine result) (IsLine result) }
+    ensures line { MatchOption (spec.play_help fault.now document.now) (IsHelpLine result) (IsLine result) }
+    ensures condition { spec.ShowsCondition fault.now result }
 {
     match fault {
         PlayFault::NotJson => text_help(alloc, document),
@@ -68,7 +69,7 @@ fn serial_help(alloc: Global, document: &Document<'_>, at: &str) -> Result<Strin
         alloc,
         document.top(),
         at,
-        "a size is a whole number from 0 to 65535, or a text as \"30%\"; a list has 1 to 64 of them",
+        "a size is a whole number from 0 to 65535 without quotes, or a text as \"30%\"; a list has 1 to 64 of them",
     )
 }
 

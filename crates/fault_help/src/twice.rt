@@ -1,5 +1,6 @@
 //! The second line on two groups of one name.
 ghost use Rattle.help_lines.specs.Lines.{IsHelpLine};
+ghost use Rattle.fault_help.specs.ReadHelps.{NamesPlaces};
 
 use crate::groups::{Child, body_of_all, children_of_all};
 use crate::ways::{Sought, find_way};
@@ -13,7 +14,8 @@ pub(crate) fn twice_help(
     top: Option<&Value>,
     group: usize,
 ) -> Result<String, AllocError>
-    ensures { IsHelpLine result }
+    ensures help { IsHelpLine result }
+    ensures places { NamesPlaces result }
 {
     let Some(top) = top else {
         return tell_rule(alloc);
@@ -30,7 +32,8 @@ fn tell_pair(
     children: &[Child<'_>],
     group: usize,
 ) -> Result<String, AllocError>
-    ensures { IsHelpLine result }
+    ensures help { IsHelpLine result }
+    ensures places { NamesPlaces result }
 {
     let number = Sought::Number(group.saturating_sub(1));
     let Some(second) = find_way(alloc, all, children, number)? else {
@@ -45,16 +48,23 @@ fn tell_pair(
     tell_ways(alloc, first.as_slice(), second.as_slice())
 }
 
+#[tactic(auto, using(crate::proofs::NameLemmas::places_named))]
 fn tell_ways(alloc: Global, first: &[&str], second: &[&str]) -> Result<String, AllocError>
-    ensures { IsHelpLine result }
+    ensures help { IsHelpLine result }
+    ensures places { NamesPlaces result }
 {
     let first = first.join(alloc, "/children/")?;
     let second = second.join(alloc, "/children/")?;
     tell_twice(alloc, first.as_str(), second.as_str())
 }
 
+#[tactic(auto, using(crate::proofs::NameLemmas::rule_told), unfolding(crate::specs::ReadHelps::twice_rule_help))]
 fn tell_rule(alloc: Global) -> Result<String, AllocError>
-    ensures { IsHelpLine result }
+    ensures help { IsHelpLine result }
+    ensures places { NamesPlaces result }
 {
-    tell(alloc, "each group has a name of its own")
+    tell(
+        alloc,
+        "a group stands once: take one of its places out, or give each a name of its own",
+    )
 }

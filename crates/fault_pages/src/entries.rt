@@ -76,7 +76,8 @@ rollout: 102 TwicePlaced group=5
 ```
 
 `group=` is the place of the second group of that name, counted from 1 in the order in which groups are walked: here `all`, `eu`, `web`,
-`us`, `web`. Give the groups names of their own, as `web-eu` and `web-us`. A *host* may be listed by several groups.
+`us`, `web`. A group stands once, where Ansible takes one group below two parents: take one of the two out, or give each a name of its own, as `web-eu` and `web-us`. A *host* may be listed
+by several groups.
 ";
 
 const OF_103: &str = "\
@@ -114,7 +115,8 @@ rollout: 201 NotJson
 ```
 
 The text was cut off, or isn't JSON: no comma behind the last value, no comment, no byte order mark, no values nested more than 127 deep, no numbers past the largest float, UTF-8 alone.
-`python3 -m json.tool FILE` says where. Where a program made the text, look whether it failed. YAML has to be converted first.
+`python3 -m json.tool FILE` says where. Where a program made the text, look whether it failed. A byte order mark is taken away by `sed -i '1s/^\\xEF\\xBB\\xBF//' FILE`.
+YAML has to be converted first, and INI [by Ansible itself](FROM_ANSIBLE.md#bringing-an-inventory).
 ";
 
 const OF_202: &str = "\
@@ -217,7 +219,9 @@ $ echo '[{\"hosts\": \"web\", \"tasks\": [{\"command\": \"true\", \"failed_when\
 rollout: 502 Unexpected step=1 key=failed_when at=13
 ```
 
-`at=` is the byte of the condition where it goes wrong, from 0; where it ends too early, its length. [FORMATS.md](FORMATS.md#conditions) has the grammar; filters and arithmetic aren't in it.
+`at=` is the byte of the condition where it goes wrong, from 0; where it ends too early, its length. [FORMATS.md](FORMATS.md#conditions) has the grammar; braces, filters, lists, sizes and
+arithmetic aren't in it. [In the place of such a condition](FROM_ANSIBLE.md#you-wrote-write) stands the name alone, comparisons that are joined by `or`, or `r.rc == 0` of a step whose
+program judges, with `\"register\": \"r\"` and `\"failed_when\": false`.
 ";
 
 const OF_502: &str = "\
@@ -230,7 +234,9 @@ $ echo '[{\"hosts\": \"web\", \"tasks\": [{\"command\": \"true\", \"failed_when\
 rollout: 502 Unexpected step=1 key=failed_when at=13
 ```
 
-`at=` is the byte of the condition where it goes wrong, from 0; where it ends too early, its length. [FORMATS.md](FORMATS.md#conditions) has the grammar; filters and arithmetic aren't in it.
+`at=` is the byte of the condition where it goes wrong, from 0; where it ends too early, its length. [FORMATS.md](FORMATS.md#conditions) has the grammar; braces, filters, lists, sizes and
+arithmetic aren't in it. [In the place of such a condition](FROM_ANSIBLE.md#you-wrote-write) stands the name alone, comparisons that are joined by `or`, or `r.rc == 0` of a step whose
+program judges, with `\"register\": \"r\"` and `\"failed_when\": false`.
 ";
 
 const OF_503: &str = "\
@@ -316,7 +322,7 @@ $ echo '[{\"hosts\": \"web\", \"tasks\": [{\"command\": \"true\"}], \"handlers\"
 rollout: 705 TwiceHandler name=reload
 ```
 
-A task notifies handlers of its own play by their names, byte by byte.
+A task notifies handlers of its own play by their names, byte by byte, and not by `listen`. Of two handlers of one name Ansible took the last: keep that one, or give each its own.
 ";
 
 const OF_705: &str = "\
@@ -329,7 +335,7 @@ $ echo '[{\"hosts\": \"web\", \"tasks\": [{\"command\": \"true\"}], \"handlers\"
 rollout: 705 TwiceHandler name=reload
 ```
 
-A task notifies handlers of its own play by their names, byte by byte.
+A task notifies handlers of its own play by their names, byte by byte, and not by `listen`. Of two handlers of one name Ansible took the last: keep that one, or give each its own.
 ";
 
 const OF_706: &str = "\

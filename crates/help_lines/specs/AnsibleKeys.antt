@@ -1,13 +1,8 @@
 -- What stands in the place of keys that Ansible knows.
-use Rattle.std.specs.Prelude.{Bool, if◌then◌else◌, List, [], ◌∷◌, Option, Some, None, codes}
-use Rattle.std.specs.List.{list_any}
-use Rattle.std.specs.Str.{bytes_eq}
+use Rattle.std.specs.Prelude.{if◌then◌else◌, List, [], ◌∷◌, Option, Some, None, codes}
 use Rattle.std.specs.Option.{option_or}
+use Rattle.help_lines.specs.Modules.{advice_on_long, advice_on_module, is_one, short_key}
 use Rattle.help_lines.specs.Values.{Text}
-
--- the key is one of these
-abbrev pub is_one : List Text → Text → Bool
-is_one keys key = list_any (bytes_eq key) keys
 
 abbrev pub become_keys : List Text
 become_keys = codes "become" ∷ codes "become_user" ∷ codes "become_method" ∷ codes "become_flags" ∷ []
@@ -109,34 +104,10 @@ advice_on_whole key =
     if is_one facts_keys key then Some (codes "leave it out: a step is a `command` with all its words, and no facts are gathered") else (
     None))))))))
 
-abbrev pub shells_keys : List Text
-shells_keys = codes "shell" ∷ codes "raw" ∷ codes "script" ∷ []
-
-abbrev pub packages_keys : List Text
-packages_keys = codes "apt" ∷ codes "yum" ∷ codes "dnf" ∷ codes "package" ∷ codes "pip" ∷ codes "apt_repository" ∷ codes "apt_key" ∷ codes "rpm_key" ∷ []
-
-abbrev pub services_keys : List Text
-services_keys = codes "service" ∷ codes "systemd" ∷ codes "reboot" ∷ codes "user" ∷ codes "group" ∷ codes "cron" ∷ codes "mount" ∷ codes "sysctl" ∷ []
-
-abbrev pub files_keys : List Text
-files_keys = codes "copy" ∷ codes "template" ∷ codes "file" ∷ codes "lineinfile" ∷ codes "blockinfile" ∷ codes "stat" ∷ codes "fetch" ∷ codes "synchronize" ∷ []
-
-abbrev pub others_keys : List Text
-others_keys = codes "uri" ∷ codes "get_url" ∷ codes "git" ∷ codes "unarchive" ∷ codes "wait_for" ∷ codes "wait_for_connection" ∷ codes "debug" ∷ codes "pause" ∷ []
-
-abbrev pub checks_keys : List Text
-checks_keys = codes "assert" ∷ codes "fail" ∷ codes "ping" ∷ codes "slurp" ∷ codes "find" ∷ codes "replace" ∷ codes "docker_container" ∷ codes "k8s" ∷ []
-
-unfoldable pub advice_on_module : Text → Option Text
-advice_on_module key =
-    if is_one shells_keys key then Some (codes "write \"command\": {\"argv\": [\"sh\", \"-c\", \"..\"]}, and for a shell of the host \"ssh\", \"--\", \"{{ inventory_hostname }}\", \"..\"") else (
-    if is_one packages_keys key then Some (codes "modules are not taken: write a `command` whose program does it, on a host by ssh") else (
-    if is_one services_keys key then Some (codes "modules are not taken: write a `command` whose program does it, on a host by ssh") else (
-    if is_one files_keys key then Some (codes "modules are not taken: write a `command` whose program does it, on a host by ssh") else (
-    if is_one others_keys key then Some (codes "modules are not taken: write a `command` whose program does it, on a host by ssh") else (
-    if is_one checks_keys key then Some (codes "modules are not taken: write a `command` whose program does it, on a host by ssh") else (
-    None))))))
-
 -- the first that there is
+abbrev pub advice_on_short : Text → Option Text
+advice_on_short key = option_or (advice_on_place key) (option_or (advice_on_order key) (option_or (advice_on_whole key) (advice_on_module key)))
+
+-- of a long name what its last part is told
 abbrev pub advice_on : Text → Option Text
-advice_on key = option_or (advice_on_place key) (option_or (advice_on_order key) (option_or (advice_on_whole key) (advice_on_module key)))
+advice_on key = option_or (advice_on_short (short_key key)) (advice_on_long key)

@@ -1,45 +1,19 @@
 -- What to write where a condition goes wrong.
-use Rattle.std.specs.Prelude.{ℕ, ◌-◌, Bool, if◌then◌else◌, List, [], ◌∷◌, length, min, take, drop, nat_eq, codes, decimal}
-use Rattle.std.specs.List.{starts_with}
+use Rattle.std.specs.Prelude.{ℕ, ◌-◌, List, [], ◌∷◌, length, min, take, drop, codes, decimal}
+use Rattle.help_lines.specs.Advice.{first_said}
+use Rattle.help_lines.specs.Filters.{advice_on_pipe}
+use Rattle.help_lines.specs.Lookups.{advice_on_lookups}
+use Rattle.help_lines.specs.Questions.{advice_on_words}
+use Rattle.help_lines.specs.Signs.{advice_on_signs}
 use Rattle.help_lines.specs.Values.{Text, cut}
 
-abbrev pub begins : Text → Text → Bool
-begins front text = starts_with nat_eq text front
-
--- by what stands where it goes wrong: joining words, then comparisons, then tests
-unfoldable pub advice_on_joint : Text → Text
-advice_on_joint rest =
-    if begins (codes "&&") rest then codes "; write and" else (
-    if begins (codes "||") rest then codes "; write or" else (
-    if begins (codes "|") rest then codes "; there are no filters: leave it out, or let a program say it by its return code" else (
-    if begins (codes "!") rest then codes "; write not" else [])))
-
-unfoldable pub advice_on_comparison : Text → Text
-advice_on_comparison rest =
-    if begins (codes "=") rest then codes "; write ==" else (
-    if begins (codes "<") rest then codes "; sizes are not compared: let a step do it, as test 5 -lt 90 with register and failed_when: false, and ask for its .rc == 0" else (
-    if begins (codes ">") rest then codes "; sizes are not compared: let a step do it, as test 95 -gt 90 with register and failed_when: false, and ask for its .rc == 0" else (
-    if begins (codes "[") rest then codes "; there are no lists: write tier == 'web' or tier == 'db'" else [])))
-
-unfoldable pub advice_on_test : Text → Text
-advice_on_test rest =
-    if begins (codes "in ") rest then codes "; only a text stands before in, and group_names behind it: write tier == 'web' or tier == 'db'" else (
-    if begins (codes "not in ") rest then codes "; only a text stands before in, and group_names behind it: write tier != 'web' and tier != 'db'" else (
-    if begins (codes "success") rest then codes "; write succeeded" else (
-    if begins (codes "change") rest then codes "; write changed" else (
-    if begins (codes "skip") rest then codes "; write skipped" else (
-    if begins (codes "fail") rest then codes "; write failed" else (
-    if begins (codes "match") rest then codes "; there are no patterns: compare with ==, or let a program say it by its return code" else []))))))
-
-abbrev pub first_said : Text → Text → Text
-first_said [] other = other
-first_said (byte ∷ bytes) other = byte ∷ bytes
-
-unfoldable pub advice_on_rest : Text → Text
-advice_on_rest rest = first_said (advice_on_joint rest) (first_said (advice_on_comparison rest) (advice_on_test rest))
+-- by what stands before the place where it goes wrong, and from it on
+unfoldable pub advice_on : Text → Text → Text
+advice_on front rest =
+    first_said (advice_on_signs front rest) (first_said (advice_on_pipe rest) (first_said (advice_on_lookups front rest) (advice_on_words front rest)))
 
 unfoldable pub advice_at : ℕ → Text → Text
-advice_at at text = advice_on_rest (drop at text)
+advice_at at text = advice_on (take at text) (drop at text)
 
 -- the last 40 bytes before the place, and the first 40 from it on
 unfoldable pub shown_before : ℕ → Text → Text

@@ -4,7 +4,7 @@ use Rattle.help_lines.specs.Values.{Text, cut}
 
 unfoldable pub twice_help : Text → Text → List Text
 twice_help first second =
-    codes "at " ∷ cut first ∷ codes " and at " ∷ cut second ∷ codes ": give the two names of their own, as web-eu and web-us; a host may be listed by several groups" ∷ []
+    codes "at " ∷ cut first ∷ codes " and at " ∷ cut second ∷ codes ": a group stands once: take one of the two out, or give each a name of its own, as web-eu and web-us; a host may be listed by several groups" ∷ []
 
 -- two limited groups that cross
 unfoldable pub crossing_help : Text → Text → List Text

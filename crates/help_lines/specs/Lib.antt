@@ -1,8 +1,16 @@
 pub mod Values
 pub mod Lines
 pub mod Paths
+pub mod Blanks
+pub mod Ini
 pub mod Texts
+pub mod Modules
 pub mod AnsibleKeys
+pub mod Advice
+pub mod Signs
+pub mod Filters
+pub mod Lookups
+pub mod Questions
 pub mod Conditions
 pub mod Told
 pub mod Names

@@ -2,6 +2,7 @@
 use Rattle.std.specs.Prelude.{ℕ, ◌==◌, ◌||◌, not, if◌then◌else◌, Bool, List, [], ◌∷◌, Option, Some, None, codes, decimal, length, nat_lt}
 use Rattle.std.specs.List.{find, list_any}
 use Rattle.std.specs.Char.{is_ascii_alphanumeric}
+use Rattle.std.specs.Str.{bytes_eq}
 use Rattle.near_names.specs.Nearness.{nearest_of}
 use Rattle.help_lines.specs.Values.{Text, cut}
 use Rattle.help_lines.specs.Told.{said}
@@ -61,7 +62,10 @@ is_of_ansible byte = (((byte == 38 || byte == 33) || byte == 42) || byte == 91) 
 unfoldable pub pattern_rule_help : List Text
 pattern_rule_help = codes "there is no '&', '!', '*', '~', index or range in patterns; " ∷ pattern_rule ∷ []
 
+unfoldable pub localhost_help : List Text
+localhost_help = said (codes "no localhost is made, and programs run on this machine anyway, once for each host of the play; a play of one has a host that is listed")
+
 unfoldable pub pattern_help : Text → List Text → List Text
 pattern_help name names =
-    if list_any is_of_ansible name then pattern_rule_help else
-    nearest_help name names pattern_rule
+    if list_any is_of_ansible name then pattern_rule_help else (
+    if bytes_eq name (codes "localhost") then localhost_help else nearest_help name names pattern_rule)

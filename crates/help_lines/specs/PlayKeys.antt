@@ -1,6 +1,7 @@
 -- What is told of a key of a playbook that the format doesn't name.
 use Rattle.std.specs.Prelude.{if◌then◌else◌, List, [], ◌∷◌, Option, Some, None, codes}
-use Rattle.help_lines.specs.AnsibleKeys.{advice_on, is_one}
+use Rattle.help_lines.specs.AnsibleKeys.{advice_on}
+use Rattle.help_lines.specs.Modules.{is_one}
 use Rattle.help_lines.specs.Values.{Text, cut}
 use Rattle.help_lines.specs.Names.{nearest_help}
 use Rattle.help_lines.specs.Places.{Spot, whole_text, a_play, play_part, a_task, task_part, a_handler, handler_part, spot_of}
@@ -42,7 +43,7 @@ step_key_help key =
 
 unfoldable pub handler_key_help : Text → List Text
 handler_key_help key =
-    if is_one (codes "notify" ∷ []) key then with_key key (codes "tasks notify handlers, and handlers notify nothing") else step_key_help key
+    if is_one (codes "notify" ∷ []) key then with_key key (codes "handlers notify nothing: let the task notify both, which run in the order in which they are written") else step_key_help key
 
 unfoldable pub key_help_at : Spot → List Text
 key_help_at whole_text = said step_rule

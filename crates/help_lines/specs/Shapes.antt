@@ -1,11 +1,11 @@
 -- What is told of a part of a playbook that has another shape than the format asks for.
-use Rattle.std.specs.Prelude.{ℕ, Bool, ◌==◌, ◌||◌, if◌then◌else◌, List, Option, Some, None, is_some, option_and_then, length, codes}
+use Rattle.std.specs.Prelude.{ℕ, Bool, false, ◌==◌, ◌&&◌, ◌||◌, not, if◌then◌else◌, List, Option, Some, None, is_some, option_and_then, length, codes}
 use Rattle.std.specs.List.{list_all, list_any}
 use Rattle.std.specs.Str.{bytes_eq}
 use Rattle.serde_json.specs.Data.{Data}
-use Rattle.serde_json.specs.Find.{as_object, as_str}
+use Rattle.serde_json.specs.Find.{as_object, as_str, get}
 use Rattle.help_lines.specs.Paths.{found_at}
-use Rattle.help_lines.specs.Texts.{is_blank}
+use Rattle.help_lines.specs.Blanks.{is_blank}
 use Rattle.help_lines.specs.Values.{Text}
 use Rattle.help_lines.specs.Places.{Spot, whole_text, a_play, play_part, a_task, task_part, a_handler, handler_part, spot_of}
 use Rattle.help_lines.specs.Told.{said, value_help}
@@ -22,19 +22,52 @@ top_help document =
 abbrev pub is_quoting : ℕ → Bool
 is_quoting byte = (byte == 39 || byte == 34) || byte == 92
 
--- what a text that is no command holds: a quote, or no word, or else one of the parameters
+abbrev pub is_equals_sign : ℕ → Bool
+is_equals_sign byte = byte == 61
+
+abbrev pub command_rule : Text
+command_rule = codes "a command is a text, or an object with one key alone: {\"argv\": [\"echo\", \"it's\"]}, of texts and whole numbers, or {\"cmd\": \"echo yes\"}"
+
+-- what a text that is no command holds: a quote, or no word, or a parameter; a text may also stand where a list of words belongs
 unfoldable pub allowed_in_text : Text → Text
 allowed_in_text text =
     if list_any is_quoting text then codes "no quotes and no backslash are read there; write {\"argv\": [\"echo\", \"it's\"]}" else (
-    if list_all is_blank text then codes "it has no word; write the program and its arguments" else
-    codes "creates=, removes=, chdir= and stdin= are not taken; let the program do it, as {\"argv\": [\"sh\", \"-c\", \"cd /srv && ./migrate\"]}")
+    if list_all is_blank text then codes "it has no word; write the program and its arguments" else (
+    if list_any is_equals_sign text then codes "creates=, removes=, chdir= and stdin= are not taken; let the program do it, as {\"argv\": [\"sh\", \"-c\", \"cd /srv && ./migrate\"]}" else
+    command_rule))
 
 unfoldable pub allowed_by_text : Option Text → Text
 allowed_by_text (Some text) = allowed_in_text text
-allowed_by_text None = codes "a command is a text, or an object with one key alone: {\"argv\": [\"echo\", \"it's\"]}, of texts and whole numbers, or {\"cmd\": \"echo yes\"}"
+allowed_by_text None = command_rule
 
 unfoldable pub allowed_as_command : Option Data → Text
 allowed_as_command found = allowed_by_text (option_and_then as_str found)
+
+-- an object stands there, and it hasn't this key
+abbrev pub lacks : Text → Option Data → Bool
+lacks key None = false
+lacks key (Some value) = is_some (as_object value) && not (is_some (get key value))
+
+unfoldable pub allowed_as_play : Option Data → Text
+allowed_as_play found =
+    if lacks (codes "hosts") found && lacks (codes "tasks") found then codes "hosts and tasks are missing: a play is an object with hosts and tasks" else (
+    if lacks (codes "hosts") found then codes "hosts is missing: a play is an object with hosts and tasks" else (
+    if lacks (codes "tasks") found then codes "tasks is missing: a play is an object with hosts and tasks" else
+    codes "a play is an object with hosts and tasks"))
+
+abbrev pub lacks_command : Option Data → Bool
+lacks_command found = lacks (codes "command") found && lacks (codes "ansible.builtin.command") found
+
+unfoldable pub allowed_as_task : Option Data → Text
+allowed_as_task found =
+    if lacks_command found then codes "command is missing: a step is an object with exactly one of command and ansible.builtin.command" else codes "a step is an object with exactly one of command and ansible.builtin.command"
+
+unfoldable pub allowed_as_handler : Option Data → Text
+allowed_as_handler found =
+    if lacks (codes "name") found && lacks_command found then codes "name and command are missing: a handler is an object with a name and exactly one of command and ansible.builtin.command" else (
+    if lacks (codes "name") found then codes "name is missing: a handler is an object with a name and exactly one of command and ansible.builtin.command" else (
+    if lacks_command found then codes "command is missing: a handler is an object with a name and exactly one of command and ansible.builtin.command" else
+    codes "a handler is an object with a name and exactly one of command and ansible.builtin.command"))
 
 -- by the key of a play
 unfoldable pub allowed_in_play : Text → Text
@@ -64,11 +97,11 @@ allowed_in_step_of key found = if is_command_key key then allowed_as_command fou
 
 unfoldable pub allowed_at : Spot → Option Data → Text
 allowed_at whole_text found = playbook_rule
-allowed_at a_play found = codes "a play is an object with hosts and tasks"
+allowed_at a_play found = allowed_as_play found
 allowed_at (play_part key) found = allowed_in_play key
-allowed_at a_task found = codes "a step is an object with exactly one of command and ansible.builtin.command"
+allowed_at a_task found = allowed_as_task found
 allowed_at (task_part key) found = allowed_in_step_of key found
-allowed_at a_handler found = codes "a handler is an object with a name and exactly one of command and ansible.builtin.command"
+allowed_at a_handler found = allowed_as_handler found
 allowed_at (handler_part key) found = allowed_in_step_of key found
 
 unfoldable pub shape_help_in : Data → Text → List Text

@@ -2,14 +2,9 @@
 use Rattle.std.specs.Prelude.{ℕ, ◌==◌, ◌&&◌, ◌||◌, not, Bool, slice_index, if◌then◌else◌, List, [], ◌∷◌, drop, length, nat_lt, nat_eq, codes, decimal}
 use Rattle.std.specs.List.{list_any, prefix_len, starts_with}
 use Rattle.std.specs.Char.{is_ascii_digit, is_ascii_alphabetic}
+use Rattle.help_lines.specs.Ini.{is_like_ini}
+use Rattle.help_lines.specs.Blanks.{without_blanks}
 use Rattle.help_lines.specs.Values.{Text}
-
--- space, tab, line feed or carriage return
-abbrev pub is_blank : ℕ → Bool
-is_blank byte = ((byte == 32 || byte == 9) || byte == 10) || byte == 13
-
-abbrev pub without_blanks : Text → Text
-without_blanks text = drop (prefix_len is_blank text) text
 
 -- `{`, `[`, `"`, `-`, a digit, or the first letter of true, false or null
 abbrev pub may_begin_json : ℕ → Bool
@@ -38,13 +33,38 @@ is_like_yaml text =
 unfoldable pub empty_help : List Text
 empty_help = codes "the text is empty" ∷ []
 
+-- the sign that some editors put before a text in UTF-8
+abbrev pub begins_with_mark : Text → Bool
+begins_with_mark text = starts_with nat_eq text (239 ∷ 187 ∷ 191 ∷ [])
+
+unfoldable pub mark_help : List Text
+mark_help = codes "the text begins with a byte order mark: save it without one, or take it away with: sed -i '1s/^\\xEF\\xBB\\xBF//' FILE" ∷ []
+
+-- the same sign in UTF-16, of either order
+abbrev pub begins_as_wide : Text → Bool
+begins_as_wide text = starts_with nat_eq text (255 ∷ 254 ∷ []) || starts_with nat_eq text (254 ∷ 255 ∷ [])
+
+unfoldable pub wide_help : List Text
+wide_help = codes "the text is UTF-16: save it as UTF-8, or convert it with: iconv -f UTF-16 -t UTF-8 FILE > FILE.json" ∷ []
+
+unfoldable pub ini_help : List Text
+ini_help = codes "this looks like an inventory in INI; convert it with: ansible-inventory -i FILE --list --yaml --export | python3 -c 'import sys,yaml,json; json.dump(yaml.safe_load(sys.stdin),sys.stdout,default=str)' > FILE.json" ∷ []
+
 unfoldable pub yaml_help : List Text
-yaml_help = codes "this looks like YAML; convert it with: python3 -c 'import sys,yaml,json; json.dump(yaml.safe_load(sys.stdin),sys.stdout)' < FILE.yml" ∷ []
+yaml_help = codes "this looks like YAML; convert it with: python3 -c 'import sys,yaml,json; json.dump(yaml.safe_load(sys.stdin),sys.stdout,default=str)' < FILE.yml > FILE.json" ∷ []
 
 unfoldable pub break_help : ℕ → ℕ → List Text
 break_help line column = codes "it breaks off at line " ∷ decimal line ∷ codes ", column " ∷ decimal column ∷ []
 
+-- of a text without blanks in front, and the line and column at which it breaks off, from 1
+unfoldable pub form_help : Text → ℕ → ℕ → List Text
+form_help text line column =
+    if is_like_ini text then ini_help else (
+    if is_like_yaml text then yaml_help else break_help line column)
+
 -- what is told, by the text, and the line and column at which it breaks off, from 1
 unfoldable pub no_json_help : Text → ℕ → ℕ → List Text
 no_json_help text line column =
-    if length (without_blanks text) == 0 then empty_help else (if is_like_yaml (without_blanks text) then yaml_help else break_help line column)
+    if begins_with_mark text then mark_help else (
+    if begins_as_wide text then wide_help else (
+    if length (without_blanks text) == 0 then empty_help else form_help (without_blanks text) line column))

@@ -1,10 +1,22 @@
 //! What stands in the place of keys that Ansible knows.
 ghost use Rattle.std.specs.Prelude.{◌≡◌, option_map};
 ghost use Rattle.help_lines.specs.AnsibleKeys as spec;
+ghost use Rattle.help_lines.specs.Modules.{is_one};
+
+use crate::modules::{advice_on_long, advice_on_module, short_key};
 
 /// What to write in the place of a key that Ansible knows and that this program doesn't take.
 pub fn advice_on(key: &str) -> Option<&'static str>
     ensures { option_map (λ advice. advice.now) result ≡ spec.advice_on key.now }
+{
+    match advice_on_short(short_key(key)) {
+        Some(advice) => Some(advice),
+        None => advice_on_long(key),
+    }
+}
+
+fn advice_on_short(key: &str) -> Option<&'static str>
+    ensures { option_map (λ advice. advice.now) result ≡ spec.advice_on_short key.now }
 {
     if let Some(advice) = advice_on_place(key) {
         return Some(advice);
@@ -129,45 +141,8 @@ fn advice_on_whole(key: &str) -> Option<&'static str>
     None
 }
 
-#[tactic(auto, unfolding(crate::specs::AnsibleKeys::advice_on_module))]
-fn advice_on_module(key: &str) -> Option<&'static str>
-    ensures { option_map (λ advice. advice.now) result ≡ spec.advice_on_module key.now }
-{
-    if is_of_shells(key) {
-        return Some(
-            "write \"command\": {\"argv\": [\"sh\", \"-c\", \"..\"]}, and for a shell of the host \"ssh\", \"--\", \"{{ inventory_hostname }}\", \"..\"",
-        );
-    }
-    if is_of_packages(key) {
-        return Some(
-            "modules are not taken: write a `command` whose program does it, on a host by ssh",
-        );
-    }
-    if is_of_services(key) {
-        return Some(
-            "modules are not taken: write a `command` whose program does it, on a host by ssh",
-        );
-    }
-    if is_of_files(key) {
-        return Some(
-            "modules are not taken: write a `command` whose program does it, on a host by ssh",
-        );
-    }
-    if is_of_others(key) {
-        return Some(
-            "modules are not taken: write a `command` whose program does it, on a host by ssh",
-        );
-    }
-    if is_of_checks(key) {
-        return Some(
-            "modules are not taken: write a `command` whose program does it, on a host by ssh",
-        );
-    }
-    None
-}
-
 fn is_of_become(key: &str) -> bool
-    ensures { result ≡ spec.is_one spec.become_keys key.now }
+    ensures { result ≡ is_one spec.become_keys key.now }
 {
     matches!(
         key,
@@ -176,31 +151,31 @@ fn is_of_become(key: &str) -> bool
 }
 
 fn is_of_remote_user(key: &str) -> bool
-    ensures { result ≡ spec.is_one spec.remote_user_keys key.now }
+    ensures { result ≡ is_one spec.remote_user_keys key.now }
 {
     matches!(key, "remote_user" | "port")
 }
 
 fn is_of_delegation(key: &str) -> bool
-    ensures { result ≡ spec.is_one spec.delegation_keys key.now }
+    ensures { result ≡ is_one spec.delegation_keys key.now }
 {
     matches!(key, "delegate_to" | "delegate_facts")
 }
 
 fn is_of_local(key: &str) -> bool
-    ensures { result ≡ spec.is_one spec.local_keys key.now }
+    ensures { result ≡ is_one spec.local_keys key.now }
 {
     matches!(key, "local_action")
 }
 
 fn is_of_once(key: &str) -> bool
-    ensures { result ≡ spec.is_one spec.once_keys key.now }
+    ensures { result ≡ is_one spec.once_keys key.now }
 {
     matches!(key, "run_once")
 }
 
 fn is_of_variables(key: &str) -> bool
-    ensures { result ≡ spec.is_one spec.variables_keys key.now }
+    ensures { result ≡ is_one spec.variables_keys key.now }
 {
     matches!(
         key,
@@ -209,19 +184,19 @@ fn is_of_variables(key: &str) -> bool
 }
 
 fn is_of_environment(key: &str) -> bool
-    ensures { result ≡ spec.is_one spec.environment_keys key.now }
+    ensures { result ≡ is_one spec.environment_keys key.now }
 {
     matches!(key, "environment")
 }
 
 fn is_of_lists(key: &str) -> bool
-    ensures { result ≡ spec.is_one spec.lists_keys key.now }
+    ensures { result ≡ is_one spec.lists_keys key.now }
 {
     matches!(key, "pre_tasks" | "post_tasks")
 }
 
 fn is_of_roles(key: &str) -> bool
-    ensures { result ≡ spec.is_one spec.roles_keys key.now }
+    ensures { result ≡ is_one spec.roles_keys key.now }
 {
     matches!(
         key,
@@ -236,13 +211,13 @@ fn is_of_roles(key: &str) -> bool
 }
 
 fn is_of_blocks(key: &str) -> bool
-    ensures { result ≡ spec.is_one spec.blocks_keys key.now }
+    ensures { result ≡ is_one spec.blocks_keys key.now }
 {
     matches!(key, "block" | "rescue" | "always")
 }
 
 fn is_of_loops(key: &str) -> bool
-    ensures { result ≡ spec.is_one spec.loops_keys key.now }
+    ensures { result ≡ is_one spec.loops_keys key.now }
 {
     matches!(
         key,
@@ -251,135 +226,70 @@ fn is_of_loops(key: &str) -> bool
 }
 
 fn is_of_retries(key: &str) -> bool
-    ensures { result ≡ spec.is_one spec.retries_keys key.now }
+    ensures { result ≡ is_one spec.retries_keys key.now }
 {
     matches!(key, "until" | "retries" | "delay")
 }
 
 fn is_of_waits(key: &str) -> bool
-    ensures { result ≡ spec.is_one spec.waits_keys key.now }
+    ensures { result ≡ is_one spec.waits_keys key.now }
 {
     matches!(key, "async" | "poll" | "timeout")
 }
 
 fn is_of_flushes(key: &str) -> bool
-    ensures { result ≡ spec.is_one spec.flushes_keys key.now }
+    ensures { result ≡ is_one spec.flushes_keys key.now }
 {
     matches!(key, "meta")
 }
 
 fn is_of_strategies(key: &str) -> bool
-    ensures { result ≡ spec.is_one spec.strategies_keys key.now }
+    ensures { result ≡ is_one spec.strategies_keys key.now }
 {
     matches!(key, "strategy" | "order" | "throttle" | "forks")
 }
 
 fn is_of_fatal(key: &str) -> bool
-    ensures { result ≡ spec.is_one spec.fatal_keys key.now }
+    ensures { result ≡ is_one spec.fatal_keys key.now }
 {
     matches!(key, "any_errors_fatal")
 }
 
 fn is_of_unreachable(key: &str) -> bool
-    ensures { result ≡ spec.is_one spec.unreachable_keys key.now }
+    ensures { result ≡ is_one spec.unreachable_keys key.now }
 {
     matches!(key, "ignore_unreachable")
 }
 
 fn is_of_listeners(key: &str) -> bool
-    ensures { result ≡ spec.is_one spec.listeners_keys key.now }
+    ensures { result ≡ is_one spec.listeners_keys key.now }
 {
     matches!(key, "listen")
 }
 
 fn is_of_tags(key: &str) -> bool
-    ensures { result ≡ spec.is_one spec.tags_keys key.now }
+    ensures { result ≡ is_one spec.tags_keys key.now }
 {
     matches!(key, "tags")
 }
 
 fn is_of_trials(key: &str) -> bool
-    ensures { result ≡ spec.is_one spec.trials_keys key.now }
+    ensures { result ≡ is_one spec.trials_keys key.now }
 {
     matches!(key, "check_mode" | "diff")
 }
 
 fn is_of_secrecy(key: &str) -> bool
-    ensures { result ≡ spec.is_one spec.secrecy_keys key.now }
+    ensures { result ≡ is_one spec.secrecy_keys key.now }
 {
     matches!(key, "no_log")
 }
 
 fn is_of_facts(key: &str) -> bool
-    ensures { result ≡ spec.is_one spec.facts_keys key.now }
+    ensures { result ≡ is_one spec.facts_keys key.now }
 {
     matches!(
         key,
         "setup" | "gather_subset" | "module_defaults" | "collections"
-    )
-}
-
-fn is_of_shells(key: &str) -> bool
-    ensures { result ≡ spec.is_one spec.shells_keys key.now }
-{
-    matches!(key, "shell" | "raw" | "script")
-}
-
-fn is_of_packages(key: &str) -> bool
-    ensures { result ≡ spec.is_one spec.packages_keys key.now }
-{
-    matches!(
-        key,
-        "apt" | "yum" | "dnf" | "package" | "pip" | "apt_repository" | "apt_key" | "rpm_key"
-    )
-}
-
-fn is_of_services(key: &str) -> bool
-    ensures { result ≡ spec.is_one spec.services_keys key.now }
-{
-    matches!(
-        key,
-        "service" | "systemd" | "reboot" | "user" | "group" | "cron" | "mount" | "sysctl"
-    )
-}
-
-fn is_of_files(key: &str) -> bool
-    ensures { result ≡ spec.is_one spec.files_keys key.now }
-{
-    matches!(
-        key,
-        "copy"
-            | "template"
-            | "file"
-            | "lineinfile"
-            | "blockinfile"
-            | "stat"
-            | "fetch"
-            | "synchronize"
-    )
-}
-
-fn is_of_others(key: &str) -> bool
-    ensures { result ≡ spec.is_one spec.others_keys key.now }
-{
-    matches!(
-        key,
-        "uri"
-            | "get_url"
-            | "git"
-            | "unarchive"
-            | "wait_for"
-            | "wait_for_connection"
-            | "debug"
-            | "pause"
-    )
-}
-
-fn is_of_checks(key: &str) -> bool
-    ensures { result ≡ spec.is_one spec.checks_keys key.now }
-{
-    matches!(
-        key,
-        "assert" | "fail" | "ping" | "slurp" | "find" | "replace" | "docker_container" | "k8s"
     )
 }

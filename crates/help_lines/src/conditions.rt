@@ -1,11 +1,16 @@
 //! What to write where a condition goes wrong.
 ghost use Rattle.std.specs.Prelude.{◌≡◌, drop, take};
 ghost use Rattle.help_lines.specs.Conditions as spec;
-ghost use Rattle.help_lines.specs.Conditions.{advice_on_rest, place_help};
+ghost use Rattle.help_lines.specs.Conditions.{place_help};
 ghost use Rattle.help_lines.specs.Lines.{IsHelpLine, IsLine};
 
+use crate::advice::first_said;
+use crate::filters::advise_on_pipe;
 use crate::line::line_of;
+use crate::lookups::advise_on_lookups;
 use crate::piece::Piece;
+use crate::questions::advise_on_words;
+use crate::signs::advise_on_signs;
 use std::alloc::{AllocError, Global};
 
 // How much of a text is shown on each side of a place in it, in bytes.
@@ -89,77 +94,18 @@ fn shown_behind(text: &[u8], at: usize) -> &[u8]
 fn advice_at(text: &[u8], at: usize) -> &'static str
     ensures { result.now ≡ spec.advice_at at text.now }
 {
-    advise(cut_at(text, at).1)
+    let (front, rest) = cut_at(text, at);
+    advise(front, rest)
 }
 
-#[tactic(auto, unfolding(crate::specs::Conditions::advice_on_rest))]
-fn advise(rest: &[u8]) -> &'static str
-    ensures { result.now ≡ advice_on_rest rest.now }
+/// By what stands before the place, and from it on.
+#[tactic(auto, unfolding(crate::specs::Conditions::advice_on))]
+fn advise(front: &[u8], rest: &[u8]) -> &'static str
+    ensures { result.now ≡ spec.advice_on front.now rest.now }
 {
-    let joint = advise_on_joint(rest);
-    if !joint.is_empty() {
-        return joint;
-    }
-    let comparison = advise_on_comparison(rest);
-    if !comparison.is_empty() {
-        return comparison;
-    }
-    advise_on_test(rest)
-}
-
-#[tactic(auto, unfolding(crate::specs::Conditions::advice_on_joint))]
-fn advise_on_joint(rest: &[u8]) -> &'static str
-    ensures { result.now ≡ spec.advice_on_joint rest.now }
-{
-    if rest.starts_with(b"&&") {
-        "; write and"
-    } else if rest.starts_with(b"||") {
-        "; write or"
-    } else if rest.starts_with(b"|") {
-        "; there are no filters: leave it out, or let a program say it by its return code"
-    } else if rest.starts_with(b"!") {
-        "; write not"
-    } else {
-        ""
-    }
-}
-
-#[tactic(auto, unfolding(crate::specs::Conditions::advice_on_comparison))]
-fn advise_on_comparison(rest: &[u8]) -> &'static str
-    ensures { result.now ≡ spec.advice_on_comparison rest.now }
-{
-    if rest.starts_with(b"=") {
-        "; write =="
-    } else if rest.starts_with(b"<") {
-        "; sizes are not compared: let a step do it, as test 5 -lt 90 with register and failed_when: false, and ask for its .rc == 0"
-    } else if rest.starts_with(b">") {
-        "; sizes are not compared: let a step do it, as test 95 -gt 90 with register and failed_when: false, and ask for its .rc == 0"
-    } else if rest.starts_with(b"[") {
-        "; there are no lists: write tier == 'web' or tier == 'db'"
-    } else {
-        ""
-    }
-}
-
-#[tactic(auto, unfolding(crate::specs::Conditions::advice_on_test))]
-fn advise_on_test(rest: &[u8]) -> &'static str
-    ensures { result.now ≡ spec.advice_on_test rest.now }
-{
-    if rest.starts_with(b"in ") {
-        "; only a text stands before in, and group_names behind it: write tier == 'web' or tier == 'db'"
-    } else if rest.starts_with(b"not in ") {
-        "; only a text stands before in, and group_names behind it: write tier != 'web' and tier != 'db'"
-    } else if rest.starts_with(b"success") {
-        "; write succeeded"
-    } else if rest.starts_with(b"change") {
-        "; write changed"
-    } else if rest.starts_with(b"skip") {
-        "; write skipped"
-    } else if rest.starts_with(b"fail") {
-        "; write failed"
-    } else if rest.starts_with(b"match") {
-        "; there are no patterns: compare with ==, or let a program say it by its return code"
-    } else {
-        ""
-    }
+    let others = first_said(advise_on_lookups(front, rest), advise_on_words(front, rest));
+    first_said(
+        advise_on_signs(front, rest),
+        first_said(advise_on_pipe(rest), others),
+    )
 }

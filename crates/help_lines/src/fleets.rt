@@ -20,7 +20,7 @@ pub fn tell_twice<'t>(alloc: Global, first: &'t str, second: &'t str) -> Result<
             Piece::Said(" and at "),
             Piece::Cut(second.as_bytes()),
             Piece::Said(
-                ": give the two names of their own, as web-eu and web-us; a host may be listed by several groups",
+                ": a group stands once: take one of the two out, or give each a name of its own, as web-eu and web-us; a host may be listed by several groups",
             ),
         ],
     )

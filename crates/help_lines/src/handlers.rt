@@ -10,6 +10,9 @@ use std::alloc::{AllocError, Global};
 
 const RULE: &str = "a task notifies handlers of its own play, by their names, byte by byte";
 
+const TWICE_RULE: &str =
+    "handlers are notified by their names: keep one (Ansible took the last), or give each its own";
+
 /// The handler that was probably meant by this name, and the first task that notifies it where its play hasn't such a
 /// handler.
 pub fn no_handler_help(alloc: Global, top: Option<&Value>, name: &str) -> Result<String, AllocError>
@@ -22,9 +25,26 @@ pub fn no_handler_help(alloc: Global, top: Option<&Value>, name: &str) -> Result
     let Some((play, task)) = find_notifier(plays, name) else {
         return tell(alloc, RULE);
     };
-    let rule = format!(in alloc; "{play}/tasks/{task} notifies it; {RULE}")?;
-    let names = names_in(alloc, steps_in(&plays[play], "handlers"))?;
+    let handlers = steps_in(&plays[play], "handlers");
+    let why = why_missing(handlers, name);
+    let rule = format!(in alloc; "{play}/tasks/{task} notifies it{why}")?;
+    let names = names_in(alloc, handlers)?;
     tell_nearest(alloc, name, names.as_slice(), rule.as_str())
+}
+
+/// Why none of these handlers is notified by this name.
+fn why_missing(handlers: &[Value], name: &str) -> &'static str {
+    if handlers.is_empty() {
+        ", and its play has no handlers: a task notifies those of its own play, by their names"
+    } else if handlers.iter().any(|handler| listens(handler, name)) {
+        ", as a handler's listen: handlers are notified by their names alone, so let the task notify each by its name"
+    } else {
+        "; a task notifies handlers of its own play, by their names, byte by byte"
+    }
+}
+
+fn listens(handler: &Value, name: &str) -> bool {
+    holds_text(handler.get("listen"), name)
 }
 
 fn names_in<'a>(alloc: Global, handlers: &'a [Value]) -> Result<Vec<&'a str>, AllocError> {
@@ -69,9 +89,14 @@ fn is_named(handler: &Value, name: &str) -> bool {
 }
 
 fn notifies(task: &Value, name: &str) -> bool {
-    match task.get("notify") {
-        Some(Value::Array(list)) => list.iter().any(|value| is_text(value, name)),
-        Some(value) => is_text(value, name),
+    holds_text(task.get("notify"), name)
+}
+
+/// Whether this text stands there, alone or in a list.
+fn holds_text(value: Option<&Value>, text: &str) -> bool {
+    match value {
+        Some(Value::Array(list)) => list.iter().any(|value| is_text(value, text)),
+        Some(value) => is_text(value, text),
         None => false,
     }
 }
@@ -96,16 +121,13 @@ pub fn twice_handler_help(
         for play in 0..plays.len() {
             if let Some((first, second)) = find_pair(&plays[play], name) {
                 let line = format!(in alloc;
-                    "{play}/handlers/{first} and {play}/handlers/{second}: handlers are notified by their names, so give each its own"
+                    "{play}/handlers/{first} and {play}/handlers/{second}: {TWICE_RULE}"
                 )?;
                 return tell(alloc, line.as_str());
             }
         }
     }
-    tell(
-        alloc,
-        "handlers are notified by their names, so give each its own",
-    )
+    tell(alloc, TWICE_RULE)
 }
 
 fn find_pair(play: &Value, name: &str) -> Option<(usize, usize)> {

@@ -2,21 +2,32 @@
 //! conditions.
 #![tactic(auto)]
 
+mod advice;
 mod ansible_keys;
+mod blanks;
+mod commands;
 mod conditions;
 mod document;
+mod filters;
 mod fleets;
 mod groups;
 mod handlers;
+mod ini;
 mod laws;
 mod line;
+mod lookups;
+mod members;
+mod modules;
 mod names;
 mod path;
 mod patterns;
 mod piece;
 mod place;
+mod questions;
 mod shapes;
+mod signs;
 mod steps;
+mod texts;
 mod told;
 mod unknown_keys;
 mod value;
@@ -24,7 +35,7 @@ mod yaml;
 
 pub use ansible_keys::advice_on;
 pub use conditions::{help_at, help_in_list};
-pub use document::{Document, help_on_text};
+pub use document::Document;
 pub use fleets::{tell_crossing, tell_down, tell_twice};
 pub use groups::{group_key_help, group_shape_help};
 pub use handlers::{no_handler_help, twice_handler_help};
@@ -36,5 +47,6 @@ pub use patterns::tell_unknown_name;
 pub use piece::Piece;
 pub use shapes::shape_help;
 pub use steps::{step_at, steps_in};
+pub use texts::help_on_text;
 pub use told::{tell, tell_at, tell_value};
 pub use unknown_keys::unknown_key_help;

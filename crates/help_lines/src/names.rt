@@ -127,7 +127,8 @@ fn first_other(name: &[u8]) -> Option<u8>
     name.iter().copied().find(|byte| !is_name_byte(*byte))
 }
 
-fn is_name_byte(byte: u8) -> bool
+/// A letter or digit of ASCII, `.`, `-` or `_`.
+pub(crate) fn is_name_byte(byte: u8) -> bool
     ensures { result ≡ spec.is_name_byte byte }
 {
     byte.is_ascii_alphanumeric() || byte == b'.' || byte == b'-' || byte == b'_'

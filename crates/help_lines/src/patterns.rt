@@ -7,6 +7,7 @@ ghost use Rattle.help_lines.specs.Names as spec;
 use crate::line::line_of;
 use crate::names::tell_nearest;
 use crate::piece::Piece;
+use crate::told::tell;
 use std::alloc::{AllocError, Global};
 
 const PATTERN_RULE: &str = "a pattern is names of groups or hosts, joined by ':' or ','";
@@ -19,6 +20,9 @@ pub fn tell_unknown_name(alloc: Global, name: &str, names: &[&str]) -> Result<St
 {
     if is_of_ansible(name.as_bytes()) {
         return tell_rule(alloc);
+    }
+    if name == "localhost" {
+        return tell_localhost(alloc);
     }
     tell_nearest(alloc, name, names, PATTERN_RULE)
 }
@@ -33,6 +37,16 @@ fn tell_rule(alloc: Global) -> Result<String, AllocError>
             Piece::Said("there is no '&', '!', '*', '~', index or range in patterns; "),
             Piece::Said(PATTERN_RULE),
         ],
+    )
+}
+
+#[tactic(auto, unfolding(crate::specs::Names::localhost_help))]
+fn tell_localhost(alloc: Global) -> Result<String, AllocError>
+    ensures { IsLine result spec.localhost_help }
+{
+    tell(
+        alloc,
+        "no localhost is made, and programs run on this machine anyway, once for each host of the play; a play of one has a host that is listed",
     )
 }
 

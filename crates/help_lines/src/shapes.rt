@@ -1,17 +1,15 @@
 //! The second line on a part of a playbook that has another shape than the format asks for.
-ghost use Rattle.std.specs.Prelude.{◌≡◌, option_and_then, option_map};
-ghost use Rattle.std.specs.List.{list_all, list_any};
-ghost use Rattle.serde_json.specs.Find.{as_str};
+ghost use Rattle.std.specs.Prelude.{◌≡◌, option_map};
 ghost use Rattle.serde_json.specs.View.{view};
-ghost use Rattle.help_lines.specs.Texts.{is_blank};
 ghost use Rattle.help_lines.specs.Lines.{IsLine};
 ghost use Rattle.help_lines.specs.Places.{seen};
 ghost use Rattle.help_lines.specs.Shapes as spec;
 
+use crate::commands::allowed_as_command;
+use crate::members::{allowed_as_handler, allowed_as_play, allowed_as_task};
 use crate::path::find_at;
 use crate::place::{Place, place_of};
 use crate::told::{tell, tell_value};
-use crate::yaml::is_blank;
 use serde_json::Value;
 use std::alloc::{AllocError, Global};
 
@@ -53,15 +51,11 @@ fn allowed_at(place: Place<'_>, found: Option<&Value>) -> &'static str
 {
     match place {
         Place::Top => PLAYBOOK_RULE,
-        Place::Play => "a play is an object with hosts and tasks",
+        Place::Play => allowed_as_play(found),
         Place::PlayPart(key) => allowed_in_play(key),
-        Place::Task => {
-            "a step is an object with exactly one of command and ansible.builtin.command"
-        }
+        Place::Task => allowed_as_task(found),
         Place::TaskPart(key) => allowed_in_step_of(key, found),
-        Place::Handler => {
-            "a handler is an object with a name and exactly one of command and ansible.builtin.command"
-        }
+        Place::Handler => allowed_as_handler(found),
         Place::HandlerPart(key) => allowed_in_step_of(key, found),
     }
 }
@@ -110,57 +104,4 @@ fn allowed_in_step(key: &str) -> &'static str
         }
         _ => "a step is an object with exactly one of command and ansible.builtin.command",
     }
-}
-
-#[tactic(auto, unfolding(crate::specs::Shapes::allowed_as_command, crate::specs::Shapes::allowed_by_text))]
-fn allowed_as_command(found: Option<&Value>) -> &'static str
-    ensures { result.now ≡ spec.allowed_as_command (option_map (λ value. view value.now) found.entry) }
-{
-    match text_in(found) {
-        Some(text) => allowed_in_text(text.as_bytes()),
-        None => {
-            "a command is a text, or an object with one key alone: {\"argv\": [\"echo\", \"it's\"]}, of texts and whole numbers, or {\"cmd\": \"echo yes\"}"
-        }
-    }
-}
-
-fn text_in(found: Option<&Value>) -> Option<&str>
-    ensures { option_map (λ text. text.now) result ≡ option_and_then as_str (option_map (λ value. view value.now) found.entry) }
-{
-    match found {
-        Some(value) => value.as_str(),
-        None => None,
-    }
-}
-
-/// What a text that is no command holds: a quote, or no word, or else one of the parameters.
-#[tactic(auto, unfolding(crate::specs::Shapes::allowed_in_text))]
-fn allowed_in_text(text: &[u8]) -> &'static str
-    ensures { result.now ≡ spec.allowed_in_text text.now }
-{
-    if has_quoting(text) {
-        "no quotes and no backslash are read there; write {\"argv\": [\"echo\", \"it's\"]}"
-    } else if is_empty(text) {
-        "it has no word; write the program and its arguments"
-    } else {
-        "creates=, removes=, chdir= and stdin= are not taken; let the program do it, as {\"argv\": [\"sh\", \"-c\", \"cd /srv && ./migrate\"]}"
-    }
-}
-
-fn has_quoting(text: &[u8]) -> bool
-    ensures { result ≡ list_any spec.is_quoting text.now }
-{
-    text.iter().any(|byte| is_quoting(*byte))
-}
-
-fn is_quoting(byte: u8) -> bool
-    ensures { result ≡ spec.is_quoting byte }
-{
-    byte == b'\'' || byte == b'"' || byte == b'\\'
-}
-
-fn is_empty(text: &[u8]) -> bool
-    ensures { result ≡ list_all is_blank text.now }
-{
-    text.iter().all(|byte| is_blank(*byte))
 }

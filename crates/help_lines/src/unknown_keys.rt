@@ -1,6 +1,6 @@
 //! The second line on a key of a playbook that the format doesn't name.
 ghost use Rattle.std.specs.Prelude.{◌≡◌, map};
-ghost use Rattle.help_lines.specs.AnsibleKeys.{is_one};
+ghost use Rattle.help_lines.specs.Modules.{is_one};
 ghost use Rattle.help_lines.specs.Lines.{IsLine};
 ghost use Rattle.help_lines.specs.PlayKeys as spec;
 ghost use Rattle.help_lines.specs.Places.{seen};
@@ -95,7 +95,7 @@ fn handler_key_help(alloc: Global, key: &str) -> Result<String, AllocError>
         return tell_with_key(
             alloc,
             key,
-            "tasks notify handlers, and handlers notify nothing",
+            "handlers notify nothing: let the task notify both, which run in the order in which they are written",
         );
     }
     step_key_help(alloc, key)

@@ -3,27 +3,6 @@ ghost use Rattle.std.specs.Prelude.{◌≡◌};
 ghost use Rattle.std.specs.List.{prefix_len};
 ghost use Rattle.help_lines.specs.Texts as spec;
 
-/// The text without the blanks at its start.
-#[tactic(auto, using(crate::proofs::LineLemmas::front_within))]
-pub(crate) fn without_blanks(text: &[u8]) -> &[u8]
-    ensures { result.now ≡ spec.without_blanks text.now }
-{
-    text.split_at(count_blanks(text)).1
-}
-
-fn count_blanks(text: &[u8]) -> usize
-    ensures { result ≡ prefix_len spec.is_blank text.now }
-{
-    text.iter().take_while(|byte| is_blank(**byte)).count()
-}
-
-/// Space, tab, line feed or carriage return.
-pub(crate) fn is_blank(byte: u8) -> bool
-    ensures { result ≡ spec.is_blank byte }
-{
-    byte == b' ' || byte == b'\t' || byte == b'\n' || byte == b'\r'
-}
-
 /// Whether a text without blanks in front looks like YAML.
 pub(crate) fn is_like_yaml(text: &[u8]) -> bool
     ensures { result ≡ spec.is_like_yaml text.now }

@@ -1,0 +1,11 @@
+-- Blanks, and a text without those at its start.
+use Rattle.std.specs.Prelude.{ℕ, ◌==◌, ◌||◌, Bool, drop}
+use Rattle.std.specs.List.{prefix_len}
+use Rattle.help_lines.specs.Values.{Text}
+
+-- space, tab, line feed or carriage return
+abbrev pub is_blank : ℕ → Bool
+is_blank byte = ((byte == 32 || byte == 9) || byte == 10) || byte == 13
+
+abbrev pub without_blanks : Text → Text
+without_blanks text = drop (prefix_len is_blank text) text

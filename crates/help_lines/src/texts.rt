@@ -1,0 +1,129 @@
+//! The second line on a text that is no JSON.
+ghost use Rattle.std.specs.Prelude.{◌≡◌};
+ghost use Rattle.help_lines.specs.Lines.{IsLine};
+ghost use Rattle.help_lines.specs.Texts as spec;
+
+use crate::blanks::without_blanks;
+use crate::ini::is_like_ini;
+use crate::line::line_of;
+use crate::piece::Piece;
+use crate::told::tell;
+use crate::yaml::is_like_yaml;
+use std::alloc::{AllocError, Global};
+
+/// A line on a text that is no JSON: that it begins with a byte order mark, is UTF-16 or empty, that it looks like an
+/// inventory in INI or like YAML, and how each is converted, or the line and the column, each from 1, at which it breaks
+/// off. It fails for want of memory alone.
+#[tactic(auto, unfolding(crate::specs::Texts::no_json_help))]
+pub fn help_on_text(
+    alloc: Global,
+    text: &[u8],
+    line: usize,
+    column: usize,
+) -> Result<String, AllocError>
+    ensures { IsLine result (spec.no_json_help text.now line column) }
+{
+    if begins_with_mark(text) {
+        return tell_mark(alloc);
+    }
+    if begins_as_wide(text) {
+        return tell_wide(alloc);
+    }
+    let front = without_blanks(text);
+    if front.is_empty() {
+        return tell_empty(alloc);
+    }
+    help_on_form(alloc, front, line, column)
+}
+
+#[tactic(auto, unfolding(crate::specs::Texts::form_help))]
+fn help_on_form(
+    alloc: Global,
+    text: &[u8],
+    line: usize,
+    column: usize,
+) -> Result<String, AllocError>
+    ensures { IsLine result (spec.form_help text.now line column) }
+{
+    if is_like_ini(text) {
+        return tell_ini(alloc);
+    }
+    if is_like_yaml(text) {
+        return tell_yaml(alloc);
+    }
+    tell_break(alloc, line, column)
+}
+
+fn begins_with_mark(text: &[u8]) -> bool
+    ensures { result ≡ spec.begins_with_mark text.now }
+{
+    text.starts_with(b"\xEF\xBB\xBF")
+}
+
+fn begins_as_wide(text: &[u8]) -> bool
+    ensures { result ≡ spec.begins_as_wide text.now }
+{
+    text.starts_with(b"\xFF\xFE") || text.starts_with(b"\xFE\xFF")
+}
+
+#[tactic(auto, unfolding(crate::specs::Texts::mark_help))]
+fn tell_mark(alloc: Global) -> Result<String, AllocError>
+    ensures { IsLine result spec.mark_help }
+{
+    tell(
+        alloc,
+        "the text begins with a byte order mark: save it without one, or take it away with: sed -i '1s/^\\xEF\\xBB\\xBF//' FILE",
+    )
+}
+
+#[tactic(auto, unfolding(crate::specs::Texts::wide_help))]
+fn tell_wide(alloc: Global) -> Result<String, AllocError>
+    ensures { IsLine result spec.wide_help }
+{
+    tell(
+        alloc,
+        "the text is UTF-16: save it as UTF-8, or convert it with: iconv -f UTF-16 -t UTF-8 FILE > FILE.json",
+    )
+}
+
+#[tactic(auto, unfolding(crate::specs::Texts::empty_help))]
+fn tell_empty(alloc: Global) -> Result<String, AllocError>
+    ensures { IsLine result spec.empty_help }
+{
+    tell(alloc, "the text is empty")
+}
+
+#[tactic(auto, unfolding(crate::specs::Texts::ini_help))]
+fn tell_ini(alloc: Global) -> Result<String, AllocError>
+    ensures { IsLine result spec.ini_help }
+{
+    tell(
+        alloc,
+        "this looks like an inventory in INI; convert it with: ansible-inventory -i FILE --list --yaml --export | python3 -c 'import sys,yaml,json; json.dump(yaml.safe_load(sys.stdin),sys.stdout,default=str)' > FILE.json",
+    )
+}
+
+#[tactic(auto, unfolding(crate::specs::Texts::yaml_help))]
+fn tell_yaml(alloc: Global) -> Result<String, AllocError>
+    ensures { IsLine result spec.yaml_help }
+{
+    tell(
+        alloc,
+        "this looks like YAML; convert it with: python3 -c 'import sys,yaml,json; json.dump(yaml.safe_load(sys.stdin),sys.stdout,default=str)' < FILE.yml > FILE.json",
+    )
+}
+
+#[tactic(auto, unfolding(crate::specs::Texts::break_help))]
+fn tell_break(alloc: Global, line: usize, column: usize) -> Result<String, AllocError>
+    ensures { IsLine result (spec.break_help line column) }
+{
+    line_of(
+        alloc,
+        &[
+            Piece::Said("it breaks off at line "),
+            Piece::Number(line as u64),
+            Piece::Said(", column "),
+            Piece::Number(column as u64),
+        ],
+    )
+}
