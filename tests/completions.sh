@@ -11,7 +11,13 @@ make install "PREFIX=$work/installed" "PROGRAM=$rollout" >"$work/said" 2>&1 && p
 share=$work/installed/share
 mkdir -p "$work/here/sub" "$work/home/.local/share/fish/generated_completions" "$work/zsh"
 cd "$work/here" || exit 1
-touch inv.json play.json notes.txt course.svg 'two words.json' 'd$x.json' a@b.json -- -dash.json sub/deep.json
+touch play.json notes.txt course.svg 'd$x.json' a@b.json -- -dash.json
+cat >inv.json <<'JSON'
+{"all": {"vars": {"max_down": 2, "team": {"hosts": {"nobody": {"children": {"none": null}}}, "of": ["x", {"hosts": {"neither": 1}}]}},
+         "children": {"web": {"hosts": {"web1": {"down": true, "note": "\"hosts\": {\"not\": 1}"}, "web2": null}}, "store": {"hosts": {"d1": {"x": 1}, "web2": null}}}}}
+JSON
+cp inv.json 'two words.json'
+tr -d '\n' <inv.json >sub/deep.json
 
 # ---- what is typed, and what the screen shows then
 
@@ -56,6 +62,15 @@ all | rollout limits --from n<Tab> | rollout limits --from notes.txt _
 all | rollout plan --picture c<Tab> | rollout plan --picture course.svg _
 all | rollout plan --picture=c<Tab> | rollout plan --picture=course.svg _
 all | rollout plan --failing w<Tab> | rollout plan --failing w_
+all | rollout plan inv.json play.json --failing s<Tab> --cour<Tab> | rollout plan inv.json play.json --failing store --course _
+all | rollout plan inv.json play.json --failing web<Tab> | /web/web1/web2
+all | rollout plan inv.json play.json --failing <Tab> | /all/d1/store/web/web1/web2
+all | rollout plan inv.json --failing n<Tab> | rollout plan inv.json --failing n_
+all | rollout plan notes.txt --failing w<Tab> | rollout plan notes.txt --failing w_
+all | rollout run inv.json --mended=web1,d<Tab> p<Tab> | rollout run inv.json --mended=web1,d1 play.json _
+all | rollout rehearse "two words.json" --mended d<Tab> p<Tab> | rollout rehearse "two words.json" --mended d1 play.json _
+all | rollout limits two\ words.json --mended s<Tab> --j<Tab> | rollout limits two\ words.json --mended store --json _
+all | rollout plan sub/deep.json --mended web1,web2,w<Tab> p<Tab> | rollout plan sub/deep.json --mended web1,web2,web play.json _
 all | rollout plan --course --failing web1 inv.json p<Tab> | rollout plan --course --failing web1 inv.json play.json _
 all | rollout plan --color <Tab> | /always/auto/never
 all | rollout plan --color n<Tab>i<Tab> | rollout plan --color never inv.json _
@@ -95,7 +110,7 @@ all | rollout run inv.json > notes.txt p<Tab> | rollout run inv.json > notes.txt
 KEYS
 } >"$work/rows"
 # A few of them, where a shell is asked once more.
-grep '^all | rollout \(pl<\|run --journal=n\|explain 20\|lint --allow=no-hosts,sh\|limits tw\|run 2>\)' "$work/rows" >"$work/few"
+grep '^all | rollout \(pl<\|run --journal=n\|explain 20\|lint --allow=no-hosts,sh\|run inv.json --mended\|limits tw\|run 2>\)' "$work/rows" >"$work/few"
 
 # ---- each shell, all at once
 

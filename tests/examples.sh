@@ -285,8 +285,10 @@ for member in written:
     (key, value), = json.loads("{" + member + "}").items()
     groups = {"web": {"hosts": {"web1": None}}, **({key: value} if key == "vars" else {})}
     fleet = {"all": {"vars": groups.pop("vars", {}), "children": groups}}
-    step = {"command": "true", **({key: value} if key not in ("vars", "hosts", "tasks") else {})}
-    play = {"hosts": "web", "tasks": [step], **({key: value} if key in ("hosts", "tasks") else {})}
+    of_play = key in ("hosts", "tasks", "max_fail_percentage")
+    step = {"command": "true", **({key: value} if key != "vars" and not of_play else {})}
+    handlers = [{"name": name, "command": "true"} for name in value] if key == "notify" else []
+    play = {"hosts": "web", "tasks": [step], "handlers": handlers, **({key: value} if of_play else {})}
     for name, text in ("fleet", fleet), ("play", [play]):
         with open(f"{sys.argv[2]}/{name}.json", "w", encoding="utf-8") as file:
             json.dump(text, file)

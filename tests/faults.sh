@@ -20,19 +20,19 @@ without_help() {
 
 run lint "$inventory" "$playbook"
 without_help
-check 'faults of both files' 1 "$down$newline$when${newline}faults=2$newline" ''
+check 'faults of both files' 1 "$down$newline$when${newline}faults=2${newline}notes=0$newline" ''
 run lint "$inventory" "$playbook" --allow no-hosts,unknown-name
 without_help
-check 'kinds of notes that are switched off switch no fault off' 1 "$down$newline$when${newline}faults=2$newline" ''
+check 'kinds of notes that are switched off switch no fault off' 1 "$down$newline$when${newline}faults=2${newline}notes=0$newline" ''
 run lint "$inventory"
 without_help
-check 'the inventory alone' 1 "$down${newline}faults=1$newline" ''
+check 'the inventory alone' 1 "$down${newline}faults=1${newline}notes=0$newline" ''
 
 # A pipe is read once: lint helps all the same, and the others say nothing behind the fault.
 cat "$inventory" | "$rollout" lint /dev/stdin "$playbook" >"$work/out" 2>"$work/errors"
 status=$?
 without_help
-check 'an inventory from a pipe' 1 "$down$newline$when${newline}faults=2$newline" ''
+check 'an inventory from a pipe' 1 "$down$newline$when${newline}faults=2${newline}notes=0$newline" ''
 [ "$helped" -eq 2 ] && pass || fail "an inventory from a pipe: $helped lines help"
 cat "$inventory" | "$rollout" plan -v /dev/stdin "$playbook" >"$work/out" 2>"$work/errors"
 status=$?

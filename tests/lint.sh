@@ -34,17 +34,32 @@ noted_alone() {
     said "$1" "$3"
 }
 
-# told WHAT LINES: the last run told these faults, each with a line that helps behind it, and how many they are.
+# told WHAT LINES [NOTES]: the last run told these faults, each with a line that helps behind it, and how many they are; behind them these notes and how many they are, and nothing where none are given.
 told() {
     sed -i '/^rollout: /{n;/^  /d;}' "$work/out"
-    check "$1" 1 "$2${newline}faults=$(($(printf '%s' "$2" | wc -l) + 1))$newline" ''
+    lines="$2${newline}faults=$(($(printf '%s' "$2" | wc -l) + 1))$newline"
+    if [ $# -gt 2 ]; then
+        lines="$lines${3:+$3$newline}notes=$(($(printf '%s' "${3:+$3$newline}" | wc -l)))$newline"
+    fi
+    check "$1" 1 "$lines" ''
 }
 
-# refused WHAT INVENTORY PLAYBOOK LINES: the two texts have these faults, and nothing is noted.
+# refused WHAT INVENTORY PLAYBOOK LINES [NOTES]: the two texts have these faults, and these notes are made of what is kept of them.
 refused() {
     texts "$2" "$3"
     run lint "$inventory" "$playbook"
-    told "$1" "$4"
+    what=$1
+    shift 3
+    told "$what" "$@"
+}
+
+# refused_alone WHAT INVENTORY LINES [NOTES]: the same of an inventory alone.
+refused_alone() {
+    texts "$2" ''
+    run lint "$inventory"
+    what=$1
+    shift 2
+    told "$what" "$@"
 }
 
 # play TASKS [HANDLERS [HOSTS]]: a play of these steps, for all hosts if no others are named.
@@ -87,16 +102,44 @@ noted 'a field is one of the name before the dot; the first word has holes too' 
 unknown-name at=0/tasks/0 name=u
 unknown-name at=0/tasks/0 name=p
 unknown-name at=0/tasks/0 name=q'
-noted 'a name that is only mentioned is read, also behind what would decide it' "$one" "[$(play "$(task '"when":["m is defined and m","n is not defined","true or o is failed","false and p"]')")]" 'unknown-name at=0/tasks/0 name=m
-unknown-name at=0/tasks/0 name=n
-unknown-name at=0/tasks/0 name=o
-unknown-name at=0/tasks/0 name=p'
+# Guards: a name is told where a step may come to look it up, and on whom.
+noted 'a name under `is defined` is asked for by nobody' "$three" "[$(play "$(task '"when":"y is defined"'),$(task '"when":"y is not defined"'),$(task '"when":"not (y is defined)"'),$(task '"when":["w is defined","not (x is not defined) or true"]')")]" ''
+noted 'what it guards is not looked up where there is none' "$three" "[$(play "$(task '"when":"x is defined and x == 0"'),$(task '"when":["x is defined","x == 0"]'),$(task '"when":"not (x is not defined or x == 1)"'),$(task '"when":"x is not defined or x == 1"')")]" ''
+noted 'nor where nobody has any' "$three" "[$(play "$(task '"when":"y is defined and y == 1 and z"'),$(task '"when":["y is defined","z or y"]'),$(task '"when":"y is not defined or z"')")]" ''
+noted 'but where the guard is the other way round' "$three" "[$(play "$(task '"when":"x is not defined and x == 0"'),$(task '"when":"x is defined or x == 0"'),$(task '"when":["x is not defined","w == 0"]')")]" 'missing-name at=0/tasks/0 name=x hosts=2 of=3 host=a
+missing-name at=0/tasks/1 name=x hosts=2 of=3 host=a
+missing-name at=0/tasks/2 name=w hosts=1 of=3 host=a'
+noted 'another name behind `or` is looked up where the first is not there' "$three" "[$(play "$(task '"when":"x is defined or w == 1"'),$(task '"when":"w is defined or y == 1"'),$(task '"when":"y is defined or z == 1"')")]" 'missing-name at=0/tasks/0 name=w hosts=1 of=3 host=a
+missing-name at=0/tasks/1 name=y hosts=1 of=3 host=a
+unknown-name at=0/tasks/2 name=z'
+noted 'a guard behind it does not help' "$three" "[$(play "$(task '"when":"x == 0 and x is defined"'),$(task '"when":["x == 0","x is defined"]'),$(task '"when":"y or y is defined"')")]" 'missing-name at=0/tasks/0 name=x hosts=2 of=3 host=a
+missing-name at=0/tasks/1 name=x hosts=2 of=3 host=a
+unknown-name at=0/tasks/2 name=y'
+noted 'words are rendered where `when` may hold' "$three" "[$(play '{"command":"echo {{ x }} {{ w }} {{ y }}","when":"x is defined"},{"command":"echo {{ x }}","when":"x is not defined"},{"command":"echo {{ w }}","when":["w is defined",false]},{"command":"echo {{ y }}","when":"y is defined"}')]" 'missing-name at=0/tasks/0 name=y hosts=1 of=3 host=c
+missing-name at=0/tasks/1 name=x hosts=2 of=3 host=a'
+noted 'and so is what judges the end' "$three" "[$(play "$(task '"when":"x is defined","changed_when":"x == 0","failed_when":"y"'),$(task '"when":"w is not defined","changed_when":"x is defined and x","failed_when":["x is defined","y"]'),$(task '"changed_when":"x is defined and x == 0","failed_when":"x is not defined and w == 1"')")]" 'missing-name at=0/tasks/0 name=y hosts=1 of=3 host=c
+missing-name at=0/tasks/2 name=w hosts=1 of=3 host=a'
+noted 'behind what is known to decide nothing is looked up: truth values, values, groups, the name of the host' "$three" "[$(play "$(task '"when":"true or y"'),$(task '"when":"false and y"'),$(task '"when":["v == 2","y"]'),$(task '"when":"v == 1 or y"'),$(task '"when":"\"g\" in group_names and y"'),$(task '"when":"inventory_hostname != \"b\" or y"'),$(task '"when":"\"1\" == 1 or v and y"')")]" 'missing-name at=0/tasks/4 name=y hosts=1 of=3 host=c
+missing-name at=0/tasks/5 name=y hosts=1 of=3 host=b
+unknown-name at=0/tasks/6 name=y'
+noted 'a value that only some have decides for these alone' "$three" "[$(play "$(task '"when":"w == \"\" or y"'),$(task '"when":"w is defined and (w or y)"'),$(task '"when":"w is defined and (w == false or y)"')")]" 'missing-name at=0/tasks/0 name=w hosts=1 of=3 host=a
+missing-name at=0/tasks/0 name=y hosts=2 of=3 host=a
+missing-name at=0/tasks/1 name=y hosts=2 of=3 host=b
+missing-name at=0/tasks/2 name=y hosts=1 of=3 host=b'
+noted 'what may be so or not guards nothing: what a program says, and a result that may not be there' "$one" "[$(play "$(task '"register":"r","notify":"H"'),$(task '"when":"r.rc == 0 and y"'),$(task '"when":"r is failed or y"'),$(task '"when":"r is defined or y"'),$(task '"when":"r is not defined and y"'),$(task '"when":"r.stdout is defined or y"'),$(task '"when":"r.rc is defined or y"')" "$(task '"name":"H","register":"h"'),$(task '"name":"I","when":"h is defined and y"')")]" 'unknown-name at=0/tasks/1 name=y
+unknown-name at=0/tasks/2 name=y
+unknown-name at=0/tasks/6 name=y
+unknown-name at=0/handlers/1 name=y
+idle-handler at=0/handlers/1'
+noted 'a guard asks for the step'"'"'s own result where that is there' "$one" "[$(play '{"command":"echo {{ y }}","register":"r","when":"r is defined"},{"command":"true","register":"s","changed_when":"s is defined or y","failed_when":"s is not defined and y"}')]" ''
+noted 'where a name is looked up several times, once is enough' "$three" "[$(play '{"command":"echo {{ x }}","when":"x is defined or true"},{"command":"echo {{ x }}","when":"x is defined","failed_when":"x"},{"command":"true","when":"(x is defined and x) or x == 1"}')]" 'missing-name at=0/tasks/0 name=x hosts=2 of=3 host=a
+missing-name at=0/tasks/2 name=x hosts=2 of=3 host=a'
 noted 'texts, groups, numbers, truth values and the name of the host are no names' "$one" "[$(play '{"command":"echo {{ inventory_hostname }}","when":["\"u\" in group_names","inventory_hostname == \"u\"","inventory_hostname is defined","1 == 1 or True"]}')]" ''
 noted 'braces that close nothing, and what a variable holds, have no names' '{"all":{"vars":{"v":"{{ u }}"},"hosts":{"a":null}}}' "[$(play '{"command":"echo {{ v }} }} u {u}"}')]" ''
 
 # Registers.
 noted 'what an earlier step registers is there for those behind it, and not before' "$one" "[$(play "$(task '"when":"r"'),$(task '"register":"r"'),$(task '"when":"r is changed"')")]" 'unknown-name at=0/tasks/0 name=r'
-noted 'its own result a step has where it is judged, and not before' "$one" "[$(play '{"command":"echo {{ r.rc }}","register":"r","when":"r is defined","changed_when":"r.rc == 1","failed_when":"r.rc == 2"}')]" 'unknown-name at=0/tasks/0 name=r'
+noted 'its own result a step has where it is judged, and not before' "$one" "[$(play '{"command":"echo {{ r.rc }}","register":"r","changed_when":"r.rc == 1","failed_when":"r.rc == 2"}')]" 'unknown-name at=0/tasks/0 name=r'
 noted 'judged by its own result alone' "$one" "[$(play '{"command":"true","register":"r","changed_when":"q","failed_when":"r.rc == 2 or q or p"}')]" 'unknown-name at=0/tasks/0 name=q
 unknown-name at=0/tasks/0 name=p'
 noted 'a step that registers registers also where it may be skipped' "$three" "[$(play "$(task '"register":"r","when":"v"'),$(task '"when":"r is skipped"')")]" ''
@@ -367,7 +410,7 @@ unlisted 'a control character too' '?no-hosts' --allow "$(printf '\033no-hosts')
 unlisted 'several lists, joined' 'no-hosts,,all' --allow no-hosts --allow '' --allow=all
 unlisted 'what a list ends in stays' 'all,' --allow all,
 
-# Where a text has faults they are told, and nothing is noted then; more of them stand in tests/faults.sh.
+# Where a text has faults they are told; more of them stand in tests/faults.sh. Where no plays can be read groups and hosts are noted.
 run lint "$work/missing" "$work/other"
 check 'the inventory is read first' 1 '' "rollout: 902 File name=$work/missing$newline"
 run lint "$inventory" "$work/other"
@@ -376,22 +419,125 @@ run lint "$work/missing"
 check 'an inventory alone that is not there' 1 '' "rollout: 902 File name=$work/missing$newline"
 ok="[$(play '{"command":"true"}')]"
 refused 'an inventory that is no JSON, before the playbook' '{' '{' "rollout: 201 NotJson${newline}rollout: 701 NotJson"
-refused 'its walk' '{"g":{"host":null}}' '[]' "rollout: 203 UnknownKey at=g/host${newline}rollout: 702 BadShape at="
+refused 'its walk' '{"g":{"host":null}}' '[]' "rollout: 203 UnknownKey at=g/host${newline}rollout: 702 BadShape at=" ''
 refused 'its groups' '{"all":{"children":{"g":{"children":{"g":null}}}}}' '[]' "rollout: 102 TwicePlaced group=3${newline}rollout: 702 BadShape at="
-refused 'limits that cross' '{"f":{"vars":{"max_down":1},"hosts":{"a":null}},"g":{"vars":{"max_down":0},"hosts":{"a":null}}}' '[]' "rollout: 301 NotNested host=a first=f second=g${newline}rollout: 702 BadShape at="
-refused 'a limit that is passed at the start' '{"g":{"vars":{"max_down":0},"hosts":{"a":{"down":true}}}}' '[]' "rollout: 302 StartOver group=g down=1 limit=0${newline}rollout: 702 BadShape at="
-refused 'a playbook that is no JSON' "$one" '[' 'rollout: 701 NotJson'
-refused 'its shapes' "$one" '[]' 'rollout: 702 BadShape at='
-refused 'a handler that is not there' "$one" "[$(play '{"command":"echo ;","notify":"H"}')]" 'rollout: 704 NoSuchHandler name=H'
-refused 'a condition' "$one" "[$(play '{"command":"true","when":"rc > 0"}')]" 'rollout: 501 BadToken step=1 key=when at=3'
-refused 'braces' "$one" "[$(play '{"command":"echo {{ v | default(1) }}"}')]" 'rollout: 602 BadBraces step=1'
-refused 'the pattern of the last play, behind all of it' "$one" "[$(play '{"command":"echo ;"}'),$(play '{"command":"true"}' '' web)]" 'rollout: 304 NoSuchName name=web'
-texts '{"g":{"vars":{"max_down":0},"hosts":{"a":{"down":true}}}}' ''
-run lint "$inventory"
-told 'a fault of an inventory alone' 'rollout: 302 StartOver group=g down=1 limit=0'
+refused 'limits that cross' '{"f":{"vars":{"max_down":1},"hosts":{"a":null}},"g":{"vars":{"max_down":0},"hosts":{"a":null}}}' '[]' "rollout: 301 NotNested host=a first=f second=g${newline}rollout: 702 BadShape at=" ''
+refused 'a limit that is passed at the start' '{"g":{"vars":{"max_down":0},"hosts":{"a":{"down":true}}}}' '[]' "rollout: 302 StartOver group=g down=1 limit=0${newline}rollout: 702 BadShape at=" ''
+refused 'a playbook that is no JSON' "$one" '[' 'rollout: 701 NotJson' ''
+refused 'its shapes' '{"g":{"vars":{"max_down":0},"hosts":{"a":null,"A":null}}}' '[]' 'rollout: 702 BadShape at=' "zero-limit group=g members=2${newline}case-hosts host=A other=a"
+refused 'a handler that is not there' "$one" "[$(play '{"command":"echo ;","notify":"H"}')]" 'rollout: 704 NoSuchHandler name=H' 'shell-word at=0/tasks/0 word=;'
+refused 'a condition' "$one" "[$(play '{"command":"true","when":"rc > 0"}')]" 'rollout: 501 BadToken step=1 key=when at=3' ''
+refused 'braces' "$one" "[$(play '{"command":"echo {{ v | default(1) }}"}')]" 'rollout: 602 BadBraces step=1' ''
+refused 'the pattern of the last play, behind all of it' "$one" "[$(play '{"command":"echo ;"}'),$(play '{"command":"true"}' '' web)]" 'rollout: 304 NoSuchName name=web' ''
+refused_alone 'a fault of an inventory alone' '{"g":{"vars":{"max_down":0},"hosts":{"a":{"down":true}}}}' 'rollout: 302 StartOver group=g down=1 limit=0' ''
+# What is kept of texts with faults: limits that cross, names of patterns, and what is noted.
+echo_play() {
+    play "{\"command\":\"echo $1\"}" '' "${2:-all}"
+}
+crossing='{"f":{"vars":{"max_down":1},"hosts":{"a":null}},"g":{"vars":{"max_down":0},"hosts":{"a":null}}}'
+crossed='rollout: 301 NotNested host=a first=f second=g'
+refused 'limits that cross beside an unknown key' '{"f":{"vars":{"max_down":1},"hosts":{"a":null}},"g":{"vars":{"max_down":0},"hosts":{"a":null},"host":{}}}' "$ok" "rollout: 203 UnknownKey at=g/host$newline$crossed" ''
+refused 'a limit that is none crosses nothing' '{"f":{"vars":{"max_down":1},"hosts":{"a":null}},"g":{"vars":{"max_down":"all"},"hosts":{"a":null}},"h":{"vars":{"max_down":2},"hosts":{"a":null}}}' "$ok" \
+    "rollout: 204 BadLimit at=g/vars/max_down${newline}rollout: 301 NotNested host=a first=f second=h" ''
+refused 'a host whose name is none crosses nothing' '{"f":{"vars":{"max_down":1},"hosts":{"a b":null}},"g":{"vars":{"max_down":1},"hosts":{"a b":null}}}' "$ok" "rollout: 101 BadName name=a b${newline}rollout: 101 BadName name=a b" ''
+refused_alone 'limits that cross in an inventory alone, which is noted without limits' '{"f":{"vars":{"max_down":1,"maxdown":2},"hosts":{"a":null}},"g":{"vars":{"max_down":0},"hosts":{"a":null,"b":{"down":0}}}}' \
+    "rollout: 205 BadDown at=g/hosts/b/down$newline$crossed" 'near-key group=f name=maxdown'
+refused 'names are looked up where limits cross' "$crossing" "[$(echo_play '{{ v }}'),$(echo_play x 'g:h')]" "$crossed${newline}rollout: 304 NoSuchName name=h" ''
+refused 'and are noted there, though no limit is' "$crossing" "[$(echo_play '{{ v }}' g)]" "$crossed" 'unknown-name at=0/tasks/0 name=v'
+refused 'a group that starts over its limit, beside a host that is no object' '{"g":{"vars":{"max_down":0,"maxdown":1},"hosts":{"a":{"down":true},"b":7}}}' "[$(echo_play '{{ w }}' g)]" \
+    "rollout: 202 BadShape at=g/hosts/b${newline}rollout: 302 StartOver group=g down=1 limit=0" "near-key group=g name=maxdown${newline}unknown-name at=0/tasks/0 name=w"
+refused 'where a down is none its host is up' '{"g":{"vars":{"max_down":0},"hosts":{"a":{"down":"true"}}}}' "$ok" 'rollout: 205 BadDown at=g/hosts/a/down' 'zero-limit group=g members=1'
+refused 'where a name of a group stands twice no limit is looked at' '{"f":{"vars":{"max_down":1},"hosts":{"a":null}},"g":{"vars":{"max_down":0},"hosts":{"a":null},"children":{"f":null}}}' "[$(echo_play x web)]" 'rollout: 102 TwicePlaced group=4'
+python3 -c 'import json; print(json.dumps({"all": {"hosts": {f"h{place}": None for place in range(4097)}, "x": 1}}))' >"$work/hosts.json"
+texts '' "[$(echo_play '{{ v }}' nobody)]"
+run lint "$work/hosts.json" "$playbook"
+told 'of too many hosts no name is looked up' "rollout: 203 UnknownKey at=all/x${newline}rollout: 303 TooManyHosts"
+
+refused 'beside a name that is none groups and hosts are noted, and no step' '{"g":{"vars":{"maxdown":1},"hosts":{"a":null}}}' "[$(echo_play '{{ v }}' g),$(echo_play x web)]" 'rollout: 304 NoSuchName name=web' 'near-key group=g name=maxdown'
+refused 'a name that nothing has beside an unknown key' '{"web":{"hosts":{"a":null},"x":1}}' "[$(echo_play x 'web:wbe')]" "rollout: 203 UnknownKey at=web/x${newline}rollout: 304 NoSuchName name=wbe" ''
+refused 'behind the faults of the playbook, play by play' "$one" "[{\"hosts\":\"web,b\",\"roles\":1,\"tasks\":[{\"command\":\"true\"}]},$(echo_play x 'web:web'),$(play '{"shell":"x"}' '' a)]" \
+    "rollout: 703 UnknownKey at=0/roles${newline}rollout: 703 UnknownKey at=2/tasks/0/shell${newline}rollout: 702 BadShape at=2/tasks/0${newline}rollout: 304 NoSuchName name=web${newline}rollout: 304 NoSuchName name=b${newline}rollout: 304 NoSuchName name=web" ''
+refused 'behind the faults of both' '{"g":{"hosts":{"a":{"down":null}}}}' "[{\"hosts\":\"h\",\"serial\":-1,\"tasks\":[{\"command\":\"true\"}]}]" \
+    "rollout: 205 BadDown at=g/hosts/a/down${newline}rollout: 706 BadSerial at=0/serial${newline}rollout: 304 NoSuchName name=h" ''
+refused 'the pattern of a play without tasks is not looked up' "$one" '[{"hosts":"web","tasks":[]},{"hosts":"web"}]' "rollout: 702 BadShape at=0/tasks${newline}rollout: 702 BadShape at=1" ''
+refused 'nor is one of which a part is no text' "$one" '[{"hosts":["web",1],"tasks":[{"command":"echo ;"}]}]' 'rollout: 702 BadShape at=0/hosts/1' ''
+refused 'a group that is no object is there, without hosts' '{"web":["a"],"all":{"hosts":{"b":null}}}' "[$(echo_play x web),$(echo_play '{{ v }}' 'web:b')]" 'rollout: 202 BadShape at=web' 'unknown-name at=1/tasks/0 name=v'
+refused 'hosts that are no object are none' '{"web":{"hosts":["a"]}}' "[$(echo_play x 'web:a')]" "rollout: 202 BadShape at=web/hosts${newline}rollout: 304 NoSuchName name=a" ''
+refused 'what stands below a name that is none is not there' '{"we b":{"hosts":{"a":null}},"all":{"hosts":{"b":null}}}' "[$(echo_play x 'b:a')]" "rollout: 101 BadName name=we b${newline}rollout: 304 NoSuchName name=a" ''
+refused 'of what is no object at all nothing but all hosts' '[{"web":{}}]' "[$(echo_play x),$(echo_play x web)]" "rollout: 202 BadShape at=${newline}rollout: 304 NoSuchName name=web" ''
+refused 'and no host' 'null' "[$(echo_play '{{ v }}')]" 'rollout: 202 BadShape at=' ''
+
+refused 'a name beside an unknown key' "$three" '[{"hosts":"all","become":true,"tasks":[{"command":"echo {{ v }} {{ vv }} {{ x }}"}]}]' 'rollout: 703 UnknownKey at=0/become' "unknown-name at=0/tasks/0 name=vv
+missing-name at=0/tasks/0 name=x hosts=2 of=3 host=a"
+refused 'a step without a command registers all the same' "$one" "[$(play "{\"shell\":\"x {{ q }}\",\"register\":\"r\",\"when\":\"q\"},$(task '"when":"r.rc == 0 and rr.rc == 0"')")]" \
+    "rollout: 703 UnknownKey at=0/tasks/0/shell${newline}rollout: 702 BadShape at=0/tasks/0" 'unknown-name at=0/tasks/1 name=rr'
+refused 'of a step whose when is none nothing is looked up' "$one" "[$(play '{"command":"echo {{ y }} ;","when":["y is defined","z >"],"register":"q","failed_when":"z"},{"command":"echo {{ q.rc }} {{ p }}"}')]" \
+    'rollout: 501 BadToken step=1 key=when at=2' 'unknown-name at=0/tasks/1 name=p'
+refused 'nor of one whose when is of another kind' "$one" "[$(play '{"command":"echo {{ y }} ;","when":[true,7]},{"command":"echo ;","when":{"a":1}}')]" "rollout: 702 BadShape at=0/tasks/0/when/1${newline}rollout: 702 BadShape at=0/tasks/1/when" ''
+refused 'parts of changed_when and failed_when that can be read are' "$one" "[$(play "$(task '"changed_when":["z >","y"],"failed_when":"p >"'),$(task '"failed_when":[7,"p"]')")]" \
+    "rollout: 501 BadToken step=1 key=changed_when at=2${newline}rollout: 501 BadToken step=1 key=failed_when at=2${newline}rollout: 702 BadShape at=0/tasks/1/failed_when/0" "unknown-name at=0/tasks/0 name=y
+unknown-name at=0/tasks/1 name=p"
+refused 'a guard before a failed_when that is none' "$three" "[$(play '{"command":"echo {{ x }}","when":"x is defined","failed_when":"x >"}')]" 'rollout: 501 BadToken step=1 key=failed_when at=2' ''
+refused 'of a step whose words are none no condition is looked at' "$one" "[$(play "$(printf '{"command":"echo %sy%s","when":"y","failed_when":"y","register":"r"}' "'" "'"),{\"command\":\"echo {{ y }} {{ 1 }}\",\"when\":true},$(task '"when":"r.rc == 1"')")]" \
+    "rollout: 702 BadShape at=0/tasks/0/command${newline}rollout: 602 BadBraces step=2" ''
+refused 'nor of one with two commands' "$one" "[$(play '{"command":"echo {{ y }}","ansible.builtin.command":"echo ;","changed_when":"y"}')]" 'rollout: 702 BadShape at=0/tasks/0' ''
+refused 'a task that is no object keeps its place' "$one" "[$(play '"true",{"command":"echo {{ y }}"}')]" 'rollout: 702 BadShape at=0/tasks/0' 'unknown-name at=0/tasks/1 name=y'
+refused 'and so does a play' "$one" "[null,{\"hosts\":\"all\",\"tasks\":[]},$(echo_play '{{ y }}')]" "rollout: 702 BadShape at=0${newline}rollout: 702 BadShape at=1/tasks" 'unknown-name at=2/tasks/0 name=y'
+refused 'handlers stay up to one of a name that stood before' "$one" "[$(play "$(task '"notify":["H","I"]')" "{\"name\":\"H\",\"command\":\"echo {{ y }}\",\"register\":\"s\"},$(task '"name":"I","when":"s or q"'),{\"name\":\"H\",\"command\":\"echo {{ p }}\"},{\"name\":\"J\",\"command\":\"echo {{ p }}\"}")]" \
+    'rollout: 705 TwiceHandler name=H' "unknown-name at=0/handlers/0 name=y
+unknown-name at=0/handlers/1 name=q"
+refused 'or up to one without a name' "$one" "[$(play "$(task '"notify":["J","H"]'),{\"command\":\"true\",\"notify\":\"I\",\"when\":\"z\"}" '{"name":"H","command":"echo {{ y }}","notify":"H"},{"command":"echo {{ p }}"},{"name":"J","command":"echo {{ p }}"}')]" \
+    "rollout: 703 UnknownKey at=0/handlers/0/notify${newline}rollout: 702 BadShape at=0/handlers/1${newline}rollout: 704 NoSuchHandler name=I" "unknown-name at=0/tasks/1 name=z
+unknown-name at=0/handlers/0 name=y"
+refused 'handlers that are no list are none' "$one" '[{"hosts":"all","tasks":[{"command":"echo {{ y }}","notify":"H"}],"handlers":{"name":"H"}}]' 'rollout: 702 BadShape at=0/handlers' 'unknown-name at=0/tasks/0 name=y'
+refused 'what a step registers, ignores and is called, where that is none' "$one" "[$(play '{"command":"echo {{ y }}","register":"is","ignore_errors":"yes","name":1,"notify":{"H":1}},{"command":"echo {{ q }}","notify":["H",7]}' "$(task '"name":"H"')")]" \
+    "rollout: 702 BadShape at=0/tasks/0/name${newline}rollout: 702 BadShape at=0/tasks/0/register${newline}rollout: 702 BadShape at=0/tasks/0/ignore_errors${newline}rollout: 702 BadShape at=0/tasks/0/notify${newline}rollout: 702 BadShape at=0/tasks/1/notify/1" "unknown-name at=0/tasks/0 name=y
+unknown-name at=0/tasks/1 name=q"
+refused 'settings of a play that are none' "$one" '[{"hosts":"all","serial":[1,"x"],"max_fail_percentage":101,"on_blocked":"wait","tasks":[{"command":"echo {{ y }}"}]}]' \
+    "rollout: 706 BadSerial at=0/serial/1${newline}rollout: 707 BadPercent at=0/max_fail_percentage${newline}rollout: 702 BadShape at=0/on_blocked" 'unknown-name at=0/tasks/0 name=y'
+refused 'results of earlier plays with faults are there' "$one" "[{\"hosts\":\"all\",\"vars\":{},\"tasks\":[$(task '"register":"r"')],\"handlers\":[$(task '"name":"H","register":"s","x":1')]},$(play "$(task '"when":"r and s and t"')")]" \
+    "rollout: 703 UnknownKey at=0/vars${newline}rollout: 703 UnknownKey at=0/handlers/0/x" 'unknown-name at=1/tasks/0 name=t'
+
+refused 'the other variables of a host stay' '{"all":{"hosts":{"a":{"down":1,"v":1},"b":null,"c":[]}}}' "[$(echo_play '{{ v }}')]" "rollout: 205 BadDown at=all/hosts/a/down${newline}rollout: 202 BadShape at=all/hosts/c" 'missing-name at=0/tasks/0 name=v hosts=2 of=3 host=b'
+refused 'a host whose name is none is none of those who wait' '{"all":{"hosts":{"a b":{"v":1},"b":null,"c":{"v":1}}}}' "[$(echo_play '{{ v }}')]" 'rollout: 101 BadName name=a b' 'missing-name at=0/tasks/0 name=v hosts=1 of=2 host=b'
+refused 'the other variables of a group stay' '{"g":{"vars":{"max_down":-1,"v":1,"maxdown":1},"hosts":{"a":null}}}' "[$(echo_play '{{ v }} {{ max_down }}')]" 'rollout: 204 BadLimit at=g/vars/max_down' "near-key group=g name=maxdown
+unknown-name at=0/tasks/0 name=max_down"
+refused 'variables that are no object are none' '{"g":{"vars":["v"],"hosts":{"a":null}}}' "[$(echo_play '{{ v }}')]" 'rollout: 202 BadShape at=g/vars' 'unknown-name at=0/tasks/0 name=v'
+refused_alone 'notes on groups and hosts beside faults of an inventory alone' '{"g":{"vars":{"down":1,"max_down":"49%"},"hosts":{"a":null,"A":null,"b c":null}},"h":{"vars":{"max_down":0},"children":7}}' \
+    "rollout: 101 BadName name=b c${newline}rollout: 202 BadShape at=h/children" "zero-limit group=g members=2
+group-down group=g
+case-hosts host=A other=a"
+texts '{"e":{"vars":{"max_down":1}},"g":{"hosts":{"a":null,"b":null,"c":null,"d":{"down":true}}}}' \
+    "[{\"hosts\":\"g\",\"serial\":9,\"max_fail_percentage\":5,\"tasks\":[{\"command\":\"uptime\"},{\"command\":\"ssh {{ inventory_hostname }}\"}],\"handlers\":[{\"name\":\"H\",\"command\":\"ssh x\"}]},$(play "$(task '"when":"y"')" '' e)]"
+run lint "$inventory" "$playbook"
+said 'kinds of notes' 'empty-limit group=e
+down-hosts play=1 hosts=1 host=d
+idle-serial play=1 size=9 waiting=3
+one-failure play=1 percent=5 size=3
+local-step at=0/tasks/0 word=uptime
+idle-handler at=0/handlers/0
+no-hosts play=2'
+sed -i 's/"serial":9/"become":1,&/' "$playbook"
+run lint "$inventory" "$playbook"
+told 'that are not told beside a fault' 'rollout: 703 UnknownKey at=0/become' ''
+texts "$three" '[{"hosts":"all","become":true,"tasks":[{"command":"echo {{ vv }} ;"}]}]'
+run lint "$inventory" "$playbook" --allow unknown-name
+told 'kinds that are switched off aren'"'"'t either' 'rollout: 703 UnknownKey at=0/become' 'shell-word at=0/tasks/0 word=;'
+run lint "$inventory" "$playbook" --allow unknown-name,shell-word
+told 'and nothing is left' 'rollout: 703 UnknownKey at=0/become' ''
+for what in '708 [step] * 17' '709 [dict(step, tasks=step["tasks"] * 257)]'; do
+    python3 -c 'import json, sys; step = {"hosts": "all", "tasks": [{"command": "echo ;", "x": 1}]}; print(json.dumps(eval(sys.argv[1])))' "${what#* }" >"$playbook"
+    run lint "$inventory" "$playbook"
+    [ "$status" -eq 1 ] && [ "$(head -c 12 "$work/out")" = "rollout: ${what%% *}" ] && [ "$(tail -n 2 "$work/out")" = "faults=1${newline}notes=0" ] && pass || fail "beside ${what%% *} no step is noted: $(tail -n 2 "$work/out")"
+done
+python3 -c 'import json; print(json.dumps([{"hosts": "all", "tasks": [{"command": "echo ;", "x": 1}] * 101}]))' >"$playbook"
+run lint "$inventory" "$playbook"
+sed -i '/^rollout: /{n;/^  /d;}' "$work/out"
+[ "$status" -eq 1 ] && [ "$(grep -c '^rollout: 703' "$work/out")" -eq 100 ] && [ "$(sed -n '101,102p' "$work/out")" = "faults=101${newline}shell-word at=0/tasks/0 word=;" ] && [ "$(tail -n 1 "$work/out")" = notes=101 ] && pass || fail "notes behind a hundred faults: $(tail -n 1 "$work/out")"
+
 texts "$one" "$ok"
 run lint "$inventory" /dev/null
-told 'an empty playbook' 'rollout: 701 NotJson'
+told 'an empty playbook' 'rollout: 701 NotJson' ''
 texts "$one" "[$(play "{\"command\":\"touch $work/touched\"}")]"
 run lint "$inventory" "$playbook"
 said 'a program that nobody starts' ''

@@ -1,4 +1,4 @@
-"""Rows of files at the bounds, of limits that cross many times, and of a hundred faults and more."""
+"""Rows of files in other codings and at the bounds, of limits that cross many times, and of a hundred faults and more."""
 
 import json
 from itertools import combinations
@@ -24,6 +24,15 @@ def _play(tasks, **keys):
 
 TRUE = {"command": "true"}
 DEEP, MANY = ("103 TooDeep", "32"), ("104 TooMany", "1024", "16384")
+
+
+def _codings():
+    mark, wide = ["byte order mark", r"sed -i '1s/^\xEF\xBB\xBF//' FILE"], ["UTF-16", "iconv"]
+    for text in ('{"web": null}', "web:", "[web]", ""):
+        yield Row("a byte order mark before an inventory", inventory=text.encode("utf-8-sig"), faults=[("201 NotJson", mark)])
+        yield Row("a byte order mark before a playbook", playbook=text.encode("utf-8-sig"), faults=[("701 NotJson", mark)])
+    for order in ("utf-16-le", "utf-16-be"):
+        yield Row("an inventory in UTF-16", inventory='\ufeff{"web": null}'.encode(order), faults=[("201 NotJson", wide)])
 
 
 def _inventories():
@@ -72,10 +81,11 @@ def _playbooks():
         yield _row(f"{count} faults of a playbook", told, playbook=[_play([{**TRUE, "when": "a > 1"}] * count)])
     both = [(f"205 BadDown at=g/hosts/h{place:02}/down", "true") for place in range(60)] + [(f"702 BadShape at=0/tasks/{place}", "command") for place in range(60)]
     hosts = {f"h{place:02}": {"down": 1} for place in range(60)}
-    yield _row("a hundred of both files, of 120", both, {"g": {"hosts": hosts}}, [_play([None] * 60)])
+    both += [("304 NoSuchName name=web", "name")]
+    yield _row("a hundred of both files, of 121", both, {"g": {"hosts": hosts}}, [_play([None] * 60)])
     names = [f"n{place}" for place in range(120)]
     yield _row("names of patterns, of 120", [(f"304 NoSuchName name={name}", "name") for name in names], playbook=[{"hosts": names, "tasks": [TRUE]}])
 
 
 def bounds():
-    return [*_inventories(), *_playbooks()]
+    return [*_codings(), *_inventories(), *_playbooks()]

@@ -21,12 +21,14 @@ LONGEST_CALL = 300
 
 @dataclass
 class Row:
-    """Two texts, of which the second may be missing; and each fault of them, with what the line that helps has to have. Where `count` is more, just the first faults stand there."""
+    """Two texts, of which the second may be missing; each fault of them, with what the line that helps has to have; and steps that are written as such lines advise. Where `count` is more, just
+    the first faults stand there."""
 
     what: str
     inventory: bytes = FLEET.encode()
     playbook: bytes | None = None
     faults: list = field(default_factory=list)
+    advised: list = field(default_factory=list)
     count: int | None = None
 
 
@@ -44,6 +46,8 @@ def _read_row(lines):
             fault, *helps = text.split(" ~ ")
             # Where a condition goes wrong stands in its text.
             row.faults.append((fault, [*helps, *(["<here>"] if fault[:3] in ("501", "502") else [])]))
+        elif sign == "=":
+            row.advised.append(_playbook("T" if text.startswith("{") else "W", text))
         elif line[1:2] == "|":
             texts[sign] = texts.get(sign, "") + text + "\n"
         else:
@@ -67,16 +71,30 @@ def wrong(program, row, folder):
         path.write_bytes(text)
     lint = _call(program, "lint", *files)
     lines = lint.stdout.split("\n")
-    told, helps, counted = lines[0:-2:2], lines[1:-2:2], lines[-2:]
+    of_faults = [place for place, line in enumerate(lines) if line.startswith("faults=")][:1] or [len(lines)]
+    told, helps, counted = lines[0 : of_faults[0] : 2], lines[1 : of_faults[0] : 2], lines[of_faults[0] :]
     wanted = [f"rollout: {fault}" for fault, _ in row.faults[:MOST_TOLD]]
     found = [f"  {line}" for line in _lines_that_differ(wanted, told)]
-    if counted != [f"faults={row.count or len(row.faults)}", ""] or lint.returncode != 1 or lint.stderr:
+    # What may be noted behind the faults tests/lint.sh and the drawn cases show; here it is counted.
+    ends = [f"faults={row.count or len(row.faults)}", *([*counted[1:-2], f"notes={len(counted) - 3}"] if len(counted) > 2 else []), ""]
+    if counted != ends or lint.returncode != 1 or lint.stderr:
         found.append(f"it ends with {counted}, status {lint.returncode}, standard error {lint.stderr[:100]!r}")
     for (fault, wants), line in zip(row.faults, helps):
         if not re.fullmatch(r"  [!-~][ -~]{0,299}", line):
             found.append(f"{fault}: {line!r} is no line of two blanks and 1 to 300 bytes of printable ASCII")
         found += [f"{fault}: {want!r} isn't in {line!r}" for want in wants if want not in line]
+    for playbook in row.advised:
+        found += _refused(program, folder, playbook)
     return found + _of_first_alone(program, files, [*told, ""][0], [*helps, ""][0])
+
+
+def _refused(program, folder, playbook):
+    """What is written as advised is accepted."""
+    files = [Path(folder) / "fleet.json", Path(folder) / "advised.json"]
+    for path, text in zip(files, (FLEET, playbook)):
+        path.write_text(text)
+    said = _call(program, "plan", *files)
+    return [] if (said.returncode, said.stderr) == (0, "") else [f"what is advised is refused: {playbook}: {said.stderr}"]
 
 
 def _of_first_alone(program, files, line, helping):

@@ -6,7 +6,7 @@ from answers import Lines
 from checking import judged, read_batches
 from course import next_boundary
 from entries import digest
-from every import every_fault, fault_lines
+from every import every_fault, fault_lines, looked_at
 from expecting import number_in_plan, number_in_table, read_expectations, unmet
 from facts import accepted, coursed, gone_on, planned, plays_before, ran, status_of_plan, targeted, went_on
 from faults import Fault
@@ -15,7 +15,7 @@ from foreseen import foreseen_text
 from foretold import foretold
 from inventory import read_inventory
 from json_answers import Objects
-from linting import lint_lines, read_allowed
+from linting import lines_beside_faults, lint_lines, read_allowed
 from missing import first_missed
 from planning import start
 from plays import recaps, status_of
@@ -118,10 +118,12 @@ def check(inventory, playbook, text):
 
 
 def lint(inventory, playbook=None, allowed=()):
-    """Every fault of the inventory, and of the playbook where there is one; where there is none, what is accepted and probably not meant, but for kinds of notes that are allowed."""
+    """Every fault of the inventory, and of the playbook where there is one; behind them, or alone where there is none, what is accepted and probably not meant, but for kinds of notes that are
+    allowed."""
     faults = every_fault(inventory, playbook)
     if faults:
-        return Said("".join(fault_lines(faults)), "", 0 if turned("faults-make-status-one") else 1)
+        beside = [] if turned("notes-beside-faults") else lines_beside_faults(looked_at(inventory, playbook), allowed)
+        return Said("".join(fault_lines(faults)) + as_text(beside), "", 0 if turned("faults-make-status-one") else 1)
     fleet, plays, targets = (Fleet(read_inventory(inventory)), [], []) if playbook is None else accepted(inventory, playbook)
     lines, count = lint_lines(fleet, plays, targets, allowed)
     return Said(as_text([*lines, f"notes={count}"]), "", 1 if count and not turned("lint-notes-make-status-one") else 0)

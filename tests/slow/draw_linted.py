@@ -1,6 +1,6 @@
-"""Drawn inventories and plays of which `lint` has something to note: names that some hosts have, all or none; results that are read before and behind the step that registers them; handlers that
+"""Drawn inventories and plays of which `lint` has something to note: names that some hosts have, all or none, and some ask for behind a guard; results that are read before and behind the step that registers them; handlers that
 nobody notifies; words of a shell; groups of which no host may be down, and variables of groups that are nearly keys; hosts that are alike, or begin with a dash; programs here and elsewhere, words
-that are too long, and conditions that ask nothing."""
+that are too long, and conditions that ask nothing. And files with faults, of which what is kept has such notes."""
 
 from random import Random
 
@@ -8,6 +8,7 @@ from cases import INVENTORY, MISSING, PLAYBOOK, Case, names_in
 from draw_conditions import draw_condition
 from draw_inventory import draw_right as draw_right_inventory
 from draw_playbook import draw_right as draw_right_playbook
+from draw_refused import spoiled_inventory, spoiled_playbook
 from draw_steps import AnyStyle
 from json_draw import Members, write
 from linting import KINDS, SHELL_WORDS
@@ -21,6 +22,11 @@ KEYS = [
 ALIKE = ["A", "a", "B", "C1", "c1", "H0", "Web", "wEB", "WEB", "-a", "-A", "--", "-", "A.b", "a_b"]
 PROGRAMS = ["ssh", "ssh", "/usr/bin/ssh", "./ssh", "sssh", "ssh/x", "Ssh", "{{ v }}", "{{ v }}/ssh", "true", "rsync"]
 PLAIN = ["true", "false", "1 == 1", "'a' != \"b\"", "not (true and 0)", "1 or ''", "'g' in group_names", "inventory_hostname", "inventory_hostname == 'a'", "true or 'g' not in group_names", "x is defined"]
+GUARDS = [
+    "{0} is defined and {0} == 'a'", "{0} is defined and ({0} == 1 or {1})", "{0} is not defined or {0} == 1", "not ({0} is defined) or {0}", "not ({0} is not defined) and {0}",
+    "{0} is defined or {1} == 'a'", "{0} is not defined and {1}", "{0}.rc is defined and {0}.rc == 0", "{0}.changed is defined and {0} is changed", "'g' in group_names and {0}",
+    "not ('g' not in group_names or {0} == 1)", "false and {0}", "true or {0}", "inventory_hostname == 'H0' and {0}", "inventory_hostname != 'a' or {0} is failed", "{0} == 1 and {1}", "{0} or {1}",
+]
 WORDS = ["a", "--", "--", "-", "-n", "x=1", ">&2", "2>", "a;", "|a", "{", "}}", "$v", "*", *SHELL_WORDS]
 BAD = ["shell-words", "Shell-Word", "shell_word", "all", "unknown-name=v", "caf\u00e9", "no-hosts idle-handler", "-", "\x1b[2J", "\u00a0no-hosts"]
 
@@ -28,7 +34,7 @@ BAD = ["shell-words", "Shell-Word", "shell_word", "all", "unknown-name=v", "caf\
 class LintedStyle(AnyStyle):
     """Steps that read many names and say many words, and are all right."""
 
-    chances = {"register": 0.35, "when": 0.45, "changed_when": 0.15, "failed_when": 0.15, "ignore_errors": 0.05, "notify": 0.35}
+    chances = {"register": 0.35, "when": 0.45, "changed_when": 0.2, "failed_when": 0.2, "ignore_errors": 0.05, "notify": 0.35}
 
     def __init__(self):
         super().__init__(wrong=0)
@@ -46,7 +52,15 @@ class LintedStyle(AnyStyle):
     def condition(self, random, register=None):
         if random.random() < 0.3:
             return random.choice(PLAIN)
-        return draw_condition(random, NAMES, safe=True)
+        drawn = draw_condition(random, NAMES, safe=True)
+        own = Random(drawn)
+        return _guarded(own) if own.random() < 0.3 else drawn
+
+
+def _guarded(random):
+    """A condition in which a name stands behind what may decide, or asks whether there is one."""
+    names = [name for name in NAMES if name != "inventory_hostname"]
+    return random.choice(GUARDS).format(*random.choices(names, k=2))
 
 
 def _long(random):
@@ -64,17 +78,32 @@ def _part(random):
 
 
 def draw_linted(seed, number):
-    """The inventory and the playbook of this number that notes are made of."""
+    """The inventory and the playbook of this number that notes are made of. One pair in two is spoiled at several places, in one file or in both."""
     random = Random(f"{seed}/linted/{number}")
     value = draw_right_inventory(random, crossing=0.01, down=random.choice([0, 0, 0.1, 0.3, 0.9]), limited=random.choice([0.2, 0.5]), dense=random.random() < 0.25)
     value = _with_names(value, random)
     inventory = write(mutate(value, random) if random.random() < 0.03 else value, random)
-    value = draw_right_playbook(random, names_in(inventory), LintedStyle(), random.choice([1, 1, 2, 3, 4]))
+    names = names_in(inventory)
+    spoiled = random.choice([(), (), (), ("inventory",), ("playbook",), ("inventory", "playbook")])
+    if "inventory" in spoiled:
+        inventory = write(spoiled_inventory(random, value), random)
+    value = draw_right_playbook(random, names, LintedStyle(), random.choice([1, 1, 2, 3, 4]))
+    value = [_with_ends_of_options(Random(f"{seed}/options/{number}/{place}"), play) for place, play in enumerate(value)]
+    if "playbook" in spoiled:
+        value = spoiled_playbook(random, value)
     playbook = write(mutate(value, random) if random.random() < 0.03 else value, random)
     words = ["lint", INVENTORY, *([] if random.random() < 0.15 else [PLAYBOOK])]
     if random.random() < 0.05:
         words[random.randrange(1, len(words))] = random.choice(MISSING)
     return Case((*words, *_lists(random)), inventory, playbook)
+
+
+def _with_ends_of_options(random, play):
+    """The same play, in some of which a step more has the host's name behind a word that ends options."""
+    if random.random() < 0.9:
+        return play
+    step = Members([("command", random.choice(["ping -- {{ inventory_hostname }}", "ping -n -- x {{inventory_hostname}}:x"]))])
+    return Members((key, [*part, step] if key == "tasks" else part) for key, part in play)
 
 
 def _with_names(value, random, key=None):

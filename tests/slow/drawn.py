@@ -49,13 +49,13 @@ def _try(work):
         return number, None
     with tempfile.TemporaryDirectory() as folder:
         for variant in case.variants():
-            if _differs(program, variant, folder):
-                small = smallest(variant, lambda smaller: _differs(program, smaller, folder))
+            if differs(program, variant, folder):
+                small = smallest(variant, lambda smaller: differs(program, smaller, folder))
                 return number, shown(program, small, folder, f"{seed}-{number}")
     return number, ""
 
 
-def _differs(program, case, folder):
+def differs(program, case, folder):
     """Whether the programs say something else. A smaller case whose programs aren't known is not tried: nobody knows what they would do."""
     try:
         said = case.said()

@@ -52,6 +52,11 @@ def read_inventory(text, told=FIRST):
     except NotJson:
         told.tell(Fault(201, "NotJson"))
         return []
+    return places_in(top, told)
+
+
+def places_in(top, told=FIRST):
+    """The same of a text that was read as JSON."""
     if not isinstance(top, dict):
         told.tell(Fault(202, "BadShape", at=""))
         return []
@@ -99,10 +104,14 @@ def _in_name_order(own, at, others):
     return sorted(both, key=lambda entry: by_bytes(entry[0]))
 
 
-def _check_name(name, told):
+def is_name(name):
     """1 to 255 ASCII letters, digits, dots, dashes and underscores."""
     most = 256 if turned("name-length") else 255
-    if not re.fullmatch("[A-Za-z0-9._-]*", name) or not 0 < len(name) <= most:
+    return re.fullmatch("[A-Za-z0-9._-]*", name) is not None and 0 < len(name) <= most
+
+
+def _check_name(name, told):
+    if not is_name(name):
         told.tell(Fault(101, "BadName", name=name))
 
 
@@ -118,19 +127,21 @@ def _check_shapes(body, at, told):
 
 
 def _read_limit(place, body, at, told):
-    """The group's limit: a whole number to 65,535, or a text in percent. Null is none of both."""
     given = _object(body.get("vars"))
-    if "max_down" not in given:
+    if "max_down" not in given or (given["max_down"] is None and turned("limit-not-null")):
         return
-    value = given["max_down"]
-    if value is None and turned("limit-not-null"):
-        return
-    if is_whole(value):
-        place.limit = ("count", value)
-    elif isinstance(value, str) and percent_of(value) is not None:
-        place.limit = ("percent", percent_of(value))
-    else:
+    place.limit = limit_of(given["max_down"])
+    if place.limit is None:
         told.tell(Fault(204, "BadLimit", at=f"{at}/vars/max_down"))
+
+
+def limit_of(value):
+    """A group's limit: a whole number to 65,535, or a text in percent. Null is none of both, and so is anything else: None."""
+    if is_whole(value):
+        return "count", value
+    if isinstance(value, str) and percent_of(value) is not None:
+        return "percent", percent_of(value)
+    return None
 
 
 def _read_hosts(place, body, at, told):

@@ -34,6 +34,11 @@ def read_playbook(text, told=FIRST):
     except NotJson:
         told.tell(Fault(701, "NotJson"))
         return []
+    return plays_in(plays, told)
+
+
+def plays_in(plays, told=FIRST):
+    """The same of a text that was read as JSON."""
     if not isinstance(plays, list) or not plays:
         told.tell(Fault(702, "BadShape", at=""))
         return []
@@ -50,11 +55,11 @@ def _read_play(given, at, number, told):
     if not isinstance(given, dict):
         told.tell(Fault(702, "BadShape", at=at))
         return None
-    first = [_check_keys, _read_hosts]
+    first = [_check_keys, read_hosts]
     found = {read: read(given, at, told) for read in (reversed(first) if turned("play-keys-before-hosts") else first)}
-    settings = [_read_serial, _read_most_failed, _read_hold]
+    settings = [read_serial, read_most_failed, read_hold]
     if turned("serial-before-percentage"):
-        settings = [_read_most_failed, _read_serial, _read_hold]
+        settings = [read_most_failed, read_serial, read_hold]
     if turned("settings-before-lists"):
         _read_lists(given, at, told)
     found.update((setting, setting(given, at, told)) for setting in settings)
@@ -64,7 +69,7 @@ def _read_play(given, at, number, told):
         told.tell(Fault(709, "TooManySteps"))
     if len(tasks) + len(handlers or []) <= MOST_STEPS + turned("steps-most") or turned("no-step-of-too-many"):
         steps = _read_steps(tasks, handlers, at, number, told)
-    return Play(found[_read_hosts], found[_read_serial], found[_read_most_failed], found[_read_hold], *steps)
+    return Play(found[read_hosts], found[read_serial], found[read_most_failed], found[read_hold], *steps)
 
 
 def _check_keys(given, at, told):
@@ -73,7 +78,7 @@ def _check_keys(given, at, told):
         told.tell(Fault(703, "UnknownKey", at=f"{at}/{key}"))
 
 
-def _read_hosts(given, at, told):
+def read_hosts(given, at, told):
     """The names of the pattern, or of a list of patterns in turn; at least one, which is asked where all are texts."""
     if "hosts" not in given:
         told.tell(Fault(702, "BadShape", at=at))
@@ -93,11 +98,11 @@ def _read_hosts(given, at, told):
     return parts
 
 
-def _read_serial(given, at, told):
+def read_serial(given, at, told):
     return read_sizes(given["serial"], f"{at}/serial", told) if "serial" in given else []
 
 
-def _read_most_failed(given, at, told):
+def read_most_failed(given, at, told):
     if "max_fail_percentage" not in given:
         return None
     value = given["max_fail_percentage"]
@@ -106,7 +111,7 @@ def _read_most_failed(given, at, told):
     return value
 
 
-def _read_hold(given, at, told):
+def read_hold(given, at, told):
     value = given.get("on_blocked", "stop")
     if value not in ("stop", "hold"):
         told.tell(Fault(702, "BadShape", at=f"{at}/on_blocked"))

@@ -49,19 +49,19 @@ def read_step(given, at, number, is_task, told):
     if not turned("step-keys-before-the-name"):
         _tell_keys(unknown, at, told)
     if turned("command-behind-the-name"):
-        _read_command(given, at, number, told)
-    name = _read_name(given, at, is_task, told)
+        read_command(given, at, number, told)
+    name = read_name(given, at, is_task, told)
     if turned("step-keys-before-the-name"):
         _tell_keys(unknown, at, told)
-    words = _read_command(given, at, number, told)
+    words = read_command(given, at, number, told)
     if turned("register-before-conditions"):
         _read_condition(given, "when", at, number, told)
-    register = _read_register(given, at, told)
+    register = read_register(given, at, told)
     keys = ("when", "changed_when", "failed_when")
     found = {key: _read_condition(given, key, at, number, told) for key in (reversed(keys) if turned("conditions-in-order") else keys)}
-    last = [_read_ignore_errors, _read_notify] if is_task or turned("handlers-never-notify") else [_read_ignore_errors]
+    last = [read_ignore_errors, _read_notify] if is_task or turned("handlers-never-notify") else [read_ignore_errors]
     values = {read: read(given, at, told) for read in (reversed(last) if turned("notify-read-last") else last)}
-    return Step(number.step, name, words, register, *(found[key] for key in keys), values[_read_ignore_errors], values.get(_read_notify, []))
+    return Step(number.step, name, words, register, *(found[key] for key in keys), values[read_ignore_errors], values.get(_read_notify, []))
 
 
 def _tell_keys(unknown, at, told):
@@ -69,7 +69,7 @@ def _tell_keys(unknown, at, told):
         told.tell(Fault(703, "UnknownKey", at=f"{at}/{key}"))
 
 
-def _read_name(given, at, is_task, told):
+def read_name(given, at, is_task, told):
     if "name" not in given:
         if not is_task and not turned("handlers-have-names"):
             told.tell(Fault(702, "BadShape", at=at))
@@ -86,7 +86,7 @@ def _text(value, at):
     return value
 
 
-def _read_command(given, at, number, told):
+def read_command(given, at, number, told):
     """The words of a command: their shape first, of which the first fault is told, then their braces, which are told once."""
     try:
         written = [key for key in COMMANDS if key in given]
@@ -134,7 +134,7 @@ def _free_form(text, at):
         raise Fault(702, "BadShape", at=at) from None
 
 
-def _read_register(given, at, told):
+def read_register(given, at, told):
     if "register" not in given:
         return None
     value = given["register"]
@@ -177,7 +177,7 @@ def _entry(entry, at, key, number, told):
         return None
 
 
-def _read_ignore_errors(given, at, told):
+def read_ignore_errors(given, at, told):
     value = given.get("ignore_errors", False)
     if not isinstance(value, bool):
         told.tell(Fault(702, "BadShape", at=f"{at}/ignore_errors"))

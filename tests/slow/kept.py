@@ -1,0 +1,176 @@
+"""What is kept of an inventory or a playbook that has faults: the same without what can't be read, so that more can be told of it than its faults. What has none is kept as it is.
+
+Plays and steps stay at their places, since they are told by these.
+"""
+
+from conditions import CondFault, parse
+from faults import Every
+from inventory import is_name, limit_of
+from playbook import KEYS as KEYS_OF_PLAYS
+from playbook import read_hold, read_hosts, read_most_failed, read_serial
+from rules import turned
+from steps import COMMANDS, Numbering, read_command, read_ignore_errors, read_name, read_register
+from steps import KEYS as KEYS_OF_STEPS
+
+# What runs nothing that is looked up, in the place of words that can't be read.
+IDLE_STEP = {"command": "true"}
+IDLE_PLAY = {"hosts": "all", "tasks": [IDLE_STEP]}
+SETTINGS = {"serial": read_serial, "max_fail_percentage": read_most_failed, "on_blocked": read_hold}
+CONDITIONS = ("when", "changed_when", "failed_when")
+
+
+def kept_inventory(top, with_limits=True):
+    """What is kept of an inventory, with its limits or without them."""
+    return _kept_groups(top, with_limits)
+
+
+def _kept_groups(value, with_limits):
+    """Groups by their names; none where the value is no object."""
+    groups = value if isinstance(value, dict) else {}
+    kept = {name: _kept_body(body, with_limits) for name, body in groups.items() if is_name(name) or turned("kept-groups-have-names")}
+    if turned("kept-bodies-of-no-group"):
+        kept = {name: body for name, body in kept.items() if body is not None}
+    return kept
+
+
+def _kept_body(body, with_limits):
+    if not isinstance(body, dict):
+        return None
+    kept = {
+        "hosts": _kept_hosts,
+        "children": lambda value: _kept_groups(value, with_limits),
+        "vars": lambda value: _kept_variables(value, with_limits),
+    }
+    return {key: kept[key](value) if key in kept else value for key, value in body.items() if key in kept or turned("kept-groups-have-known-keys")}
+
+
+def _kept_hosts(value):
+    if not isinstance(value, dict):
+        return None
+    return {name: _kept_host(given) for name, given in value.items() if is_name(name) or turned("kept-hosts-have-names")}
+
+
+def _kept_host(given):
+    """The variables of a host: `down` that is no truth value goes alone."""
+    if not isinstance(given, dict):
+        return None
+    if not isinstance(given.get("down", False), bool) and turned("kept-hosts-without-their-down"):
+        return None
+    return {name: value for name, value in given.items() if name != "down" or isinstance(value, bool)}
+
+
+def _kept_variables(value, with_limits):
+    """The variables of a group: a limit that is none goes alone."""
+    if not isinstance(value, dict):
+        return None
+    limit = limit_of(value.get("max_down"))
+    if "max_down" in value and limit is None and turned("kept-groups-without-their-limit"):
+        return None
+    return {name: given for name, given in value.items() if name != "max_down" or (limit is not None and with_limits)}
+
+
+def kept_playbook(top):
+    """What is kept of a playbook, play by play; what is no list stays."""
+    if not isinstance(top, list):
+        return top
+    plays = [_kept_play(play) for play in top]
+    return [play for play in plays if play is not IDLE_PLAY] if turned("kept-plays-at-their-places") else plays
+
+
+def _kept_play(play):
+    """A play whose pattern and tasks can be read, without what is wrong in it; an idle one in the place of any other."""
+    tasks = play.get("tasks") if isinstance(play, dict) else None
+    if not isinstance(tasks, list) or not tasks or not _is_right(read_hosts, play):
+        return IDLE_PLAY
+    handlers = _named(play["handlers"]) if isinstance(play.get("handlers"), list) else []
+    names = [handler["name"] for handler in handlers]
+    kept = {key: value for key, value in play.items() if key in KEYS_OF_PLAYS or turned("kept-plays-have-known-keys")}
+    for key, read in SETTINGS.items():
+        if not _is_right(read, play) and not turned("kept-settings-are-right"):
+            del kept[key]
+    steps = [_kept_step(task, (*KEYS_OF_STEPS, "notify"), names) for task in tasks]
+    kept["tasks"] = [step for step in steps if step is not IDLE_STEP] if turned("kept-tasks-at-their-places") else steps
+    kept["handlers"] = [_kept_step(handler, KEYS_OF_STEPS, names) for handler in handlers]
+    return kept
+
+
+def _named(handlers):
+    """The handlers up to the first one without a name, or with that of an earlier one."""
+    found = {}
+    for handler in handlers:
+        name = handler.get("name") if isinstance(handler, dict) else None
+        if isinstance(name, str) and name not in found:
+            found[name] = handler
+        elif not turned("kept-handlers-end-at-a-bad-name"):
+            break
+    return list(found.values())
+
+
+def _kept_step(step, known, names):
+    """A step without what is wrong in it, which notifies handlers of these names. Where its words or a part of its `when` can't be read, its words are idle and nothing is looked up, though it
+    keeps its name, what it registers and whom it notifies."""
+    if not isinstance(step, dict):
+        return IDLE_STEP
+    kept = {key: value for key, value in step.items() if key in known or turned("kept-steps-have-known-keys")}
+    for key, read in {"name": _read_name, "register": read_register, "ignore_errors": read_ignore_errors}.items():
+        if not _is_right(read, step):
+            del kept[key]
+    _keep(kept, "notify", [name for name in _parts(step.get("notify")) if name in names or turned("kept-steps-notify-kept-handlers")], known)
+    for key in CONDITIONS:
+        _keep(kept, key, _conditions(step.get(key)), known)
+    is_read = _is_right(_read_words, step)
+    if is_read and (_is_all(step.get("when")) or turned("kept-when-hides-words")):
+        return kept
+    gone = COMMANDS if turned("kept-words-hide-conditions") and not is_read else (*COMMANDS, *CONDITIONS)
+    gone += ("register",) if turned("kept-steps-register-without-words") else ()
+    return {key: value for key, value in kept.items() if key not in gone} | IDLE_STEP
+
+
+def _read_name(given, at, told):
+    return read_name(given, at, True, told)
+
+
+def _read_words(given, at, told):
+    return read_command(given, at, Numbering(None, 0), told)
+
+
+def _keep(kept, key, parts, known):
+    """Puts the parts of a list that are right in the place of all, or takes the key away where none is left."""
+    kept.pop(key, None)
+    if parts and key in known:
+        kept[key] = parts
+
+
+def _parts(value):
+    """The entries of a list, or the one that stands alone; null is none."""
+    if value is None:
+        return []
+    return value if isinstance(value, list) else [value]
+
+
+def _conditions(value):
+    """The parts that are truth values or conditions."""
+    if not _is_all(value) and turned("kept-conditions-beside-bad-ones"):
+        return []
+    return [part for part in _parts(value) if _is_condition(part)]
+
+
+def _is_all(value):
+    return all(_is_condition(part) for part in _parts(value))
+
+
+def _is_condition(part):
+    if not isinstance(part, str):
+        return isinstance(part, bool)
+    try:
+        parse(part)
+    except CondFault:
+        return False
+    return True
+
+
+def _is_right(read, given):
+    """Whether a part of an object is read without a fault."""
+    told = Every()
+    read(given, "", told)
+    return not told.found

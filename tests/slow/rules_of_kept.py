@@ -1,0 +1,28 @@
+"""The rules of what is kept of files that have faults, and of what is noted of it, each as it is while it isn't turned."""
+
+KEPT = {
+    "kept-bodies-of-no-group": "A group whose body is no object stays, as one without anything.",
+    "kept-conditions-beside-bad-ones": "Of `changed_when` and `failed_when` the parts stay that can be read.",
+    "kept-groups-beside-no-plays": "Where no plays can be read groups and hosts are noted all the same.",
+    "kept-groups-have-known-keys": "Unknown keys of a group go.",
+    "kept-groups-have-names": "A group whose name is none goes, with all that is below it.",
+    "kept-groups-without-their-limit": "A limit that is none goes alone: the other variables of its group stay.",
+    "kept-handlers-end-at-a-bad-name": "Of handlers those stay that stand before the first one without a name, or with that of an earlier one.",
+    "kept-hosts-have-names": "A host whose name is none goes.",
+    "kept-hosts-without-their-down": "A `down` that is no truth value goes alone: the other variables of its host stay.",
+    "kept-kinds-that-stay-true": "Kinds of notes that may stand only for what was left out aren't told beside faults.",
+    "kept-limits-stay": "Limits stay where what is kept is a fleet with them.",
+    "kept-limits-that-cross-go": "Where it is none with its limits, it is looked at without them.",
+    "kept-names-are-there": "Where a pattern names nothing, groups and hosts alone are noted.",
+    "kept-notes-are-counted": "The notes beside faults are counted, also where there is none.",
+    "kept-plays-at-their-places": "A play of which nothing can be kept keeps its place.",
+    "kept-plays-have-known-keys": "Unknown keys of a play go.",
+    "kept-settings-are-right": "Sizes, percentages and `on_blocked` that are wrong go.",
+    "kept-steps-have-known-keys": "Unknown keys of a step go.",
+    "kept-steps-notify-kept-handlers": "Of the names that a task notifies those stay that a kept handler has.",
+    "kept-steps-register-without-words": "A step whose words can't be read registers all the same.",
+    "kept-tasks-at-their-places": "A task that is no object keeps its place.",
+    "kept-when-hides-words": "Of a step whose `when` can't be read neither words nor conditions are looked at.",
+    "kept-words-hide-conditions": "Of a step whose words can't be read no condition is looked at.",
+    "notes-beside-faults": "Where files have faults, what is kept of them is noted.",
+}
