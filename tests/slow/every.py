@@ -5,7 +5,7 @@ from faults import Every, Fault
 from fleet import Fleet
 from inventory import places_in, read_inventory
 from json_text import NotJson, read_json
-from kept import kept_inventory, kept_playbook
+from kept_texts import kept_inventory, kept_playbook
 from playbook import plays_in, read_playbook
 from rules import turned
 
