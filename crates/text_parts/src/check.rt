@@ -3,7 +3,7 @@ ghost use Rattle.std.specs.Prelude.{◌≡◌, IsTrue, IsFalse, OnOk, OnErr};
 ghost use Rattle.text_parts.specs.Words.{has_braces};
 
 use crate::part::Part;
-use crate::parts::first_part;
+use crate::parts::first_word_part;
 
 /// An opening (`{{`, `{%` or `{#`) in a word begins no hole.
 #[derive(Clone, Copy, Debug, PartialEq, Eq)]
@@ -15,7 +15,7 @@ pub fn check_word(word: &str) -> Result<(), BadBraces>
     ensures err { OnErr result (IsTrue (has_braces word.now)) }
 {
     let mut rest = word;
-    while let Some((part, behind)) = first_part(rest) {
+    while let Some((part, behind)) = first_word_part(rest) {
         if let Part::Braces = part {
             return Err(BadBraces);
         }

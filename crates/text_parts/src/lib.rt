@@ -30,6 +30,7 @@ pub use json_parts::{elements_of, entries_of, listed};
 pub use name::is_name;
 pub use numerals::{number_in_digits, percentage_in, whole_number};
 pub use part::{Part, Ref};
+pub use parts::first_word_part;
 pub use rendering::{MAX_RENDERED, render};
 pub use runs::without_blanks;
 pub use values::Values;

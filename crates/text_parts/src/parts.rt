@@ -10,7 +10,7 @@ use crate::part::Part;
 
 /// The first part of the word, and the rest of the word behind it; `None` where the word is empty. It takes no memory.
 /// To walk over all parts, go on with the rest, which is shorter each time.
-pub fn first_part(word: &str) -> Option<(Part<'_>, &str)>
+pub fn first_word_part(word: &str) -> Option<(Part<'_>, &str)>
     ensures parts { MatchOption result (parts_of word.now ≡ [])
         (λ (part, rest). parts_of word.now ≡ said part ∷ parts_of rest.now) }
     ensures shorter { IfSome result (λ (part, rest). length rest.now < length word.now) }

@@ -7,7 +7,7 @@ ghost use Rattle.text_parts.specs.Faults.{max_rendered, IsRendering, IsFaultOf};
 
 use crate::check::check_word;
 use crate::fault::RenderFault;
-use crate::parts::first_part;
+use crate::parts::first_word_part;
 use crate::print::{part_text, undefined_in};
 use crate::values::Values;
 use itoa::Buffer;
@@ -43,7 +43,7 @@ fn first_undefined<'w, V: Values>(values: &V, word: &'w str) -> Option<&'w str>
         ≡ spec.first_undefined (V.values values.now) (parts_of word.now) }
 {
     let mut rest = word;
-    while let Some((part, behind)) = first_part(rest) {
+    while let Some((part, behind)) = first_word_part(rest) {
         if let Some(name) = undefined_in(values, part) {
             return Some(name);
         }
@@ -59,7 +59,7 @@ fn rendered_length<V: Values>(values: &V, word: &str) -> Option<usize>
 {
     let mut room = MAX_RENDERED;
     let mut rest = word;
-    while let Some((part, behind)) = first_part(rest) {
+    while let Some((part, behind)) = first_word_part(rest) {
         let mut buffer = Buffer::new();
         let bytes = part_text(values, part, &mut buffer).len();
         if bytes > room {
@@ -81,7 +81,7 @@ fn write_out<V: Values, A: Allocator>(
 {
     let mut text = String::with_capacity(alloc, length)?;
     let mut rest = word;
-    while let Some((part, behind)) = first_part(rest) {
+    while let Some((part, behind)) = first_word_part(rest) {
         let mut buffer = Buffer::new();
         text.push_str(part_text(values, part, &mut buffer))?;
         rest = behind;

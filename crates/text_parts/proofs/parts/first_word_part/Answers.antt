@@ -1,7 +1,7 @@
 use Rattle.std.proofs.Common.{◌∙◌, sym}
 use Rattle.text_parts.specs.Seen.{said}
 use Rattle.text_parts.proofs.PartLemmas.{parts_of-empty, is_filled, first_is}
-use Rattle.text_parts.proofs.parts.first_part.Goals as goal
+use Rattle.text_parts.proofs.parts.first_word_part.Goals as goal
 
 pub returns-then-is_empty-clause-parts : goal.returns-then-is_empty-clause-parts
 returns-then-is_empty-clause-parts c =
