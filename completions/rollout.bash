@@ -1,4 +1,4 @@
-# Completes the words of rollout in bash: commands, options and their values, the numbers of faults, files, and the names of an inventory that stands before the cursor. It
+# Completes the words of rollout in bash: commands, options and their values, the numbers of faults, the kinds of notes, files, and the names of an inventory that stands before the cursor. It
 # needs bash 4.4 or a later one, and for names grep and awk.
 # `make install` puts it where bash-completion finds it; without that: source completions/rollout.bash
 
@@ -103,6 +103,7 @@ _rollout_files() {
 
 _rollout() {
     local words kept redirects current command options most files=0 inventory='' ends='' wants='' option='' i
+    local kinds='zero-limit empty-limit group-down near-key case-hosts no-hosts down-hosts idle-serial one-failure unknown-name missing-name constant-condition shell-word local-step long-word dash-name idle-handler'
     local IFS=$' \t\n'
     COMPREPLY=()
     _rollout_words
@@ -162,7 +163,7 @@ _rollout() {
     --picture) _rollout_files '*.svg' ;;
     --color) _rollout_offer always never auto ;;
     --allow)
-        _rollout_list zero-limit empty-limit group-down near-key case-hosts no-hosts down-hosts idle-serial one-failure unknown-name missing-name constant-condition shell-word local-step long-word dash-name idle-handler
+        _rollout_list $kinds
         ;;
     --failing | --mended)
         [[ $files -eq 0 ]] || _rollout_list $(_rollout_hosts "$inventory")
@@ -174,7 +175,7 @@ _rollout() {
         elif [[ $command == check && $files -eq 2 || $command == state && $files -eq 1 ]]; then
             _rollout_files
         elif [[ $command == explain ]]; then
-            [[ $files -gt 0 ]] || _rollout_offer 101 102 103 104 201 202 203 204 205 301 302 303 304 501 502 503 504 602 701 702 703 704 705 706 707 708 709 822 901 902 903 904 906 907 908 909 910 911 912 913 914 915 916 917 918
+            [[ $files -gt 0 ]] || _rollout_offer 101 102 103 104 201 202 203 204 205 301 302 303 304 501 502 503 504 602 701 702 703 704 705 706 707 708 709 822 901 902 903 904 906 907 908 909 910 911 912 913 914 915 916 917 918 $kinds
         elif [[ $files -lt $most ]]; then
             _rollout_files '*.json'
         fi

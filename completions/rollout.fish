@@ -1,4 +1,4 @@
-# Completes the words of rollout in fish: commands, options and their values, the numbers of faults, files, those of JSON first, and the names of an inventory that stands before
+# Completes the words of rollout in fish: commands, options and their values, the numbers of faults, the kinds of notes, files, those of JSON first, and the names of an inventory that stands before
 # the cursor, for which it needs grep and awk.
 # `make install` puts it into share/fish/vendor_completions.d, where fish finds it if that share is its own or stands in XDG_DATA_DIRS; without that:
 # source completions/rollout.fish
@@ -70,6 +70,11 @@ function __rollout_hosts
         }')
 end
 
+# The kinds of notes of lint.
+function __rollout_kinds
+    string split ' ' 'zero-limit empty-limit group-down near-key case-hosts no-hosts down-hosts idle-serial one-failure unknown-name missing-name constant-condition shell-word local-step long-word dash-name idle-handler'
+end
+
 # The numbers of faults, with their names.
 function __rollout_faults
     string replace : \t 101:BadName 102:TwicePlaced 103:TooDeep 104:TooMany 201:NotJson 202:BadShape 203:UnknownKey 204:BadLimit 205:BadDown 301:NotNested 302:StartOver \
@@ -88,7 +93,7 @@ complete -c rollout -n __rollout_of -a rehearse -d 'Answers what a run of a play
 complete -c rollout -n __rollout_of -a state -d "Prints how each host stands by a run's journal, and whether the run has ended"
 complete -c rollout -n __rollout_of -a check -d 'Tells whether a text is a plan of a play, and how many batches the least one has'
 complete -c rollout -n __rollout_of -a lint -d 'Prints every fault of the files with what helps, or else what is probably not meant'
-complete -c rollout -n __rollout_of -a explain -d 'Prints what the fault of this number means, with an example, and what to do'
+complete -c rollout -n __rollout_of -a explain -d 'Prints what a fault or a kind of notes means, with an example, and what to do'
 complete -c rollout -n __rollout_of -a help -d 'Prints the help of the program, or that of a command'
 
 complete -c rollout -n '__rollout_of limits' -l expect -x -d "Ends with status 1 where a number isn't as this list says: NAME=NUMBER or NAME<=NUMBER, parted by commas"
@@ -140,11 +145,11 @@ complete -c rollout -n '__rollout_of state' -s h -l help -d 'Print help'
 
 complete -c rollout -n '__rollout_of check' -s h -l help -d 'Print help'
 
-complete -c rollout -n '__rollout_of lint' -l allow -x -a "(__rollout_names zero-limit empty-limit group-down near-key case-hosts no-hosts down-hosts idle-serial one-failure unknown-name missing-name constant-condition shell-word local-step long-word dash-name idle-handler)" -d 'These kinds of notes, parted by commas, are not told'
+complete -c rollout -n '__rollout_of lint' -l allow -x -a "(__rollout_names (__rollout_kinds))" -d 'These kinds of notes, parted by commas, are not told'
 complete -c rollout -n '__rollout_of lint' -s h -l help -d 'Print help'
 
 complete -c rollout -n '__rollout_of explain' -s h -l help -d 'Print help'
-complete -c rollout -n '__rollout_lacks 1 explain' -k -a '(__rollout_faults)'
+complete -c rollout -n '__rollout_lacks 1 explain' -k -a '(__rollout_faults; __rollout_kinds)'
 
 complete -c rollout -n '__rollout_lacks 2 plan run rehearse check lint' -k -a '(__fish_complete_suffix .json)'
 complete -c rollout -n '__rollout_lacks 1 state' -k -a '(__fish_complete_suffix .json)'

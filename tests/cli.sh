@@ -486,7 +486,7 @@ Commands:
   state     Prints how each host stands by a run'\''s journal, and whether the run has ended
   check     Tells whether a text is a plan of a play, and how many batches the least one has
   lint      Prints every fault of the files with what helps, or else what is probably not meant
-  explain   Prints what the fault of this number means, with an example, and what to do
+  explain   Prints what a fault or a kind of notes means, with an example, and what to do
   help      Print this message or the help of the given subcommand(s)
 
 Options:
@@ -670,12 +670,12 @@ for words in 'lint --help' 'lint -h' 'help lint'; do
     check "the help by $words" 0 "$lint_help" ''
 done
 
-explain_help='Prints what the fault of this number means, with an example, and what to do
+explain_help='Prints what a fault or a kind of notes means, with an example, and what to do
 
-Usage: rollout explain <NUMBER>
+Usage: rollout explain <NUMBER|KIND>
 
 Arguments:
-  <NUMBER>  The number of a fault
+  <NUMBER|KIND>  The number of a fault, or the kind of a note of lint
 
 Options:
   -h, --help  Print help
@@ -853,10 +853,10 @@ bad check 'rollout check <INV> <PLAY> <PLAN>' "the following required arguments 
 bad 'check a b' 'rollout check <INV> <PLAY> <PLAN>' "the following required arguments were not provided:$newline  <PLAN>"
 bad 'check a b c d' 'rollout check <INV> <PLAY> <PLAN>' "unexpected argument 'd' found"
 bad 'check a b c --words' 'rollout check <INV> <PLAY> <PLAN>' "unexpected argument '--words' found"
-bad explain 'rollout explain <NUMBER>' "the following required arguments were not provided:$newline  <NUMBER>"
-bad 'explain 1 2' 'rollout explain <NUMBER>' "unexpected argument '2' found"
+bad explain 'rollout explain <NUMBER|KIND>' "the following required arguments were not provided:$newline  <NUMBER|KIND>"
+bad 'explain 1 2' 'rollout explain <NUMBER|KIND>' "unexpected argument '2' found"
 run explain 1
-check "the line 'explain 1'" 1 '' "rollout: 901 BadLine$newline"
+[ "$status" -eq 1 ] && [ ! -s "$work/out" ] && [ "$(wc -l <"$work/errors")" -eq 2 ] && [ "$(head -n 1 "$work/errors")" = 'rollout: 901 BadLine' ] && pass || fail "the line 'explain 1': $(cat "$work/errors")"
 bad 'rehearse a b --expect batches=1' 'rollout rehearse <INV> <PLAY>' "unexpected argument '--expect' found"
 bad 'plan -- a b --words' 'rollout plan [OPTIONS] <INV> <PLAY>' "unexpected argument '--words' found"
 bad 'limits -- a --expect b' 'rollout limits [OPTIONS] <INV>' "unexpected argument '--expect' found"

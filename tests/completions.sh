@@ -26,7 +26,7 @@ listed() {
     "$rollout" help $1 | sed -n "/^$2:/,/^\$/s/^ *\(-.,\)* *\([a-z-]*\) .*/\2/p" | sed 's|^|/|' | tr -d '\n'
 }
 numbers=$(sed -n 's/^### \([0-9].*\)/\1/p' "$top/docs/FAULTS.md" | tr ',' '\n' | sed 's/^ *\([0-9]*\).*/\1/' | sed 's|^|/|' | tr -d '\n')
-notes=$(sed -n '/^## What is probably not meant/,/^## /s/^| `\([a-z-]*\) .*/\1/p' "$top/docs/FORMATS.md" | sed 's|^|/|' | tr -d '\n')
+notes=$(sed -n 's/^### \([a-z-]*\)$/\1/p' "$top/docs/NOTES.md" | sed 's|^|/|' | tr -d '\n')
 [ "${#numbers}" -gt 100 ] && [ "${#notes}" -gt 100 ] && pass || fail 'the pages list faults and notes'
 {
     echo "all | rollout <Tab> | $(listed '' Commands)"
@@ -40,7 +40,7 @@ notes=$(sed -n '/^## What is probably not meant/,/^## /s/^| `\([a-z-]*\) .*/\1/p
         esac
     done
     echo "all | rollout run --forks <Tab> | $(seq 64 | sed 's|^|/|' | tr -d '\n')"
-    echo "all | rollout explain <Tab> | $numbers"
+    echo "all | rollout explain <Tab> | $numbers$notes"
     echo "all | rollout lint --allow <Tab> | $notes"
     cat <<'KEYS'
 all | rollout pl<Tab> | rollout plan _
@@ -80,7 +80,10 @@ fish | rollout run --forks=6<Tab> | /--forks=6/--forks=60/--forks=61/--forks=62/
 all | rollout explain 20<Tab> | /201/202/203/204/205
 all | rollout explain 8<Tab> | rollout explain 822 _
 all | rollout explain 301 3<Tab> | rollout explain 301 3_
-all | rollout explain i<Tab> | rollout explain i_
+all | rollout explain un<Tab> | rollout explain unknown-name _
+all | rollout explain idle-<Tab> | /idle-handler/idle-serial
+all | rollout explain idle-serial z<Tab> | rollout explain idle-serial z_
+all | rollout explain q<Tab> | rollout explain q_
 all | rollout lint --allow no-h<Tab> i<Tab> | rollout lint --allow no-hosts inv.json _
 all | rollout lint --allow no-hosts,sh<Tab> i<Tab> | rollout lint --allow no-hosts,shell-word inv.json _
 all | rollout lint --allow=no-hosts,sh<Tab> i<Tab> | rollout lint --allow=no-hosts,shell-word inv.json _

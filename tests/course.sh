@@ -143,6 +143,23 @@ unforeseen 'a name that nobody has' "$three" "[$(play)]" 'rollout: 304 NoSuchNam
 unforeseen 'faults of the playbook come first' "$three" '[{"hosts":"all"}]' 'rollout: 702 BadShape at=0' --failing x
 unforeseen 'and those of its patterns' "$three" '[{"hosts":"z","tasks":[{"command":"true"}]}]' 'rollout: 304 NoSuchName name=z' --failing x
 
+# Who is left out is told of all plays.
+printf '{"all":{"hosts":{"a":{"down":true},"b":{}}}}' >"$work/inventory.json"
+printf '[{"hosts":"b","tasks":[{"command":"true"}]},%s]' "$(play)" >"$work/playbook.json"
+run plan "$work/inventory.json" "$work/playbook.json" --course -v
+check 'who is left out of a later play' 0 'play 1
+boundary 1: plan batches=1 bound=one-host
+open: b
+boundary 2: plan batches=0 bound=nothing
+end finished
+play 2
+boundary 1: plan batches=1 bound=one-host
+open: b
+boundary 2: plan batches=0 bound=nothing
+end finished
+batches=2
+' "note: a is down and stays down: 1 host of the plays is left out$newline"
+
 # The words: the options may stand anywhere, and names go with a course alone.
 printf '%s' "$three" >"$work/inventory.json"
 printf '[%s]' "$(play)" >"$work/playbook.json"

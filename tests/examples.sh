@@ -88,6 +88,28 @@ changed 'a host more' fleet.json 's/"web30": null/&, "web31": null/' 'rollout: 9
 LOST: the limits: status 1
 missing host=web31
 LOST: the plan that was agreed on: status 1'
+# A failure may be asked for of any host that a roll opens, in whichever play: of the whole fleet each once.
+changed 'hosts of later batches' expected 's/^one_failure=.*/one_failure=2\nfailing=web11,db4/' 'LOST: one failure, of db4: status 3'
+whose='if .* fails'
+{ cat $forty/expected; echo failing=all; } >"$work/all"
+cp $forty/plan.txt "$work"
+asks $forty/fleet.json $forty/roll-here.json "$work/all" >"$work/asked" 2>&1 && pass || fail 'every host: something is lost'
+holds 'every host is asked for, once' test "$(grep -c '^if .* fails, ' "$work/asked")" -eq 38 -a "$(grep '^if .* fails, ' "$work/asked" | sort -u | wc -l)" -eq 38
+printf '[{"hosts": "eu-a", "tasks": [{"command": "true"}]}, {"hosts": "us", "serial": 1, "max_fail_percentage": 0, "tasks": [{"command": "true"}]}]' >"$work/plays.json"
+whose='LOST|if .* fails|not asked'
+printf '# two plays\n\nfailing=all\none_failure=4' >"$work/few"
+told 'two plays, and nothing but the failures' 0 'not asked: limits
+not asked: batches
+not asked: plan
+if eu-a fails, end all-failed batches=1
+if us-a fails, end finished end too-many-failed step=1 failed=1 size=1 batches=2
+if us-b fails, end finished end too-many-failed step=1 failed=1 size=1 batches=3
+if us-c fails, end finished end too-many-failed step=1 failed=1 size=1 batches=4
+if us-d fails, end finished end too-many-failed step=1 failed=1 size=1 batches=5' asks examples/two-regions.json "$work/plays.json" "$work/few"
+printf 'allow=down-hosts\nlimit=hosts=40\n' >"$work/misspelled"
+whose=''
+told 'a name that is misspelled' 2 "$work/misspelled has an unknown line: limit=hosts=40" asks $forty/fleet.json $forty/roll.json "$work/misspelled"
+whose='LOST|rollout: |missing'
 changed 'a key that is misspelled' fleet.json 's/"children": {$/"chidlren": {/' 'rollout: 203 UnknownKey at=all/chidlren
 LOST: the change is refused'
 

@@ -1,28 +1,40 @@
 #!/bin/sh
-# What `explain` prints of each fault: its row of docs/FAULTS.md, and what stands there under its heading, cut out here by awk. It needs crates/rollout/out/rollout.
+# What `explain` prints of each fault, and of each kind of `lint`'s notes: its row of docs/FAULTS.md or docs/NOTES.md, and what stands there under its heading, cut out here by awk. It needs
+# crates/rollout/out/rollout.
 . "$(dirname "$0")/common.sh"
-page=$top/docs/FAULTS.md
+faults=$top/docs/FAULTS.md
+notes=$top/docs/NOTES.md
 
-# entry NUMBER: what the page has of this fault.
+# entry WORD PAGE: what the page has of this fault or kind.
 entry() {
-    sed -n "s/^| \[$1\]([^)]*) | \([A-Za-z]*\) | \(.*\) |\$/$1 \1: \2/p" "$page"
+    sed -n "s/^| \[$1\]([^)]*) | \([^|]*\) | \(.*\) |\$/$1 \1: \2/p" "$2"
     echo
     # An empty line is printed before the next one that isn't, so that none stands at the end.
-    awk -v number="$1" '
+    awk -v word="$1" '
         /^```/ { code = !code }
-        /^#/ && !code { inside = $0 ~ "^### (.*, )?" number " "; below = 0; next }
+        /^#/ && !code { inside = $0 ~ "^### (.*, )?" word "( |$)"; below = 0; next }
         !inside { next }
         /^$/ { below = below && 1; empty = 1; next }
         { if (empty && below) print ""; empty = 0; below = 1; print }
-    ' "$page"
+    ' "$2"
 }
 
-numbers=$(sed -n 's/^| \[\([0-9]*\)\](.*/\1/p' "$page")
+numbers=$(sed -n 's/^| \[\([0-9]*\)\](.*/\1/p' "$faults")
 for number in $numbers; do
     run explain "$number"
-    check "the fault $number" 0 "$(entry "$number")$newline" ''
+    check "the fault $number" 0 "$(entry "$number" "$faults")$newline" ''
 done
 [ "$(echo $numbers | wc -w)" -gt 40 ] && pass || fail 'few faults are found on the page'
+kinds=$(sed -n 's/^| \[\([a-z-]*\)\](.*/\1/p' "$notes")
+for kind in $kinds; do
+    run explain "$kind"
+    check "the notes $kind" 0 "$(entry "$kind" "$notes")$newline" ''
+    printf '{}' >"$work/empty"
+    run lint "$work/empty" --allow "$kind"
+    check "the notes $kind, switched off" 0 "notes=0$newline" ''
+    grep -q -e "--allow $kind\(,\|\.\|\`\)" "$notes" && pass || fail "the entry of $kind does not say how it is switched off"
+done
+[ "$(echo $kinds | wc -w)" -gt 15 ] && pass || fail 'few kinds of notes are found on the page'
 
 # By hand.
 run explain 301
@@ -34,8 +46,11 @@ rollout: 301 NotNested host=web-1 first=rack9 second=row1
 ```
 
 The host is in both groups, both have a limit, and neither stands below the other; it is the first such by name, with its
-first two. Put one group below the other ([racks and services](FROM_ANSIBLE.md#racks-and-services)), or take `max_down` out of one.
+first two. Where one has all hosts of the other, put the other below it ([racks and services](FROM_ANSIBLE.md#racks-and-services)). Else
+keep `max_down` on one kind of group, as the racks, the same for every pair that `lint` tells, and take it off the other, or move it to groups of its hosts below those that keep it.
 ' ''
+run explain local-step
+[ "$(head -n 1 "$work/out")" = "local-step at=PATH word=W: the step's program W isn't \`ssh\`, where another step of its play calls that, and no word of it has a hole" ] && pass || fail "the notes local-step, by hand: $(head -n 1 "$work/out")"
 run explain 504
 said=$(cat "$work/out")
 run explain 503
@@ -47,15 +62,20 @@ bad() {
     run "$@"
     if [ "$status" -eq 1 ] && [ ! -s "$work/out" ] && [ "$(head -n 1 "$work/errors")" = 'rollout: 901 BadLine' ]; then pass; else fail "$what: status $status"; fi
 }
-for number in 0 1 100 106 300 905 999 65535 65536 4294967397 -1 x memory BadName 301x ' 301' ''; do
-    bad "no number of a fault, '$number'" explain "$number"
+for word in 0 1 100 106 300 905 999 0301 65535 65536 4294967397 -1 x memory BadName 301x ' 301' '' no-host no-hostss No-Hosts no_hosts NoHosts 'no-hosts ' no-hosts,near-key 301,302 'zero-limit group=G'; do
+    bad "no number of a fault and no kind of notes, '$word'" explain "$word"
 done
+# What there is stands behind the line of the fault, in one line.
+run explain unknown-nam
+check 'a word that is nearly a kind' 1 '' "rollout: 901 BadLine${newline}error: explain goes with the number of a fault, as 302, or a kind of notes: $(echo $kinds | sed 's/ /, /g')$newline"
 bad 'no number' explain
 bad 'two numbers' explain 301 302
 bad 'an option of another command' explain 301 --course
 bad 'behind the word that ends options, two numbers' explain -- 301 302
 run explain -- 301
-check 'behind the word that ends options' 0 "$(entry 301)$newline" ''
+check 'behind the word that ends options' 0 "$(entry 301 "$faults")$newline" ''
+run explain shell-word --
+check 'before the word that ends options' 0 "$(entry shell-word "$notes")$newline" ''
 
 if [ -w /dev/full ]; then
     "$rollout" explain 301 >/dev/full 2>"$work/errors"

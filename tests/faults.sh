@@ -14,7 +14,7 @@ when='rollout: 501 BadToken step=1 key=when at=9'
 
 # without_help: the last run's output, without the lines that help; `helped` counts these.
 without_help() {
-    helped=$(grep -c '^  [^ ]' "$work/out")
+    helped=$(sed '/^faults=/,$d' "$work/out" | grep -c '^  [^ ]')
     sed -i '/^  [^ ]/d' "$work/out"
 }
 
@@ -40,6 +40,24 @@ check 'a plan of an inventory from a pipe' 1 '' "$down$newline"
 cat "$inventory" | "$rollout" limits -v /dev/stdin >"$work/out" 2>"$work/errors"
 status=$?
 check 'limits of an inventory from a pipe' 1 '' "$down$newline"
+
+# Only the file that has the fault is to be read once more.
+printf '{"web": {"hosts": {"web1": null}}}' >"$work/right.json"
+cat "$work/right.json" | "$rollout" plan -v /dev/stdin "$playbook" >"$work/out" 2>"$work/errors"
+status=$?
+[ "$status" -eq 1 ] && [ ! -s "$work/out" ] && [ "$(head -n 1 "$work/errors")" = "$when" ] && [ "$(sed 1d "$work/errors" | grep -c '^  [^ ]')" -eq 1 ] && [ "$(wc -l <"$work/errors")" -eq 2 ] && pass ||
+    fail "a fault of the playbook, and an inventory from a pipe: status $status, $(cat "$work/errors")"
+cat "$playbook" | "$rollout" plan -v "$work/right.json" /dev/stdin >"$work/out" 2>"$work/errors"
+status=$?
+check 'a fault of a playbook from a pipe' 1 '' "$when$newline"
+# A name in a pattern is compared with those of all groups and all hosts, from the first to the last.
+printf '{"web": {"hosts": {"alpha": null, "omega": null}}, "zoo": null}' >"$work/names.json"
+for names in 'alpah alpha' 'omgea omega' 'wbe web' 'zooo zoo'; do
+    set -- $names
+    printf '[{"hosts": "%s", "tasks": [{"command": "true"}]}]' "$1" >"$work/pattern.json"
+    run plan -v "$work/names.json" "$work/pattern.json"
+    [ "$status" -eq 1 ] && [ "$(head -n 1 "$work/errors")" = "rollout: 304 NoSuchName name=$1" ] && sed -n 2p "$work/errors" | grep -q "^  did you mean $2?" && pass || fail "a name close to $2: $(cat "$work/errors")"
+done
 
 # What keeps a file from being read goes to standard error, alone.
 run lint "$inventory" "$work/missing"

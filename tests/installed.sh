@@ -260,6 +260,8 @@ listed() {
     echo 'rollout lint --allow >zero-limit/empty-limit/group-down/near-key/case-hosts/no-hosts/down-hosts/idle-serial/one-failure/unknown-name/missing-name/constant-condition/shell-word/local-step/long-word/dash-name/idle-handler'
     echo 'rollout lint inv.json --allow n>near-key/no-hosts'
     echo 'rollout explain q>'
+    echo 'rollout explain d>down-hosts/dash-name'
+    echo 'rollout explain 82>822'
     echo 'rollout run -- ->'
     echo 'rollout run inv.json play.json i>'
     echo 'rollout limits inv.json p>'

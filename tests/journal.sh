@@ -60,6 +60,14 @@ FOLDER_FAILS=1 LD_PRELOAD="$work/disk.so" "$rollout" run "$work/racks.json" "$wo
 status=$?
 unopened 'a folder that is not synced'
 
+# Whatever the mask lets others have, it is its owner's alone.
+(
+    umask 0
+    "$rollout" run "$work/racks.json" "$work/play.json" --journal own >"$work/out" 2>"$work/errors" </dev/null
+)
+[ "$(stat -c %a own)" = 600 ] && pass || fail "others may read a journal: $(stat -c %a own)"
+rm -f "$work/began"
+
 # ---- what leaves none
 
 echo '[]' >no-plays.json

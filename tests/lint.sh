@@ -11,8 +11,14 @@ texts() {
     printf '%s' "$2" >"$playbook"
 }
 
+# without_advice: what the last run printed, without what to do about notes of a kind, and what isn't looked for beside faults, which end it.
+without_advice() {
+    sed -i -e '/^  \([a-z-]*\): .*; `explain \1` says more, `--allow \1` switches it off$/d' -e '/^  not looked for beside these faults: /d' "$work/out"
+}
+
 # said WHAT NOTES: the last run printed these notes, each with its line end, and how many they are; that there are some is told by the status.
 said() {
+    without_advice
     count=$(printf '%s' "${2:+$2$newline}" | wc -l)
     check "$1" "$((count > 0))" "${2:+$2$newline}notes=$((count))$newline" ''
 }
@@ -37,6 +43,7 @@ noted_alone() {
 # told WHAT LINES [NOTES]: the last run told these faults, each with a line that helps behind it, and how many they are; behind them these notes and how many they are, and nothing where none are given.
 told() {
     sed -i '/^rollout: /{n;/^  /d;}' "$work/out"
+    without_advice
     lines="$2${newline}faults=$(($(printf '%s' "$2" | wc -l) + 1))$newline"
     if [ $# -gt 2 ]; then
         lines="$lines${3:+$3$newline}notes=$(($(printf '%s' "${3:+$3$newline}" | wc -l)))$newline"
@@ -169,6 +176,7 @@ for word in '|' '||' '&' '&&' ';' '>' '>>' '<' '2>&1'; do
     noted "the word $word, in a list" "$one" "[$(play "{\"command\":{\"argv\":[\"echo\",\"$word\"]}}")]" "shell-word at=0/tasks/0 word=$word"
     noted "the word $word as a program" "$one" "[$(play "{\"command\":{\"argv\":[\"$word\",\"a\"]}}")]" ''
 done
+noted 'behind ssh a shell reads them' "$one" "[$(play '{"command":"ssh -- {{ inventory_hostname }} ps | grep x"},{"command":"/usr/bin/ssh {{ inventory_hostname }} a ; b"}')]" ''
 noted 'the first of a step alone' "$one" "[$(play '{"command":{"cmd":"ps | grep x > /dev/null 2>&1"}},{"ansible.builtin.command":"a ; b | c"}' "{\"name\":\"H\",\"command\":\"x &\"}")]" 'shell-word at=0/tasks/0 word=|
 shell-word at=0/tasks/1 word=;
 shell-word at=0/handlers/0 word=&
@@ -420,7 +428,7 @@ check 'an inventory alone that is not there' 1 '' "rollout: 902 File name=$work/
 ok="[$(play '{"command":"true"}')]"
 refused 'an inventory that is no JSON, before the playbook' '{' '{' "rollout: 201 NotJson${newline}rollout: 701 NotJson"
 refused 'its walk' '{"g":{"host":null}}' '[]' "rollout: 203 UnknownKey at=g/host${newline}rollout: 702 BadShape at=" ''
-refused 'its groups' '{"all":{"children":{"g":{"children":{"g":null}}}}}' '[]' "rollout: 102 TwicePlaced group=3${newline}rollout: 702 BadShape at="
+refused 'its groups' '{"all":{"children":{"g":{"children":{"g":null}}}}}' '[]' "rollout: 102 TwicePlaced group=3${newline}rollout: 702 BadShape at=" ''
 refused 'limits that cross' '{"f":{"vars":{"max_down":1},"hosts":{"a":null}},"g":{"vars":{"max_down":0},"hosts":{"a":null}}}' '[]' "rollout: 301 NotNested host=a first=f second=g${newline}rollout: 702 BadShape at=" ''
 refused 'a limit that is passed at the start' '{"g":{"vars":{"max_down":0},"hosts":{"a":{"down":true}}}}' '[]' "rollout: 302 StartOver group=g down=1 limit=0${newline}rollout: 702 BadShape at=" ''
 refused 'a playbook that is no JSON' "$one" '[' 'rollout: 701 NotJson' ''
@@ -428,7 +436,7 @@ refused 'its shapes' '{"g":{"vars":{"max_down":0},"hosts":{"a":null,"A":null}}}'
 refused 'a handler that is not there' "$one" "[$(play '{"command":"echo ;","notify":"H"}')]" 'rollout: 704 NoSuchHandler name=H' 'shell-word at=0/tasks/0 word=;'
 refused 'a condition' "$one" "[$(play '{"command":"true","when":"rc > 0"}')]" 'rollout: 501 BadToken step=1 key=when at=3' ''
 refused 'braces' "$one" "[$(play '{"command":"echo {{ v | default(1) }}"}')]" 'rollout: 602 BadBraces step=1' ''
-refused 'the pattern of the last play, behind all of it' "$one" "[$(play '{"command":"echo ;"}'),$(play '{"command":"true"}' '' web)]" 'rollout: 304 NoSuchName name=web' ''
+refused 'the pattern of the last play, behind all of it' "$one" "[$(play '{"command":"echo ;"}'),$(play '{"command":"true"}' '' web)]" 'rollout: 304 NoSuchName name=web' 'shell-word at=0/tasks/0 word=;'
 refused_alone 'a fault of an inventory alone' '{"g":{"vars":{"max_down":0},"hosts":{"a":{"down":true}}}}' 'rollout: 302 StartOver group=g down=1 limit=0' ''
 # What is kept of texts with faults: limits that cross, names of patterns, and what is noted.
 echo_play() {
@@ -442,18 +450,27 @@ refused 'a limit that is none crosses nothing' '{"f":{"vars":{"max_down":1},"hos
 refused 'a host whose name is none crosses nothing' '{"f":{"vars":{"max_down":1},"hosts":{"a b":null}},"g":{"vars":{"max_down":1},"hosts":{"a b":null}}}' "$ok" "rollout: 101 BadName name=a b${newline}rollout: 101 BadName name=a b" ''
 refused_alone 'limits that cross in an inventory alone, which is noted without limits' '{"f":{"vars":{"max_down":1,"maxdown":2},"hosts":{"a":null}},"g":{"vars":{"max_down":0},"hosts":{"a":null,"b":{"down":0}}}}' \
     "rollout: 205 BadDown at=g/hosts/b/down$newline$crossed" 'near-key group=f name=maxdown'
-refused 'names are looked up where limits cross' "$crossing" "[$(echo_play '{{ v }}'),$(echo_play x 'g:h')]" "$crossed${newline}rollout: 304 NoSuchName name=h" ''
+refused 'names are looked up where limits cross' "$crossing" "[$(echo_play '{{ v }}'),$(echo_play x 'g:h')]" "$crossed${newline}rollout: 304 NoSuchName name=h" 'unknown-name at=0/tasks/0 name=v'
 refused 'and are noted there, though no limit is' "$crossing" "[$(echo_play '{{ v }}' g)]" "$crossed" 'unknown-name at=0/tasks/0 name=v'
 refused 'a group that starts over its limit, beside a host that is no object' '{"g":{"vars":{"max_down":0,"maxdown":1},"hosts":{"a":{"down":true},"b":7}}}' "[$(echo_play '{{ w }}' g)]" \
     "rollout: 202 BadShape at=g/hosts/b${newline}rollout: 302 StartOver group=g down=1 limit=0" "near-key group=g name=maxdown${newline}unknown-name at=0/tasks/0 name=w"
 refused 'where a down is none its host is up' '{"g":{"vars":{"max_down":0},"hosts":{"a":{"down":"true"}}}}' "$ok" 'rollout: 205 BadDown at=g/hosts/a/down' 'zero-limit group=g members=1'
-refused 'where a name of a group stands twice no limit is looked at' '{"f":{"vars":{"max_down":1},"hosts":{"a":null}},"g":{"vars":{"max_down":0},"hosts":{"a":null},"children":{"f":null}}}' "[$(echo_play x web)]" 'rollout: 102 TwicePlaced group=4'
+# Groups that stand twice.
+refused 'where a name of a group stands twice the first of its groups is looked at' '{"f":{"vars":{"max_down":1},"hosts":{"a":null}},"g":{"vars":{"max_down":0},"hosts":{"a":null},"children":{"f":null}}}' "[$(echo_play x web)]" "rollout: 102 TwicePlaced group=4${newline}$crossed" ''
+refused 'or the first one that lists or gives anything; and no name of a pattern is told' '{"all":{"children":{"prod":{"children":{"db":null,"web":{"hosts":{}}}},"web":{"vars":{"max_down":0},"hosts":{"a":null,"b":{"v":1}}},"db":{"hosts":{"c":{"down":true}},"vars":{"max_down":0}}}}}' \
+    "[$(echo_play '{{ v }} {{ w }}' web:nobody),$(echo_play '{{ q }} ;' prod)]" "rollout: 102 TwicePlaced group=4${newline}rollout: 102 TwicePlaced group=6${newline}rollout: 302 StartOver group=db down=1 limit=0" "missing-name at=0/tasks/0 name=v hosts=1 of=2 host=a
+unknown-name at=0/tasks/0 name=w
+shell-word at=1/tasks/0 word=;"
+refused 'what is below a group that stood before goes with it, and so do limits in percent' '{"f":{"vars":{"maxdown":1,"max_down":"0%"},"hosts":{"a":null},"children":{"e":{"vars":{"max_down":0},"hosts":{"b":null}}}},"g":{"children":{"f":{"hosts":{"c":null},"children":{"h":{"vars":{"down":1}}}},"e":{"vars":{"down":1}},"i":{"vars":{"down":1}}}}}' "[$(echo_play '{{ v }}' c)]" \
+    "rollout: 102 TwicePlaced group=5${newline}rollout: 102 TwicePlaced group=6" "near-key group=f name=maxdown
+zero-limit group=e members=1
+group-down group=i"
 python3 -c 'import json; print(json.dumps({"all": {"hosts": {f"h{place}": None for place in range(4097)}, "x": 1}}))' >"$work/hosts.json"
 texts '' "[$(echo_play '{{ v }}' nobody)]"
 run lint "$work/hosts.json" "$playbook"
 told 'of too many hosts no name is looked up' "rollout: 203 UnknownKey at=all/x${newline}rollout: 303 TooManyHosts"
 
-refused 'beside a name that is none groups and hosts are noted, and no step' '{"g":{"vars":{"maxdown":1},"hosts":{"a":null}}}' "[$(echo_play '{{ v }}' g),$(echo_play x web)]" 'rollout: 304 NoSuchName name=web' 'near-key group=g name=maxdown'
+refused 'beside a name that is none the other plays are noted' '{"g":{"vars":{"maxdown":1},"hosts":{"a":null}}}' "[$(echo_play '{{ v }}' g),$(echo_play x web)]" 'rollout: 304 NoSuchName name=web' "near-key group=g name=maxdown${newline}unknown-name at=0/tasks/0 name=v"
 refused 'a name that nothing has beside an unknown key' '{"web":{"hosts":{"a":null},"x":1}}' "[$(echo_play x 'web:wbe')]" "rollout: 203 UnknownKey at=web/x${newline}rollout: 304 NoSuchName name=wbe" ''
 refused 'behind the faults of the playbook, play by play' "$one" "[{\"hosts\":\"web,b\",\"roles\":1,\"tasks\":[{\"command\":\"true\"}]},$(echo_play x 'web:web'),$(play '{"shell":"x"}' '' a)]" \
     "rollout: 703 UnknownKey at=0/roles${newline}rollout: 703 UnknownKey at=2/tasks/0/shell${newline}rollout: 702 BadShape at=2/tasks/0${newline}rollout: 304 NoSuchName name=web${newline}rollout: 304 NoSuchName name=b${newline}rollout: 304 NoSuchName name=web" ''
@@ -470,7 +487,7 @@ refused 'and no host' 'null' "[$(echo_play '{{ v }}')]" 'rollout: 202 BadShape a
 refused 'a name beside an unknown key' "$three" '[{"hosts":"all","become":true,"tasks":[{"command":"echo {{ v }} {{ vv }} {{ x }}"}]}]' 'rollout: 703 UnknownKey at=0/become' "unknown-name at=0/tasks/0 name=vv
 missing-name at=0/tasks/0 name=x hosts=2 of=3 host=a"
 refused 'a step without a command registers all the same' "$one" "[$(play "{\"shell\":\"x {{ q }}\",\"register\":\"r\",\"when\":\"q\"},$(task '"when":"r.rc == 0 and rr.rc == 0"')")]" \
-    "rollout: 703 UnknownKey at=0/tasks/0/shell${newline}rollout: 702 BadShape at=0/tasks/0" 'unknown-name at=0/tasks/1 name=rr'
+    "rollout: 703 UnknownKey at=0/tasks/0/shell${newline}rollout: 702 BadShape at=0/tasks/0" "unknown-name at=0/tasks/0 name=q${newline}unknown-name at=0/tasks/1 name=rr"
 refused 'of a step whose when is none nothing is looked up' "$one" "[$(play '{"command":"echo {{ y }} ;","when":["y is defined","z >"],"register":"q","failed_when":"z"},{"command":"echo {{ q.rc }} {{ p }}"}')]" \
     'rollout: 501 BadToken step=1 key=when at=2' 'unknown-name at=0/tasks/1 name=p'
 refused 'nor of one whose when is of another kind' "$one" "[$(play '{"command":"echo {{ y }} ;","when":[true,7]},{"command":"echo ;","when":{"a":1}}')]" "rollout: 702 BadShape at=0/tasks/0/when/1${newline}rollout: 702 BadShape at=0/tasks/1/when" ''
@@ -478,9 +495,14 @@ refused 'parts of changed_when and failed_when that can be read are' "$one" "[$(
     "rollout: 501 BadToken step=1 key=changed_when at=2${newline}rollout: 501 BadToken step=1 key=failed_when at=2${newline}rollout: 702 BadShape at=0/tasks/1/failed_when/0" "unknown-name at=0/tasks/0 name=y
 unknown-name at=0/tasks/1 name=p"
 refused 'a guard before a failed_when that is none' "$three" "[$(play '{"command":"echo {{ x }}","when":"x is defined","failed_when":"x >"}')]" 'rollout: 501 BadToken step=1 key=failed_when at=2' ''
-refused 'of a step whose words are none no condition is looked at' "$one" "[$(play "$(printf '{"command":"echo %sy%s","when":"y","failed_when":"y","register":"r"}' "'" "'"),{\"command\":\"echo {{ y }} {{ 1 }}\",\"when\":true},$(task '"when":"r.rc == 1"')")]" \
-    "rollout: 702 BadShape at=0/tasks/0/command${newline}rollout: 602 BadBraces step=2" ''
-refused 'nor of one with two commands' "$one" "[$(play '{"command":"echo {{ y }}","ansible.builtin.command":"echo ;","changed_when":"y"}')]" 'rollout: 702 BadShape at=0/tasks/0' ''
+refused 'of a step whose words are none the conditions are looked at' "$one" "[$(play "$(printf '{"command":"echo %sy%s","when":"y","failed_when":"y","register":"r"}' "'" "'"),{\"command\":\"echo {{ y }} {{ 1 }}\",\"when\":true},$(task '"when":"r.rc == 1"')")]" \
+    "rollout: 702 BadShape at=0/tasks/0/command${newline}rollout: 602 BadBraces step=2" "unknown-name at=0/tasks/0 name=y${newline}constant-condition at=0/tasks/1"
+refused 'and so are those of one with two commands' "$one" "[$(play '{"command":"echo {{ p }}","ansible.builtin.command":"echo ;","changed_when":"y","failed_when":["q >","q"]}')]" "rollout: 702 BadShape at=0/tasks/0${newline}rollout: 501 BadToken step=1 key=failed_when at=2" "unknown-name at=0/tasks/0 name=y
+unknown-name at=0/tasks/0 name=q"
+refused 'a guard in the when of a step without a command' "$three" "[$(play '{"shell":"x","when":"x is defined","failed_when":"x"},{"shell":"x","when":["x","w >"],"failed_when":"x"}')]" \
+    "rollout: 703 UnknownKey at=0/tasks/0/shell${newline}rollout: 702 BadShape at=0/tasks/0${newline}rollout: 703 UnknownKey at=0/tasks/1/shell${newline}rollout: 702 BadShape at=0/tasks/1${newline}rollout: 501 BadToken step=2 key=when at=2" ''
+refused 'a step without a command goes nowhere, and is none that runs here' "$one" "[$(play '{"command":"ssh x"},{"shell":"uptime"},{"command":"uptime"}')]" \
+    "rollout: 703 UnknownKey at=0/tasks/1/shell${newline}rollout: 702 BadShape at=0/tasks/1" 'local-step at=0/tasks/2 word=uptime'
 refused 'a task that is no object keeps its place' "$one" "[$(play '"true",{"command":"echo {{ y }}"}')]" 'rollout: 702 BadShape at=0/tasks/0' 'unknown-name at=0/tasks/1 name=y'
 refused 'and so does a play' "$one" "[null,{\"hosts\":\"all\",\"tasks\":[]},$(echo_play '{{ y }}')]" "rollout: 702 BadShape at=0${newline}rollout: 702 BadShape at=1/tasks" 'unknown-name at=2/tasks/0 name=y'
 refused 'handlers stay up to one of a name that stood before' "$one" "[$(play "$(task '"notify":["H","I"]')" "{\"name\":\"H\",\"command\":\"echo {{ y }}\",\"register\":\"s\"},$(task '"name":"I","when":"s or q"'),{\"name\":\"H\",\"command\":\"echo {{ p }}\"},{\"name\":\"J\",\"command\":\"echo {{ p }}\"}")]" \
@@ -497,6 +519,23 @@ refused 'settings of a play that are none' "$one" '[{"hosts":"all","serial":[1,"
     "rollout: 706 BadSerial at=0/serial/1${newline}rollout: 707 BadPercent at=0/max_fail_percentage${newline}rollout: 702 BadShape at=0/on_blocked" 'unknown-name at=0/tasks/0 name=y'
 refused 'results of earlier plays with faults are there' "$one" "[{\"hosts\":\"all\",\"vars\":{},\"tasks\":[$(task '"register":"r"')],\"handlers\":[$(task '"name":"H","register":"s","x":1')]},$(play "$(task '"when":"r and s and t"')")]" \
     "rollout: 703 UnknownKey at=0/vars${newline}rollout: 703 UnknownKey at=0/handlers/0/x" 'unknown-name at=1/tasks/0 name=t'
+
+# Patterns of which a part names nothing.
+refused 'the other names of a pattern stay' "$three" "[$(echo_play '{{ x }} {{ y }}' 'nobody:a,c:x')]" "rollout: 304 NoSuchName name=nobody${newline}rollout: 304 NoSuchName name=x" "missing-name at=0/tasks/0 name=x hosts=1 of=2 host=a
+unknown-name at=0/tasks/0 name=y"
+refused 'where none names something it is the nearest to the first' '{"web":{"hosts":{"a":{"v":1}}},"db":{"hosts":{"b":{"w":1}}}}' "[$(echo_play '{{ v }} {{ w }}' 'wbe:bd'),$(echo_play '{{ v }} {{ w }}' 'bd:wbe'),$(echo_play '{{ v }} {{ w }}' 'Db, wbe')]" \
+    "rollout: 304 NoSuchName name=wbe${newline}rollout: 304 NoSuchName name=bd${newline}rollout: 304 NoSuchName name=bd${newline}rollout: 304 NoSuchName name=wbe${newline}rollout: 304 NoSuchName name=Db${newline}rollout: 304 NoSuchName name=wbe" "unknown-name at=0/tasks/0 name=w
+unknown-name at=2/tasks/0 name=v"
+refused 'a group before a host that is as near, and an edit before two' '{"webs":{"hosts":{"web1":{"w":1}}},"wob22":{"hosts":{"c":{"v":1}}}}' "[$(echo_play '{{ v }} {{ w }}' web2),$(echo_play '{{ v }} {{ w }}' wob1)]" \
+    "rollout: 304 NoSuchName name=web2${newline}rollout: 304 NoSuchName name=wob1" "unknown-name at=0/tasks/0 name=v
+unknown-name at=1/tasks/0 name=v"
+refused 'where none is near no step is noted, and what steps register is there' "$one" "[$(play '{"command":"echo {{ y }} ;","register":"r"},{"command":"true","when":true}' '{"name":"H","command":"true","register":"s"}' nobody),$(play "$(task '"when":"r and s and t"')")]" \
+    'rollout: 304 NoSuchName name=nobody' 'unknown-name at=1/tasks/0 name=t'
+refused 'and so it is of a play whose hosts are none' "$one" "[{\"hosts\":{\"a\":1},\"tasks\":[{\"command\":\"echo {{ y }} ;\",\"register\":\"r\"},{\"register\":\"is\"}],\"handlers\":[{\"register\":\"s\"},7]},$(play "$(task '"when":"r and s and t"')")]" \
+    "rollout: 702 BadShape at=0/hosts${newline}rollout: 702 BadShape at=0/handlers/0${newline}rollout: 702 BadShape at=0/handlers/0${newline}rollout: 702 BadShape at=0/handlers/1${newline}rollout: 702 BadShape at=0/tasks/1${newline}rollout: 702 BadShape at=0/tasks/1/register" 'unknown-name at=1/tasks/0 name=t'
+refused 'nobody is noted of whom a name may be missing' '{"g":{"hosts":{"a":{"down":true}}},"h":{"hosts":{"b":null}}}' "[$(echo_play '{{ v }}' g:nobody),{\"hosts\":\"h:nobody\",\"serial\":9,\"tasks\":[{\"command\":\"true\"}]}]" "rollout: 304 NoSuchName name=nobody${newline}rollout: 304 NoSuchName name=nobody" ''
+refused 'a handler is noted where the playbook has no fault of its own' '{"g":{"hosts":{"a":null},"x":1}}' "[$(play '{"command":"uptime"},{"command":"ssh x"}' '{"name":"H","command":"ssh x"}' g:nobody)]" "rollout: 203 UnknownKey at=g/x${newline}rollout: 304 NoSuchName name=nobody" "local-step at=0/tasks/0 word=uptime
+idle-handler at=0/handlers/0"
 
 refused 'the other variables of a host stay' '{"all":{"hosts":{"a":{"down":1,"v":1},"b":null,"c":[]}}}' "[$(echo_play '{{ v }}')]" "rollout: 205 BadDown at=all/hosts/a/down${newline}rollout: 202 BadShape at=all/hosts/c" 'missing-name at=0/tasks/0 name=v hosts=2 of=3 host=b'
 refused 'a host whose name is none is none of those who wait' '{"all":{"hosts":{"a b":{"v":1},"b":null,"c":{"v":1}}}}' "[$(echo_play '{{ v }}')]" 'rollout: 101 BadName name=a b' 'missing-name at=0/tasks/0 name=v hosts=1 of=2 host=b'
@@ -519,7 +558,23 @@ idle-handler at=0/handlers/0
 no-hosts play=2'
 sed -i 's/"serial":9/"become":1,&/' "$playbook"
 run lint "$inventory" "$playbook"
-told 'that are not told beside a fault' 'rollout: 703 UnknownKey at=0/become' ''
+told 'of which two are not told beside a fault of the playbook' 'rollout: 703 UnknownKey at=0/become' 'empty-limit group=e
+down-hosts play=1 hosts=1 host=d
+idle-serial play=1 size=9 waiting=3
+local-step at=0/tasks/0 word=uptime
+no-hosts play=2'
+sed -i 's/"hosts":"e"/"hosts":["e","nobody"]/' "$playbook"
+run lint "$inventory" "$playbook"
+told 'and more where a name of a play names nothing' "rollout: 703 UnknownKey at=0/become${newline}rollout: 304 NoSuchName name=nobody" 'local-step at=0/tasks/0 word=uptime'
+sed -i 's/"become":1,//' "$playbook"
+run lint "$inventory" "$playbook"
+told 'or where that is the only fault' 'rollout: 304 NoSuchName name=nobody' 'local-step at=0/tasks/0 word=uptime
+idle-handler at=0/handlers/0'
+sed -i 's/,"nobody"//' "$playbook"
+sed -i 's/"g":{/&"x":1,/' "$inventory"
+run lint "$inventory" "$playbook"
+told 'or beside a fault of the inventory' 'rollout: 203 UnknownKey at=g/x' 'local-step at=0/tasks/0 word=uptime
+idle-handler at=0/handlers/0'
 texts "$three" '[{"hosts":"all","become":true,"tasks":[{"command":"echo {{ vv }} ;"}]}]'
 run lint "$inventory" "$playbook" --allow unknown-name
 told 'kinds that are switched off aren'"'"'t either' 'rollout: 703 UnknownKey at=0/become' 'shell-word at=0/tasks/0 word=;'
@@ -533,7 +588,34 @@ done
 python3 -c 'import json; print(json.dumps([{"hosts": "all", "tasks": [{"command": "echo ;", "x": 1}] * 101}]))' >"$playbook"
 run lint "$inventory" "$playbook"
 sed -i '/^rollout: /{n;/^  /d;}' "$work/out"
+without_advice
 [ "$status" -eq 1 ] && [ "$(grep -c '^rollout: 703' "$work/out")" -eq 100 ] && [ "$(sed -n '101,102p' "$work/out")" = "faults=101${newline}shell-word at=0/tasks/0 word=;" ] && [ "$(tail -n 1 "$work/out")" = notes=101 ] && pass || fail "notes behind a hundred faults: $(tail -n 1 "$work/out")"
+
+# What to do stands behind the notes, once a kind that is told, in the order of the kinds.
+texts "$racks" "[$(play "$(task '"when":"p == 1"'),{\"command\":\"true ;\"},$(task '"when":"q == 1"')" '{"name":"h","command":"true"}')]"
+run lint "$inventory" "$playbook" --allow idle-handler
+check 'what to do about notes' 1 'unknown-name at=0/tasks/0 name=p
+shell-word at=0/tasks/1 word=;
+unknown-name at=0/tasks/2 name=q
+notes=3
+'"  unknown-name: spell it as the variable or the \`register\`, give it to the hosts, or let an earlier step register it; or ask in \`when\` first whether it is defined: as it is, the step fails where it looks it up; \`explain unknown-name\` says more, \`--allow unknown-name\` switches it off
+  shell-word: no shell reads it here: write {\"argv\": [\"sh\", \"-c\", \"ps | grep x\"]}, or two steps in place of && and ;; \`explain shell-word\` says more, \`--allow shell-word\` switches it off
+" ''
+
+# unsought WHAT INVENTORY PLAYBOOK KINDS: behind the faults of the texts stands that notes of these kinds aren't looked for; nothing where none are given.
+unsought() {
+    texts "$2" "$3"
+    run lint "$inventory" "$playbook"
+    found=$(sed -n 's/^  not looked for beside these faults: //p' "$work/out")
+    [ "$found" = "$4" ] && pass || fail "$1: not looked for is '$found'"
+}
+
+bad_down='{"all":{"hosts":{"a":{"down":1}}}}'
+unsought 'beside faults of the inventory' "$bad_down" "$ok" 'empty-limit, no-hosts, down-hosts, idle-serial, one-failure'
+unsought 'beside faults of the playbook' "$one" "[$(play '{"command":"true","x":1}')]" 'one-failure, idle-handler'
+unsought 'beside faults of both' "$bad_down" "[$(play '{"command":"true","x":1}')]" 'empty-limit, no-hosts, down-hosts, idle-serial, one-failure, idle-handler'
+unsought 'where nothing is kept' '{' "$ok" 'anything else'
+unsought 'without faults' "$one" "$ok" ''
 
 texts "$one" "$ok"
 run lint "$inventory" /dev/null

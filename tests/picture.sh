@@ -76,5 +76,17 @@ a: r | off | off
 b: r | idle | idle
 c: r | waiting | updated ran' --course
 
+# A file that is there is written anew: nothing is left of a longer picture.
+printf '[{"hosts":"all","tasks":[{"command":"true"}]}]' >"$work/playbook.json"
+for of in "$racks" '{"all":{"hosts":{"a":null}}}'; do
+    printf '%s' "$of" >"$work/inventory.json"
+    rm -f "$work/alone.svg"
+    for picture in over alone; do
+        run plan "$work/inventory.json" "$work/playbook.json" --picture "$work/$picture.svg"
+        [ "$status" -eq 0 ] && wc -c <"$work/$picture.svg" >>"$work/sizes"
+    done
+done
+[ "$(sed -n 1p "$work/sizes")" -gt "$(sed -n 4p "$work/sizes")" ] && cmp -s "$work/over.svg" "$work/alone.svg" && pass || fail "a picture over a longer one: $(tr '\n' ' ' <"$work/sizes") bytes"
+
 counting python3 "$top/tests/slow/pictured.py" "$rollout" 7 "${PICTURES:-100}"
 finish

@@ -122,6 +122,10 @@ says 'a word of 65,536 bytes' 65536 "[\"sh\",\"-c\",\"printf %s \\\"\$0\\\" | wc
 says '200,000 bytes of words' 200000 "[\"sh\",\"-c\",\"printf %s \\\"\$@\\\" | wc -c\",\"x\",\"$long\",\"$long\",\"$long\",\"$(printf '%.3392s' "$long")\"]"
 unstarted 'a word of 65,537 bytes' "[\"true\",\"x$long\"]"
 ! proved 'eight million bytes of words' || unstarted 'more bytes of words than the system takes' "[\"true\"$(for i in $(seq 1 120); do printf ',"%s"' "$long"; done)]"
+# A command of many words, and a play of as many steps as there may be.
+says 'two thousand words' '2000 w1 w2000' "[\"sh\",\"-c\",\"echo \$# \$1 \${2000}\",\"x\",$(seq 2000 | sed 's/.*/"w&"/' | paste -sd, -)]"
+played "$(seq 255 | sed 's/.*/{"command":"false","when":false}/' | paste -sd, -),{\"command\":\"true\"}"
+told '256 steps' 0 'ok=1 changed=1 failed=0 skipped=255 ignored=0 state=updated' finished
 mkdir "$work/bin"
 printf '#!/bin/sh\necho found\n' >"$work/bin/ours"
 chmod 755 "$work/bin/ours"
@@ -490,6 +494,20 @@ if proved 'want of memory for what is told'; then
     more=
     counting python3 "$helpers/kept.py" "$work/one.json" "$work/play.json" "$work/compared"
 fi
+if proved 'want of memory behind a program that is handed out'; then
+    # The workers come late. Where memory is wanting before the second host's program is handed out, that of the first one, which nobody has taken yet, is called back: nothing is started.
+    hosts 2 >"$work/pair.json"
+    printf '[{"hosts":"all","tasks":[{"command":{"argv":["touch","%s/{{ inventory_hostname }}"]}}]}]' "$work/kept" >"$work/touch.json"
+    called_back=0
+    for number in 1 2 3 4 5 6; do
+        rm -f "$work/kept/"h*
+        timeout -k 5 120 env LATE=200 FAIL=malloc FAIL_BEHIND=' begins ' FAIL_AT="$number" FAIL_HOW="$errno_memory" LD_PRELOAD="$work/fail.so" "$rollout" run -v "$work/pair.json" "$work/touch.json" --forks 2 >"$work/out" 2>"$work/errors" </dev/null
+        [ "$?" -eq 5 ] && grep -q '^h0000 step=1 begins ' "$work/errors" && ! grep -q '^h0001 step=1 begins ' "$work/errors" || continue
+        called_back=$((called_back + 1))
+        [ ! -e "$work/kept/h0000" ] && pass || fail "allocation $number behind a program that is handed out is refused, and it is started"
+    done
+    [ "$called_back" -gt 0 ] && pass || fail 'no allocation is one for the next host'
+fi
 failing posix_spawn 1 $errno_memory
 check 'no memory for a process' 5 'boundary 1: plan batches=1 bound=one-host
 open: a
@@ -541,4 +559,12 @@ for signal in INT TERM; do
     wait $runner 2>/dev/null
     comes_to $runner 0 && pass || fail "SIG$signal: $(alive $runner) are left"
 done
+
+# ---- very many
+
+# One worker takes each of over a hundred thousand programs, here of a word that none can be started with.
+if proved '102,400 programs'; then
+    many 400 1 "$(seq 256 | sed 's/.*/{"command":{"argv":["true\\u0000"]},"ignore_errors":true}/' | paste -sd, -)"
+    check '102,400 programs, at one fork' 0 "$(all 400 'ok=256 changed=0 failed=0 skipped=0 ignored=256 state=updated' finished)$newline" ''
+fi
 finish

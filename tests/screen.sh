@@ -56,6 +56,8 @@ for columns in 80 40; do
     [ "$(grep -c '^h00[0-9]* failed at step 2 (try): rc=3$' "$work/screen")" -eq 3 ] && tail -n 1 "$work/screen" | grep -q '^next: ' && pass || fail "a terminal of $columns columns shows in the end: $(tail -n 2 "$work/screen" | tr '\n' '|')"
     over >"$work/over"
     grep -q '^batch [1-6] of [1-6], [0-9]* of 60 updated' "$work/over" && pass || fail "a terminal of $columns columns: the line is '$(tail -n 1 "$work/over")'"
+    # Each of the plans has ten hosts a batch, so there will be six of them from the first one on.
+    grep -qv '^batch [1-6] of 6, ' "$work/over" && fail "a terminal of $columns columns: other batches are ahead: $(grep -v '^batch [1-6] of 6, ' "$work/over" | head -n 1)" || pass
     # It counts forth, is there for each batch, and is gone in the end.
     awk '{ split($0, part, /[ ,]+/); if (part[2] < batch || part[5] < updated) bad = 1; batch = part[2]; updated = part[5]; if (!(batch in seen)) count++; seen[batch] }
         END { exit bad || count != 6 || updated < 40 }' "$work/over" && pass || fail "a terminal of $columns columns: the line doesn't count forth: $(tail -n 3 "$work/over" | tr '\n' '|')"
@@ -69,6 +71,12 @@ over >"$work/over"
 grep -q ', on h00[0-9][0-9] h00[0-9][0-9] +3, ' "$work/over" && pass || fail 'no five hosts are named'
 grep -q ', [1-3] failed' "$work/over" && pass || fail 'no failure is counted'
 grep ' +[0-9]' "$work/over" | grep -vq ' +[1-3], ' && fail "more hosts are named than there are forks: $(grep ' +[0-9]' "$work/over" | grep -v ' +[1-3], ' | head -n 1)" || pass
+# Who has worked longest stands first: of four hosts the first one ends long before the others.
+printf '{"all":{"hosts":{"a":null,"b":null,"c":null,"d":null}}}' >"$work/four.json"
+printf '[{"hosts":"all","tasks":[{"command":{"argv":%s}}]}]' "$(shell 'test {{ inventory_hostname }} = a || sleep 0.7')" >"$work/four-play.json"
+shown 80 --forks 4 "$work/four.json" "$work/four-play.json"
+over >"$work/over"
+{ grep -q ', on a b +2, ' "$work/over" && grep -q ', on b c +1, ' "$work/over"; } && pass || fail "of four hosts the first one ended: $(tr '\n' '|' <"$work/over")"
 # Other widths: one that has no room for anything, the widest, and one that the terminal doesn't know.
 for columns in 1 2 10 500 0; do
     shown $columns --forks 5 "$work/hosts.json" "$work/play.json"
@@ -143,6 +151,11 @@ tabled 'always, over NO_COLOR' "$red" env NO_COLOR=1
 tabled 'always, over a dumb terminal' "$red" env -u NO_COLOR TERM=dumb
 words='--color auto'
 tabled 'NO_COLOR beside auto' 1/1 env NO_COLOR=1
+
+# Standard output decides it, whatever standard error is.
+printf 'plan batches=2 bound=group g waiting=2 room=1\nbatch 1: a\nbatch 2: b\n     now   1   2\ng* 1 0/1 1/1 1/1\n' >"$work/wanted"
+timeout -k 5 "$limit" python3 "$helpers/screen.py" 80 "$work/table" "$work/raw" /bin/sh -c 'unset NO_COLOR; exec "$@"' sh "$rollout" plan "$work/pair.json" "$work/pair-play.json" --groups >"$work/screen" 2>"$work/faults" </dev/null
+cmp -s "$work/table" "$work/wanted" && [ ! -s "$work/raw" ] && pass || fail "full groups, in a file, and errors at a terminal: $(cat -v "$work/table" "$work/raw" | tail -n 3 | tr '\n' '|')"
 
 # ---- no words
 

@@ -39,10 +39,11 @@ fi
 
 # ---- few descriptors
 
-# with LIMIT WORD..: the program, or another, with so many descriptors
+# with LIMIT WORD..: the program, or another, with so many descriptors; where `may_raise` is -S it may give itself more
+may_raise=
 with() {
     (
-        ulimit -n "$1"
+        ulimit $may_raise -n "$1"
         shift
         exec timeout -k 5 "$limit" "$@"
     ) <"$input" >"$work/out" 2>"$work/errors"
@@ -80,7 +81,8 @@ echo - >>"$1"
 SH
 chmod 755 "$work/note"
 
-# at_most DESCRIPTORS FORKS HOSTS COUNT LINE: at most COUNT programs run at once, and this line or none is told of it. They take longer than as many starts.
+# at_most DESCRIPTORS FORKS HOSTS COUNT LINE: at most COUNT programs run at once, and this line or none is told of it. They take longer than as many starts. The times that are told are
+# their own, without what they waited for others: together they are about COUNT times that of the batch at most.
 at_most() {
     rm -f "$work/kept/notes"
     taking=0.2
@@ -89,6 +91,8 @@ at_most() {
     hosts "$3" >"$work/hosts.json"
     with "$1" "$rollout" run -v "$work/hosts.json" "$work/play.json" --forks "$2"
     lines=$(grep '^descriptors=' "$work/errors")
+    awk -v most="$4" '/ step=1 changed rc=0 ms=/ { split($5, ms, "="); taken += ms[2] } /^closed / { split($5, ms, "="); batch = ms[2] } END { exit !taken || taken > 1.5 * most * batch }' "$work/errors" &&
+        pass || fail "$1 descriptors, $2 forks: programs take $(sed -n 's/.* \(ms=[0-9]*\) .*/\1/p' "$work/errors" | tr '\n' ' ')"
     : >"$work/errors"
     check "$1 descriptors, $2 forks: what is told" 0 "$(all "$3" "ok=1 $updated" finished)$newline" ''
     [ "$lines" = "$5" ] && pass || fail "$1 descriptors, $2 forks: '$lines' is told"
@@ -106,6 +110,10 @@ at_most 16 1 3 1 ''
 at_most 40 63 4 4 ''
 at_most 207 64 70 63 'descriptors=207 at-once=63'
 at_most 208 64 70 64 ''
+# What counts is how many it may have as it is.
+may_raise=-S
+at_most 22 6 6 2 'descriptors=22 at-once=2'
+may_raise=
 hosts 24 >"$work/hosts.json"
 with 40 "$rollout" run "$work/hosts.json" "$work/play.json" --forks 64
 check 'few descriptors, and nobody asks' 0 "$(all 24 "ok=1 $updated" finished)$newline" ''

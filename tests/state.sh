@@ -143,6 +143,22 @@ bad 'again with one who is down' 5 HEAD 'play: a b' 'open: a' 'resumed:' 'again:
 bad 'a play that comes while one goes on' 4 HEAD2 'play: a' 'resumed:' 'play: b'
 bad 'somebody else is up by now' 2 HEAD 'resumed: z'
 
+# ---- a long one: a run of six hundred batches
+
+python3 - "$top/tests/slow" "$work/long.json" "$work/long.journal" <<'PYTHON'
+import json, sys
+sys.path.append(sys.argv[1])
+from entries import head, line
+names = [f"h{place:03}" for place in range(600)]
+inventory = json.dumps({"all": {"hosts": dict.fromkeys(names)}}).encode()
+open(sys.argv[2], "wb").write(inventory)
+bodies = [body for name in names for body in (f"open: {name}", f"closed: updated:{name}")]
+playbook = b'[{"hosts":"all","serial":1,"tasks":[{"command":"true"}]}]'
+open(sys.argv[3], "wb").write(b"".join(map(line, [head(inventory, playbook, 1), "play: " + " ".join(names), *bodies, "end finished"])))
+PYTHON
+run state "$work/long.json" "$work/long.journal"
+check 'six hundred batches' 0 "$(seq 0 599 | sed 's/.*/00&/; s/.*\(...\)$/h\1 state=updated/')${newline}end finished$newline" ''
+
 : >"$work/journal"
 run state "$work/racks.json" "$work/journal"
 check 'an empty file' 1 '' "rollout: 912 BadJournal line=1$newline"

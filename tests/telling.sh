@@ -36,6 +36,20 @@ verbose "$work/down.json" "$work/play.json"
 sed '1,/^play 2$/d' "$work/out" | grep ' state=\(running\|failed\|halted\|off\)$' >"$work/down"
 timeout -k 5 "$limit" "$rollout" run -v "$work/down.json" "$work/play.json" </dev/null >/dev/full 2>"$work/errors"
 [ -s "$work/down" ] && sed '1,/^rollout: 904 Write written=0$/d' "$work/errors" | grep ' state=' | cmp -s - "$work/down" && pass || fail "two plays, an output that is full: $(tail -n 3 "$work/errors" | tr '\n' '|')"
+# The same of a run that its stop file ended behind its first batch.
+stop=$work/kept/stop
+printf '[{"hosts":"all","serial":2,"tasks":[{"command":{"argv":["touch","%s"]}},{"command":{"argv":["test","{{ inventory_hostname }}","!=","a"]}}]}]' "$stop" >"$work/play.json"
+timeout -k 5 "$limit" "$rollout" run -v "$work/down.json" "$work/play.json" --stop-file "$stop" </dev/null >/dev/full 2>"$work/errors"
+status=$?
+rm -f "$stop"
+timeless
+tail -n 1 "$work/errors" | cat - "$work/behind" >"$work/ends"
+mv "$work/ends" "$work/errors"
+: >"$work/out"
+check 'a run that its file ended, and an output that is full' 1 '' 'rollout: 904 Write written=0
+a ok=1 changed=1 failed=1 skipped=0 ignored=0 state=failed
+d ok=0 changed=0 failed=0 skipped=0 ignored=0 state=off
+'
 # Where no host is down nothing follows.
 timeout -k 5 "$limit" "$rollout" run -v "$work/one.json" "$work/true.json" </dev/null >/dev/full 2>"$work/errors"
 [ "$(tail -n 1 "$work/errors")" = 'rollout: 904 Write written=0' ] && pass || fail 'no host is down, and an output is full'

@@ -351,4 +351,16 @@ verbose "$work/five.json" "$work/play.json" --stop-file "$stop"
 rm -f "$stop"
 [ "$status" -eq 1 ] && [ "$(cat "$work/behind")" = "b waits${newline}d waits${newline}next: go on, by --resume JOURNAL, or without a journal by a narrower \"hosts\" (docs/DURING_AND_AFTER.md)" ] && pass ||
     fail "a run that its file ended: behind it stands $(tr '\n' '|' <"$work/behind")"
+# Of several plays the one that it broke off has what counts, whether anybody failed in it or not.
+printf '[{"hosts":"all","tasks":[{"command":{"argv":["touch","%s"]}}]},{"hosts":"all","tasks":[{"command":"true"}]}]' "$stop" >"$work/play.json"
+verbose "$work/one.json" "$work/play.json" --stop-file "$stop"
+rm -f "$stop"
+[ "$status" -eq 1 ] && [ "$(cat "$work/behind")" = "a waits${newline}next: go on, by --resume JOURNAL, or without a journal by a narrower \"hosts\" (docs/DURING_AND_AFTER.md)" ] && pass ||
+    fail "a second play that its file ended: behind it stands $(tr '\n' '|' <"$work/behind")"
+hosts 3 >"$work/three.json"
+printf '[{"hosts":"all","tasks":[{"command":"true"}]},{"hosts":"all","serial":2,"tasks":[{"command":{"argv":["touch","%s"]}},{"command":{"argv":["test","{{ inventory_hostname }}","!=","h0000"]}}]}]' "$stop" >"$work/play.json"
+verbose "$work/three.json" "$work/play.json" --stop-file "$stop"
+rm -f "$stop"
+[ "$status" -eq 1 ] && [ "$(cat "$work/behind")" = "h0000 failed in play 2 at step 2: rc=1${newline}h0001 waits$newline$next" ] && pass ||
+    fail "a host failed in a second play that its file ended: behind it stands $(tr '\n' '|' <"$work/behind")"
 finish

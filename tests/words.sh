@@ -183,6 +183,9 @@ a step=3 fails undefined=x
 a step=4 fails undefined=x
 a step=5 too-long'
 
+# As many variables as anybody has.
+told 'two thousand variables' 0 "{\"all\":{\"vars\":{$(seq 2000 | sed 's/.*/"v&":&/' | paste -sd, -)},\"hosts\":{\"a\":null}}}" "[$(play '{"command":"echo {{ v1 }} {{ v2000 }}"}')]" 'a step=1 runs: echo 1 2000'
+
 # Both texts are refused as a plan of them is, and then nothing is told.
 untold 'a fault of the inventory comes first' '{"all":[]}' '[]' 'rollout: 202 BadShape at=all'
 untold 'then those of all plays' "$one" "[$(play '{"command":"p"}'),{\"hosts\":\"all\"}]" 'rollout: 702 BadShape at=1'

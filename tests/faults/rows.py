@@ -72,7 +72,8 @@ def wrong(program, row, folder):
     lint = _call(program, "lint", *files)
     lines = lint.stdout.split("\n")
     of_faults = [place for place, line in enumerate(lines) if line.startswith("faults=")][:1] or [len(lines)]
-    told, helps, counted = lines[0 : of_faults[0] : 2], lines[1 : of_faults[0] : 2], lines[of_faults[0] :]
+    told, helps = lines[0 : of_faults[0] : 2], lines[1 : of_faults[0] : 2]
+    counted = [line for line in lines[of_faults[0] :] if not line.startswith("  ")]
     wanted = [f"rollout: {fault}" for fault, _ in row.faults[:MOST_TOLD]]
     found = [f"  {line}" for line in _lines_that_differ(wanted, told)]
     # What may be noted behind the faults tests/lint.sh and the drawn cases show; here it is counted.

@@ -74,11 +74,19 @@ def compare_made_parts(count):
 
 
 def compare_entries(count):
-    """Each fault with a number that FAULTS lists has an entry there, below its row's heading, which is what `rollout explain` prints."""
-    entries = explained.entries_of_page()
+    """Each fault with a number that FAULTS lists has an entry there, below its row's heading, which is what `rollout explain` prints; and so has each kind of notes in NOTES, in the program's order."""
+    entries = explained.entries_of(explained.FAULTS)
     for front in made.faults_of_page():
         number = front.split(" ")[0]
-        count.row(not number.isdigit() or int(number) in entries, f"docs/FAULTS.md: fault {number} has no heading to which its row leads")
+        count.row(not number.isdigit() or number in entries, f"docs/FAULTS.md: fault {number} has no heading to which its row leads")
+    kinds, noted = explained.kinds(), list(explained.entries_of(explained.NOTES))
+    for kind in sorted({*kinds, *noted}):
+        count.row(kind in noted, f"docs/NOTES.md: the kind {kind} has no row, or no heading to which its row leads")
+        count.row(kind in kinds, f"docs/NOTES.md: {kind} is no kind of notes")
+    for path in ("crates/command_line/src/clash.rt", "crates/command_line/specs/Clashes.antt", *tree.found("completions/*")):
+        text = tree.read(path)
+        count.row(", ".join(kinds) in text or " ".join(kinds) in text, f"{path} has another list of the kinds of notes than the program")
+    count.row(len(kinds) > 10 and noted == sorted(noted, key=lambda kind: kinds.index(kind) if kind in kinds else -1), "docs/NOTES.md: the kinds stand in another order than in the program")
 
 
 def compare_schema(count):

@@ -277,7 +277,23 @@ def a_status_told_otherwise_in_the_man_page(copy):
 
 
 def a_fault_explained_otherwise_than_on_its_page(copy):
-    copy.change(explained.ENTRIES, "the text is no JSON", "the text is JSON")
+    copy.change(f"{explained.CRATE}/src/faults.rt", "the text is no JSON", "the text is JSON")
+
+
+def a_note_explained_otherwise_than_on_its_page(copy):
+    copy.change(f"{explained.CRATE}/src/notes.rt", "no task of its play notifies", "a task of its play notifies")
+
+
+def a_kind_of_notes_that_a_refusal_leaves_out(copy):
+    copy.change("crates/command_line/src/clash.rt", "near-key, ", "")
+
+
+def a_kind_of_notes_that_zsh_lacks(copy):
+    copy.change("completions/_rollout", "near-key ", "")
+
+
+def a_word_that_is_explained_beside_the_pages(copy):
+    copy.change(f"{explained.CRATE}/specs/Listed.antt", 'codes "918" ∷', 'codes "918" ∷ codes "919" ∷')
 
 
 def a_fault_that_the_schema_lacks(copy):
@@ -290,6 +306,10 @@ def a_fault_of_another_kind_in_the_schema(copy):
 
 def a_fault_that_is_explained_nowhere(copy):
     copy.change(explained.FAULTS, "\n### 102 TwicePlaced\n", "\n### 102 Twice\n")
+
+
+def a_kind_of_notes_that_is_explained_nowhere(copy):
+    copy.change(explained.NOTES, "\n### near-key\n", "\n### near-keys\n")
 
 
 def other_handles(copy):

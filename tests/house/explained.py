@@ -1,25 +1,30 @@
 #!/usr/bin/env python3
-"""What `rollout explain NUMBER` prints of each fault, cut out of docs/FAULTS.md: `make pages` makes the file of the crate fault_pages from it, and tests/house.sh compares the two.
+"""What `rollout explain WORD` prints of each fault, by its number, cut out of docs/FAULTS.md, and of each kind of `lint`'s notes, by its name, cut out of docs/NOTES.md: `make pages` makes
+files of the crate fault_pages from them, and tests/house.sh compares these.
 
-The entry of a fault is its row of the page's table, as `NUMBER NAME: what it says in short`, and below it what stands under the heading to which the row leads, up to the next heading. A
-heading that is of several faults is the entry of each.
+The entry of a word is its row of the page's table, as `NUMBER NAME: what it says in short` or `KIND key=value ..: when it stands`, and below it what stands under the heading to which the row leads,
+up to the next heading. A heading that is of several faults is the entry of each.
 """
 
 import re
 
 import tree
 
-FAULTS = "docs/FAULTS.md"
-ENTRIES = "crates/fault_pages/src/entries.rt"
-ANSWERS = "crates/fault_pages/proofs/entries/entry_of/Answers.antt"
-ROW = re.compile(r"^\| \[(\d+)\]\(#([\w-]+)\) \| (\w+) \| (.*) \|$", re.M)
+FAULTS, NOTES, KINDS = "docs/FAULTS.md", "docs/NOTES.md", "crates/lint_notes/src/kind.rt"
+CRATE = "crates/fault_pages"
+ROW = re.compile(r"^\| \[([\w-]+)\]\(#([\w-]+)\) \| ([^|]+) \| (.*) \|$", re.M)
 
 
-def entries_of_page():
-    """The entry of each fault, by its number."""
-    text = tree.read(FAULTS)
+def entries_of(page):
+    """The entries of a page, by the word of each, in their order there."""
+    text = tree.read(page)
     bodies = bodies_of(text)
-    return {int(number): f"{number} {name}: {short}\n\n{bodies[anchor]}\n" for number, anchor, name, short in ROW.findall(text) if anchor in bodies}
+    return {word: f"{word} {name}: {short}\n\n{bodies[anchor]}\n" for word, anchor, name, short in ROW.findall(text) if anchor in bodies}
+
+
+def kinds():
+    """The names of the kinds of notes, as the program has them."""
+    return re.findall(r'Kind::\w+ => "([\w-]+)"', tree.read(KINDS))
 
 
 def bodies_of(text):
@@ -36,33 +41,89 @@ def bodies_of(text):
     return {anchor: body.strip("\n") for anchor, body in bodies.items()}
 
 
-def made_entries():
-    """The text of the crate's file."""
-    entries = entries_of_page()
-    arms = "".join(f"        {number} => Some(OF_{number}),\n" for number in sorted(entries))
-    texts = "".join(f'\nconst OF_{number}: &str = "\\\n{quoted(entry)}";\n' for number, entry in sorted(entries.items()))
-    return f"""//! What docs/FAULTS.md says of each fault. `make pages` makes this file from that page.
-ghost use Rattle.std.specs.Prelude.{{IfSome}};
-ghost use Rattle.fault_pages.specs.Entries.{{IsEntryOf}};
+def made_files():
+    """The texts of the crate's files."""
+    of_faults, of_notes = entries_of(FAULTS), entries_of(NOTES)
+    groups = groups_of(of_faults, of_notes)
+    return {
+        f"{CRATE}/src/entries.rt": made_table(groups),
+        f"{CRATE}/src/faults.rt": made_texts(FAULTS, "each fault", of_faults),
+        f"{CRATE}/src/notes.rt": made_texts(NOTES, "each kind of `lint`'s notes", of_notes),
+        f"{CRATE}/specs/Listed.antt": made_list(groups),
+    }
 
-/// The page's entry of the fault of this number, if there is one. It begins with the number.
-pub fn entry_of<'p>(number: u16) -> Option<&'p str>
-    ensures {{ IfSome result (λ entry. IsEntryOf number entry.now) }}
+
+def groups_of(of_faults, of_notes):
+    """The words that have an entry, group by group: a look-up of all at once would be more than the prover goes through."""
+    faults = [("inventories", "faults of inventories and fleets", "123"), ("playbooks", "faults of playbooks", "567"), ("commands", "faults of commands", "89")]
+    return [*((name, what, "faults", [word for word in of_faults if word[0] in digits]) for name, what, digits in faults), ("kinds", "kinds of notes", "notes", [*of_notes])]
+
+
+def made_table(groups):
+    """The look-up of an entry by its word."""
+    own = "".join(f"""
+/// The entries of {what}.
+#[tactic(auto, unfolding(crate::specs::Listed::is_of_{name}))]
+fn entry_of_{name}<'p>(word: &str) -> Option<&'p str>
+    ensures begins {{ IfSome result (λ entry. IsEntryOf word.now entry.now) }}
+    ensures listed {{ is_some result ≡ listed.is_of_{name} word.now }}
 {{
-    match number {{
-{arms}        _ => None,
+    match word {{
+{"".join(f'        "{word}" => Some({module}::{constant(word)}),{chr(10)}' for word in words)}        _ => None,
     }}
 }}
-{texts}"""
+""" for name, what, module, words in groups)
+    first = "".join(f"""    if let Some(entry) = entry_of_{name}(word) {{
+        return Some(entry);
+    }}
+""" for name, *_ in groups[:-1])
+    return f"""//! The entries of docs/FAULTS.md and docs/NOTES.md by their words. `make pages` makes this file from those pages.
+ghost use Rattle.std.specs.Prelude.{{◌≡◌, IfSome, is_some}};
+ghost use Rattle.fault_pages.specs.Entries.{{IsEntryOf}};
+ghost use Rattle.fault_pages.specs.Listed as listed;
+ghost use Rattle.fault_pages.specs.Listed.{{has_entry}};
+
+use crate::{{faults, notes}};
+
+/// The entry of the fault whose number is written so, or of the kind of notes that has this name. It begins with the word.
+pub fn entry_of<'p>(word: &str) -> Option<&'p str>
+    ensures begins {{ IfSome result (λ entry. IsEntryOf word.now entry.now) }}
+    ensures listed {{ is_some result ≡ has_entry word.now }}
+{{
+{first}    entry_of_{groups[-1][0]}(word)
+}}
+{own}"""
 
 
-def made_answers():
-    """The proofs that each entry begins with its number."""
-    answers = "".join(f"\npub returns-in-{number} : goal.returns-in-{number}\nunfolding digits\nreturns-in-{number} c = rw c.in-{number}.is refl\n" for number in sorted(entries_of_page()))
-    return f"""use Rattle.std.proofs.Common.{{refl}}
-use Rattle.std.specs.Fmt.{{digits}}
-use Rattle.fault_pages.proofs.entries.entry_of.Goals as goal
-{answers}"""
+def made_texts(page, whom, entries):
+    """The texts of a page's entries."""
+    texts = "".join(f'\npub(crate) const {constant(word)}: &str = "\\\n{quoted(entry)}";\n' for word, entry in entries.items())
+    return f"//! What {page} says of {whom}. `make pages` makes this file from that page.\n{texts}"
+
+
+def made_list(groups):
+    """The definition of what has an entry."""
+    head = ["-- What docs/FAULTS.md and docs/NOTES.md have entries of. `make pages` makes this file from those pages.", "use Rattle.std.specs.Prelude.{ℕ, Bool, ◌||◌, List, [], ◌∷◌, codes}", "use Rattle.std.specs.List.{list_any}", "use Rattle.std.specs.Str.{bytes_eq}"]
+    own = [line for name, what, _, words in groups for line in ["", f"-- {what}", f"unfoldable pub is_of_{name} : List ℕ → Bool", f"is_of_{name} word = list_any (bytes_eq word) (", *listed(words)]]
+    names = [f"is_of_{name} word" for name, *_ in groups]
+    return "\n".join([*head, *own, "", "-- the word is one of those that have an entry", "abbrev pub has_entry : List ℕ → Bool", f"has_entry word = {' || ('.join(names[:-1])} || {names[-1]}{')' * (len(names) - 2)}", ""])
+
+
+def listed(words):
+    """The lines of a list of words, and of the bracket behind it."""
+    lines, line = [], "   "
+    for word in words:
+        part = f' codes "{word}" ∷'
+        if len(line + part) > 140:
+            lines.append(line)
+            line = "   "
+        line += part
+    return [*lines, f"{line} [])"]
+
+
+def constant(word):
+    """The name of the constant that is a word's entry."""
+    return "OF_" + word.upper().replace("-", "_")
 
 
 def quoted(text):

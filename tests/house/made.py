@@ -4,7 +4,7 @@
     <!-- made by `make pages`: NAME -->
     <!-- end of NAME -->
 
-of a page, the exit statuses and faults of the man page, which are those of FAULTS, and what `rollout explain` prints of each fault, in a file of the crate fault_pages. Words that only somebody who tried it can say (who refused an edit, which row told a bug) are taken over from the rows that stand there, wherever in
+of a page, the exit statuses, faults and kinds of notes of the man page, which are those of FAULTS and NOTES, and what `rollout explain` prints of each of them, in files of the crate fault_pages. Words that only somebody who tried it can say (who refused an edit, which row told a bug) are taken over from the rows that stand there, wherever in
 the made parts of the pages a row of that name is, so that they follow an edit to another crate. What nobody said yet is left empty, and tests/house.sh asks for it.
 
     make pages
@@ -158,6 +158,11 @@ def faults_of_page():
     return {" ".join(filter(None, [re.match(r"\[(\w+)\]", cells[0])[1], *cells[1:-1]])): cells[-1] for cells in rows}
 
 
+def notes_of_page():
+    """When NOTES has a note of each kind stand, with how its line goes."""
+    return {f"{kind} {keys}": said for kind, _, keys, said in explained.ROW.findall(tree.read(explained.NOTES))}
+
+
 def in_man(text):
     """A text of a page as the man page has it."""
     text = text.replace("\\|", "|").replace("\\", "\\e").replace("'", "\\(aq")
@@ -165,10 +170,11 @@ def in_man(text):
 
 
 def made_man():
-    """The man page, with the exit statuses and the faults of FAULTS."""
+    """The man page, with the exit statuses and the faults of FAULTS, and the kinds of NOTES."""
     text = tree.read(MAN)
-    for section, rows in (("EXIT STATUS", statuses_of_page()), ("FAULTS", faults_of_page())):
-        items = "".join(f".TP\n.B {in_man(front.replace('`', ''))}\n{in_man(said)}\n" for front, said in rows.items())
+    for section, rows in (("EXIT STATUS", statuses_of_page()), ("FAULTS", faults_of_page()), ("NOTES OF LINT", notes_of_page())):
+        fronts = {in_man(front.replace("`", "")).replace("-", "\\-"): said for front, said in rows.items()}
+        items = "".join(f".TP\n.B {front}\n{in_man(said)}\n" for front, said in fronts.items())
         text = re.sub(rf"(^\.SH {section}\n(?:(?!\.TP|\.SH).*\n)*)(?:(?!\.SH).*\n)*", lambda found: found[1] + items, text, flags=re.M)
     return text
 
@@ -184,7 +190,7 @@ def made_pages():
     # A part is made once, from all that was said in parts of its name.
     bodies = {name: MAKERS[name](said[name]) for name in said if name in MAKERS}
     made = {path: PART.sub(lambda part: part[1] + "\n" + bodies.get(part[2], part[3]).strip("\n") + "\n\n" + part[4], text) for path, text in texts.items()}
-    return {**{path: text for path, text in made.items() if PART.search(text)}, MAN: made_man(), explained.ENTRIES: explained.made_entries(), explained.ANSWERS: explained.made_answers()}, parts
+    return {**{path: text for path, text in made.items() if PART.search(text)}, MAN: made_man(), **explained.made_files()}, parts
 
 
 def main():

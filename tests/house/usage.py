@@ -56,7 +56,7 @@ def of_program(program):
     for command, about in [(TOP, ""), *listed]:
         said = top if command == TOP else said_by(program, "help", command)
         operands = re.search(r"^Usage: rollout \w+(.*)$", said, re.M)
-        usage.command(command, re.findall(r"[<\[]([A-Z]{3,})[>\]]", operands[1].replace("[OPTIONS]", "")) if operands else None, about)
+        usage.command(command, re.findall(r"(?<=[<\[|])[A-Z]{3,}(?=[>\]|])", operands[1].replace("[OPTIONS]", "")) if operands else None, about)
         for short, name, value, about in re.findall(r"^ +(?:(-\w), )?(--[\w-]+)(?: <(\w+)>)?  +(.*)$", said, re.M):
             usage.option(command, [each for each in (short, name) if each], value, re.sub(r" \[default: .*\]$", "", about))
         if command not in (TOP, "help") and said_by(program, command, "--help") != said:

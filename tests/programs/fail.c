@@ -1,7 +1,8 @@
 /* Loaded before the program: one of its calls fails. FAIL names the call, FAIL_AT which one of them, from 1, and of those that follow all too where
    FAIL_ON is set; FAIL_HOW is the error's number. Of reads those of pipes alone count, of writes those to standard output, and of openings those of the null device; each
    way to ask for memory is `malloc`. A call that was made to fail makes the file FAILED, and writes the words there of the program that its thread started last, or was about
-   to start, a line each. Where FAIL_ROOM is set, so many bytes of standard output pass before a write fails. What is started has none of this. */
+   to start, a line each. Where FAIL_ROOM is set, so many bytes of standard output pass before a write fails. Where FAIL_BEHIND is set, calls count from the first write to standard error on that
+   has this text. Where LATE is set, each thread begins so many milliseconds late. What is started has none of this. */
 #define _GNU_SOURCE
 #include <dlfcn.h>
 #include <errno.h>
@@ -49,11 +50,15 @@ static void mark_failed(void) {
     close(file);
 }
 
+/* Whether the text behind which calls count was written. */
+static atomic_int is_behind;
+
 /* Whether this call fails; it is then known why. */
 static int fails(const char *call) {
     static atomic_int calls;
     const char *chosen = getenv("FAIL");
     if (!chosen || strcmp(chosen, call) != 0) return 0;
+    if (getenv("FAIL_BEHIND") && !atomic_load(&is_behind)) return 0;
     int number = atomic_fetch_add(&calls, 1) + 1;
     int at = number_in("FAIL_AT");
     if (number < at || (number > at && !getenv("FAIL_ON"))) return 0;
@@ -81,6 +86,8 @@ ssize_t read(int file, void *bytes, size_t count) {
 ssize_t write(int file, const void *bytes, size_t count) {
     REAL(write);
     static atomic_size_t passed;
+    const char *behind = getenv("FAIL_BEHIND");
+    if (file == 2 && behind && memmem(bytes, count, behind, strlen(behind))) atomic_store(&is_behind, 1);
     if (file != 1 || count == 0) return real(file, bytes, count);
     size_t room = getenv("FAIL_ROOM") ? (size_t)number_in("FAIL_ROOM") - atomic_load(&passed) : 0;
     if (room == 0 && fails("write")) return refuse();
@@ -141,7 +148,23 @@ int posix_memalign(void **out, size_t alignment, size_t size) {
     return fails("malloc") ? ENOMEM : real(out, alignment, size);
 }
 
+typedef struct {
+    void *(*begin)(void *);
+    void *argument;
+} Late;
+
+static void *begin_late(void *given) {
+    Late late = *(Late *)given;
+    free(given);
+    usleep(1000 * number_in("LATE"));
+    return late.begin(late.argument);
+}
+
 int pthread_create(pthread_t *thread, const pthread_attr_t *attributes, void *(*begin)(void *), void *argument) {
     REAL(pthread_create);
-    return fails("pthread_create") ? number_in("FAIL_HOW") : real(thread, attributes, begin, argument);
+    if (fails("pthread_create")) return number_in("FAIL_HOW");
+    Late *late = getenv("LATE") ? calloc(1, sizeof *late) : NULL;
+    if (!late) return real(thread, attributes, begin, argument);
+    *late = (Late){begin, argument};
+    return real(thread, attributes, begin_late, late);
 }

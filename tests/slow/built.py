@@ -6,6 +6,7 @@ from pathlib import Path
 
 from cases import INVENTORY, JOURNAL, PLAN, PLAYBOOK, Case
 from commands import Said
+from linting import KINDS
 from telling import in_order, timeless
 
 LONGEST_RUN = 60
@@ -20,9 +21,18 @@ def call(program, case, folder, before=None):
         )
     except subprocess.TimeoutExpired:
         return Said("", f"it didn't end within {LONGEST_RUN} seconds\n", -1)
-    out = unhelped(_text(done.stdout)) if case.kind == "lint" else _text(done.stdout)
+    out = unhelped(unexplained(_text(done.stdout))) if case.kind == "lint" else _text(done.stdout)
     left = None if case.journal is None else (Path(folder) / JOURNAL).read_bytes()
     return Said(out, _told(case, _text(done.stderr)), done.returncode, left)
+
+
+def unexplained(out):
+    """What `lint` says, without what to do about notes: a line for each kind that is told, in their order, behind their number. Where these aren't the kinds, the whole text stays as it is."""
+    advice = re.compile(r"^  ([a-z-]+): [!-~][ -~]{0,220}; `explain \1` says more, `--allow \1` switches it off\n", re.M)
+    front, counted, behind = out.partition("\nnotes=") if "\nnotes=" in out else ("", "", out)
+    told = set(re.findall(r"^([a-z-]+) ", front, re.M))
+    shown = [match[1] for match in advice.finditer(behind)]
+    return front + counted + advice.sub("", behind) if shown == [kind for kind in KINDS if kind in told] else out
 
 
 def unhelped(out):

@@ -5,7 +5,7 @@ from faults import Every, Fault
 from fleet import Fleet
 from inventory import places_in, read_inventory
 from json_text import NotJson, read_json
-from kept_texts import kept_inventory, kept_playbook
+from kept_texts import aimed_playbook, kept_inventory, kept_playbook, says_hosts, single_inventory
 from playbook import plays_in, read_playbook
 from rules import turned
 
@@ -25,18 +25,17 @@ def every_fault(inventory, playbook=None):
     read_playbook(playbook, of_playbook)
     told.found += of_playbook.found
     is_looked_up = not told.found or not turned("patterns-of-what-is-kept")
-    return told.found + (_unknown(fleet_of(inventory), plays_of(playbook)) if is_looked_up else [])
+    return told.found + (_unknown(fleet_of(inventory), plays_of(playbook)) if is_looked_up and (_has_all_groups(inventory) or turned("patterns-of-all-groups")) else [])
 
 
 def looked_at(inventory, playbook=None):
-    """The fleet, the plays and the hosts of each that can be read of both files, or of what is kept of them; no plays where these can't, or where a pattern names nothing, and None where there is no
-    fleet."""
-    fleet, plays = fleet_of(inventory), [] if playbook is None else plays_of(playbook)
+    """The fleet, the plays and the hosts of each that can be read of both files, or of what is kept of them, where each pattern is one of names that name something; no plays where these can't be
+    read, and None where there is no fleet."""
+    fleet = fleet_of(inventory)
+    plays = [] if playbook is None or fleet is None else _first([lambda: plays_in(aimed_playbook(_kept_plays(playbook), fleet))])
     if fleet is None or (plays is None and turned("kept-groups-beside-no-plays")):
         return None
-    if plays is None or (_unknown(fleet, plays) and not turned("kept-names-are-there")):
-        plays = []
-    return fleet, plays, [fleet.target(play.parts, Every()) for play in plays]
+    return fleet, plays or [], [fleet.target(play.parts) for play in plays or []]
 
 
 def _unknown(fleet, plays):
@@ -59,8 +58,46 @@ def plays_of(playbook):
     return _first([lambda: read_playbook(playbook), lambda: plays_in(kept_playbook(read_json(playbook)))])
 
 
+def is_accepted(playbook):
+    """Whether the text of a playbook has no fault of its own."""
+    told = Every()
+    read_playbook(playbook, told)
+    return not told.found
+
+
+def is_fleet(inventory):
+    """Whether the inventory is accepted as it is."""
+    return _first([lambda: Fleet(read_inventory(inventory))]) is not None
+
+
+def has_all_hosts(inventory, playbook):
+    """Whether the inventory is accepted, and each play says for which of its hosts it is."""
+    top = _first([lambda: read_json(playbook)])
+    return is_fleet(inventory) and top is not None and all(says_hosts(play, fleet_of(inventory)) for play in (top if isinstance(top, list) else []))
+
+
+def _kept_plays(playbook):
+    return read_json(playbook) if is_accepted(playbook) else kept_playbook(read_json(playbook))
+
+
 def _kept_places(inventory, with_limits=True):
-    return places_in(kept_inventory(read_json(inventory), with_limits))
+    """The groups of what is kept of an inventory, or, where that can't be read, of what is left of it with each group once."""
+    kept = kept_inventory(read_json(inventory), with_limits)
+    return places_in(single_inventory(kept)) if _is_refused(kept) and not turned("kept-groups-stand-once") else places_in(kept)
+
+
+def _is_refused(top):
+    told = Every()
+    places_in(top, told)
+    return bool(told.found)
+
+
+def _has_all_groups(inventory):
+    """Whether no group is left out but for its name or its shape; what is no JSON has none to leave out."""
+    try:
+        return not _is_refused(kept_inventory(read_json(inventory)))
+    except NotJson:
+        return True
 
 
 def _first(ways):

@@ -4,17 +4,17 @@ Plays and steps stay at their places, since they are told by these.
 """
 
 from conditions import CondFault, parse
-from faults import Every
-from inventory import is_name, limit_of
+from faults import Every, by_bytes
+from inventory import MOST_GROUPS, is_name, limit_of
+from nearness import nearest
 from playbook import KEYS as KEYS_OF_PLAYS
 from playbook import read_hold, read_hosts, read_most_failed, read_serial
 from rules import turned
 from steps import COMMANDS, Numbering, read_command, read_ignore_errors, read_name, read_register
 from steps import KEYS as KEYS_OF_STEPS
 
-# What runs nothing that is looked up, in the place of words that can't be read.
-IDLE_STEP = {"command": "true"}
-IDLE_PLAY = {"hosts": "all", "tasks": [IDLE_STEP]}
+# Words in the place of some that can't be read: nothing is looked up in them, and they name no program.
+IDLE_STEP = {"command": "{{ inventory_hostname }}"}
 SETTINGS = {"serial": read_serial, "max_fail_percentage": read_most_failed, "on_blocked": read_hold}
 CONDITIONS = ("when", "changed_when", "failed_when")
 
@@ -69,19 +69,78 @@ def _kept_variables(value, with_limits):
     return {name: given for name, given in value.items() if name != "max_down" or (limit is not None and with_limits)}
 
 
+def single_inventory(top):
+    """What is left of a kept inventory where each group stands once: of several with one name the first one that lists or gives anything, in the order of the names; none that only stands there. Limits
+    in percent go, since hosts may have gone."""
+    return _single_groups(top, [])
+
+
+def _single_groups(groups, met):
+    kept = {}
+    for name in sorted(groups or {}, key=by_bytes):
+        body = groups[name]
+        is_something = any(isinstance(part, dict) and part for part in (body or {}).values()) or turned("single-groups-say-something")
+        if is_something and name not in met and len(met) < MOST_GROUPS:
+            met.append(name)
+            kept[name] = _single_body(body or {}, met)
+    return kept
+
+
+def _single_body(body, met):
+    kept = dict(body)
+    if "children" in body:
+        kept["children"] = _single_groups(body["children"], met)
+    limit = (body.get("vars") or {}).get("max_down")
+    if isinstance(limit, str) and not turned("single-groups-without-percentages"):
+        kept["vars"] = {name: value for name, value in body["vars"].items() if name != "max_down"}
+    return kept
+
+
 def kept_playbook(top):
     """What is kept of a playbook, play by play; what is no list stays."""
     if not isinstance(top, list):
         return top
-    plays = [_kept_play(play) for play in top]
-    return [play for play in plays if play is not IDLE_PLAY] if turned("kept-plays-at-their-places") else plays
+    return [_kept_play(play) for play in top if _has_hosts_and_tasks(play) or not turned("kept-plays-at-their-places")]
+
+
+def _has_hosts_and_tasks(play):
+    return isinstance(play, dict) and isinstance(play.get("tasks"), list) and bool(play["tasks"]) and _is_right(read_hosts, play)
+
+
+def _resting_play(play):
+    """What is left of a play for nobody knows whom: steps that register what its tasks and handlers do."""
+    lists = [play.get(key) for key in ("tasks", "handlers")] if isinstance(play, dict) else []
+    names = [step["register"] for steps in lists if isinstance(steps, list) for step in steps if isinstance(step, dict) and "register" in step and _is_right(read_register, step)]
+    count = sum(len(steps) for steps in lists if isinstance(steps, list))
+    named = [IDLE_STEP | {"register": name} for name in names]
+    return {"hosts": "all", "tasks": [*named, *[IDLE_STEP] * max(count - len(named), not named)]}
+
+
+def aimed_playbook(top, fleet):
+    """Plays whose patterns name something in the fleet each: the names that name something stay. Where none does, it is the name nearest to the first, or the play rests."""
+    return [_aimed_play(play, fleet) for play in top] if isinstance(top, list) else top
+
+
+def says_hosts(play, fleet):
+    """Whether a play can be read, but for its settings and steps, and names nothing that the fleet doesn't have."""
+    return _has_hosts_and_tasks(play) and not fleet.unknown(read_hosts(play, "", Every()))
+
+
+def _aimed_play(play, fleet):
+    names = read_hosts(play, "", Every()) if isinstance(play, dict) else []
+    known = [name for name in names if not fleet.unknown([name])]
+    if turned("kept-known-names-stay") and len(known) < len(names):
+        known = []
+    near = nearest(names[0], [*(place.name for place in fleet.places), *fleet.hosts]) if names and not known and not turned("kept-nobody-is-the-nearest") else None
+    aims = known or ([] if near is None else [near])
+    return {**play, "hosts": aims} if aims else _resting_play(play)
 
 
 def _kept_play(play):
-    """A play whose pattern and tasks can be read, without what is wrong in it; an idle one in the place of any other."""
-    tasks = play.get("tasks") if isinstance(play, dict) else None
-    if not isinstance(tasks, list) or not tasks or not _is_right(read_hosts, play):
-        return IDLE_PLAY
+    """A play whose pattern and tasks can be read, without what is wrong in it; any other rests."""
+    if not _has_hosts_and_tasks(play):
+        return _resting_play(play)
+    tasks = play["tasks"]
     handlers = _named(play["handlers"]) if isinstance(play.get("handlers"), list) else []
     names = [handler["name"] for handler in handlers]
     kept = {key: value for key, value in play.items() if key in KEYS_OF_PLAYS or turned("kept-plays-have-known-keys")}
@@ -107,8 +166,8 @@ def _named(handlers):
 
 
 def _kept_step(step, known, names):
-    """A step without what is wrong in it, which notifies handlers of these names. Where its words or a part of its `when` can't be read, its words are idle and nothing is looked up, though it
-    keeps its name, what it registers and whom it notifies."""
+    """A step without what is wrong in it, which notifies handlers of these names. Where its words can't be read they are idle; where a part of its `when` can't be, nothing is looked up either,
+    though it keeps its name, what it registers and whom it notifies."""
     if not isinstance(step, dict):
         return IDLE_STEP
     kept = {key: value for key, value in step.items() if key in known or turned("kept-steps-have-known-keys")}
@@ -118,10 +177,10 @@ def _kept_step(step, known, names):
     _keep(kept, "notify", [name for name in _parts(step.get("notify")) if name in names or turned("kept-steps-notify-kept-handlers")], known)
     for key in CONDITIONS:
         _keep(kept, key, _conditions(step.get(key)), known)
-    is_read = _is_right(_read_words, step)
-    if is_read and (_is_all(step.get("when")) or turned("kept-when-hides-words")):
+    is_guarded = _is_all(step.get("when")) or turned("kept-when-hides-words")
+    if is_guarded and _is_right(_read_words, step):
         return kept
-    gone = COMMANDS if turned("kept-words-hide-conditions") and not is_read else (*COMMANDS, *CONDITIONS)
+    gone = COMMANDS if is_guarded and not turned("kept-conditions-without-words") else (*COMMANDS, *CONDITIONS)
     gone += ("register",) if turned("kept-steps-register-without-words") else ()
     return {key: value for key, value in kept.items() if key not in gone} | IDLE_STEP
 

@@ -4,6 +4,7 @@ NOTES = {
     "lint-a-byte-less-is-near": "A name is nearly `max_down` where a byte of that is missing.",
     "lint-a-byte-more-is-near": "A name is nearly `max_down` where it has a byte more.",
     "lint-a-path-to-ssh-is-ssh": "A path that ends in `/ssh` is that program too.",
+    "lint-a-shell-reads-behind-ssh": "Behind `ssh` a shell reads the words, at the other end.",
     "lint-alike-with-the-first": "A host is told with the first that it is like, not with the one before it.",
     "lint-all-earlier-plays-register": "What any earlier play registers is known, not that of the play before alone.",
     "lint-all-lists-count": "Of an option that is given several times all lists count.",

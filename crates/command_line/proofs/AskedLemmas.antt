@@ -242,7 +242,7 @@ module _ (words : List Word) (wanted : Asked) where
 
   explain_accepted : option_map explain (lone_operand words) ≡ Some wanted → Accepted (codes "explain" ∷ words) wanted
   explain_accepted = mapped explain (Accepted (codes "explain" ∷ words)) (lone_operand words) wanted
-      (of_operands (λ given number. Accepted (codes "explain" ∷ given) (explain number)) (λ word h. explain_alone word (value_of_operand word h)) explain_behind
+      (of_operands (λ given asked. Accepted (codes "explain" ∷ given) (explain asked)) (λ word h. explain_alone word (value_of_operand word h)) explain_behind
       (λ word h. explain_before word (value_of_operand word h)) words)
 
   plan_accepted : option_map plan (two_operands words) ≡ Some wanted → Accepted (codes "plan" ∷ words) wanted

@@ -233,7 +233,7 @@ requested words e (Ok (Rehearse inventory playbook)) some taken has answers = ab
 requested words e (Ok (State inventory journal)) some taken has answers = absurd answers
 requested words e (Ok (Check inventory playbook plan)) some taken has answers = absurd answers
 requested words e (Ok (Lint inventory playbook)) some taken has answers = absurd answers
-requested words e (Ok (Explain number)) some taken has answers = absurd answers
+requested words e (Ok (Explain word)) some taken has answers = absurd answers
 requested words e (Ok (Print message)) some taken has answers = (
   no_line words some (untaken words (λ takes. is_no_memory e answers.1 (taken takes))),
   subst IsAskedFor (sym answers.0) answers.1,

@@ -11,7 +11,7 @@ use Rattle.command_line.specs.declared.command.Line.TheVariants.{Limits, Plan, R
 use Rattle.command_line.specs.declared.command.Source.{Source}
 use Rattle.command_line.specs.declared.command.Source.TheVariants.{StandardInput, File}
 
--- a command with the names of its files; a run with its forks too, and what is explained is a number as it is written
+-- a command with the names of its files; a run with its forks too, and what is explained is a word as it is written, a number or the name of a kind
 pub data Asked : Type 0 where
   limits : Word → Asked
   plan : Word × Word → Asked
@@ -54,7 +54,7 @@ asked_as (by.State inventory journal) = state (inventory.now, journal.now)
 asked_as (by.Check inventory playbook text) = check (inventory.now, playbook.now, text.now)
 asked_as (by.Lint inventory) = lint inventory.now None
 asked_as (by.LintBoth inventory playbook) = lint inventory.now (Some playbook.now)
-asked_as (by.Explain number) = explain number.now
+asked_as (by.Explain word) = explain word.now
 
 -- the name of a source that is a file
 abbrev pub file_name : Source → Option Word
@@ -82,5 +82,5 @@ line_asks (Rehearse inventory playbook) = option_map rehearse (both_names invent
 line_asks (State inventory journal) = option_map state (both_names inventory journal)
 line_asks (Check inventory playbook text) = option_map check (three_names inventory playbook text)
 line_asks (Lint inventory playbook) = option_and_then (λ name. lint_asks name playbook) (file_name inventory)
-line_asks (Explain number) = Some (explain (string_bytes number))
+line_asks (Explain word) = Some (explain (string_bytes word))
 line_asks (Print message) = None

@@ -1,7 +1,7 @@
--- What is said of options that don't go together.
+-- What is said of words that don't go together.
 use Rattle.std.specs.Prelude.{ℕ, List, codes}
 use Rattle.command_line.specs.declared.clash.Clash.{Clash}
-use Rattle.command_line.specs.declared.clash.Clash.TheVariants.{FailingAlone, JournalOfResume, ChangedInputsAlone, MendedAlone, GroupsFrom, ExpectBeyond, WordsBeside, NoJson, StrictOfOthers, NoColor}
+use Rattle.command_line.specs.declared.clash.Clash.TheVariants.{FailingAlone, JournalOfResume, ChangedInputsAlone, MendedAlone, GroupsFrom, ExpectBeyond, WordsBeside, NoJson, StrictOfOthers, NoColor, NoEntry}
 
 abbrev pub text_of : Clash → List ℕ
 text_of FailingAlone = codes "error: --failing goes with --course\n"
@@ -14,3 +14,4 @@ text_of WordsBeside = codes "error: --words doesn't go with --course, --groups, 
 text_of NoJson = codes "error: --json doesn't go with --groups, --picture, --from, --expect and --words\n"
 text_of StrictOfOthers = codes "error: --strict of a run doesn't go with --resume and --mended\n"
 text_of NoColor = codes "error: --color has the values auto, always and never\n"
+text_of NoEntry = codes "error: explain goes with the number of a fault, as 302, or a kind of notes: zero-limit, empty-limit, group-down, near-key, case-hosts, no-hosts, down-hosts, idle-serial, one-failure, unknown-name, missing-name, constant-condition, shell-word, local-step, long-word, dash-name, idle-handler\n"

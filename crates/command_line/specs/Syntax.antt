@@ -81,9 +81,9 @@ any_playbook_argument = new_rule (codes "PLAY")
 abbrev pub plan_argument : Rule
 plan_argument = record (new_rule (codes "PLAN")) { required = true }
 
--- the argument for the number of a fault
-abbrev pub number_argument : Rule
-number_argument = record (new_rule (codes "NUMBER")) { required = true }
+-- the argument for the number of a fault, or the name of a kind of notes
+abbrev pub topic_argument : Rule
+topic_argument = record (new_rule (codes "NUMBER|KIND")) { required = true }
 
 abbrev pub check_command : App
 check_command = with_rule (with_rule (with_rule (new_app (codes "check")) inventory_argument) playbook_argument) plan_argument
@@ -92,7 +92,7 @@ abbrev pub lint_command : App
 lint_command = with_options (with_rule (with_rule (new_app (codes "lint")) inventory_argument) any_playbook_argument) (options_of (codes "lint"))
 
 abbrev pub explain_command : App
-explain_command = with_rule (new_app (codes "explain")) number_argument
+explain_command = with_rule (new_app (codes "explain")) topic_argument
 
 abbrev settings : Shape → Shape
 settings shape = record shape { has_version = true; no_binary_name = true; subcommand_required = true }

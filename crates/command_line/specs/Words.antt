@@ -44,7 +44,7 @@ Says words (Rehearse inventory playbook) = AskFor words (line_asks (Rehearse inv
 Says words (State inventory journal) = AskFor words (line_asks (State inventory journal))
 Says words (Check inventory playbook plan) = AskFor words (line_asks (Check inventory playbook plan))
 Says words (Lint inventory playbook) = AskFor words (line_asks (Lint inventory playbook))
-Says words (Explain number) = AskFor words (line_asks (Explain number))
+Says words (Explain word) = AskFor words (line_asks (Explain word))
 
 -- lines that ask for the help or the version
 abbrev pub requests : List (List Word)

@@ -16,7 +16,7 @@ pub(crate) const JOURNAL: &str = "JOURNAL";
 
 pub(crate) const PLAN: &str = "PLAN";
 
-pub(crate) const NUMBER: &str = "NUMBER";
+pub(crate) const TOPIC: &str = "NUMBER|KIND";
 
 pub(crate) const FORKS: &str = "forks";
 
@@ -30,7 +30,7 @@ const JOURNAL_HELP: &str = "The journal: what a run has written of itself";
 
 const PLAN_HELP: &str = "The plan: a file with a batch a line, as rollout plan prints it";
 
-const NUMBER_HELP: &str = "The number of a fault";
+const TOPIC_HELP: &str = "The number of a fault, or the kind of a note of lint";
 
 const FORKS_HELP: &str = "How many hosts are worked on at once, 1 to 64";
 
@@ -72,11 +72,12 @@ pub(crate) fn plan<'a>(alloc: Global) -> Arg<'a>
     Arg::new(alloc, PLAN).required(true).help(PLAN_HELP)
 }
 
-pub(crate) fn number<'a>(alloc: Global) -> Arg<'a>
-    ensures rule { rule_of result ≡ spec.number_argument }
+/// The number of a fault, or the name of a kind of notes.
+pub(crate) fn topic<'a>(alloc: Global) -> Arg<'a>
+    ensures rule { rule_of result ≡ spec.topic_argument }
     ensures local { result.global ≡ false }
 {
-    Arg::new(alloc, NUMBER).required(true).help(NUMBER_HELP)
+    Arg::new(alloc, TOPIC).required(true).help(TOPIC_HELP)
 }
 
 pub(crate) fn forks<'a>(alloc: Global) -> Arg<'a>

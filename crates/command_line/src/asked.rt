@@ -10,7 +10,7 @@ use crate::forks::Forks;
 use crate::run_words;
 use crate::words::{is_word, lone_operand, three_operands, two_operands};
 
-/// A command with the names of its files, lent by the words; what is explained is a number as it is written.
+/// A command with the names of its files, lent by the words; what is explained is a word as it is written, a number or the name of a kind.
 #[derive(Drop)]
 pub(crate) enum Asked<'w> {
     Limits(&'w str),
@@ -114,6 +114,6 @@ fn lint_of(words: &[String]) -> Option<Asked<'_>>
 fn explain_of(words: &[String]) -> Option<Asked<'_>>
     ensures { option_map asked_as result ≡ option_map spec.explain (operands.lone_operand (map string_bytes words.now)) }
 {
-    let number = lone_operand(words)?;
-    Some(Asked::Explain(number))
+    let word = lone_operand(words)?;
+    Some(Asked::Explain(word))
 }

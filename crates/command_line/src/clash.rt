@@ -1,8 +1,8 @@
-//! Options that don't go together.
+//! Words that don't go together.
 ghost use Rattle.std.specs.Prelude.{◌≡◌};
 ghost use Rattle.command_line.specs.Clashes as spec;
 
-/// Why the options of a line don't go together.
+/// Why the words of a line don't go together.
 #[derive(Clone, Copy, Debug)]
 pub enum Clash {
     /// Hosts fail in a course that isn't asked for.
@@ -25,6 +25,8 @@ pub enum Clash {
     StrictOfOthers,
     /// A word that is no time for colours.
     NoColor,
+    /// A word of which nothing is explained: no fault has this number, and no kind of notes this name.
+    NoEntry,
 }
 
 impl Clash {
@@ -55,6 +57,9 @@ impl Clash {
                 "error: --strict of a run doesn't go with --resume and --mended\n"
             }
             Clash::NoColor => "error: --color has the values auto, always and never\n",
+            Clash::NoEntry => {
+                "error: explain goes with the number of a fault, as 302, or a kind of notes: zero-limit, empty-limit, group-down, near-key, case-hosts, no-hosts, down-hosts, idle-serial, one-failure, unknown-name, missing-name, constant-condition, shell-word, local-step, long-word, dash-name, idle-handler\n"
+            }
         }
     }
 }

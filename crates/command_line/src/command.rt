@@ -42,9 +42,9 @@ pub enum Line {
         inventory: Source,
         playbook: Option<Source>,
     },
-    /// Prints what a fault means whose number is written so, and what to do.
+    /// Prints what the fault means whose number is written so, or the kind of notes that has this name, and what to do.
     Explain {
-        number: String,
+        word: String,
     },
     /// Prints this text: the help or the version.
     Print(Message),

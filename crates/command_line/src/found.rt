@@ -4,7 +4,7 @@ ghost use Rattle.std.specs.Option.{option_map};
 ghost use Rattle.clap.specs.Words.{subcommand_rows_of};
 ghost use Rattle.command_line.specs.Syntax as spec;
 
-use crate::arguments::{FORKS, INVENTORY, JOURNAL, NUMBER, PLAN, PLAYBOOK};
+use crate::arguments::{FORKS, INVENTORY, JOURNAL, PLAN, PLAYBOOK, TOPIC};
 use crate::forks::Forks;
 use clap::ArgMatches;
 
@@ -106,11 +106,11 @@ pub(crate) fn lint_playbook<'a>(matches: &ArgMatches<'a>) -> Option<&'a str>
     matches.subcommand_matches("lint")?.get_str(PLAYBOOK)
 }
 
-/// The number, where the command is `explain`.
-pub(crate) fn explain_number<'a>(matches: &ArgMatches<'a>) -> Option<&'a str>
-    ensures { option_map (λ s. s.now) result ≡ spec.file_in (codes "explain") (codes "NUMBER") (subcommand_rows_of matches.now) }
+/// The word that is explained, where the command is `explain`.
+pub(crate) fn explain_word<'a>(matches: &ArgMatches<'a>) -> Option<&'a str>
+    ensures { option_map (λ s. s.now) result ≡ spec.file_in (codes "explain") (codes "NUMBER|KIND") (subcommand_rows_of matches.now) }
 {
-    matches.subcommand_matches("explain")?.get_str(NUMBER)
+    matches.subcommand_matches("explain")?.get_str(TOPIC)
 }
 
 /// The forks, where the command is `run`.

@@ -36,7 +36,7 @@ pub(crate) fn line_for(
         }
         Asked::Lint(inventory) => lint_line(alloc, inventory, matches),
         Asked::LintBoth(inventory, playbook) => lint_both_line(alloc, inventory, playbook, matches),
-        Asked::Explain(number) => explain_line(alloc, number, matches),
+        Asked::Explain(word) => explain_line(alloc, word, matches),
     }
 }
 
@@ -177,15 +177,15 @@ fn lint_both_line(
     }
 }
 
-fn explain_line(alloc: Global, number: &str, matches: &ArgMatches<'_>) -> Result<Line, LineFault>
-    ensures ok { IfOk result (AsksFor (spec.explain number.now)) }
-    ensures err { IfErr result (IsUnmade (Finds (spec.explain number.now) (subcommand_rows_of matches.now))) }
+fn explain_line(alloc: Global, word: &str, matches: &ArgMatches<'_>) -> Result<Line, LineFault>
+    ensures ok { IfOk result (AsksFor (spec.explain word.now)) }
+    ensures err { IfErr result (IsUnmade (Finds (spec.explain word.now) (subcommand_rows_of matches.now))) }
 {
-    if !is_found(number, found::explain_number(matches)) {
+    if !is_found(word, found::explain_word(matches)) {
         return Err(LineFault::Unexplained);
     }
-    match String::from_str(alloc, number) {
-        Ok(number) => Ok(Line::Explain { number }),
+    match String::from_str(alloc, word) {
+        Ok(word) => Ok(Line::Explain { word }),
         Err(_) => Err(LineFault::Memory),
     }
 }

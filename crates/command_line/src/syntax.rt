@@ -5,7 +5,7 @@ ghost use Rattle.clap.specs.declared.builder.command.Command.TheViews.{out-Comma
 ghost use Rattle.command_line.specs.Syntax as spec;
 
 use crate::arguments;
-use crate::arguments::{any_playbook, forks, inventory, journal, number, option, playbook};
+use crate::arguments::{any_playbook, forks, inventory, journal, option, playbook, topic};
 use crate::fitting::{OF_LIMITS, OF_LINT, OF_PLAN, OF_REHEARSAL, OF_RUN, OF_STATE};
 use crate::option_name::OptionName;
 use clap::error::ErrorKind;
@@ -181,8 +181,8 @@ fn explain<'a>(alloc: Global) -> Result<Command<'a>, AllocError>
     ensures local { IfOk result (λ c. (fields_of c).has_globals ≡ false) }
 {
     Command::new(alloc, "explain")
-        .about("Prints what the fault of this number means, with an example, and what to do")
-        .arg(number(alloc))
+        .about("Prints what a fault or a kind of notes means, with an example, and what to do")
+        .arg(topic(alloc))
 }
 
 /// What clap reads of the words.

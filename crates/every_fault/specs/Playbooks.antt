@@ -36,8 +36,13 @@ abbrev pub IsToldIn : FleetView → List ℕ → ℕ → Bool → PatternsTold �
 IsToldIn fleet playbook most true told = IsLookedUp fleet playbook most told
 IsToldIn fleet playbook most false told = (kept : Option (List ℕ)) × IsKeptOf playbook kept × IsKeptPart fleet kept most told
 
+-- in a fleet of which groups were left out nothing is told
+abbrev pub IsToldBy : Bool → FleetView → List ℕ → ℕ → Bool → PatternsTold → Type 0
+IsToldBy true fleet playbook most read told = IsToldIn fleet playbook most read told
+IsToldBy false fleet playbook most read told = IsUntold told
+
 -- patterns are looked up where there are a fleet and a playbook
 abbrev pub IsPatternPart : Option Standing → Option (List ℕ) → ℕ → Bool → PatternsTold → Type 0
-IsPatternPart (Some standing) (Some playbook) most read told = IsToldIn standing.fleet playbook most read told
+IsPatternPart (Some standing) (Some playbook) most read told = IsToldBy standing.has_all standing.fleet playbook most read told
 IsPatternPart (Some standing) None most read told = IsUntold told
 IsPatternPart None playbook most read told = IsUntold told

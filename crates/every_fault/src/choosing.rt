@@ -1,26 +1,39 @@
 //! The texts of which more is told beside faults.
-ghost use Rattle.std.specs.Prelude.{◌≡◌, IfOk, option_map};
+ghost use Rattle.std.specs.Prelude.{◌≡◌, ◌&&◌, IfOk, is_some, option_map};
 ghost use Rattle.every_fault.specs.Inventories.{standing_of};
-ghost use Rattle.every_fault.specs.KeptTexts.{AreKeptTexts, AreTextsOf, IsChosen, IsChosenPlaybook, IsChosenText};
+ghost use Rattle.every_fault.specs.KeptTexts.{AreKeptTexts, AreTextsOf, IsAimedIf, IsChosen, IsChosenPlaybook, IsChosenText};
 
 use crate::fleet::fleet_part;
 use crate::silence::is_silent;
 use crate::standing::{Standing, find_fleet};
+use domains::Fleet;
 use inventory_faults::inventory_faults;
-use kept_playbook::keep_playbook;
+use kept_playbook::{aim_playbook, keep_playbook, knows_hosts};
 use playbook_faults::playbook_faults;
 use std::alloc::{AllocError, Global};
 
-/// Those in which `every_fault` looks names up. The inventory says a fleet. There is a playbook where one was given that is JSON; it may say no plays, and does
-/// where nothing is told of the given one.
+/// The inventory says the fleet in which `every_fault` looks names up. There is a playbook where one was given that is JSON; it may say no plays, and does where nothing is told of the given
+/// one.
 #[derive(Drop)]
 pub struct KeptTexts {
     pub inventory: Vec<u8>,
     pub playbook: Option<Vec<u8>>,
+    /// Whether nothing is told of the text of the playbook that was given.
+    pub is_whole: bool,
+    /// Whether the inventory is accepted, and each play is for hosts that it has.
+    pub has_all_hosts: bool,
+}
+
+/// What `KeptTexts` says of a playbook.
+#[derive(Drop)]
+struct Chosen {
+    text: Option<Vec<u8>>,
+    is_whole: bool,
+    has_all_hosts: bool,
 }
 
 /// The inventory is the text itself where that says a fleet; else what is kept of it with limits, or else without, where that says one. Where none does, there
-/// are no texts. The playbook is the text itself where nothing is told of it, else what is kept of it. It fails for want of memory alone.
+/// are no texts. The playbook is the text itself where nothing is told of it, else what is kept of it, with each play aimed at what its pattern names. It fails for want of memory alone.
 pub fn kept_texts(
     alloc: Global,
     inventory: &[u8],
@@ -37,53 +50,92 @@ pub fn kept_texts(
         Ok((_told, standing)) => standing,
         Err(refused) => return Err(refused),
     };
+    let accepted = is_accepted(is_read, &standing);
     match find_fleet(alloc, inventory, standing) {
-        Ok(found) => texts_of(alloc, found, playbook),
+        Ok(found) => texts_of(alloc, accepted, found, playbook),
         Err(refused) => Err(refused),
     }
 }
 
+/// Whether nothing is told of the inventory's text, and it says a fleet.
+fn is_accepted(is_read: bool, standing: &Option<Standing<'_>>) -> bool
+    ensures { result ≡ (is_read && is_some (option_map standing_of standing.now)) }
+{
+    is_read && standing.is_some()
+}
+
 fn texts_of(
     alloc: Global,
+    accepted: bool,
     found: Option<Standing<'_>>,
     playbook: Option<&[u8]>,
 ) -> Result<Option<KeptTexts>, AllocError>
-    ensures { IfOk result (AreTextsOf (option_map standing_of found.entry) (option_map (λ text. text.now) playbook.entry)) }
+    ensures { IfOk result (AreTextsOf accepted (option_map standing_of found.entry) (option_map (λ text. text.now) playbook.entry)) }
 {
     let Some(standing) = found else {
         return Ok(None);
     };
-    let inventory = match standing.text.into_vec(alloc) {
-        Ok(inventory) => inventory,
+    let chosen = match choose_playbook(alloc, &standing.fleet, accepted, playbook) {
+        Ok(chosen) => chosen,
         Err(refused) => return Err(refused),
     };
-    match choose_playbook(alloc, playbook) {
-        Ok(playbook) => Ok(Some(KeptTexts {
+    match standing.text.into_vec(alloc) {
+        Ok(inventory) => Ok(Some(KeptTexts {
             inventory,
-            playbook,
+            playbook: chosen.text,
+            is_whole: chosen.is_whole,
+            has_all_hosts: chosen.has_all_hosts,
         })),
         Err(refused) => Err(refused),
     }
 }
 
-fn choose_playbook(alloc: Global, playbook: Option<&[u8]>) -> Result<Option<Vec<u8>>, AllocError>
-    ensures { IfOk result (λ chosen. IsChosenPlaybook (option_map (λ text. text.now) playbook.entry) (option_map (λ bytes. bytes.items) chosen)) }
+fn choose_playbook(
+    alloc: Global,
+    fleet: &Fleet,
+    accepted: bool,
+    playbook: Option<&[u8]>,
+) -> Result<Chosen, AllocError>
+    ensures { IfOk result (λ chosen. IsChosenPlaybook fleet.now accepted (option_map (λ text. text.now) playbook.entry)
+        (option_map (λ bytes. bytes.items) chosen.text) chosen.is_whole chosen.has_all_hosts) }
 {
     match playbook {
-        Some(playbook) => choose(alloc, playbook),
-        None => Ok(None),
+        Some(playbook) => choose(alloc, fleet, accepted, playbook),
+        None => Ok(Chosen {
+            text: None,
+            is_whole: true,
+            has_all_hosts: accepted,
+        }),
     }
 }
 
-fn choose(alloc: Global, playbook: &[u8]) -> Result<Option<Vec<u8>>, AllocError>
-    ensures { IfOk result (λ chosen. IsChosenText playbook.now (option_map (λ bytes. bytes.items) chosen)) }
+fn choose(
+    alloc: Global,
+    fleet: &Fleet,
+    accepted: bool,
+    playbook: &[u8],
+) -> Result<Chosen, AllocError>
+    ensures { IfOk result (λ chosen. IsChosenText fleet.now accepted playbook.now (option_map (λ bytes. bytes.items) chosen.text) chosen.is_whole chosen.has_all_hosts) }
 {
-    match playbook_faults(alloc, playbook, 0) {
-        Ok(told) => whole_or_kept(
-            alloc,
-            playbook,
-            is_silent(told.faults.as_slice(), told.more),
-        ),
+    let told = match playbook_faults(alloc, playbook, 0) {
+        Ok(told) => told,
+        Err(refused) => return Err(refused),
+    };
+    let is_whole = is_silent(told.faults.as_slice(), told.more);
+    let known = match knows_hosts(alloc, fleet, playbook) {
+        Ok(known) => known,
+        Err(refused) => return Err(refused),
+    };
+    let text = match whole_or_kept(alloc, playbook, is_whole) {
+        Ok(text) => text,
+        Err(refused) => return Err(refused),
+    };
+    match aim_if(alloc, fleet, text) {
+        Ok(text) => Ok(Chosen {
+            text,
+            is_whole,
+            has_all_hosts: accepted && known,
+        }),
         Err(refused) => Err(refused),
     }
 }
@@ -99,4 +151,17 @@ fn whole_or_kept(
         return keep_playbook(alloc, playbook);
     }
     Ok(Some(Vec::from_slice(alloc, playbook)?))
+}
+
+fn aim_if(
+    alloc: Global,
+    fleet: &Fleet,
+    chosen: Option<Vec<u8>>,
+) -> Result<Option<Vec<u8>>, AllocError>
+    ensures { IfOk result (λ text. IsAimedIf fleet.now (option_map (λ bytes. bytes.items) chosen) (option_map (λ bytes. bytes.items) text)) }
+{
+    match chosen {
+        Some(chosen) => aim_playbook(alloc, fleet, chosen.as_slice()),
+        None => Ok(None),
+    }
 }

@@ -1,7 +1,8 @@
 //! What keeps an inventory from being a fleet, and the fleet.
-ghost use Rattle.std.specs.Prelude.{◌≡◌, IfOk, option_map};
+ghost use Rattle.std.specs.Prelude.{◌≡◌, true, IfOk, MatchOption, option_map};
 ghost use Rattle.fleet_faults.specs.ToldFaults.{AreToldOf};
-ghost use Rattle.every_fault.specs.Inventories.{IsBuilt, IsBuiltIfRead, IsFleetIf, IsFleetPart, IsKeptPart, StandsOn, standing_of};
+ghost use Rattle.every_fault.specs.Inventories.{IsBuilt, IsFleetIf, IsFleetPart, IsKeptPart, IsSingle, IsSinglePart, StandsOn, standing_of};
+ghost use Rattle.every_fault.specs.Unread.{IsNoInventory};
 
 use crate::silence::no_fleet_faults;
 use crate::standing::{Standing, stand};
@@ -11,7 +12,7 @@ use domains::Fleet;
 use fleet_faults::{FleetTold, fleet_faults};
 use group_tree::Tree;
 use inventory_read::read_inventory;
-use kept_inventory::{Limits, keep_inventory};
+use kept_inventory::{Limits, keep_inventory, keep_single};
 use std::alloc::{AllocError, Allocator, Global};
 
 /// What keeps the inventory, of whose text nothing is told or something is, from being a fleet; and the fleet with the text that says it, where nothing does.
@@ -38,7 +39,7 @@ fn whole_part<'a>(
     inventory: &'a [u8],
     most: usize,
 ) -> Result<(FleetTold, Option<Standing<'a>>), AllocError>
-    ensures { IfOk result (λ part. StandsOn (IsBuilt inventory.now most) inventory.now part.0 (option_map standing_of part.1)) }
+    ensures { IfOk result (λ part. StandsOn inventory.now true most part.0 (option_map standing_of part.1)) }
 {
     match build(alloc, inventory, most) {
         Ok((told, fleet)) => Ok((told, stand(Text::Whole(inventory), fleet))),
@@ -46,7 +47,7 @@ fn whole_part<'a>(
     }
 }
 
-/// The same of what is kept of an inventory, where anything is; of a text that still says no inventory nothing is told.
+/// The same of what is kept of an inventory, where anything is; where that says no inventory, of the same with each group once.
 pub(crate) fn kept_part<'a>(
     alloc: Global,
     kept: Option<Vec<u8>>,
@@ -58,7 +59,38 @@ pub(crate) fn kept_part<'a>(
         return Ok((no_fleet_faults(alloc), None));
     };
     match build_if_read(alloc, text.as_slice(), most) {
-        Ok((told, fleet)) => Ok((told, stand(Text::Kept(text), fleet))),
+        Ok(Some((told, fleet))) => Ok((told, stand(Text::Kept(text), fleet))),
+        Ok(None) => single_part(alloc, text.as_slice(), most),
+        Err(refused) => Err(refused),
+    }
+}
+
+fn single_part<'a>(
+    alloc: Global,
+    kept: &[u8],
+    most: usize,
+) -> Result<(FleetTold, Option<Standing<'a>>), AllocError>
+    ensures { IfOk result (λ part. IsSingle kept.now most part.0 (option_map standing_of part.1)) }
+{
+    match keep_single(alloc, kept) {
+        Ok(single) => build_single(alloc, single, most),
+        Err(refused) => Err(refused),
+    }
+}
+
+fn build_single<'a>(
+    alloc: Global,
+    single: Option<Vec<u8>>,
+    most: usize,
+) -> Result<(FleetTold, Option<Standing<'a>>), AllocError>
+    ensures { IfOk result (λ part. IsSinglePart (option_map (λ bytes. bytes.items) single) most part.0 (option_map standing_of part.1)) }
+{
+    let Some(text) = single else {
+        return Ok((no_fleet_faults(alloc), None));
+    };
+    match build_if_read(alloc, text.as_slice(), most) {
+        Ok(Some((told, fleet))) => Ok((told, stand(Text::Single(text), fleet))),
+        Ok(None) => Ok((no_fleet_faults(alloc), None)),
         Err(refused) => Err(refused),
     }
 }
@@ -77,17 +109,21 @@ fn build(
     }
 }
 
+/// Nothing where the text says no inventory.
 fn build_if_read(
     alloc: Global,
     kept: &[u8],
     most: usize,
-) -> Result<(FleetTold, Option<Fleet>), AllocError>
-    ensures { IfOk result (λ part. IsBuiltIfRead kept.now most part.0 (option_map (λ fleet. fleet) part.1)) }
+) -> Result<Option<(FleetTold, Option<Fleet>)>, AllocError>
+    ensures { IfOk result (λ built. MatchOption built (IsNoInventory kept.now) (λ part. IsBuilt kept.now most part.0 (option_map (λ fleet. fleet) part.1))) }
 {
     let arena = Bump::new(alloc);
     match read_inventory(&arena, alloc, kept) {
-        Ok(tree) => tell_tree(alloc, &tree, most),
-        Err(fault) if fault.number().is_some() => Ok((no_fleet_faults(alloc), None)),
+        Ok(tree) => match tell_tree(alloc, &tree, most) {
+            Ok(part) => Ok(Some(part)),
+            Err(refused) => Err(refused),
+        },
+        Err(fault) if fault.number().is_some() => Ok(None),
         Err(_) => Err(AllocError),
     }
 }

@@ -2,7 +2,7 @@
 ghost use Rattle.std.specs.Prelude.{◌≡◌, IfOk};
 ghost use Rattle.std.specs.Option.{option_map};
 ghost use Rattle.every_fault.specs.Inventories.{standing_of};
-ghost use Rattle.every_fault.specs.Playbooks.{IsKeptPart, IsLookedUp, IsPatternPart, IsToldIn};
+ghost use Rattle.every_fault.specs.Playbooks.{IsKeptPart, IsLookedUp, IsPatternPart, IsToldBy, IsToldIn};
 
 use crate::silence::no_pattern_faults;
 use crate::standing::Standing;
@@ -23,8 +23,29 @@ pub(crate) fn pattern_part(
     ensures { IfOk result (IsPatternPart (option_map standing_of found.now) (option_map (λ text. text.now) playbook.entry) most is_read) }
 {
     match (found, playbook) {
-        (Some(standing), Some(playbook)) => tell(alloc, &standing.fleet, playbook, most, is_read),
+        (Some(standing), Some(playbook)) => {
+            let has_all = standing.text.has_all_groups();
+            tell_by(alloc, has_all, &standing.fleet, playbook, most, is_read)
+        }
         _ => Ok(no_pattern_faults(alloc)),
+    }
+}
+
+/// Nothing where groups were left out of the fleet.
+fn tell_by(
+    alloc: Global,
+    has_all: bool,
+    fleet: &Fleet,
+    playbook: &[u8],
+    most: usize,
+    is_read: bool,
+) -> Result<PatternsTold, AllocError>
+    ensures { IfOk result (IsToldBy has_all fleet.now playbook.now most is_read) }
+{
+    if has_all {
+        tell(alloc, fleet, playbook, most, is_read)
+    } else {
+        Ok(no_pattern_faults(alloc))
     }
 }
 

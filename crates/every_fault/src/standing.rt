@@ -1,6 +1,6 @@
 //! A fleet, and the text that says it.
 ghost use Rattle.std.specs.Prelude.{◌≡◌, IfOk, option_map};
-ghost use Rattle.every_fault.specs.Inventories.{IsFound, IsUnlimited, bytes_of, standing_of, standing_on};
+ghost use Rattle.every_fault.specs.Inventories.{IsFound, IsUnlimited, bytes_of, has_all_groups, standing_of, standing_on};
 
 use crate::fleet::kept_part;
 use crate::text::Text;
@@ -16,7 +16,7 @@ pub(crate) struct Standing<'a> {
 
 /// The fleet with its text, where there is one.
 pub(crate) fn stand<'a>(text: Text<'a>, fleet: Option<Fleet>) -> Option<Standing<'a>>
-    ensures { option_map standing_of result ≡ option_map (standing_on (bytes_of text.entry)) (option_map (λ fleet. fleet) fleet) }
+    ensures { option_map standing_of result ≡ option_map (standing_on (bytes_of text.entry) (has_all_groups text.entry)) (option_map (λ fleet. fleet) fleet) }
 {
     match fleet {
         Some(fleet) => Some(Standing { text, fleet }),

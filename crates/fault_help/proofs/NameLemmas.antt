@@ -3,11 +3,11 @@ use Rattle.std.proofs.Common.{inl, inr, ℕ, Result, Ok, Err, String}
 use Rattle.std.specs.declared.alloc.Global.{Global}
 use Rattle.cond.specs.Conditions.{Breaks}
 use Rattle.cond.specs.declared.fault.CondFault.{CondFault}
-use Rattle.help_lines.specs.Conditions.{list_help, place_help}
+use Rattle.help_lines.specs.Conditions.{braces_help, list_help, place_help}
 use Rattle.help_lines.specs.Fleets.{down_help, twice_help}
 use Rattle.help_lines.specs.Lines.{IsLine}
 use Rattle.help_lines.specs.Values.{Text}
-use Rattle.fault_help.specs.ConditionHelps.{PlacesFault, condition_rule_help}
+use Rattle.fault_help.specs.ConditionHelps.{PlacesFault, TellsBraces, braces_rule_help, condition_rule_help}
 use Rattle.fault_help.specs.FleetHelps.{NamesDown}
 use Rattle.fault_help.specs.ReadHelps.{NamesPlaces, twice_rule_help}
 
@@ -34,3 +34,11 @@ shown_in_list (Err _) fault count at text breaks is = tt
 pub conditions_told : {E : Type 0} (result : Result (String Global) E) (fault : CondFault) (at : ℕ) → IsLine result condition_rule_help → PlacesFault fault at result
 conditions_told (Ok line) fault at is = inl is
 conditions_told (Err _) fault at is = tt
+
+pub braces_shown : {E : Type 0} (result : Result (String Global) E) (word : Text) (at : ℕ) → IsLine result (braces_help at word) → TellsBraces result
+braces_shown (Ok line) word at is = inr (word, at, is)
+braces_shown (Err _) word at is = tt
+
+pub braces_told : {E : Type 0} (result : Result (String Global) E) → IsLine result braces_rule_help → TellsBraces result
+braces_told (Ok line) is = inl is
+braces_told (Err _) is = tt

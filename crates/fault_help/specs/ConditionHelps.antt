@@ -5,7 +5,7 @@ use Rattle.std.specs.declared.alloc.Global.{Global}
 use Rattle.cond.specs.Conditions.{Breaks}
 use Rattle.cond.specs.declared.fault.CondFault.{CondFault}
 use Rattle.cond.specs.declared.fault.CondFault.TheVariants.{BadToken, Unexpected, TooDeep, TooLong, Memory}
-use Rattle.help_lines.specs.Conditions.{list_help, place_help}
+use Rattle.help_lines.specs.Conditions.{braces_help, list_help, place_help}
 use Rattle.help_lines.specs.Lines.{IsLine, line_of}
 use Rattle.help_lines.specs.Told.{said}
 use Rattle.help_lines.specs.Values.{Text}
@@ -38,3 +38,14 @@ TellsCondition (Unexpected at) result = PlacesFault (Unexpected at) at result
 TellsCondition (TooDeep at) result = IsLine result brackets_help
 TellsCondition (TooLong at) result = IsLine result long_help
 TellsCondition Memory result = IsLine result memory_help
+
+unfoldable pub braces_rule_help : List Text
+braces_rule_help =
+    said (codes "behind {{ stand a name or name.field (rc, stdout, stderr, changed, failed, skipped) and }}; no filters (a default is a variable of all), no {% or {#, and no ${#x}: let a script do it")
+
+-- a word is shown around a place in it; where the step isn't found, what braces may hold
+abbrev pub IsBracesHelp : Text → Type 0
+IsBracesHelp line = (line ≡ line_of braces_rule_help) ⊎ ((word : Text) × (at : ℕ) × (line ≡ line_of (braces_help at word)))
+
+abbrev pub TellsBraces : {E : Type 0} → Result (String Global) E → Type 0
+TellsBraces result = IfOk result (λ line. IsBracesHelp (string_bytes line))

@@ -8,10 +8,17 @@ use Rattle.play_rules.specs.declared.fault.PlayFault.TheVariants.{NotJson, BadSh
 use Rattle.help_lines.specs.declared.document.Document.{Document}
 use Rattle.help_lines.specs.PlayKeys.{unknown_key_help}
 use Rattle.help_lines.specs.Shapes.{shape_help}
+use Rattle.help_lines.specs.Texts.{no_playbook_help}
 use Rattle.help_lines.specs.Told.{said, value_help_at}
 use Rattle.help_lines.specs.Values.{Text}
-use Rattle.fault_help.specs.ConditionHelps.{TellsCondition}
-use Rattle.fault_help.specs.ReadHelps.{memory_help, text_help}
+use Rattle.fault_help.specs.ConditionHelps.{TellsBraces, TellsCondition}
+use Rattle.fault_help.specs.ReadHelps.{memory_help}
+
+unfoldable pub text_help : Document → List Text
+text_help document = no_playbook_help document.text.now document.line document.column
+
+unfoldable pub key_help : Document → Text → List Text
+key_help document at = unknown_key_help (option_map view document.value) at
 
 unfoldable pub part_help : Document → Text → List Text
 part_help document at = shape_help (option_map view document.value) at
@@ -29,7 +36,7 @@ plays_help = said (codes "a playbook has at most 16 plays: put the later ones in
 unfoldable pub steps_help : List Text
 steps_help = said (codes "a play has at most 256 tasks and handlers: put the later ones into a play of their own, or several into a script")
 
--- of a condition a text is shown that has its fault
+-- of a condition a text is shown that has its fault, and of braces their word
 abbrev pub ShowsCondition : {E : Type 0} → PlayFault → Result (String Global) E → Type 0
 ShowsCondition NotJson result = ⊤
 ShowsCondition (BadShape at) result = ⊤
@@ -41,15 +48,14 @@ ShowsCondition (BadPercent at) result = ⊤
 ShowsCondition ManyPlays result = ⊤
 ShowsCondition TooManySteps result = ⊤
 ShowsCondition (BadCondition play step key fault) result = TellsCondition fault result
-ShowsCondition (BadBraces play step) result = ⊤
+ShowsCondition (BadBraces play step) result = TellsBraces result
 ShowsCondition Memory result = ⊤
 
--- by the fault, and by what stands in the document; of handlers that aren't there or are there twice, and of braces, only the form of the line is given, and of conditions what
--- ShowsCondition says
+-- by the fault, and by what stands in the document; of handlers that aren't there or are there twice only the form of the line is given, and of conditions and braces what ShowsCondition says
 abbrev pub play_help : PlayFault → Document → Option (List Text)
 play_help NotJson document = Some (text_help document)
 play_help (BadShape at) document = Some (part_help document (string_bytes at))
-play_help (UnknownKey at) document = Some (unknown_key_help (string_bytes at))
+play_help (UnknownKey at) document = Some (key_help document (string_bytes at))
 play_help (NoSuchHandler name) document = None
 play_help (TwiceHandler name) document = None
 play_help (BadSerial at) document = Some (serial_help document (string_bytes at))

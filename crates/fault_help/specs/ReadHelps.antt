@@ -10,12 +10,12 @@ use Rattle.help_lines.specs.Fleets.{twice_help}
 use Rattle.help_lines.specs.Groups.{key_help, shape_help}
 use Rattle.help_lines.specs.Lines.{line_of}
 use Rattle.help_lines.specs.Names.{bad_name_help}
-use Rattle.help_lines.specs.Texts.{no_json_help}
+use Rattle.help_lines.specs.Texts.{no_inventory_help}
 use Rattle.help_lines.specs.Told.{said, value_help_at}
 use Rattle.help_lines.specs.Values.{Text}
 
 unfoldable pub text_help : Document → List Text
-text_help document = no_json_help document.text.now document.line document.column
+text_help document = no_inventory_help document.text.now document.line document.column
 
 unfoldable pub group_help : Document → Text → List Text
 group_help document at = shape_help (option_map view document.value) at
@@ -37,7 +37,7 @@ unfoldable pub memory_help : List Text
 memory_help = said (codes "memory was refused")
 
 unfoldable pub twice_rule_help : List Text
-twice_rule_help = said (codes "a group stands once: take one of its places out, or give each a name of its own")
+twice_rule_help = said (codes "a group stands once: name each apart, as web-eu and web-us; or keep one, that below a max_down if one is, with the hosts of both, and list these in the group above the other")
 
 -- two places, and what to do about them
 abbrev pub IsTwiceHelp : Text → Type 0

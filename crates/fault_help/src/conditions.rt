@@ -1,13 +1,12 @@
-//! The second line on conditions and words of a step.
+//! The second line on conditions of a step.
 ghost use Rattle.std.specs.Prelude.{IfSome, IsTrue};
 ghost use Rattle.cond.specs.Conditions.{Breaks};
 ghost use Rattle.help_lines.specs.Lines.{IsHelpLine, IsLine};
 ghost use Rattle.fault_help.specs.ConditionHelps as spec;
 
 use crate::inventory::memory_help;
-use crate::words::word_with_braces;
 use cond::{CondFault, parse};
-use help_lines::{Piece, help_at, help_in_list, line_of, step_at, tell};
+use help_lines::{help_at, help_in_list, step_at, tell};
 use play_rules::ConditionKey;
 use serde_json::Value;
 use std::alloc::{AllocError, Global};
@@ -202,34 +201,4 @@ fn has_fault(alloc: Global, text: &str, fault: CondFault) -> bool
         Ok(_condition) => false,
         Err(other) => other == fault,
     }
-}
-
-/// The word whose braces begin no hole, and what may stand there.
-pub(crate) fn braces_help(
-    alloc: Global,
-    top: Option<&Value>,
-    number: StepNumber,
-) -> Result<String, AllocError>
-    ensures { IsHelpLine result }
-{
-    match word_of(top, number) {
-        Some(word) => line_of(
-            alloc,
-            &[
-                Piece::Said("in "),
-                Piece::Cut(word.as_bytes()),
-                Piece::Said(
-                    ": behind {{ stand a name or name.field and }}; no filters (a default is a variable of all), {% or {#, and no ${#x}: let a script do it",
-                ),
-            ],
-        ),
-        None => tell(
-            alloc,
-            "behind {{ stand a name or name.field and }}; no filters (a default is a variable of all), {% or {#, and no ${#x}: let a script do it",
-        ),
-    }
-}
-
-fn word_of(top: Option<&Value>, number: StepNumber) -> Option<&str> {
-    word_with_braces(step_at(top?, number.play, number.step)?)
 }

@@ -5,7 +5,7 @@ ghost use Rattle.fault_help.specs.ReadHelps as spec;
 
 use crate::twice::twice_help;
 use help_lines::{
-    Document, group_key_help, group_shape_help, help_on_text, tell, tell_at, tell_bad_name,
+    Document, group_key_help, group_shape_help, help_on_inventory, tell, tell_at, tell_bad_name,
 };
 use inventory_read::ReadFault;
 use std::alloc::{AllocError, Global};
@@ -35,10 +35,10 @@ pub fn read_help(
 }
 
 #[tactic(auto, unfolding(crate::specs::ReadHelps::text_help))]
-pub(crate) fn text_help(alloc: Global, document: &Document<'_>) -> Result<String, AllocError>
+fn text_help(alloc: Global, document: &Document<'_>) -> Result<String, AllocError>
     ensures { IsLine result (spec.text_help document.now) }
 {
-    help_on_text(alloc, document.text, document.line, document.column)
+    help_on_inventory(alloc, document.text, document.line, document.column)
 }
 
 #[tactic(auto, unfolding(crate::specs::ReadHelps::group_help))]

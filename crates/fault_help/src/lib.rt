@@ -1,6 +1,7 @@
 //! The second line of a refusal: what was expected at its place, and what stands there.
 #![tactic(auto)]
 
+mod braces;
 mod conditions;
 mod down;
 mod fleet;

@@ -3,10 +3,12 @@ ghost use Rattle.std.specs.Prelude.{MatchOption};
 ghost use Rattle.help_lines.specs.Lines.{IsHelpLine, IsLine};
 ghost use Rattle.fault_help.specs.PlayHelps as spec;
 
-use crate::conditions::{StepNumber, braces_help, condition_help};
-use crate::inventory::{memory_help, text_help};
+use crate::braces::braces_help;
+use crate::conditions::{StepNumber, condition_help};
+use crate::inventory::memory_help;
 use help_lines::{
-    Document, no_handler_help, shape_help, tell, tell_at, twice_handler_help, unknown_key_help,
+    Document, help_on_text, no_handler_help, shape_help, tell, tell_at, twice_handler_help,
+    unknown_key_help,
 };
 use play_rules::PlayFault;
 use std::alloc::{AllocError, Global};
@@ -24,7 +26,7 @@ pub fn play_help(
     match fault {
         PlayFault::NotJson => text_help(alloc, document),
         PlayFault::BadShape { at } => part_help(alloc, document, at.as_str()),
-        PlayFault::UnknownKey { at } => unknown_key_help(alloc, at.as_str()),
+        PlayFault::UnknownKey { at } => key_help(alloc, document, at.as_str()),
         PlayFault::NoSuchHandler { name } => {
             no_handler_help(alloc, document.top(), name.as_str())
         }
@@ -52,6 +54,20 @@ pub fn play_help(
         }
         PlayFault::Memory => memory_help(alloc),
     }
+}
+
+#[tactic(auto, unfolding(crate::specs::PlayHelps::text_help))]
+fn text_help(alloc: Global, document: &Document<'_>) -> Result<String, AllocError>
+    ensures { IsLine result (spec.text_help document.now) }
+{
+    help_on_text(alloc, document.text, document.line, document.column)
+}
+
+#[tactic(auto, unfolding(crate::specs::PlayHelps::key_help))]
+fn key_help(alloc: Global, document: &Document<'_>, at: &str) -> Result<String, AllocError>
+    ensures { IsLine result (spec.key_help document.now at.now) }
+{
+    unknown_key_help(alloc, document.top(), at)
 }
 
 #[tactic(auto, unfolding(crate::specs::PlayHelps::part_help))]

@@ -65,6 +65,6 @@ fn tell_rule(alloc: Global) -> Result<String, AllocError>
 {
     tell(
         alloc,
-        "a group stands once: take one of its places out, or give each a name of its own",
+        "a group stands once: name each apart, as web-eu and web-us; or keep one, that below a max_down if one is, with the hosts of both, and list these in the group above the other",
     )
 }

@@ -1,6 +1,6 @@
--- What is told of a fault.
-use Rattle.std.specs.Prelude.{◌≡◌, ℕ, List, ◌++◌, codes, decimal, length, take}
+-- What is told of a fault, or of a kind of notes.
+use Rattle.std.specs.Prelude.{◌≡◌, ℕ, List, ◌++◌, codes, length, take}
 
--- a page of a number begins with it, and a blank stands behind
-abbrev pub IsEntryOf : ℕ → List ℕ → Type 0
-IsEntryOf number page = take (length (decimal number ++ codes " ")) page ≡ decimal number ++ codes " "
+-- an entry of a word begins with it, and a blank stands behind
+abbrev pub IsEntryOf : List ℕ → List ℕ → Type 0
+IsEntryOf word entry = take (length (word ++ codes " ")) entry ≡ word ++ codes " "

@@ -8,7 +8,10 @@ abbrev pub become_keys : List Text
 become_keys = codes "become" ∷ codes "become_user" ∷ codes "become_method" ∷ codes "become_flags" ∷ []
 
 abbrev pub remote_user_keys : List Text
-remote_user_keys = codes "remote_user" ∷ codes "port" ∷ []
+remote_user_keys = codes "remote_user" ∷ []
+
+abbrev pub ports_keys : List Text
+ports_keys = codes "port" ∷ []
 
 abbrev pub delegation_keys : List Text
 delegation_keys = codes "delegate_to" ∷ codes "delegate_facts" ∷ []
@@ -25,25 +28,49 @@ variables_keys = codes "vars" ∷ codes "vars_files" ∷ codes "vars_prompt" ∷
 abbrev pub environment_keys : List Text
 environment_keys = codes "environment" ∷ []
 
+abbrev pub remote_user_rule : Text
+remote_user_rule = codes "let ssh do it: \"ssh\", \"-l\", \"deploy\", \"--\", \"{{ inventory_hostname }}\" before the words of the program"
+
 unfoldable pub advice_on_place : Text → Option Text
 advice_on_place key =
     if is_one become_keys key then Some (codes "let ssh come in as that user, or write \"sudo\", \"-n\" before the words of the program") else (
-    if is_one remote_user_keys key then Some (codes "let ssh do it: \"ssh\", \"-l\", \"deploy\", \"--\", \"{{ inventory_hostname }}\" before the words of the program") else (
+    if is_one remote_user_keys key then Some remote_user_rule else (
+    if is_one ports_keys key then Some (codes "let ssh do it: \"ssh\", \"-p\", \"2222\", \"--\", \"{{ inventory_hostname }}\" before the words of the program") else (
     if is_one delegation_keys key then Some (codes "programs run on this machine: write \"ssh\", \"--\", \"lb1\" before the words, or nothing") else (
     if is_one local_keys key then Some (codes "programs run on this machine: write `command`") else (
-    if is_one once_keys key then Some (codes "write a play of its own whose `hosts` names one host") else (
-    if is_one variables_keys key then Some (codes "variables stand in the inventory, under `vars` of all, of a group or of a host") else (
+    if is_one once_keys key then Some (codes "write a play of its own whose `hosts` names one host; where it stands between other steps, split the play there") else (
+    if is_one variables_keys key then Some (codes "variables stand in the inventory, under `vars` of all or of a group, or at a host; values are taken as they are, {{ in them isn't filled in") else (
     if is_one environment_keys key then Some (codes "write \"env\", \"LANG=C\" before the words of the program") else (
-    None)))))))
+    None))))))))
 
 abbrev pub lists_keys : List Text
 lists_keys = codes "pre_tasks" ∷ codes "post_tasks" ∷ []
 
 abbrev pub roles_keys : List Text
-roles_keys = codes "roles" ∷ codes "include_tasks" ∷ codes "import_tasks" ∷ codes "include_role" ∷ codes "import_role" ∷ codes "import_playbook" ∷ codes "include" ∷ []
+roles_keys = codes "roles" ∷ codes "include_tasks" ∷ codes "import_tasks" ∷ codes "include_role" ∷ codes "import_role" ∷ codes "include" ∷ []
+
+abbrev pub playbooks_keys : List Text
+playbooks_keys = codes "import_playbook" ∷ []
+
+abbrev pub flushes_keys : List Text
+flushes_keys = codes "meta" ∷ []
+
+unfoldable pub advice_on_order : Text → Option Text
+advice_on_order key =
+    if is_one lists_keys key then Some (codes "put its steps into `tasks`, in that order; handlers come behind all of them") else (
+    if is_one roles_keys key then Some (codes "write its steps into `tasks`, in order") else (
+    if is_one playbooks_keys key then Some (codes "write its plays into the list of plays, in its place") else (
+    if is_one flushes_keys key then Some (codes "for flush_handlers write what comes behind as a play of its own, or the handler as a task with `when`") else (
+    None))))
 
 abbrev pub blocks_keys : List Text
-blocks_keys = codes "block" ∷ codes "rescue" ∷ codes "always" ∷ []
+blocks_keys = codes "block" ∷ []
+
+abbrev pub rescues_keys : List Text
+rescues_keys = codes "rescue" ∷ []
+
+abbrev pub always_keys : List Text
+always_keys = codes "always" ∷ []
 
 abbrev pub loops_keys : List Text
 loops_keys = codes "loop" ∷ codes "with_items" ∷ codes "with_list" ∷ codes "with_dict" ∷ codes "with_sequence" ∷ codes "loop_control" ∷ []
@@ -54,19 +81,15 @@ retries_keys = codes "until" ∷ codes "retries" ∷ codes "delay" ∷ []
 abbrev pub waits_keys : List Text
 waits_keys = codes "async" ∷ codes "poll" ∷ codes "timeout" ∷ []
 
-abbrev pub flushes_keys : List Text
-flushes_keys = codes "meta" ∷ []
-
-unfoldable pub advice_on_order : Text → Option Text
-advice_on_order key =
-    if is_one lists_keys key then Some (codes "put its steps into `tasks`, in that order; handlers come behind all of them") else (
-    if is_one roles_keys key then Some (codes "write its steps into `tasks`, in order") else (
-    if is_one blocks_keys key then Some (codes "write its steps into `tasks`; what is to be done after a failure belongs into the program") else (
+unfoldable pub advice_on_parts : Text → Option Text
+advice_on_parts key =
+    if is_one blocks_keys key then Some (codes "write its steps into `tasks`, each with the `when` of the block; what is to be done after a failure belongs into the program") else (
+    if is_one rescues_keys key then Some (codes "don't write its steps into `tasks`, where they run on every host: one command does both, as {\"argv\": [\"sh\", \"-c\", \"install || { roll-back; exit 1; }\"]}; without exit 1 the host goes on") else (
+    if is_one always_keys key then Some (codes "don't write its steps into `tasks`, which a host leaves that fails: one command does both, as {\"argv\": [\"sh\", \"-c\", \"install; s=$?; clean-up; exit $s\"]}") else (
     if is_one loops_keys key then Some (codes "write a step for each, or a loop in a script") else (
     if is_one retries_keys key then Some (codes "write a loop in a script: \"timeout\", \"60\", \"sh\", \"-c\", \"until ..; do sleep 2; done\"") else (
     if is_one waits_keys key then Some (codes "a step ends when its program does: let the program wait, as by \"timeout\", \"60\"") else (
-    if is_one flushes_keys key then Some (codes "for flush_handlers write what comes behind as a play of its own, or the handler as a task with `when`") else (
-    None)))))))
+    None))))))
 
 abbrev pub strategies_keys : List Text
 strategies_keys = codes "strategy" ∷ codes "order" ∷ codes "throttle" ∷ codes "forks" ∷ []
@@ -106,7 +129,7 @@ advice_on_whole key =
 
 -- the first that there is
 abbrev pub advice_on_short : Text → Option Text
-advice_on_short key = option_or (advice_on_place key) (option_or (advice_on_order key) (option_or (advice_on_whole key) (advice_on_module key)))
+advice_on_short key = option_or (advice_on_place key) (option_or (advice_on_order key) (option_or (advice_on_parts key) (option_or (advice_on_whole key) (advice_on_module key))))
 
 -- of a long name what its last part is told
 abbrev pub advice_on : Text → Option Text

@@ -7,7 +7,7 @@ use Rattle.help_lines.specs.Values.{Text}
 -- by its name: those of values
 unfoldable pub advice_on_value_filter : Text → Text
 advice_on_value_filter name =
-    if begins (codes "default") name || begins (codes "d(") name then codes "; there are no defaults: ask first, as tier is defined and tier == 'web', or give the name a value in the inventory, under vars of all" else (
+    if begins (codes "default") name || begins (codes "d(") name then codes "; there are no defaults: give the name a value under vars of all in the inventory and leave the filter out, or ask first, as tier is defined and tier == 'web'" else (
     if begins (codes "bool") name then codes "; leave it out: true and false stand in the inventory, without quotes" else (
     if begins (codes "int") name || begins (codes "float") name then codes "; write r.stdout == '3', or size == 3; sizes let a program compare, as test 95 -gt 90, with register: r and failed_when: false, and write r.rc == 0" else (
     if begins (codes "length") name || begins (codes "count") name then codes "; write r.stdout != '' for length > 0, r.stdout == '' for length == 0; others let a program count" else (

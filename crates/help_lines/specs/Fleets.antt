@@ -4,12 +4,12 @@ use Rattle.help_lines.specs.Values.{Text, cut}
 
 unfoldable pub twice_help : Text → Text → List Text
 twice_help first second =
-    codes "at " ∷ cut first ∷ codes " and at " ∷ cut second ∷ codes ": a group stands once: take one of the two out, or give each a name of its own, as web-eu and web-us; a host may be listed by several groups" ∷ []
+    codes "at " ∷ cut first ∷ codes " and at " ∷ cut second ∷ codes ": a group stands once: name each apart, as web-eu and web-us; or keep one, that below a max_down if one is, with the hosts of both, and list these in the group above the other" ∷ []
 
 -- two limited groups that cross
 unfoldable pub crossing_help : Text → Text → List Text
 crossing_help first second =
-    codes "both have a limit and neither holds the other: put " ∷ cut first ∷ codes " below " ∷ cut second ∷ codes " if it holds only hosts of it, or take max_down out of one and give it to the parts of both" ∷ []
+    cut first ∷ codes " and " ∷ cut second ∷ codes " share hosts and have limits: where one has all hosts of the other, put the other below it; else keep max_down on one kind in all such lines, as racks, and take it off the other, or move it to groups of its hosts below the kept one" ∷ []
 
 -- a group of which too many hosts are down, with names of such hosts
 unfoldable pub down_help : Text → Text → List Text

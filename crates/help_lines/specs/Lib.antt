@@ -2,7 +2,9 @@ pub mod Values
 pub mod Lines
 pub mod Paths
 pub mod Blanks
+pub mod Words
 pub mod Ini
+pub mod Told
 pub mod Texts
 pub mod Modules
 pub mod AnsibleKeys
@@ -11,11 +13,12 @@ pub mod Signs
 pub mod Filters
 pub mod Lookups
 pub mod Questions
+pub mod Guesses
 pub mod Conditions
-pub mod Told
 pub mod Names
 pub mod Fleets
 pub mod Groups
 pub mod Places
+pub mod GivenKeys
 pub mod PlayKeys
 pub mod Shapes

@@ -21,31 +21,44 @@ abbrev pub services_keys : List Text
 services_keys = codes "service" ∷ codes "systemd" ∷ codes "reboot" ∷ codes "user" ∷ codes "group" ∷ codes "cron" ∷ codes "mount" ∷ codes "sysctl" ∷ []
 
 abbrev pub files_keys : List Text
-files_keys = codes "copy" ∷ codes "template" ∷ codes "file" ∷ codes "lineinfile" ∷ codes "blockinfile" ∷ codes "stat" ∷ codes "fetch" ∷ codes "synchronize" ∷ []
+files_keys = codes "file" ∷ codes "lineinfile" ∷ codes "blockinfile" ∷ codes "stat" ∷ codes "slurp" ∷ codes "find" ∷ codes "replace" ∷ codes "tempfile" ∷ []
+
+abbrev pub copies_keys : List Text
+copies_keys = codes "copy" ∷ codes "template" ∷ codes "fetch" ∷ codes "synchronize" ∷ codes "assemble" ∷ []
 
 abbrev pub others_keys : List Text
 others_keys = codes "uri" ∷ codes "get_url" ∷ codes "git" ∷ codes "unarchive" ∷ codes "wait_for" ∷ codes "wait_for_connection" ∷ codes "debug" ∷ codes "pause" ∷ []
 
 abbrev pub checks_keys : List Text
-checks_keys = codes "assert" ∷ codes "fail" ∷ codes "ping" ∷ codes "slurp" ∷ codes "find" ∷ codes "replace" ∷ codes "docker_container" ∷ codes "k8s" ∷ []
+checks_keys = codes "assert" ∷ codes "fail" ∷ codes "ping" ∷ codes "docker_container" ∷ codes "k8s" ∷ []
 
 abbrev pub more_keys : List Text
-more_keys = codes "hostname" ∷ codes "iptables" ∷ codes "known_hosts" ∷ codes "add_host" ∷ codes "group_by" ∷ codes "tempfile" ∷ codes "assemble" ∷ codes "service_facts" ∷ []
+more_keys = codes "hostname" ∷ codes "iptables" ∷ codes "known_hosts" ∷ codes "add_host" ∷ codes "group_by" ∷ codes "service_facts" ∷ []
 
 abbrev pub module_rule : Text
-module_rule = codes "modules are not taken: write a `command` whose program does it, on a host by ssh"
+module_rule = codes "modules are not taken: write a `command`, which runs on this machine, and on the host by ssh: {\"argv\": [\"ssh\", \"--\", \"{{ inventory_hostname }}\", \"df -h /\"]}"
+
+abbrev pub package_rule : Text
+package_rule = codes "modules are not taken: write a `command`, which runs on this machine, and on the host by ssh: {\"argv\": [\"ssh\", \"--\", \"{{ inventory_hostname }}\", \"sudo -n apt-get install -y nginx\"]}"
+
+abbrev pub service_rule : Text
+service_rule = codes "modules are not taken: write a `command`, which runs on this machine, and on the host by ssh: {\"argv\": [\"ssh\", \"--\", \"{{ inventory_hostname }}\", \"sudo -n systemctl restart web\"]}"
+
+abbrev pub copy_rule : Text
+copy_rule = codes "modules are not taken: write a `command`, which runs on this machine and reaches the host itself: {\"argv\": [\"scp\", \"--\", \"web.conf\", \"{{ inventory_hostname }}:/etc/web.conf\"]}"
 
 unfoldable pub advice_on_module : Text → Option Text
 advice_on_module key =
-    if is_one arguments_keys key then Some (codes "let the program do it, as \"command\": {\"argv\": [\"sh\", \"-c\", \"cd /srv && ./migrate\"]}") else (
+    if is_one arguments_keys key then Some (codes "creates, removes, chdir and stdin are not taken: let the program do it, as \"command\": {\"argv\": [\"ssh\", \"--\", \"{{ inventory_hostname }}\", \"cd /srv && ./migrate\"]}, on this machine by \"sh\", \"-c\"") else (
     if is_one shells_keys key then Some (codes "write \"command\": {\"argv\": [\"sh\", \"-c\", \"..\"]}, and for a shell of the host \"ssh\", \"--\", \"{{ inventory_hostname }}\", \"..\"") else (
-    if is_one packages_keys key then Some module_rule else (
-    if is_one services_keys key then Some module_rule else (
+    if is_one packages_keys key then Some package_rule else (
+    if is_one services_keys key then Some service_rule else (
+    if is_one copies_keys key then Some copy_rule else (
     if is_one files_keys key then Some module_rule else (
     if is_one others_keys key then Some module_rule else (
     if is_one checks_keys key then Some module_rule else (
     if is_one more_keys key then Some module_rule else (
-    None))))))))
+    None)))))))))
 
 abbrev pub is_dot : ℕ → Bool
 is_dot byte = byte == 46

@@ -65,7 +65,14 @@ pattern_rule_help = codes "there is no '&', '!', '*', '~', index or range in pat
 unfoldable pub localhost_help : List Text
 localhost_help = said (codes "no localhost is made, and programs run on this machine anyway, once for each host of the play; a play of one has a host that is listed")
 
+abbrev pub is_brace : ℕ → Bool
+is_brace byte = byte == 123
+
+unfoldable pub pattern_braces_help : List Text
+pattern_braces_help = said (codes "`hosts` has no {{: write the names of the groups or hosts themselves, in a playbook for each choice of them")
+
 unfoldable pub pattern_help : Text → List Text → List Text
 pattern_help name names =
     if list_any is_of_ansible name then pattern_rule_help else (
-    if bytes_eq name (codes "localhost") then localhost_help else nearest_help name names pattern_rule)
+    if list_any is_brace name then pattern_braces_help else (
+    if bytes_eq name (codes "localhost") then localhost_help else nearest_help name names pattern_rule))

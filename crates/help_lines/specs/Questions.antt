@@ -1,7 +1,9 @@
 -- What to write where a word goes wrong: a test behind `is`, or another.
-use Rattle.std.specs.Prelude.{Bool, ◌==◌, ◌||◌, if◌then◌else◌, List, [], ◌∷◌, length, codes}
-use Rattle.std.specs.List.{list_any}
+use Rattle.std.specs.Prelude.{Bool, ◌==◌, ◌&&◌, ◌||◌, not, if◌then◌else◌, List, [], ◌∷◌, length, nat_lt, slice_index, codes}
+use Rattle.std.specs.List.{list_all, list_any}
+use Rattle.std.specs.Char.{is_ascii_alphabetic}
 use Rattle.help_lines.specs.Advice.{begins, ends, first_said}
+use Rattle.help_lines.specs.Blanks.{is_blank}
 use Rattle.help_lines.specs.Lookups.{search_rule}
 use Rattle.help_lines.specs.Values.{Text}
 
@@ -41,18 +43,40 @@ advice_on_test rest =
 
 unfoldable pub advice_on_other_word : Text → Text
 advice_on_other_word rest =
+    if begins (codes "in group_names") rest then codes "; a text between quotes stands before in: write 'web' in group_names" else (
+    if begins (codes "not in group_names") rest then codes "; a text between quotes stands before not in: write 'web' not in group_names" else (
     if begins (codes "in group") rest then codes "; groups of the host stand in group_names: write 'web' in group_names" else (
     if begins (codes "not in group") rest then codes "; groups of the host stand in group_names: write 'web' not in group_names" else (
     if begins (codes "in ") rest then codes "; only a text stands before in, and group_names behind it: write tier == 'web' or tier == 'db'" else (
     if begins (codes "not in ") rest then codes "; only a text stands before in, and group_names behind it: write tier != 'web' and tier != 'db'" else (
-    if begins (codes "is ") rest then codes "; a name stands before is" else []))))
+    if begins (codes "is ") rest then codes "; a name stands before is" else []))))))
 
-unfoldable pub advice_on_word : Text → Text
-advice_on_word rest = if length rest == 0 then codes "; something is missing at its end" else advice_on_other_word rest
+-- what asks for more
+abbrev pub ends_asking : Text → Bool
+ends_asking front = list_any (λ word. ends word front) (codes "and " ∷ codes "or " ∷ codes "not " ∷ codes "= " ∷ codes "in " ∷ codes "(" ∷ [])
+
+-- nothing stands in front, or what asks for more
+abbrev pub ends_open : Text → Bool
+ends_open front = list_all is_blank front || ends_asking front
+
+abbrev pub begins_value : Text → Bool
+begins_value rest = nat_lt 0 (length rest) && ((is_ascii_alphabetic (slice_index rest 0) || begins (codes "'") rest) || begins (codes "\"") rest)
+
+abbrev pub joint_rule : Text
+joint_rule = codes "; between two conditions stands and or or, between two values == or !="
+
+-- a value behind a value
+unfoldable pub advice_on_joining : Text → Text → Text
+advice_on_joining front rest =
+    if not (ends_open front) && begins_value rest then joint_rule else []
+
+unfoldable pub advice_on_word : Text → Text → Text
+advice_on_word front rest =
+    if length rest == 0 then codes "; something is missing at its end" else first_said (advice_on_other_word rest) (advice_on_joining front rest)
 
 -- a test is asked for
 abbrev pub asks : Text → Bool
 asks front = ends (codes " is ") front || ends (codes " is not ") front
 
 unfoldable pub advice_on_words : Text → Text → Text
-advice_on_words front rest = if asks front then advice_on_test rest else advice_on_word rest
+advice_on_words front rest = if asks front then advice_on_test rest else advice_on_word front rest

@@ -1,10 +1,11 @@
 -- What is told of a part of a playbook that has another shape than the format asks for.
-use Rattle.std.specs.Prelude.{ℕ, Bool, false, ◌==◌, ◌&&◌, ◌||◌, not, if◌then◌else◌, List, Option, Some, None, is_some, option_and_then, length, codes}
-use Rattle.std.specs.List.{list_all, list_any}
+use Rattle.std.specs.Prelude.{ℕ, Bool, false, ◌==◌, ◌&&◌, ◌||◌, not, if◌then◌else◌, List, Option, Some, None, is_some, option_and_then, drop, length, codes}
+use Rattle.std.specs.List.{list_all, list_any, prefix_len}
 use Rattle.std.specs.Str.{bytes_eq}
 use Rattle.serde_json.specs.Data.{Data}
 use Rattle.serde_json.specs.Find.{as_object, as_str, get}
-use Rattle.help_lines.specs.Paths.{found_at}
+use Rattle.help_lines.specs.Paths.{found_at, last_key}
+use Rattle.help_lines.specs.Advice.{begins}
 use Rattle.help_lines.specs.Blanks.{is_blank}
 use Rattle.help_lines.specs.Values.{Text}
 use Rattle.help_lines.specs.Places.{Spot, whole_text, a_play, play_part, a_task, task_part, a_handler, handler_part, spot_of}
@@ -28,20 +29,45 @@ is_equals_sign byte = byte == 61
 abbrev pub command_rule : Text
 command_rule = codes "a command is a text, or an object with one key alone: {\"argv\": [\"echo\", \"it's\"]}, of texts and whole numbers, or {\"cmd\": \"echo yes\"}"
 
--- what a text that is no command holds: a quote, or no word, or a parameter; a text may also stand where a list of words belongs
+abbrev pub is_other_than_brace : ℕ → Bool
+is_other_than_brace byte = not (byte == 123)
+
+-- its first brace is one of two
+abbrev pub has_braces : Text → Bool
+has_braces text = begins (codes "{{") (drop (prefix_len is_other_than_brace text) text)
+
+abbrev pub parameter_rule : Text
+parameter_rule = codes "creates, removes, chdir and stdin are not taken; let the program do it, as {\"argv\": [\"ssh\", \"--\", \"{{ inventory_hostname }}\", \"cd /srv && ./migrate\"]}, on this machine by \"sh\", \"-c\""
+
+-- what a text that is no command holds: a quote, or no word, or a parameter
 unfoldable pub allowed_in_text : Text → Text
 allowed_in_text text =
+    if list_any is_quoting text && has_braces text then codes "no quotes and no backslash are read there, and in {{ }} stands just a name or name.field, no filter and no [ ]; write {\"argv\": [\"echo\", \"{{ r.stdout }}\"]}" else (
     if list_any is_quoting text then codes "no quotes and no backslash are read there; write {\"argv\": [\"echo\", \"it's\"]}" else (
     if list_all is_blank text then codes "it has no word; write the program and its arguments" else (
-    if list_any is_equals_sign text then codes "creates=, removes=, chdir= and stdin= are not taken; let the program do it, as {\"argv\": [\"sh\", \"-c\", \"cd /srv && ./migrate\"]}" else
-    command_rule))
+    if list_any is_equals_sign text then parameter_rule else
+    command_rule)))
 
 unfoldable pub allowed_by_text : Option Text → Text
 allowed_by_text (Some text) = allowed_in_text text
 allowed_by_text None = command_rule
 
-unfoldable pub allowed_as_command : Option Data → Text
-allowed_as_command found = allowed_by_text (option_and_then as_str found)
+-- an object stands there that has this key
+abbrev pub has : Text → Option Data → Bool
+has key None = false
+has key (Some value) = is_some (get key value)
+
+abbrev pub has_parameter : Option Data → Bool
+has_parameter found = ((has (codes "creates") found || has (codes "removes") found) || has (codes "chdir") found) || has (codes "stdin") found
+
+abbrev pub words_rule : Text
+words_rule = codes "argv is a list of at least one word, each a text or a whole number: [\"ssh\", \"--\", \"web1\", \"true\"]; words in one text are {\"cmd\": \"ssh -- web1 true\"}"
+
+-- by the last key on the way there
+unfoldable pub allowed_as_command : Text → Option Data → Text
+allowed_as_command last found =
+    if bytes_eq last (codes "argv") then words_rule else (
+    if has_parameter found then parameter_rule else allowed_by_text (option_and_then as_str found))
 
 -- an object stands there, and it hasn't this key
 abbrev pub lacks : Text → Option Data → Bool
@@ -92,21 +118,22 @@ allowed_in_step key =
 abbrev pub is_command_key : Text → Bool
 is_command_key key = bytes_eq key (codes "command") || bytes_eq key (codes "ansible.builtin.command")
 
-unfoldable pub allowed_in_step_of : Text → Option Data → Text
-allowed_in_step_of key found = if is_command_key key then allowed_as_command found else allowed_in_step key
+unfoldable pub allowed_in_step_of : Text → Text → Option Data → Text
+allowed_in_step_of key last found = if is_command_key key then allowed_as_command last found else allowed_in_step key
 
-unfoldable pub allowed_at : Spot → Option Data → Text
-allowed_at whole_text found = playbook_rule
-allowed_at a_play found = allowed_as_play found
-allowed_at (play_part key) found = allowed_in_play key
-allowed_at a_task found = allowed_as_task found
-allowed_at (task_part key) found = allowed_in_step_of key found
-allowed_at a_handler found = allowed_as_handler found
-allowed_at (handler_part key) found = allowed_in_step_of key found
+-- by the part, and the last key on the way there
+unfoldable pub allowed_at : Spot → Text → Option Data → Text
+allowed_at whole_text last found = playbook_rule
+allowed_at a_play last found = allowed_as_play found
+allowed_at (play_part key) last found = allowed_in_play key
+allowed_at a_task last found = allowed_as_task found
+allowed_at (task_part key) last found = allowed_in_step_of key last found
+allowed_at a_handler last found = allowed_as_handler found
+allowed_at (handler_part key) last found = allowed_in_step_of key last found
 
 unfoldable pub shape_help_in : Data → Text → List Text
 shape_help_in document at =
-    if length at == 0 then top_help document else value_help (found_at at document) (allowed_at (spot_of at) (found_at at document))
+    if length at == 0 then top_help document else value_help (found_at at document) (allowed_at (spot_of at) (last_key at) (found_at at document))
 
 unfoldable pub shape_help : Option Data → Text → List Text
 shape_help None at = said (codes "a playbook is a list of plays")

@@ -31,8 +31,9 @@ advice_on_size front other = if is_of_code front then codes "; sizes aren't comp
 unfoldable pub advice_on_sign : Text → Text → Text
 advice_on_sign front rest =
     if begins (codes "=") rest then codes "; write ==" else (
+    if begins (codes "<>") rest then codes "; write !=" else (
     if begins (codes "<") rest then advice_on_size front (codes "; sizes aren't compared: let a program do it, as test 5 -lt 90, with register: r and failed_when: false, and write r.rc == 0") else (
-    if begins (codes ">") rest then advice_on_size front (codes "; sizes aren't compared: let a program do it, as test 95 -gt 90, with register: r and failed_when: false, and write r.rc == 0") else []))
+    if begins (codes ">") rest then advice_on_size front (codes "; sizes aren't compared: let a program do it, as test 95 -gt 90, with register: r and failed_when: false, and write r.rc == 0") else [])))
 
 abbrev pub is_beyond_ascii : ℕ → Bool
 is_beyond_ascii byte = nat_le 128 byte

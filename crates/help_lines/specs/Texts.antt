@@ -1,23 +1,21 @@
 -- What is told of a text that is no JSON.
-use Rattle.std.specs.Prelude.{ℕ, ◌==◌, ◌&&◌, ◌||◌, not, Bool, slice_index, if◌then◌else◌, List, [], ◌∷◌, drop, length, nat_lt, nat_eq, codes, decimal}
-use Rattle.std.specs.List.{list_any, prefix_len, starts_with}
-use Rattle.std.specs.Char.{is_ascii_digit, is_ascii_alphabetic}
+use Rattle.std.specs.Prelude.{ℕ, ◌==◌, ◌&&◌, ◌||◌, not, Bool, slice_index, if◌then◌else◌, List, [], ◌∷◌, length, nat_lt, nat_eq, codes, decimal}
+use Rattle.std.specs.List.{list_any, starts_with}
+use Rattle.std.specs.Char.{is_ascii_digit}
 use Rattle.help_lines.specs.Ini.{is_like_ini}
 use Rattle.help_lines.specs.Blanks.{without_blanks}
+use Rattle.help_lines.specs.Told.{said}
 use Rattle.help_lines.specs.Values.{Text}
+use Rattle.help_lines.specs.Words.{behind_word, first_word}
 
 -- `{`, `[`, `"`, `-`, a digit, or the first letter of true, false or null
 abbrev pub may_begin_json : ℕ → Bool
 may_begin_json byte =
     is_ascii_digit byte || list_any (λ first. byte == first) (123 ∷ 91 ∷ 34 ∷ 45 ∷ 116 ∷ 102 ∷ 110 ∷ [])
 
--- a letter, a digit or `_`
-abbrev pub is_of_word : ℕ → Bool
-is_of_word byte = (is_ascii_alphabetic byte || is_ascii_digit byte) || byte == 95
-
 -- a word stands in front, and a colon behind it
 abbrev pub begins_with_key : Text → Bool
-begins_with_key text = nat_lt 0 (prefix_len is_of_word text) && starts_with nat_eq (drop (prefix_len is_of_word text) text) (codes ":")
+begins_with_key text = nat_lt 0 (length (first_word text)) && starts_with nat_eq (behind_word text) (codes ":")
 
 abbrev pub starts_otherwise : Text → Bool
 starts_otherwise text = nat_lt 0 (length text) && not (may_begin_json (slice_index text 0))
@@ -50,21 +48,31 @@ wide_help = codes "the text is UTF-16: save it as UTF-8, or convert it with: ico
 unfoldable pub ini_help : List Text
 ini_help = codes "this looks like an inventory in INI; convert it with: ansible-inventory -i FILE --list --yaml --export | python3 -c 'import sys,yaml,json; json.dump(yaml.safe_load(sys.stdin),sys.stdout,default=str)' > FILE.json" ∷ []
 
-unfoldable pub yaml_help : List Text
-yaml_help = codes "this looks like YAML; convert it with: python3 -c 'import sys,yaml,json; json.dump(yaml.safe_load(sys.stdin),sys.stdout,default=str)' < FILE.yml > FILE.json" ∷ []
+-- how a playbook is converted, and an inventory
+abbrev pub yaml_playbook : Text
+yaml_playbook = codes "this looks like YAML; convert it with: python3 -c 'import sys,yaml,json; json.dump(yaml.safe_load(sys.stdin),sys.stdout,default=str)' < FILE.yml > FILE.json"
+
+abbrev pub yaml_inventory : Text
+yaml_inventory = codes "this looks like YAML; convert it, with its ranges written out, with: ansible-inventory -i FILE --list --yaml --export | python3 -c 'import sys,yaml,json; json.dump(yaml.safe_load(sys.stdin),sys.stdout,default=str)' > FILE.json"
 
 unfoldable pub break_help : ℕ → ℕ → List Text
 break_help line column = codes "it breaks off at line " ∷ decimal line ∷ codes ", column " ∷ decimal column ∷ []
 
--- of a text without blanks in front, and the line and column at which it breaks off, from 1
-unfoldable pub form_help : Text → ℕ → ℕ → List Text
-form_help text line column =
+-- of a text without blanks in front, what is told of YAML, and the line and column at which it breaks off, from 1
+unfoldable pub form_help : Text → Text → ℕ → ℕ → List Text
+form_help text yaml line column =
     if is_like_ini text then ini_help else (
-    if is_like_yaml text then yaml_help else break_help line column)
+    if is_like_yaml text then said yaml else break_help line column)
 
--- what is told, by the text, and the line and column at which it breaks off, from 1
-unfoldable pub no_json_help : Text → ℕ → ℕ → List Text
-no_json_help text line column =
+-- what is told, by the text, what is told of YAML, and the line and column at which it breaks off, from 1
+unfoldable pub no_json_help : Text → Text → ℕ → ℕ → List Text
+no_json_help text yaml line column =
     if begins_with_mark text then mark_help else (
     if begins_as_wide text then wide_help else (
-    if length (without_blanks text) == 0 then empty_help else form_help (without_blanks text) line column))
+    if length (without_blanks text) == 0 then empty_help else form_help (without_blanks text) yaml line column))
+
+unfoldable pub no_playbook_help : Text → ℕ → ℕ → List Text
+no_playbook_help text line column = no_json_help text yaml_playbook line column
+
+unfoldable pub no_inventory_help : Text → ℕ → ℕ → List Text
+no_inventory_help text line column = no_json_help text yaml_inventory line column

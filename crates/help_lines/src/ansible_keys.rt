@@ -3,7 +3,11 @@ ghost use Rattle.std.specs.Prelude.{◌≡◌, option_map};
 ghost use Rattle.help_lines.specs.AnsibleKeys as spec;
 ghost use Rattle.help_lines.specs.Modules.{is_one};
 
+use crate::ansible_order::{advice_on_order, advice_on_parts};
 use crate::modules::{advice_on_long, advice_on_module, short_key};
+
+pub(crate) const REMOTE_USER_RULE: &str =
+    "let ssh do it: \"ssh\", \"-l\", \"deploy\", \"--\", \"{{ inventory_hostname }}\" before the words of the program";
 
 /// What to write in the place of a key that Ansible knows and that this program doesn't take.
 pub fn advice_on(key: &str) -> Option<&'static str>
@@ -24,6 +28,9 @@ fn advice_on_short(key: &str) -> Option<&'static str>
     if let Some(advice) = advice_on_order(key) {
         return Some(advice);
     }
+    if let Some(advice) = advice_on_parts(key) {
+        return Some(advice);
+    }
     if let Some(advice) = advice_on_whole(key) {
         return Some(advice);
     }
@@ -40,8 +47,11 @@ fn advice_on_place(key: &str) -> Option<&'static str>
         );
     }
     if is_of_remote_user(key) {
+        return Some(REMOTE_USER_RULE);
+    }
+    if is_of_ports(key) {
         return Some(
-            "let ssh do it: \"ssh\", \"-l\", \"deploy\", \"--\", \"{{ inventory_hostname }}\" before the words of the program",
+            "let ssh do it: \"ssh\", \"-p\", \"2222\", \"--\", \"{{ inventory_hostname }}\" before the words of the program",
         );
     }
     if is_of_delegation(key) {
@@ -53,51 +63,17 @@ fn advice_on_place(key: &str) -> Option<&'static str>
         return Some("programs run on this machine: write `command`");
     }
     if is_of_once(key) {
-        return Some("write a play of its own whose `hosts` names one host");
+        return Some(
+            "write a play of its own whose `hosts` names one host; where it stands between other steps, split the play there",
+        );
     }
     if is_of_variables(key) {
         return Some(
-            "variables stand in the inventory, under `vars` of all, of a group or of a host",
+            "variables stand in the inventory, under `vars` of all or of a group, or at a host; values are taken as they are, {{ in them isn't filled in",
         );
     }
     if is_of_environment(key) {
         return Some("write \"env\", \"LANG=C\" before the words of the program");
-    }
-    None
-}
-
-#[tactic(auto, unfolding(crate::specs::AnsibleKeys::advice_on_order))]
-fn advice_on_order(key: &str) -> Option<&'static str>
-    ensures { option_map (λ advice. advice.now) result ≡ spec.advice_on_order key.now }
-{
-    if is_of_lists(key) {
-        return Some("put its steps into `tasks`, in that order; handlers come behind all of them");
-    }
-    if is_of_roles(key) {
-        return Some("write its steps into `tasks`, in order");
-    }
-    if is_of_blocks(key) {
-        return Some(
-            "write its steps into `tasks`; what is to be done after a failure belongs into the program",
-        );
-    }
-    if is_of_loops(key) {
-        return Some("write a step for each, or a loop in a script");
-    }
-    if is_of_retries(key) {
-        return Some(
-            "write a loop in a script: \"timeout\", \"60\", \"sh\", \"-c\", \"until ..; do sleep 2; done\"",
-        );
-    }
-    if is_of_waits(key) {
-        return Some(
-            "a step ends when its program does: let the program wait, as by \"timeout\", \"60\"",
-        );
-    }
-    if is_of_flushes(key) {
-        return Some(
-            "for flush_handlers write what comes behind as a play of its own, or the handler as a task with `when`",
-        );
     }
     None
 }
@@ -153,7 +129,13 @@ fn is_of_become(key: &str) -> bool
 fn is_of_remote_user(key: &str) -> bool
     ensures { result ≡ is_one spec.remote_user_keys key.now }
 {
-    matches!(key, "remote_user" | "port")
+    matches!(key, "remote_user")
+}
+
+fn is_of_ports(key: &str) -> bool
+    ensures { result ≡ is_one spec.ports_keys key.now }
+{
+    matches!(key, "port")
 }
 
 fn is_of_delegation(key: &str) -> bool
@@ -187,60 +169,6 @@ fn is_of_environment(key: &str) -> bool
     ensures { result ≡ is_one spec.environment_keys key.now }
 {
     matches!(key, "environment")
-}
-
-fn is_of_lists(key: &str) -> bool
-    ensures { result ≡ is_one spec.lists_keys key.now }
-{
-    matches!(key, "pre_tasks" | "post_tasks")
-}
-
-fn is_of_roles(key: &str) -> bool
-    ensures { result ≡ is_one spec.roles_keys key.now }
-{
-    matches!(
-        key,
-        "roles"
-            | "include_tasks"
-            | "import_tasks"
-            | "include_role"
-            | "import_role"
-            | "import_playbook"
-            | "include"
-    )
-}
-
-fn is_of_blocks(key: &str) -> bool
-    ensures { result ≡ is_one spec.blocks_keys key.now }
-{
-    matches!(key, "block" | "rescue" | "always")
-}
-
-fn is_of_loops(key: &str) -> bool
-    ensures { result ≡ is_one spec.loops_keys key.now }
-{
-    matches!(
-        key,
-        "loop" | "with_items" | "with_list" | "with_dict" | "with_sequence" | "loop_control"
-    )
-}
-
-fn is_of_retries(key: &str) -> bool
-    ensures { result ≡ is_one spec.retries_keys key.now }
-{
-    matches!(key, "until" | "retries" | "delay")
-}
-
-fn is_of_waits(key: &str) -> bool
-    ensures { result ≡ is_one spec.waits_keys key.now }
-{
-    matches!(key, "async" | "poll" | "timeout")
-}
-
-fn is_of_flushes(key: &str) -> bool
-    ensures { result ≡ is_one spec.flushes_keys key.now }
-{
-    matches!(key, "meta")
 }
 
 fn is_of_strategies(key: &str) -> bool

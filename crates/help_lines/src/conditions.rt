@@ -1,11 +1,11 @@
 //! What to write where a condition goes wrong.
 ghost use Rattle.std.specs.Prelude.{◌≡◌, drop, take};
 ghost use Rattle.help_lines.specs.Conditions as spec;
-ghost use Rattle.help_lines.specs.Conditions.{place_help};
 ghost use Rattle.help_lines.specs.Lines.{IsHelpLine, IsLine};
 
 use crate::advice::first_said;
 use crate::filters::advise_on_pipe;
+use crate::guesses::{meant, tell_meant};
 use crate::line::line_of;
 use crate::lookups::advise_on_lookups;
 use crate::piece::Piece;
@@ -16,25 +16,16 @@ use std::alloc::{AllocError, Global};
 // How much of a text is shown on each side of a place in it, in bytes.
 const ASIDE: usize = 40;
 
-const FRONT: &str = "it goes wrong at <here>: ";
-
 /// A line that shows the text of a condition around the byte at which it goes wrong, and says what to write in the place
-/// of what Ansible's conditions have there. A place behind the end is the end. It fails for want of memory alone.
+/// of what Ansible's conditions have there, or which word was meant. A place behind the end is the end. It fails for want
+/// of memory alone.
 #[tactic(auto, unfolding(crate::specs::Conditions::place_help))]
 pub fn help_at(alloc: Global, text: &[u8], at: usize) -> Result<String, AllocError>
-    ensures line { IsLine result (place_help at text.now) }
+    ensures line { IsLine result (spec.place_help at text.now) }
     ensures help { IsHelpLine result }
 {
-    line_of(
-        alloc,
-        &[
-            Piece::Said(FRONT),
-            Piece::Cut(shown_before(text, at)),
-            Piece::Said("<here>"),
-            Piece::Cut(shown_behind(text, at)),
-            Piece::Said(advice_at(text, at)),
-        ],
-    )
+    let advice = advice_at(alloc, text, at)?;
+    show_at(alloc, text, at, advice.as_str())
 }
 
 /// The same of one of so many conditions of a list that go wrong at the same byte.
@@ -48,17 +39,59 @@ pub fn help_in_list(
     ensures line { IsLine result (spec.list_help count at text.now) }
     ensures help { IsHelpLine result }
 {
+    let advice = advice_at(alloc, text, at)?;
+    let counted = count_conditions(alloc, advice.as_str(), count)?;
+    show_at(alloc, text, at, counted.as_str())
+}
+
+#[tactic(auto, unfolding(crate::specs::Conditions::list_advice))]
+fn count_conditions(alloc: Global, advice: &str, count: usize) -> Result<String, AllocError>
+    ensures { IsLine result (spec.list_advice count advice.now) }
+{
     line_of(
         alloc,
         &[
-            Piece::Said(FRONT),
-            Piece::Cut(shown_before(text, at)),
-            Piece::Said("<here>"),
-            Piece::Cut(shown_behind(text, at)),
-            Piece::Said(advice_at(text, at)),
+            Piece::Said(advice),
             Piece::Said(" ("),
             Piece::Number(count as u64),
             Piece::Said(" conditions of the list have this fault)"),
+        ],
+    )
+}
+
+/// The text around an opening that begins no hole, and what may stand there.
+#[tactic(auto, unfolding(crate::specs::Conditions::braces_help))]
+pub fn help_in_word(alloc: Global, text: &[u8], at: usize) -> Result<String, AllocError>
+    ensures line { IsLine result (spec.braces_help at text.now) }
+    ensures help { IsHelpLine result }
+{
+    show_at(
+        alloc,
+        text,
+        at,
+        "; behind {{ stand a name or name.field (rc, stdout, stderr, changed, failed, skipped) and }}; no filters (a default is a variable of all), no {% or {#, and no ${#x}: let a script do it",
+    )
+}
+
+/// The text around the place, and what is told of it.
+#[tactic(auto, unfolding(crate::specs::Conditions::shown_help))]
+fn show_at<'t>(
+    alloc: Global,
+    text: &'t [u8],
+    at: usize,
+    told: &'t str,
+) -> Result<String, AllocError>
+    ensures line { IsLine result (spec.shown_help at text.now told.now) }
+    ensures help { IsHelpLine result }
+{
+    line_of(
+        alloc,
+        &[
+            Piece::Said("it goes wrong at <here>: "),
+            Piece::Cut(shown_before(text, at)),
+            Piece::Said("<here>"),
+            Piece::Cut(shown_behind(text, at)),
+            Piece::Said(told),
         ],
     )
 }
@@ -90,12 +123,20 @@ fn shown_behind(text: &[u8], at: usize) -> &[u8]
     behind.split_at(behind.len().min(ASIDE)).0
 }
 
-#[tactic(auto, unfolding(crate::specs::Conditions::advice_at))]
-fn advice_at(text: &[u8], at: usize) -> &'static str
-    ensures { result.now ≡ spec.advice_at at text.now }
+fn advice_at(alloc: Global, text: &[u8], at: usize) -> Result<String, AllocError>
+    ensures { IsLine result (spec.advice_at at text.now) }
 {
     let (front, rest) = cut_at(text, at);
-    advise(front, rest)
+    tell_advice(alloc, front, rest)
+}
+
+#[tactic(auto, unfolding(crate::specs::Conditions::advice_by))]
+fn tell_advice(alloc: Global, front: &[u8], rest: &[u8]) -> Result<String, AllocError>
+    ensures { IsLine result (spec.advice_by front.now rest.now) }
+{
+    let advice = advise(front, rest);
+    let word = meant(alloc, front, rest, advice)?;
+    tell_meant(alloc, advice, word)
 }
 
 /// By what stands before the place, and from it on.

@@ -36,7 +36,7 @@ fn advise_on_value_filter(name: &[u8]) -> &'static str
     ensures { result.now ≡ spec.advice_on_value_filter name.now }
 {
     if name.starts_with(b"default") || name.starts_with(b"d(") {
-        "; there are no defaults: ask first, as tier is defined and tier == 'web', or give the name a value in the inventory, under vars of all"
+        "; there are no defaults: give the name a value under vars of all in the inventory and leave the filter out, or ask first, as tier is defined and tier == 'web'"
     } else if name.starts_with(b"bool") {
         "; leave it out: true and false stand in the inventory, without quotes"
     } else if name.starts_with(b"int") || name.starts_with(b"float") {

@@ -20,7 +20,7 @@ pub fn tell_twice<'t>(alloc: Global, first: &'t str, second: &'t str) -> Result<
             Piece::Said(" and at "),
             Piece::Cut(second.as_bytes()),
             Piece::Said(
-                ": a group stands once: take one of the two out, or give each a name of its own, as web-eu and web-us; a host may be listed by several groups",
+                ": a group stands once: name each apart, as web-eu and web-us; or keep one, that below a max_down if one is, with the hosts of both, and list these in the group above the other",
             ),
         ],
     )
@@ -38,12 +38,11 @@ pub fn tell_crossing<'t>(
     line_of(
         alloc,
         &[
-            Piece::Said("both have a limit and neither holds the other: put "),
             Piece::Cut(first.as_bytes()),
-            Piece::Said(" below "),
+            Piece::Said(" and "),
             Piece::Cut(second.as_bytes()),
             Piece::Said(
-                " if it holds only hosts of it, or take max_down out of one and give it to the parts of both",
+                " share hosts and have limits: where one has all hosts of the other, put the other below it; else keep max_down on one kind in all such lines, as racks, and take it off the other, or move it to groups of its hosts below the kept one",
             ),
         ],
     )

@@ -4,13 +4,16 @@
 
 mod advice;
 mod ansible_keys;
+mod ansible_order;
 mod blanks;
 mod commands;
 mod conditions;
 mod document;
 mod filters;
 mod fleets;
+mod given_keys;
 mod groups;
+mod guesses;
 mod handlers;
 mod ini;
 mod laws;
@@ -31,10 +34,11 @@ mod texts;
 mod told;
 mod unknown_keys;
 mod value;
+mod words;
 mod yaml;
 
 pub use ansible_keys::advice_on;
-pub use conditions::{help_at, help_in_list};
+pub use conditions::{help_at, help_in_list, help_in_word};
 pub use document::Document;
 pub use fleets::{tell_crossing, tell_down, tell_twice};
 pub use groups::{group_key_help, group_shape_help};
@@ -47,6 +51,6 @@ pub use patterns::tell_unknown_name;
 pub use piece::Piece;
 pub use shapes::shape_help;
 pub use steps::{step_at, steps_in};
-pub use texts::help_on_text;
+pub use texts::{help_on_inventory, help_on_text};
 pub use told::{tell, tell_at, tell_value};
 pub use unknown_keys::unknown_key_help;

@@ -53,7 +53,8 @@ fn add(bytes: &mut Vec<u8>, piece: Piece<'_>) -> Result<(), AllocError>
     }
 }
 
-fn print(alloc: Global, bytes: &[u8]) -> Result<String, AllocError>
+/// These bytes as a line has them.
+pub(crate) fn print(alloc: Global, bytes: &[u8]) -> Result<String, AllocError>
     ensures { IfOk result (λ text. string_bytes text ≡ map spec.printable bytes.now) }
 {
     let mut text = String::with_capacity(alloc, bytes.len())?;

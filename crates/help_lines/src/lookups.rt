@@ -5,6 +5,9 @@ ghost use Rattle.help_lines.specs.Lookups as spec;
 pub(crate) const SEARCH_RULE: &str =
     "; texts aren't searched: let a program do it, as grep -q, with register: r and failed_when: false, and write r.rc == 0";
 
+pub(crate) const FIELD_RULE: &str =
+    "; fields of a result are rc, stdout, stderr, changed, failed and skipped; no facts are gathered: write them into the inventory";
+
 const CALL_RULE: &str =
     "; nothing is called: let a program do it, with register: r and failed_when: false, and write r.rc == 0";
 
@@ -41,7 +44,7 @@ fn advise_on_lookup(front: &[u8], rest: &[u8]) -> &'static str
     ensures { result.now ≡ spec.advice_on_lookup front.now rest.now }
 {
     if front.ends_with(b".") {
-        "; fields of a result are rc, stdout, stderr, changed, failed and skipped; no facts are gathered: write them into the inventory"
+        FIELD_RULE
     } else if rest.starts_with(b"[") {
         advise_on_bracket(front)
     } else if rest.starts_with(b"(") && ends_name(front) {
@@ -57,8 +60,12 @@ fn advise_on_lookup(front: &[u8], rest: &[u8]) -> &'static str
 fn advise_on_bracket(front: &[u8]) -> &'static str
     ensures { result.now ≡ spec.advice_on_bracket front.now }
 {
-    if ends_name(front) {
-        "; nothing is looked up by [ ]: write r.rc, r.stdout or r.stderr, and of groups 'web' in group_names"
+    if ends_facts(front) {
+        "; there are no facts, and no variables of other hosts: write a variable of a group, as os_family == 'Debian' with os_family under its vars"
+    } else if ends_groups(front) {
+        "; groups of the host stand in group_names: write 'web' in group_names"
+    } else if ends_name(front) {
+        "; nothing is looked up by [ ]: write r.rc for r['rc'], so too r.stdout, r.stderr, r.changed, r.failed and r.skipped"
     } else {
         "; there are no lists: write tier == 'web' or tier == 'db'"
     }
@@ -73,6 +80,19 @@ fn advise_on_dot(front: &[u8]) -> &'static str
     } else {
         CALL_RULE
     }
+}
+
+/// A value of the host or of another one.
+fn ends_facts(front: &[u8]) -> bool
+    ensures { result ≡ spec.ends_facts front.now }
+{
+    front.ends_with(b"facts") || front.ends_with(b"vars")
+}
+
+fn ends_groups(front: &[u8]) -> bool
+    ensures { result ≡ spec.ends_groups front.now }
+{
+    front.ends_with(b"groups") || front.ends_with(b"hosts") || front.ends_with(b"group_names")
 }
 
 fn ends_name(front: &[u8]) -> bool

@@ -5,7 +5,16 @@ ghost use Rattle.help_lines.specs.Modules as spec;
 ghost use Rattle.help_lines.specs.Modules.{has_dot, is_dot};
 
 const MODULE_RULE: &str =
-    "modules are not taken: write a `command` whose program does it, on a host by ssh";
+    "modules are not taken: write a `command`, which runs on this machine, and on the host by ssh: {\"argv\": [\"ssh\", \"--\", \"{{ inventory_hostname }}\", \"df -h /\"]}";
+
+const PACKAGE_RULE: &str =
+    "modules are not taken: write a `command`, which runs on this machine, and on the host by ssh: {\"argv\": [\"ssh\", \"--\", \"{{ inventory_hostname }}\", \"sudo -n apt-get install -y nginx\"]}";
+
+const SERVICE_RULE: &str =
+    "modules are not taken: write a `command`, which runs on this machine, and on the host by ssh: {\"argv\": [\"ssh\", \"--\", \"{{ inventory_hostname }}\", \"sudo -n systemctl restart web\"]}";
+
+const COPY_RULE: &str =
+    "modules are not taken: write a `command`, which runs on this machine and reaches the host itself: {\"argv\": [\"scp\", \"--\", \"web.conf\", \"{{ inventory_hostname }}:/etc/web.conf\"]}";
 
 /// The name of a module without the collection in which it stands.
 pub(crate) fn short_key(key: &str) -> &str
@@ -52,7 +61,7 @@ pub(crate) fn advice_on_module(key: &str) -> Option<&'static str>
 {
     if is_of_arguments(key) {
         return Some(
-            "let the program do it, as \"command\": {\"argv\": [\"sh\", \"-c\", \"cd /srv && ./migrate\"]}",
+            "creates, removes, chdir and stdin are not taken: let the program do it, as \"command\": {\"argv\": [\"ssh\", \"--\", \"{{ inventory_hostname }}\", \"cd /srv && ./migrate\"]}, on this machine by \"sh\", \"-c\"",
         );
     }
     if is_of_shells(key) {
@@ -61,10 +70,13 @@ pub(crate) fn advice_on_module(key: &str) -> Option<&'static str>
         );
     }
     if is_of_packages(key) {
-        return Some(MODULE_RULE);
+        return Some(PACKAGE_RULE);
     }
     if is_of_services(key) {
-        return Some(MODULE_RULE);
+        return Some(SERVICE_RULE);
+    }
+    if is_of_copies(key) {
+        return Some(COPY_RULE);
     }
     if is_of_files(key) {
         return Some(MODULE_RULE);
@@ -110,14 +122,16 @@ fn is_of_files(key: &str) -> bool
 {
     matches!(
         key,
-        "copy"
-            | "template"
-            | "file"
-            | "lineinfile"
-            | "blockinfile"
-            | "stat"
-            | "fetch"
-            | "synchronize"
+        "file" | "lineinfile" | "blockinfile" | "stat" | "slurp" | "find" | "replace" | "tempfile"
+    )
+}
+
+fn is_of_copies(key: &str) -> bool
+    ensures { result ≡ spec.is_one spec.copies_keys key.now }
+{
+    matches!(
+        key,
+        "copy" | "template" | "fetch" | "synchronize" | "assemble"
     )
 }
 
@@ -140,10 +154,7 @@ fn is_of_others(key: &str) -> bool
 fn is_of_checks(key: &str) -> bool
     ensures { result ≡ spec.is_one spec.checks_keys key.now }
 {
-    matches!(
-        key,
-        "assert" | "fail" | "ping" | "slurp" | "find" | "replace" | "docker_container" | "k8s"
-    )
+    matches!(key, "assert" | "fail" | "ping" | "docker_container" | "k8s")
 }
 
 fn is_of_more(key: &str) -> bool
@@ -151,14 +162,7 @@ fn is_of_more(key: &str) -> bool
 {
     matches!(
         key,
-        "hostname"
-            | "iptables"
-            | "known_hosts"
-            | "add_host"
-            | "group_by"
-            | "tempfile"
-            | "assemble"
-            | "service_facts"
+        "hostname" | "iptables" | "known_hosts" | "add_host" | "group_by" | "service_facts"
     )
 }
 

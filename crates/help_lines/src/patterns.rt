@@ -21,6 +21,9 @@ pub fn tell_unknown_name(alloc: Global, name: &str, names: &[&str]) -> Result<St
     if is_of_ansible(name.as_bytes()) {
         return tell_rule(alloc);
     }
+    if has_brace(name.as_bytes()) {
+        return tell_braces(alloc);
+    }
     if name == "localhost" {
         return tell_localhost(alloc);
     }
@@ -48,6 +51,28 @@ fn tell_localhost(alloc: Global) -> Result<String, AllocError>
         alloc,
         "no localhost is made, and programs run on this machine anyway, once for each host of the play; a play of one has a host that is listed",
     )
+}
+
+#[tactic(auto, unfolding(crate::specs::Names::pattern_braces_help))]
+fn tell_braces(alloc: Global) -> Result<String, AllocError>
+    ensures { IsLine result spec.pattern_braces_help }
+{
+    tell(
+        alloc,
+        "`hosts` has no {{: write the names of the groups or hosts themselves, in a playbook for each choice of them",
+    )
+}
+
+fn has_brace(name: &[u8]) -> bool
+    ensures { result ≡ list_any spec.is_brace name.now }
+{
+    name.iter().any(|byte| is_brace(*byte))
+}
+
+fn is_brace(byte: u8) -> bool
+    ensures { result ≡ spec.is_brace byte }
+{
+    byte == b'{'
 }
 
 fn is_of_ansible(name: &[u8]) -> bool

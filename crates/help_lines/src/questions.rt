@@ -3,7 +3,13 @@ ghost use Rattle.std.specs.Prelude.{◌≡◌};
 ghost use Rattle.help_lines.specs.Questions as spec;
 
 use crate::advice::first_said;
+use crate::blanks::is_empty;
 use crate::lookups::SEARCH_RULE;
+
+pub(crate) const TEST_RULE: &str = "; tests are defined, failed, changed, skipped and succeeded";
+
+pub(crate) const JOINT_RULE: &str =
+    "; between two conditions stands and or or, between two values == or !=";
 
 /// By what stands before the place, and from it on.
 #[tactic(auto, unfolding(crate::specs::Questions::advice_on_words))]
@@ -13,7 +19,7 @@ pub(crate) fn advise_on_words(front: &[u8], rest: &[u8]) -> &'static str
     if asks(front) {
         advise_on_test(rest)
     } else {
-        advise_on_word(rest)
+        advise_on_word(front, rest)
     }
 }
 
@@ -34,10 +40,7 @@ fn advise_on_test(rest: &[u8]) -> &'static str
     if names_pattern(rest) {
         return SEARCH_RULE;
     }
-    let other = first_said(
-        advise_on_other_test(rest),
-        "; tests are defined, failed, changed, skipped and succeeded",
-    );
+    let other = first_said(advise_on_other_test(rest), TEST_RULE);
     first_said(advise_on_outcome(rest), other)
 }
 
@@ -96,21 +99,62 @@ fn advise_on_other_test(rest: &[u8]) -> &'static str
 }
 
 #[tactic(auto, unfolding(crate::specs::Questions::advice_on_word))]
-fn advise_on_word(rest: &[u8]) -> &'static str
-    ensures { result.now ≡ spec.advice_on_word rest.now }
+fn advise_on_word(front: &[u8], rest: &[u8]) -> &'static str
+    ensures { result.now ≡ spec.advice_on_word front.now rest.now }
 {
     if rest.is_empty() {
         "; something is missing at its end"
     } else {
-        advise_on_other_word(rest)
+        first_said(advise_on_other_word(rest), advise_on_joining(front, rest))
     }
+}
+
+/// A value behind a value.
+#[tactic(auto, unfolding(crate::specs::Questions::advice_on_joining))]
+fn advise_on_joining(front: &[u8], rest: &[u8]) -> &'static str
+    ensures { result.now ≡ spec.advice_on_joining front.now rest.now }
+{
+    if !ends_open(front) && begins_value(rest) {
+        JOINT_RULE
+    } else {
+        ""
+    }
+}
+
+/// Nothing stands in front, or what asks for more.
+fn ends_open(front: &[u8]) -> bool
+    ensures { result ≡ spec.ends_open front.now }
+{
+    is_empty(front) || ends_asking(front)
+}
+
+fn ends_asking(front: &[u8]) -> bool
+    ensures { result ≡ spec.ends_asking front.now }
+{
+    front.ends_with(b"and ")
+        || front.ends_with(b"or ")
+        || front.ends_with(b"not ")
+        || front.ends_with(b"= ")
+        || front.ends_with(b"in ")
+        || front.ends_with(b"(")
+}
+
+fn begins_value(rest: &[u8]) -> bool
+    ensures { result ≡ spec.begins_value rest.now }
+{
+    rest.len() > 0
+        && (rest[0].is_ascii_alphabetic() || rest.starts_with(b"'") || rest.starts_with(b"\""))
 }
 
 #[tactic(auto, unfolding(crate::specs::Questions::advice_on_other_word))]
 fn advise_on_other_word(rest: &[u8]) -> &'static str
     ensures { result.now ≡ spec.advice_on_other_word rest.now }
 {
-    if rest.starts_with(b"in group") {
+    if rest.starts_with(b"in group_names") {
+        "; a text between quotes stands before in: write 'web' in group_names"
+    } else if rest.starts_with(b"not in group_names") {
+        "; a text between quotes stands before not in: write 'web' not in group_names"
+    } else if rest.starts_with(b"in group") {
         "; groups of the host stand in group_names: write 'web' in group_names"
     } else if rest.starts_with(b"not in group") {
         "; groups of the host stand in group_names: write 'web' not in group_names"

@@ -7,7 +7,7 @@ ghost use Rattle.help_lines.specs.Shapes as spec;
 
 use crate::commands::allowed_as_command;
 use crate::members::{allowed_as_handler, allowed_as_play, allowed_as_task};
-use crate::path::find_at;
+use crate::path::{find_at, last_key};
 use crate::place::{Place, place_of};
 use crate::told::{tell, tell_value};
 use serde_json::Value;
@@ -28,7 +28,7 @@ pub fn shape_help(alloc: Global, top: Option<&Value>, at: &str) -> Result<String
         return top_help(alloc, top);
     }
     let found = find_at(alloc, top, at)?;
-    tell_value(alloc, found, allowed_at(place_of(at), found))
+    tell_value(alloc, found, allowed_at(place_of(at), last_key(at), found))
 }
 
 /// An inventory in place of a playbook, or something else.
@@ -46,17 +46,17 @@ fn top_help(alloc: Global, top: &Value) -> Result<String, AllocError>
 }
 
 #[tactic(auto, unfolding(crate::specs::Shapes::allowed_at))]
-fn allowed_at(place: Place<'_>, found: Option<&Value>) -> &'static str
-    ensures { result.now ≡ spec.allowed_at (seen place.entry) (option_map (λ value. view value.now) found.entry) }
+fn allowed_at(place: Place<'_>, last: &str, found: Option<&Value>) -> &'static str
+    ensures { result.now ≡ spec.allowed_at (seen place.entry) last.now (option_map (λ value. view value.now) found.entry) }
 {
     match place {
         Place::Top => PLAYBOOK_RULE,
         Place::Play => allowed_as_play(found),
         Place::PlayPart(key) => allowed_in_play(key),
         Place::Task => allowed_as_task(found),
-        Place::TaskPart(key) => allowed_in_step_of(key, found),
+        Place::TaskPart(key) => allowed_in_step_of(key, last, found),
         Place::Handler => allowed_as_handler(found),
-        Place::HandlerPart(key) => allowed_in_step_of(key, found),
+        Place::HandlerPart(key) => allowed_in_step_of(key, last, found),
     }
 }
 
@@ -74,11 +74,11 @@ fn allowed_in_play(key: &str) -> &'static str
 }
 
 #[tactic(auto, unfolding(crate::specs::Shapes::allowed_in_step_of))]
-fn allowed_in_step_of(key: &str, found: Option<&Value>) -> &'static str
-    ensures { result.now ≡ spec.allowed_in_step_of key.now (option_map (λ value. view value.now) found.entry) }
+fn allowed_in_step_of(key: &str, last: &str, found: Option<&Value>) -> &'static str
+    ensures { result.now ≡ spec.allowed_in_step_of key.now last.now (option_map (λ value. view value.now) found.entry) }
 {
     if key == "command" || key == "ansible.builtin.command" {
-        allowed_as_command(found)
+        allowed_as_command(last, found)
     } else {
         allowed_in_step(key)
     }

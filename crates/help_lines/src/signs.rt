@@ -66,6 +66,8 @@ fn advise_on_sign(front: &[u8], rest: &[u8]) -> &'static str
 {
     if rest.starts_with(b"=") {
         "; write =="
+    } else if rest.starts_with(b"<>") {
+        "; write !="
     } else if rest.starts_with(b"<") {
         advise_on_size(
             front,

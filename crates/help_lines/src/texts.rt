@@ -11,17 +11,49 @@ use crate::told::tell;
 use crate::yaml::is_like_yaml;
 use std::alloc::{AllocError, Global};
 
-/// A line on a text that is no JSON: that it begins with a byte order mark, is UTF-16 or empty, that it looks like an
-/// inventory in INI or like YAML, and how each is converted, or the line and the column, each from 1, at which it breaks
-/// off. It fails for want of memory alone.
-#[tactic(auto, unfolding(crate::specs::Texts::no_json_help))]
+const YAML_PLAYBOOK: &str =
+    "this looks like YAML; convert it with: python3 -c 'import sys,yaml,json; json.dump(yaml.safe_load(sys.stdin),sys.stdout,default=str)' < FILE.yml > FILE.json";
+
+const YAML_INVENTORY: &str =
+    "this looks like YAML; convert it, with its ranges written out, with: ansible-inventory -i FILE --list --yaml --export | python3 -c 'import sys,yaml,json; json.dump(yaml.safe_load(sys.stdin),sys.stdout,default=str)' > FILE.json";
+
+/// A line on the text of a playbook that is no JSON: that it begins with a byte order mark, is UTF-16 or empty, that it
+/// looks like an inventory in INI or like YAML, and how each is converted, or the line and the column, each from 1, at
+/// which it breaks off. It fails for want of memory alone.
+#[tactic(auto, unfolding(crate::specs::Texts::no_playbook_help))]
 pub fn help_on_text(
     alloc: Global,
     text: &[u8],
     line: usize,
     column: usize,
 ) -> Result<String, AllocError>
-    ensures { IsLine result (spec.no_json_help text.now line column) }
+    ensures { IsLine result (spec.no_playbook_help text.now line column) }
+{
+    help_on_any(alloc, text, YAML_PLAYBOOK, line, column)
+}
+
+/// The same on the text of an inventory.
+#[tactic(auto, unfolding(crate::specs::Texts::no_inventory_help))]
+pub fn help_on_inventory(
+    alloc: Global,
+    text: &[u8],
+    line: usize,
+    column: usize,
+) -> Result<String, AllocError>
+    ensures { IsLine result (spec.no_inventory_help text.now line column) }
+{
+    help_on_any(alloc, text, YAML_INVENTORY, line, column)
+}
+
+#[tactic(auto, unfolding(crate::specs::Texts::no_json_help))]
+fn help_on_any(
+    alloc: Global,
+    text: &[u8],
+    yaml: &str,
+    line: usize,
+    column: usize,
+) -> Result<String, AllocError>
+    ensures { IsLine result (spec.no_json_help text.now yaml.now line column) }
 {
     if begins_with_mark(text) {
         return tell_mark(alloc);
@@ -33,23 +65,24 @@ pub fn help_on_text(
     if front.is_empty() {
         return tell_empty(alloc);
     }
-    help_on_form(alloc, front, line, column)
+    help_on_form(alloc, front, yaml, line, column)
 }
 
 #[tactic(auto, unfolding(crate::specs::Texts::form_help))]
 fn help_on_form(
     alloc: Global,
     text: &[u8],
+    yaml: &str,
     line: usize,
     column: usize,
 ) -> Result<String, AllocError>
-    ensures { IsLine result (spec.form_help text.now line column) }
+    ensures { IsLine result (spec.form_help text.now yaml.now line column) }
 {
     if is_like_ini(text) {
         return tell_ini(alloc);
     }
     if is_like_yaml(text) {
-        return tell_yaml(alloc);
+        return tell(alloc, yaml);
     }
     tell_break(alloc, line, column)
 }
@@ -100,16 +133,6 @@ fn tell_ini(alloc: Global) -> Result<String, AllocError>
     tell(
         alloc,
         "this looks like an inventory in INI; convert it with: ansible-inventory -i FILE --list --yaml --export | python3 -c 'import sys,yaml,json; json.dump(yaml.safe_load(sys.stdin),sys.stdout,default=str)' > FILE.json",
-    )
-}
-
-#[tactic(auto, unfolding(crate::specs::Texts::yaml_help))]
-fn tell_yaml(alloc: Global) -> Result<String, AllocError>
-    ensures { IsLine result spec.yaml_help }
-{
-    tell(
-        alloc,
-        "this looks like YAML; convert it with: python3 -c 'import sys,yaml,json; json.dump(yaml.safe_load(sys.stdin),sys.stdout,default=str)' < FILE.yml > FILE.json",
     )
 }
 

@@ -1,7 +1,8 @@
 //! Whether a text looks like YAML.
 ghost use Rattle.std.specs.Prelude.{◌≡◌};
-ghost use Rattle.std.specs.List.{prefix_len};
 ghost use Rattle.help_lines.specs.Texts as spec;
+
+use crate::words::cut_word;
 
 /// Whether a text without blanks in front looks like YAML.
 pub(crate) fn is_like_yaml(text: &[u8]) -> bool
@@ -35,22 +36,9 @@ fn may_begin_json(byte: u8) -> bool
         || byte == b'n'
 }
 
-#[tactic(auto, using(crate::proofs::LineLemmas::front_within))]
 fn begins_with_key(text: &[u8]) -> bool
     ensures { result ≡ spec.begins_with_key text.now }
 {
-    let length = count_of_word(text);
-    length > 0 && text.split_at(length).1.starts_with(b":")
-}
-
-fn count_of_word(text: &[u8]) -> usize
-    ensures { result ≡ prefix_len spec.is_of_word text.now }
-{
-    text.iter().take_while(|byte| is_of_word(**byte)).count()
-}
-
-fn is_of_word(byte: u8) -> bool
-    ensures { result ≡ spec.is_of_word byte }
-{
-    byte.is_ascii_alphabetic() || byte.is_ascii_digit() || byte == b'_'
+    let (word, behind) = cut_word(text);
+    word.len() > 0 && behind.starts_with(b":")
 }

@@ -21,15 +21,15 @@ Choice = Name → Data → Option Data
 abbrev pub HasChosen : Choice → List Entry → List Entry → List Entry → Type 0
 HasChosen choose kept all left = (done : List Entry) × (all ≡ done ++ left) × (members_view kept ≡ chosen choose (members_view done))
 
-below_middle : (first : Entry) (es : List Entry) (e : Entry) (more : List Entry) → AllByRecursion (λ y. string_cmp first.0 y ≡ Less) (keys_of (es ++ e ∷ more)) → string_cmp first.0 e.0 ≡ Less
+pub below_middle : (first : Entry) (es : List Entry) (e : Entry) (more : List Entry) → AllByRecursion (λ y. string_cmp first.0 y ≡ Less) (keys_of (es ++ e ∷ more)) → string_cmp first.0 e.0 ≡ Less
 below_middle first [] e more h = h.0
 below_middle first (x ∷ es) e more h = below_middle first es e more h.1
 
-alone : (name : Name) (here : Option Data) → put_chosen name here no_members ≡ with_chosen name here no_members
+pub alone : (name : Name) (here : Option Data) → put_chosen name here no_members ≡ with_chosen name here no_members
 alone name None = refl
 alone name (Some value) = refl
 
-behind : (name other : Name) (here there : Option Data) (rest : Members) → slice_cmp nat_cmp name other ≡ Greater
+pub behind : (name other : Name) (here there : Option Data) (rest : Members) → slice_cmp nat_cmp name other ≡ Greater
     → put_chosen name here (with_chosen other there rest) ≡ with_chosen other there (put_chosen name here rest)
 behind name other None there rest above = refl
 behind name other (Some value) None rest above = refl
@@ -59,7 +59,7 @@ chosen_more choose kept after all left e ordered is added =
           ∙ chosen_last choose done e left (subst (λ entries. IsStrictlySortedBy string_cmp (keys_of entries)) is.1 ordered),
     )
 
-whole : {X : Type 0} (all done : List X) → all ≡ done ++ [] → all ≡ done
+pub whole : {X : Type 0} (all done : List X) → all ≡ done ++ [] → all ≡ done
 whole all done is = is ∙ append-nil done
 
 -- of all entries

@@ -1,2 +1,4 @@
 pub mod Choosing
 pub mod Shallow
+pub mod Walking
+pub mod SingleDepths

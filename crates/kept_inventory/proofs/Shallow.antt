@@ -21,7 +21,7 @@ AtMost value most = IfSome value (λ (is : Data). depth is ≤ most)
 abbrev pub Shallow : (Name → Data → Option Data) → Type 0
 Shallow choose = (name : Name) (value : Data) (most : ℕ) → depth value ≤ most → AtMost (choose name value) most
 
-with_chosen-depth : (name : Name) (value : Option Data) (more : Members) (most : ℕ) → AtMost value most → members_depth more ≤ most → members_depth (with_chosen name value more) ≤ most
+pub with_chosen-depth : (name : Name) (value : Option Data) (more : Members) (most : ℕ) → AtMost value most → members_depth more ≤ most → members_depth (with_chosen name value more) ≤ most
 with_chosen-depth name None more most first rest = rest
 with_chosen-depth name (Some value) more most first rest = omega (arith, first, rest)
 
@@ -49,7 +49,7 @@ members_if : (stays : Bool) (some others : Members) (most : ℕ) → members_dep
 members_if true some others most first second = first
 members_if false some others most first second = second
 
-with_or_without-depth : (stays : Bool) (name : Name) (value : Data) (most : ℕ) → depth value ≤ most → depth (with_or_without stays name value) ≤ most
+pub with_or_without-depth : (stays : Bool) (name : Name) (value : Data) (most : ℕ) → depth value ≤ most → depth (with_or_without stays name value) ≤ most
 with_or_without-depth stays name (object members) most within =
     let less = members_if stays members (without name members) (members_depth members) (omega arith) (chosen-depth (but name) (but-shallow name) members (members_depth members) (omega arith)) in
     omega (arith, less)
@@ -115,7 +115,7 @@ mutual
       let rest = kept_groups-depth limits more in
       with_chosen-depth name (named name (kept_body limits body)) (kept_groups limits more) most (named-depth name (kept_body limits body) most (omega (arith, own))) (omega (arith, rest))
 
-top-depth : (document : Data) (most : ℕ) → depth document ≤ most → 1 ≤ most → members_depth (members_in document) + 1 ≤ most
+pub top-depth : (document : Data) (most : ℕ) → depth document ≤ most → 1 ≤ most → members_depth (members_in document) + 1 ≤ most
 top-depth (object groups) most within one = omega arith
 top-depth null most within one = omega arith
 top-depth (boolean _) most within one = omega arith

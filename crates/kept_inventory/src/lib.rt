@@ -3,11 +3,13 @@
 
 mod bodies;
 mod entries;
+mod filled;
 mod hosts;
 mod keys;
 mod limits;
+mod single;
 mod text;
 mod variables;
 
 pub use limits::Limits;
-pub use text::keep_inventory;
+pub use text::{keep_inventory, keep_single};

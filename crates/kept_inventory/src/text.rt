@@ -5,10 +5,13 @@ ghost use Rattle.serde_json.specs.Read.{read, max_depth};
 ghost use Rattle.serde_json.specs.View.{view};
 ghost use Rattle.text_parts.specs.Texts.{IsNoJson};
 ghost use Rattle.kept_inventory.specs.Kept as spec;
+ghost use Rattle.kept_inventory.specs.Single as single;
+ghost use Rattle.kept_inventory.specs.SingleTexts.{IsSingleOf};
 ghost use Rattle.kept_inventory.specs.Texts.{IsKeptOf};
 
 use crate::bodies::keep_groups;
 use crate::limits::Limits;
+use crate::single::single_groups;
 use serde_json::{Map, Value};
 use std::alloc::{AllocError, Global};
 use text_parts::entries_of;
@@ -48,4 +51,26 @@ pub fn keep_inventory(
     };
     let kept = keep_document(alloc, limits, &document)?;
     Ok(Some(kept.to_vec(alloc)?))
+}
+
+fn single_document(alloc: Global, document: &Value) -> Result<Value, AllocError>
+    ensures { IfOk result (λ kept. view kept ≡ single.single_document (view document.now)) }
+{
+    let mut met = Vec::new(alloc);
+    match entries_of(document) {
+        Some(groups) => Ok(Value::Object(single_groups(alloc, &mut met, groups)?)),
+        None => Ok(Value::Object(Map::new(alloc))),
+    }
+}
+
+/// The text of an inventory in which each group stands once; nothing of one that is no JSON. Groups that say nothing go, and of several with one name all but
+/// the first, with all below them. So do limits in percent, since hosts may have gone. It fails for want of memory alone.
+pub fn keep_single(alloc: Global, text: &[u8]) -> Result<Option<Vec<u8>>, AllocError>
+    ensures { IfOk result (λ single. IsSingleOf text.now (option_map (λ bytes. bytes.items) single)) }
+{
+    let Some(document) = parse(alloc, text)? else {
+        return Ok(None);
+    };
+    let single = single_document(alloc, &document)?;
+    Ok(Some(single.to_vec(alloc)?))
 }

@@ -6,6 +6,7 @@ ghost use Rattle.text_parts.specs.Shapes.{is_truth};
 ghost use Rattle.inventory_read.specs.Keys.{down_key, max_down_key};
 ghost use Rattle.inventory_read.specs.Rules as rules;
 ghost use Rattle.kept_inventory.specs.Kept as spec;
+ghost use Rattle.kept_inventory.specs.Single.{counted_vars, is_no_text};
 
 use crate::entries::without;
 use crate::keys::{DOWN, MAX_DOWN};
@@ -85,4 +86,21 @@ pub(crate) fn keep_vars(
     ensures { IfOk result (λ kept. view kept ≡ spec.kept_vars limits (view variables.now)) }
 {
     keep_variables(alloc, variables, MAX_DOWN, keeps_limit(limits, variables))
+}
+
+/// Whether a group's `max_down`, where there is one, is no text.
+fn has_count_or_none(variables: &Value) -> bool
+    ensures { result ≡ rules.is_none_or is_no_text (get max_down_key (view variables.now)) }
+{
+    match variables.get(MAX_DOWN) {
+        Some(value) => !value.is_string(),
+        None => true,
+    }
+}
+
+/// The same of one of which hosts may have been left out: a limit in percent goes.
+pub(crate) fn keep_counted(alloc: Global, variables: &Value) -> Result<Value, AllocError>
+    ensures { IfOk result (λ kept. view kept ≡ counted_vars (view variables.now)) }
+{
+    keep_variables(alloc, variables, MAX_DOWN, has_count_or_none(variables))
 }

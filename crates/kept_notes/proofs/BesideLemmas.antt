@@ -8,7 +8,7 @@ use Rattle.lint_notes.specs.LintTexts.{IsTextOf}
 use Rattle.lint_notes.specs.declared.end.LintEnd.{LintEnd}
 use Rattle.every_fault.specs.KeptTexts.{AreKeptTexts, playbook_of}
 use Rattle.every_fault.specs.declared.choosing.KeptTexts.{KeptTexts}
-use Rattle.kept_notes.specs.Beside.{AreNotesOn, AreRefused, IsBeside, IsNotedOf, IsNotedOfOne, IsTextOn, IsTrueOn, RefusesOn, WritesOn, hidden_kinds, tells_rule}
+use Rattle.kept_notes.specs.Beside.{AreNotesOn, AreRefused, IsBeside, IsNotedOf, IsNotedOfOne, IsTextOn, IsToldOf, IsTrueOn, RefusesOn, WritesOn, hidden_kinds, tells_rule, unsought}
 
 -- what went out to an empty list is all that it holds
 pub written_is : (kinds inventory : List ℕ) (playbook : Option (List ℕ)) (text : List ℕ) (end : LintEnd) → WritesOn kinds inventory playbook (Some []) (Some text) end → IsTextOn kinds inventory playbook text
@@ -41,7 +41,13 @@ module _ {T E : Type 0} (bytes : T → List ℕ) (kinds inventory : List ℕ) wh
   noted_in playbook (Ok text) refused noted = inr (refused, noted)
   noted_in playbook (Err failed) refused noted = tt
 
-pub beside_in : {T E : Type 0} (bytes : T → List ℕ) (allowed inventory : List ℕ) (playbook : Option (List ℕ)) (kept : KeptTexts) (result : Result T E) → AreKeptTexts inventory playbook (Some kept)
-    → IfOk result (λ text. IsNotedOf (hidden_kinds ++ allowed) kept.inventory.items (playbook_of kept) (bytes text)) → IfOk result (λ text. IsBeside allowed inventory playbook (bytes text))
-beside_in bytes allowed inventory playbook kept (Ok text) are noted = record { kept = Some kept; are_kept = are; told = noted }
-beside_in bytes allowed inventory playbook kept (Err failed) are noted = tt
+module _ {T E : Type 0} (bytes : T → List ℕ) (allowed : List ℕ) (kept : KeptTexts) where
+  pub ended_so : (notes : List ℕ) (result : Result T E) → IsNotedOf (hidden_kinds kept.has_all_hosts kept.is_whole ++ allowed) kept.inventory.items (playbook_of kept) notes
+      → IfOk result (λ text. bytes text ≡ notes ++ unsought kept.has_all_hosts kept.is_whole) → IfOk result (λ text. IsToldOf allowed kept (bytes text))
+  ended_so notes (Ok text) noted is = record { notes = notes; noted = noted; text_is = is }
+  ended_so notes (Err failed) noted is = tt
+
+  pub beside_in : (inventory : List ℕ) (playbook : Option (List ℕ)) (result : Result T E) → AreKeptTexts inventory playbook (Some kept)
+      → IfOk result (λ text. IsToldOf allowed kept (bytes text)) → IfOk result (λ text. IsBeside allowed inventory playbook (bytes text))
+  beside_in inventory playbook (Ok text) are told = record { kept = Some kept; are_kept = are; told = told }
+  beside_in inventory playbook (Err failed) are told = tt

@@ -44,9 +44,13 @@ pub record AreRefused (inventory : List ℕ) (playbook : Option (List ℕ)) : Ty
   pub is_rule : tells_rule fault ≡ true
   pub refuses : RefusesOn inventory playbook fault
 
--- kinds of notes that may be there only for what was left out
-abbrev pub hidden_kinds : List ℕ
-hidden_kinds = codes "empty-limit,no-hosts,down-hosts,idle-serial,one-failure,local-step,idle-handler,"
+-- Kinds of notes that may be there only for what was left out: of hosts and limits, where not all hosts are known; of handlers, where something was left out of the playbook, which may notify; and of the
+-- smallest batch, where either was.
+abbrev pub hidden_kinds : Bool → Bool → List ℕ
+hidden_kinds true true = []
+hidden_kinds true false = codes "one-failure,idle-handler,"
+hidden_kinds false true = codes "empty-limit,no-hosts,down-hosts,idle-serial,one-failure,"
+hidden_kinds false false = codes "empty-limit,no-hosts,down-hosts,idle-serial,one-failure,idle-handler,"
 
 -- the text of those notes on these texts that no kind in the list switches off
 pub record IsTextOn (kinds inventory : List ℕ) (playbook : Option (List ℕ)) (text : List ℕ) : Type 0 where
@@ -63,10 +67,27 @@ IsNotedOf kinds inventory None text = IsNotedOfOne kinds inventory text
 IsNotedOf kinds inventory (Some playbook) text =
     IsTextOn kinds inventory (Some playbook) text ⊎ (AreRefused inventory (Some playbook) × IsNotedOfOne kinds inventory text)
 
+-- of which kinds notes aren't looked for beside faults: what is mended may give them
+abbrev pub unsought : Bool → Bool → List ℕ
+unsought true true = []
+unsought true false = codes "  not looked for beside these faults: one-failure, idle-handler\n"
+unsought false true = codes "  not looked for beside these faults: empty-limit, no-hosts, down-hosts, idle-serial, one-failure\n"
+unsought false false = codes "  not looked for beside these faults: empty-limit, no-hosts, down-hosts, idle-serial, one-failure, idle-handler\n"
+
+-- none are where nothing is kept
+abbrev pub nothing_sought : List ℕ
+nothing_sought = codes "  not looked for beside these faults: anything else\n"
+
+-- the notes on what is kept, and what isn't looked for
+pub record IsToldOf (allowed : List ℕ) (kept : KeptTexts) (text : List ℕ) : Type 0 where
+  pub notes : List ℕ
+  pub noted : IsNotedOf (hidden_kinds kept.has_all_hosts kept.is_whole ++ allowed) kept.inventory.items (playbook_of kept) notes
+  pub text_is : text ≡ notes ++ unsought kept.has_all_hosts kept.is_whole
+
 -- of what is kept, and where nothing is
 abbrev pub IsToldIf : List ℕ → Option KeptTexts → List ℕ → Type 0
-IsToldIf allowed None text = text ≡ []
-IsToldIf allowed (Some kept) text = IsNotedOf (hidden_kinds ++ allowed) kept.inventory.items (playbook_of kept) text
+IsToldIf allowed None text = text ≡ nothing_sought
+IsToldIf allowed (Some kept) text = IsToldOf allowed kept text
 
 -- the notes on what is kept of an inventory and a playbook
 pub record IsBeside (allowed inventory : List ℕ) (playbook : Option (List ℕ)) (text : List ℕ) : Type 0 where

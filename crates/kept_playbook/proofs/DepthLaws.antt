@@ -1,6 +1,6 @@
--- What is kept nests no deeper than the document, or not past five.
+-- What is kept of a step nests no deeper than the step.
 use Rattle.std.proofs.Common.{◌≡◌, Bool, true, false, ℕ, suc, ◌≤◌, Ordering, Less, Equal, Greater, Option, Some, None, List, [], ◌∷◌, ◌++◌, map, refl, arith}
-use Rattle.std.specs.Prelude.{IfSome, ⊤, cond, not, filter, unwrap_or}
+use Rattle.std.specs.Prelude.{IfSome, ⊤, cond, filter, unwrap_or}
 use Rattle.std.specs.Ordering.{nat_cmp, match_ordering}
 use Rattle.std.specs.Cmp.Lexicographic.{slice_cmp}
 use Rattle.serde_json.specs.Data.{Data, null, boolean, number, string, array, object, Items, no_items, item, Members, no_members, member, put, depth, items_depth, members_depth}
@@ -9,29 +9,28 @@ use Rattle.serde_json.specs.View.{items_of}
 use Rattle.group_tree.specs.Names.{Name}
 use Rattle.text_parts.specs.Shapes.{Entry, elements, elements_of, listed}
 use Rattle.play_rules.specs.Breaches.{Breach, where_given}
-use Rattle.play_rules.specs.Keys.{hosts_key, serial_key, max_fail_key, on_blocked_key, tasks_key, handlers_key, name_key, command_key, long_command_key, register_key, when_key, changed_key, failed_key, ignore_key, notify_key}
-use Rattle.play_rules.specs.Plays.{listed_in, tasks_in, handlers_in}
-use Rattle.play_rules.specs.Settings.{bad_serial, bad_percent, bad_mode}
+use Rattle.play_rules.specs.Keys.{name_key, command_key, long_command_key, register_key, when_key, changed_key, failed_key, ignore_key, notify_key}
+use Rattle.play_rules.specs.Commands.{words_in}
+use Rattle.play_rules.specs.Plays.{listed_in}
 use Rattle.play_rules.specs.Steps.{name_in, bad_task_name, bad_register, bad_ignore}
 use Rattle.std.specs.List.{filter_map}
 use Rattle.kept_playbook.specs.Conditions.{Test, is_kept_part, parts_at, kept_parts}
 use Rattle.kept_playbook.specs.Objects.{entry, put_all, object_of, list_of, given, given_if, is_kept, unbroken, list_if_any}
 use Rattle.kept_playbook.specs.Steps as steps
-use Rattle.kept_playbook.specs.Steps.{is_known_run, known_run, kept_run, kept_entries, kept_handler, is_kept_name, kept_notify, kept_task, idle_entry}
-use Rattle.kept_playbook.specs.Plays as plays
-use Rattle.kept_playbook.specs.Plays.{has_own_name, named_own, known_handlers, handler_names, kept_steps, is_known_play, kept_known, kept_play, kept_document, idle_play}
+use Rattle.kept_playbook.specs.Steps.{are_good, is_known_when, kept_words, kept_conditions, known_run, kept_run, kept_entries, kept_handler, is_kept_name, kept_notify, kept_task, idle_entry}
+use Rattle.kept_playbook.specs.Plays.{has_own_name, named_own}
 
 -- each value nests at most so deep
-abbrev Depths : ℕ → List Data → Type 0
+abbrev pub Depths : ℕ → List Data → Type 0
 Depths most [] = ⊤
 Depths most (value ∷ values) = (depth value ≤ most) × Depths most values
 
 -- an object of the entries nests at most so deep
-abbrev Shallow : ℕ → List Entry → Type 0
+abbrev pub Shallow : ℕ → List Entry → Type 0
 Shallow most [] = ⊤
 Shallow most (first ∷ later) = (suc (depth first.value) ≤ most) × Shallow most later
 
-both : (most : ℕ) (a b : List Entry) → Shallow most a → Shallow most b → Shallow most (a ++ b)
+pub both : (most : ℕ) (a b : List Entry) → Shallow most a → Shallow most b → Shallow most (a ++ b)
 both most [] b first second = second
 both most (entry ∷ a) b first second = (first.0, both most a b first.1 second)
 
@@ -40,7 +39,7 @@ depth-match_ordering Less a b c most p q r = p
 depth-match_ordering Equal a b c most p q r = q
 depth-match_ordering Greater a b c most p q r = r
 
-put-depth : (key : Name) (value : Data) (held : Members) (most : ℕ) → depth value ≤ most → members_depth held ≤ most → members_depth (put key value held) ≤ most
+pub put-depth : (key : Name) (value : Data) (held : Members) (most : ℕ) → depth value ≤ most → members_depth held ≤ most → members_depth (put key value held) ≤ most
 put-depth key value no_members most p q = omega arith
 put-depth key value (member other before more) most p q =
     depth-match_ordering _ (member key value (member other before more)) (member other value more) (member other before (put key value more)) most (omega arith) (omega arith)
@@ -51,7 +50,7 @@ put_all-depth [] held most shallow within = within
 put_all-depth (first ∷ later) held most shallow within =
     put_all-depth later (put first.name first.value held) most shallow.1 (put-depth first.name first.value held most (omega (arith, shallow.0)) within)
 
-object-depth : (entries : List Entry) (most : ℕ) → Shallow (suc most) entries → depth (object_of entries) ≤ suc most
+pub object-depth : (entries : List Entry) (most : ℕ) → Shallow (suc most) entries → depth (object_of entries) ≤ suc most
 object-depth entries most shallow = omega (arith, put_all-depth entries no_members most shallow (omega arith))
 
 found-depth : (o : Ordering) (here later : Option Data) (most : ℕ) → IfSome here (λ (value : Data). depth value ≤ most) → IfSome later (λ (value : Data). depth value ≤ most)
@@ -66,7 +65,7 @@ get_member-depth key (member other value more) most within =
     let here : depth value ≤ most = omega arith in
     found-depth (slice_cmp nat_cmp key other) (Some value) (get_member key more) most here (get_member-depth key more most (omega arith))
 
-get-depth : (key : Name) (value : Data) (most : ℕ) → depth value ≤ suc most → IfSome (get key value) (λ (found : Data). depth found ≤ most)
+pub get-depth : (key : Name) (value : Data) (most : ℕ) → depth value ≤ suc most → IfSome (get key value) (λ (found : Data). depth found ≤ most)
 get-depth key null most within = tt
 get-depth key (boolean b) most within = tt
 get-depth key (number n) most within = tt
@@ -78,21 +77,21 @@ given_by : (key : Name) (found : Option Data) (most : ℕ) → IfSome found (λ 
 given_by key None most within = tt
 given_by key (Some value) most within = (omega (arith, within), tt)
 
-given-depth : (key : Name) (value : Data) (most : ℕ) → depth value ≤ suc most → Shallow (suc most) (given key value)
+pub given-depth : (key : Name) (value : Data) (most : ℕ) → depth value ≤ suc most → Shallow (suc most) (given key value)
 given-depth key value most within = given_by key (get key value) most (get-depth key value most within)
 
 given_if-depth : (kept : Bool) (key : Name) (value : Data) (most : ℕ) → depth value ≤ suc most → Shallow (suc most) (given_if kept key value)
 given_if-depth true key value most within = given-depth key value most within
 given_if-depth false key value most within = tt
 
-unbroken-depth : (key : Name) (breaches : List Breach) (value : Data) (most : ℕ) → depth value ≤ suc most → Shallow (suc most) (unbroken key breaches value)
+pub unbroken-depth : (key : Name) (breaches : List Breach) (value : Data) (most : ℕ) → depth value ≤ suc most → Shallow (suc most) (unbroken key breaches value)
 unbroken-depth key breaches value most within = given_if-depth (is_kept breaches) key value most within
 
 items-depth : (values : List Data) (most : ℕ) → Depths most values → items_depth (items_of values) ≤ most
 items-depth [] most within = omega arith
 items-depth (value ∷ values) most within = omega (arith, within.0, items-depth values most within.1)
 
-list-depth : (values : List Data) (most : ℕ) → Depths most values → depth (list_of values) ≤ suc most
+pub list-depth : (values : List Data) (most : ℕ) → Depths most values → depth (list_of values) ≤ suc most
 list-depth values most within = omega (arith, items-depth values most within)
 
 list_if_any-depth : (key : Name) (values : List Data) (most : ℕ) → Depths 0 values → 1 ≤ most → Shallow (suc most) (list_if_any key values)
@@ -142,39 +141,42 @@ module _ (is_bad : Test) (step : Data) (most : ℕ) (some : 1 ≤ most) (within 
       let later = both (suc most) register ignore (unbroken-depth register_key (bad_register step) step most within) (unbroken-depth ignore_key (bad_ignore step) step most within) in
       both (suc most) name (register ++ ignore) (unbroken-depth name_key (bad_task_name step) step most within) later
 
-  known_run-depth : Shallow (suc most) (known_run is_bad step)
-  known_run-depth =
+  words_if : (good : Bool) → Shallow (suc most) (cond good (given command_key step ++ given long_command_key step) (idle_entry ∷ []))
+  words_if true =
+      both (suc most) (given command_key step) (given long_command_key step) (given-depth command_key step most within) (given-depth long_command_key step most within)
+  words_if false = (omega arith, tt)
+
+  conditions-depth : Shallow (suc most) (kept_conditions is_bad step)
+  conditions-depth =
       let changed = list_if_any changed_key (kept_parts is_bad changed_key step) in
       let failed = list_if_any failed_key (kept_parts is_bad failed_key step) in
-      let words = both (suc most) (given command_key step) (given long_command_key step) (given-depth command_key step most within) (given-depth long_command_key step most within) in
       let told = both (suc most) changed failed (list_if_any-depth changed_key (kept_parts is_bad changed_key step) most (parts-depth is_bad (parts_at changed_key step)) some)
       (list_if_any-depth failed_key (kept_parts is_bad failed_key step) most (parts-depth is_bad (parts_at failed_key step)) some) in
-      both (suc most) (given command_key step ++ given long_command_key step) (given when_key step ++ (changed ++ failed)) words
-      (both (suc most) (given when_key step) (changed ++ failed) (given-depth when_key step most within) told)
+      both (suc most) (given when_key step) (changed ++ failed) (given-depth when_key step most within) told
 
   run_if : (known : Bool) → Shallow (suc most) (cond known (known_run is_bad step) (idle_entry ∷ []))
-  run_if true = known_run-depth
+  run_if true = both (suc most) (kept_words step) (kept_conditions is_bad step) (words_if (are_good (words_in step))) conditions-depth
   run_if false = (omega arith, tt)
 
   entries-depth : Shallow (suc most) (kept_entries is_bad step)
   entries-depth =
-      both (suc most) (steps.kept_settings step) (kept_run is_bad step) settings-depth (run_if (is_known_run is_bad step))
+      both (suc most) (steps.kept_settings step) (kept_run is_bad step) settings-depth (run_if (is_known_when is_bad step))
 
-  handler-depth : depth (kept_handler is_bad step) ≤ suc most
+  pub handler-depth : depth (kept_handler is_bad step) ≤ suc most
   handler-depth = object-depth (kept_entries is_bad step) most entries-depth
 
-  task-depth : (handlers : List Name) → depth (kept_task is_bad handlers step) ≤ suc most
+  pub task-depth : (handlers : List Name) → depth (kept_task is_bad handlers step) ≤ suc most
   task-depth handlers =
       let names = filter (is_kept_name handlers) (where_given listed (get notify_key step)) in
       object-depth (kept_entries is_bad step ++ kept_notify handlers step) most
       (both (suc most) (kept_entries is_bad step) (kept_notify handlers step) entries-depth
       (list_if_any-depth notify_key names most (names-depth handlers (where_given listed (get notify_key step))) some))
 
-map-depth : (f : Data → Data) (most : ℕ) → ((value : Data) → depth value ≤ most → depth (f value) ≤ most) → (values : List Data) → Depths most values → Depths most (map f values)
+pub map-depth : (f : Data → Data) (most : ℕ) → ((value : Data) → depth value ≤ most → depth (f value) ≤ most) → (values : List Data) → Depths most values → Depths most (map f values)
 map-depth f most keeps [] within = tt
 map-depth f most keeps (value ∷ values) within = (keeps value within.0, map-depth f most keeps values within.1)
 
-elements-depth : (items : Items) (most : ℕ) → items_depth items ≤ most → Depths most (elements items)
+pub elements-depth : (items : Items) (most : ℕ) → items_depth items ≤ most → Depths most (elements items)
 elements-depth no_items most within = tt
 elements-depth (item value more) most within = (omega arith, elements-depth more most (omega arith))
 
@@ -186,7 +188,7 @@ elements_of-depth (string s) most within = tt
 elements_of-depth (array items) most within = elements-depth items most (omega arith)
 elements_of-depth (object held) most within = tt
 
-listed_in-depth : (found : Option Data) (most : ℕ) → IfSome found (λ (value : Data). depth value ≤ suc most) → Depths most (listed_in found)
+pub listed_in-depth : (found : Option Data) (most : ℕ) → IfSome found (λ (value : Data). depth value ≤ suc most) → Depths most (listed_in found)
 listed_in-depth None most within = tt
 listed_in-depth (Some value) most within = elements_of-depth value most within
 
@@ -194,56 +196,7 @@ own_if : (own : Bool) (handler : Data) (later : List Data) (most : ℕ) → dept
 own_if true handler later most first rest = (first, rest)
 own_if false handler later most first rest = tt
 
-named_own-depth : (met : List Name) (handlers : List Data) (most : ℕ) → Depths most handlers → Depths most (named_own met handlers)
+pub named_own-depth : (met : List Name) (handlers : List Data) (most : ℕ) → Depths most handlers → Depths most (named_own met handlers)
 named_own-depth met [] most within = tt
 named_own-depth met (handler ∷ later) most within =
     own_if (has_own_name met handler) handler (named_own (met ++ filter_map name_in (handler ∷ [])) later) most within.0 (named_own-depth (met ++ filter_map name_in (handler ∷ [])) later most within.1)
-
--- a play
-module _ (is_bad : Test) (play : Data) (most : ℕ) (some : 1 ≤ most) (within : depth play ≤ suc (suc (suc most))) where
-  play_settings-depth : Shallow (suc (suc (suc most))) (plays.kept_settings play)
-  play_settings-depth =
-      let deep = suc (suc most) in
-      let hosts = given hosts_key play in
-      let serial = unbroken serial_key (bad_serial (get serial_key play)) play in
-      let percent = unbroken max_fail_key (bad_percent (get max_fail_key play)) play in
-      let mode = unbroken on_blocked_key (bad_mode (get on_blocked_key play)) play in
-      let last = both (suc deep) percent mode (unbroken-depth max_fail_key (bad_percent (get max_fail_key play)) play deep within) (unbroken-depth on_blocked_key (bad_mode (get on_blocked_key play)) play deep within) in
-      let later = both (suc deep) serial (percent ++ mode) (unbroken-depth serial_key (bad_serial (get serial_key play)) play deep within) last in
-      both (suc deep) hosts (serial ++ (percent ++ mode)) (given-depth hosts_key play deep within) later
-
-  tasks-depth : Depths (suc most) (tasks_in play)
-  tasks-depth = listed_in-depth (get tasks_key play) (suc most) (get-depth tasks_key play (suc (suc most)) within)
-
-  handlers-depth : Depths (suc most) (known_handlers play)
-  handlers-depth = named_own-depth [] (handlers_in play) (suc most) (listed_in-depth (get handlers_key play) (suc most) (get-depth handlers_key play (suc (suc most)) within))
-
-  steps-depth : Shallow (suc (suc (suc most))) (kept_steps is_bad play)
-  steps-depth =
-      let tasks = list-depth (map (kept_task is_bad (handler_names play)) (tasks_in play)) (suc most)
-      (map-depth (kept_task is_bad (handler_names play)) (suc most) (λ step shallow. task-depth is_bad step most some shallow (handler_names play)) (tasks_in play) tasks-depth) in
-      let handlers = list-depth (map (kept_handler is_bad) (known_handlers play)) (suc most)
-      (map-depth (kept_handler is_bad) (suc most) (λ step shallow. handler-depth is_bad step most some shallow) (known_handlers play) handlers-depth) in
-      (omega (arith, tasks), (omega (arith, handlers), tt))
-
-  play_if : (known : Bool) → depth (cond known (kept_known is_bad play) idle_play) ≤ suc (suc (suc most))
-  play_if true =
-      object-depth (plays.kept_settings play ++ kept_steps is_bad play) (suc (suc most)) (both (suc (suc (suc most))) (plays.kept_settings play) (kept_steps is_bad play) play_settings-depth steps-depth)
-  play_if false = omega arith
-
-  play-depth : depth (kept_play is_bad play) ≤ suc (suc (suc most))
-  play-depth = play_if (is_known_play play)
-
--- a document
-pub document-depth : (is_bad : Test) (document : Data) (most : ℕ) → 1 ≤ most → depth document ≤ suc (suc (suc (suc most))) → depth (kept_document is_bad document) ≤ suc (suc (suc (suc most)))
-document-depth is_bad null most some within = omega arith
-document-depth is_bad (boolean b) most some within = omega arith
-document-depth is_bad (number n) most some within = omega arith
-document-depth is_bad (string s) most some within = omega arith
-document-depth is_bad (object held) most some within = within
-document-depth is_bad (array items) most some within =
-    list-depth (map (kept_play is_bad) (elements items)) (suc (suc (suc most)))
-    (map-depth (kept_play is_bad) (suc (suc (suc most))) (λ play shallow. play-depth is_bad play most some shallow) (elements items) (elements-depth items (suc (suc (suc most))) (omega arith)))
-
-pub kept_within : (is_bad : Test) (document : Data) → depth document ≤ 127 → depth (kept_document is_bad document) ≤ 127
-kept_within is_bad document within = document-depth is_bad document 123 (omega arith) within

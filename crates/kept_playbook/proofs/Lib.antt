@@ -4,3 +4,5 @@ pub mod ObjectLaws
 pub mod VerdictLaws
 pub mod HandlerLaws
 pub mod DepthLaws
+pub mod PlayDepths
+pub mod AimLaws

@@ -2,6 +2,10 @@ pub mod Objects
 pub mod Conditions
 pub mod Judging
 pub mod Steps
+pub mod Idle
 pub mod Plays
 pub mod Texts
 pub mod Worked
+pub mod Aims
+pub mod AimedTexts
+pub mod Knowing

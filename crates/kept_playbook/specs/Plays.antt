@@ -1,7 +1,7 @@
 -- What is kept of a play, and of a document.
-use Rattle.std.specs.Prelude.{Bool, false, Option, Some, None, option_map, unwrap_or, List, [], ◌∷◌, ◌++◌, codes, map, if◌then◌else◌}
+use Rattle.std.specs.Prelude.{Bool, false, Option, Some, None, option_map, unwrap_or, List, [], ◌∷◌, ◌++◌, map, if◌then◌else◌}
 use Rattle.std.specs.List.{filter_map}
-use Rattle.serde_json.specs.Data.{Data, string}
+use Rattle.serde_json.specs.Data.{Data}
 use Rattle.serde_json.specs.Find.{get}
 use Rattle.group_tree.specs.Names.{Name}
 use Rattle.text_parts.specs.Shapes.{Entry, elements_of}
@@ -10,16 +10,9 @@ use Rattle.play_rules.specs.Plays.{tasks_in, handlers_in, bad_tasks}
 use Rattle.play_rules.specs.Settings.{bad_hosts, bad_serial, bad_percent, bad_mode}
 use Rattle.play_rules.specs.Steps.{name_in, is_missing}
 use Rattle.kept_playbook.specs.Conditions.{Test}
+use Rattle.kept_playbook.specs.Idle.{resting_play}
 use Rattle.kept_playbook.specs.Objects.{entry, given, unbroken, is_kept, list_of, object_of}
-use Rattle.kept_playbook.specs.Steps.{idle_entry, kept_task, kept_handler}
-
--- it runs `true`: nothing is looked up there
-abbrev pub idle_step : Data
-idle_step = object_of (idle_entry ∷ [])
-
--- the same on all hosts
-abbrev pub idle_play : Data
-idle_play = object_of (entry hosts_key (string (codes "all")) ∷ entry tasks_key (list_of (idle_step ∷ [])) ∷ [])
+use Rattle.kept_playbook.specs.Steps.{kept_task, kept_handler}
 
 -- it has a name, which is none of these
 abbrev pub has_own_name : List Name → Data → Bool
@@ -55,7 +48,7 @@ abbrev pub kept_known : Test → Data → Data
 kept_known is_bad play = object_of (kept_settings play ++ kept_steps is_bad play)
 
 abbrev pub kept_play : Test → Data → Data
-kept_play is_bad play = if is_known_play play then kept_known is_bad play else idle_play
+kept_play is_bad play = if is_known_play play then kept_known is_bad play else resting_play play
 
 abbrev pub kept_by : Test → Data → Option (List Data) → Data
 kept_by is_bad document None = document

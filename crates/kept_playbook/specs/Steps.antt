@@ -1,5 +1,5 @@
 -- What is kept of a step.
-use Rattle.std.specs.Prelude.{Bool, true, false, not, ◌&&◌, Option, Some, None, option_map, unwrap_or, List, [], ◌∷◌, ◌++◌, codes, filter, if◌then◌else◌}
+use Rattle.std.specs.Prelude.{Bool, false, not, Option, Some, None, option_map, unwrap_or, List, [], ◌∷◌, ◌++◌, codes, filter, if◌then◌else◌}
 use Rattle.std.specs.List.{list_all, list_any}
 use Rattle.serde_json.specs.Data.{Data, string}
 use Rattle.serde_json.specs.Find.{get, as_str}
@@ -13,34 +13,41 @@ use Rattle.play_rules.specs.Steps.{bad_task_name, bad_register, bad_ignore}
 use Rattle.kept_playbook.specs.Conditions.{Test, is_kept_part, parts_at, kept_parts}
 use Rattle.kept_playbook.specs.Objects.{entry, given, unbroken, list_if_any, object_of}
 
--- the words `true`, in which nothing is looked up
+-- words that are one hole for the host's name: no name is looked up in them, no shell is meant, and they are no program that a step might run here
 abbrev pub idle_entry : Entry
-idle_entry = entry command_key (string (codes "true"))
+idle_entry = entry command_key (string (codes "{{ inventory_hostname }}"))
 
 -- there are words, and no bad braces in them
 abbrev pub are_good : Option (List Word) → Bool
 are_good None = false
 are_good (Some words) = not (list_any has_braces words)
 
--- what the step runs, and when, is known: its words are good, and each part of `when` is a condition or a truth value
-abbrev pub is_known_run : Test → Data → Bool
-is_known_run is_bad step = are_good (words_in step) && list_all (is_kept_part is_bad) (parts_at when_key step)
+-- when the step runs is known: each part of `when` is a condition or a truth value
+abbrev pub is_known_when : Test → Data → Bool
+is_known_when is_bad step = list_all (is_kept_part is_bad) (parts_at when_key step)
 
--- the command and `when` as they are; of what decides whether it changed or failed, the parts that can be read
+-- the command as it is, where its words are good
+abbrev pub kept_words : Data → List Entry
+kept_words step =
+    if are_good (words_in step) then given command_key step ++ given long_command_key step else idle_entry ∷ []
+
+-- `when` as it is; of what decides whether it changed or failed, the parts that can be read
+abbrev pub kept_conditions : Test → Data → List Entry
+kept_conditions is_bad step =
+    given when_key step ++ (list_if_any changed_key (kept_parts is_bad changed_key step) ++ list_if_any failed_key (kept_parts is_bad failed_key step))
+
 abbrev pub known_run : Test → Data → List Entry
-known_run is_bad step =
-    (given command_key step ++ given long_command_key step)
-    ++ (given when_key step ++ (list_if_any changed_key (kept_parts is_bad changed_key step) ++ list_if_any failed_key (kept_parts is_bad failed_key step)))
+known_run is_bad step = kept_words step ++ kept_conditions is_bad step
 
--- of a run that isn't known no condition stays: a name may have been guarded by what can't be read
+-- where `when` can't be read neither words nor conditions stay: a name may have been guarded by what can't be read
 abbrev pub kept_run : Test → Data → List Entry
-kept_run is_bad step = if is_known_run is_bad step then known_run is_bad step else idle_entry ∷ []
+kept_run is_bad step = if is_known_when is_bad step then known_run is_bad step else idle_entry ∷ []
 
 abbrev pub kept_settings : Data → List Entry
 kept_settings step =
     unbroken name_key (bad_task_name step) step ++ (unbroken register_key (bad_register step) step ++ unbroken ignore_key (bad_ignore step) step)
 
--- other keys go; of a step that is no object only the words `true` stay
+-- other keys go; of a step that is no object only idle words stay
 abbrev pub kept_entries : Test → Data → List Entry
 kept_entries is_bad step = kept_settings step ++ kept_run is_bad step
 

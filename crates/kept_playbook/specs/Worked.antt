@@ -3,7 +3,7 @@ use Rattle.std.specs.Prelude.{List, [], ◌∷◌, codes, true, false}
 use Rattle.serde_json.specs.Data.{unsigned, Data, boolean, number, string, object, no_members, member}
 use Rattle.group_tree.specs.Names.{Name}
 use Rattle.play_rules.specs.Keys.{hosts_key, serial_key, tasks_key, handlers_key, name_key, command_key, register_key, when_key, changed_key, notify_key}
-use Rattle.play_rules.specs.Worked.{list, runs_true}
+use Rattle.play_rules.specs.Worked.{list}
 
 -- the texts in it that are no conditions
 abbrev pub bad : List Name
@@ -21,20 +21,34 @@ abbrev pub kept_half : Data
 kept_half =
     object (member changed_key (list (boolean false ∷ [])) (member command_key (string (codes "a")) (member notify_key (list (string (codes "r") ∷ [])) (member when_key (string (codes "v == 1")) no_members))))
 
--- whether and when it runs can't be read
+-- when it runs can't be read
 abbrev pub unknown : Data
 unknown =
     object (member command_key (string (codes "a")) (member register_key (string (codes "s")) (member when_key (string (codes "v ==")) no_members)))
 
-abbrev pub kept_unknown : Data
-kept_unknown = object (member command_key (string (codes "true")) (member register_key (string (codes "s")) no_members))
+abbrev pub idle : Data
+idle = object (member command_key (string (codes "{{ inventory_hostname }}")) no_members)
 
--- the second handler has the name of the first, the third task is no object, and the second play is none
+abbrev pub kept_unknown : Data
+kept_unknown =
+    object (member command_key (string (codes "{{ inventory_hostname }}")) (member register_key (string (codes "s")) no_members))
+
+-- what it runs can't be read, and when it does can
+abbrev pub worded : Data
+worded = object (member command_key (boolean true) (member when_key (string (codes "w")) no_members))
+
+abbrev pub kept_worded : Data
+kept_worded =
+    object (member command_key (string (codes "{{ inventory_hostname }}")) (member when_key (string (codes "w")) no_members))
+
+-- the second handler has the name of the first, the fourth task is no object, the second play is none, and the third is for nobody
 abbrev pub sample : Data
 sample =
-    list (object (member handlers_key (list (restart ∷ restart ∷ [])) (member hosts_key (string (codes "w")) (member serial_key (list []) (member tasks_key (list (half ∷ unknown ∷ number (unsigned 5) ∷ [])) no_members)))) ∷ number (unsigned 7) ∷ [])
+    list (object (member handlers_key (list (restart ∷ restart ∷ [])) (member hosts_key (string (codes "w")) (member serial_key (list []) (member tasks_key (list (half ∷ unknown ∷ worded ∷ number (unsigned 5) ∷ [])) no_members)))) ∷ number (unsigned 7)
+    ∷ object (member tasks_key (list (unknown ∷ [])) no_members) ∷ [])
 
 abbrev pub kept_sample : Data
 kept_sample =
-    list (object (member handlers_key (list (restart ∷ [])) (member hosts_key (string (codes "w")) (member tasks_key (list (kept_half ∷ kept_unknown ∷ runs_true ∷ [])) no_members)))
-    ∷ object (member hosts_key (string (codes "all")) (member tasks_key (list (runs_true ∷ [])) no_members)) ∷ [])
+    list (object (member handlers_key (list (restart ∷ [])) (member hosts_key (string (codes "w")) (member tasks_key (list (kept_half ∷ kept_unknown ∷ kept_worded ∷ idle ∷ [])) no_members)))
+    ∷ object (member hosts_key (string (codes "all")) (member tasks_key (list (idle ∷ [])) no_members))
+    ∷ object (member hosts_key (string (codes "all")) (member tasks_key (list (kept_unknown ∷ [])) no_members)) ∷ [])

@@ -3,9 +3,9 @@ ghost use Rattle.std.specs.Prelude.{◌≡◌, IfOk, map, filter};
 ghost use Rattle.std.specs.List.{list_all};
 ghost use Rattle.serde_json.specs.View.{view};
 ghost use Rattle.play_rules.specs.Conditions.{clauses_listed};
-ghost use Rattle.play_rules.specs.Keys.{when_key};
 ghost use Rattle.playbook_faults.specs.Names.{has_name};
 ghost use Rattle.kept_playbook.specs.Conditions as spec;
+ghost use Rattle.kept_playbook.specs.Steps.{is_known_when};
 
 use playbook_faults::NameSet;
 use serde_json::Value;
@@ -41,7 +41,7 @@ fn is_kept_part(bad: &NameSet<'_>, part: &Value) -> bool
 
 /// Whether each part of `when` is a condition or a truth value.
 pub(crate) fn is_when_kept(bad: &NameSet<'_>, step: &Value) -> bool
-    ensures { result ≡ list_all (spec.is_kept_part (has_name bad.now)) (spec.parts_at when_key (view step.now)) }
+    ensures { result ≡ is_known_when (has_name bad.now) (view step.now) }
 {
     are_kept(bad, parts_at(step, "when"))
 }

@@ -1,27 +1,15 @@
 //! From a text to the text of what is kept of it.
-ghost use Rattle.std.specs.Prelude.{◌≡◌, ◌≤◌, Some, IfOk, IsUtf8, MatchOption, option_map};
+ghost use Rattle.std.specs.Prelude.{◌≡◌, ◌≤◌, Some, IfOk, IsUtf8, option_map};
 ghost use Rattle.serde_json.specs.Data.{depth};
 ghost use Rattle.serde_json.specs.Read.{read, max_depth};
 ghost use Rattle.serde_json.specs.View.{view};
-ghost use Rattle.text_parts.specs.Texts.{IsNoJson};
 ghost use Rattle.kept_playbook.specs.Texts.{IsKeptOf, IsTextKept};
 
 use crate::document::keep_document;
+use crate::parse::parse;
 use crate::texts::bad_conditions;
 use serde_json::Value;
 use std::alloc::{AllocError, Global};
-
-/// The value that a text writes, if it is JSON.
-fn parse(alloc: Global, text: &[u8]) -> Result<Option<Value>, AllocError>
-    ensures { IfOk result (λ document. MatchOption document (IsNoJson text.now)
-        (λ value. IsUtf8 text.now × (read text.now ≡ Some (view value)) × (depth (view value) ≤ max_depth))) }
-{
-    match Value::from_slice(alloc, text) {
-        Ok(document) => Ok(Some(document)),
-        Err(error) if error.is_memory() => Err(AllocError),
-        Err(_) => Ok(None),
-    }
-}
 
 /// The text of what is kept of the document.
 fn keep_value(alloc: Global, text: &[u8], document: &Value) -> Result<Vec<u8>, AllocError>
@@ -35,9 +23,9 @@ fn keep_value(alloc: Global, text: &[u8], document: &Value) -> Result<Vec<u8>, A
     Ok(kept.to_vec(alloc)?)
 }
 
-/// The text of what is kept of a playbook; nothing of a text that is no JSON. A play whose `hosts` or `tasks` can't be read
-/// becomes one in which all hosts run `true`, a step whose command or `when` can't be read runs `true`, and whatever else
-/// breaks a rule goes. It fails for want of memory alone.
+/// The text of what is kept of a playbook; nothing of a text that is no JSON. Of a play whose `hosts` or `tasks` can't be read only
+/// what its steps register is there; a step whose command can't be read has idle words, and where its `when` can't be read no
+/// condition either; and whatever else breaks a rule goes. It fails for want of memory alone.
 pub fn keep_playbook(alloc: Global, text: &[u8]) -> Result<Option<Vec<u8>>, AllocError>
     ensures { IfOk result (λ kept. IsKeptOf text.now (option_map (λ bytes. bytes.items) kept)) }
 {

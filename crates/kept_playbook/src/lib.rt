@@ -1,12 +1,18 @@
 //! What is kept of a playbook that can't be read, so that more can be told of it beside its faults.
 #![tactic(auto)]
 
+mod aimed;
+mod aims;
 mod conditions;
 mod document;
+mod fleet_names;
 mod handlers;
+mod idle;
 mod keep;
+mod knowing;
 mod notify;
 mod object;
+mod parse;
 mod play;
 mod rules;
 mod run;
@@ -14,4 +20,6 @@ mod step;
 mod texts;
 mod worked;
 
+pub use aimed::aim_playbook;
 pub use keep::keep_playbook;
+pub use knowing::knows_hosts;

@@ -6,7 +6,8 @@ ghost use Rattle.kept_playbook.specs.Objects as objects;
 ghost use Rattle.kept_playbook.specs.Plays as spec;
 
 use crate::handlers::named_own;
-use crate::object::{Object, put_given, put_if, put_list, put_text};
+use crate::idle::resting_play;
+use crate::object::{Object, put_given, put_if, put_list};
 use crate::rules::{is_known_play, is_mode_kept, is_percent_kept, is_serial_kept};
 use crate::step::{keep_handlers, keep_tasks};
 use playbook_faults::{NameSet, handlers_of, tasks_of};
@@ -61,27 +62,6 @@ fn keep_known(alloc: Global, bad: &NameSet<'_>, play: &Value) -> Result<Value, A
     Ok(Value::Object(object))
 }
 
-#[tactic(auto, using(crate::proofs::ObjectLaws::put_in_turn))]
-fn idle_step(alloc: Global) -> Result<Value, AllocError>
-    ensures { IfOk result (λ step. view step ≡ spec.idle_step) }
-{
-    let mut object = Object::new(alloc);
-    put_text(alloc, &mut object, "command", "true")?;
-    Ok(Value::Object(object))
-}
-
-#[tactic(auto, using(crate::proofs::ObjectLaws::put_in_turn))]
-fn idle_play(alloc: Global) -> Result<Value, AllocError>
-    ensures { IfOk result (λ play. view play ≡ spec.idle_play) }
-{
-    let mut tasks = Vec::new(alloc);
-    tasks.push(idle_step(alloc)?)?;
-    let mut object = Object::new(alloc);
-    put_text(alloc, &mut object, "hosts", "all")?;
-    put_list(alloc, &mut object, "tasks", tasks)?;
-    Ok(Value::Object(object))
-}
-
 /// What is kept of a play, where these texts are no conditions.
 pub(crate) fn keep_play(alloc: Global, bad: &NameSet<'_>, play: &Value) -> Result<Value, AllocError>
     ensures { IfOk result (λ kept. view kept ≡ spec.kept_play (has_name bad.now) (view play.now)) }
@@ -89,6 +69,6 @@ pub(crate) fn keep_play(alloc: Global, bad: &NameSet<'_>, play: &Value) -> Resul
     if is_known_play(play) {
         keep_known(alloc, bad, play)
     } else {
-        idle_play(alloc)
+        resting_play(alloc, play)
     }
 }

@@ -8,17 +8,12 @@ ghost use Rattle.kept_playbook.specs.Objects as objects;
 ghost use Rattle.kept_playbook.specs.Steps as spec;
 
 use crate::conditions::{is_when_kept, kept_parts};
-use crate::object::{Object, put_given, put_if_any, put_text};
+use crate::idle::put_idle;
+use crate::object::{Object, put_given, put_if_any};
 use crate::rules::has_good_words;
 use playbook_faults::NameSet;
 use serde_json::Value;
 use std::alloc::{AllocError, Global};
-
-fn is_known_run(bad: &NameSet<'_>, step: &Value) -> bool
-    ensures { result ≡ spec.is_known_run (has_name bad.now) (view step.now) }
-{
-    has_good_words(step) && is_when_kept(bad, step)
-}
 
 #[tactic(auto, using(crate::proofs::ObjectLaws::put_in_turn))]
 fn put_command(alloc: Global, object: &mut Object, step: &Value) -> Result<(), AllocError>
@@ -44,6 +39,33 @@ fn put_parts(
     put_if_any(alloc, object, key, kept_parts(alloc, bad, key, step)?)
 }
 
+/// Puts the command, or idle words where its words aren't good.
+#[tactic(auto, using(crate::proofs::ObjectLaws::put_in_turn))]
+fn put_words(alloc: Global, object: &mut Object, step: &Value) -> Result<(), AllocError>
+    ensures { OnOk result (members_view object.new.entries ≡ objects.put_all (spec.kept_words (view step.now)) (members_view object.old.entries)) }
+{
+    if has_good_words(step) {
+        put_command(alloc, object, step)
+    } else {
+        put_idle(alloc, object)
+    }
+}
+
+#[tactic(auto, using(crate::proofs::ObjectLaws::put_in_turn))]
+fn put_conditions(
+    alloc: Global,
+    object: &mut Object,
+    bad: &NameSet<'_>,
+    step: &Value,
+) -> Result<(), AllocError>
+    ensures { OnOk result (members_view object.new.entries
+        ≡ objects.put_all (spec.kept_conditions (has_name bad.now) (view step.now)) (members_view object.old.entries)) }
+{
+    put_given(alloc, object, "when", step)?;
+    put_parts(alloc, object, bad, "changed_when", step)?;
+    put_parts(alloc, object, bad, "failed_when", step)
+}
+
 #[tactic(auto, using(crate::proofs::ObjectLaws::put_in_turn))]
 fn put_known(
     alloc: Global,
@@ -54,13 +76,11 @@ fn put_known(
     ensures { OnOk result (members_view object.new.entries
         ≡ objects.put_all (spec.known_run (has_name bad.now) (view step.now)) (members_view object.old.entries)) }
 {
-    put_command(alloc, object, step)?;
-    put_given(alloc, object, "when", step)?;
-    put_parts(alloc, object, bad, "changed_when", step)?;
-    put_parts(alloc, object, bad, "failed_when", step)
+    put_words(alloc, object, step)?;
+    put_conditions(alloc, object, bad, step)
 }
 
-/// Puts what a step runs and its conditions, or the words `true`.
+/// Puts what a step runs and its conditions, or idle words.
 #[tactic(auto, using(crate::proofs::ObjectLaws::put_in_turn))]
 pub(crate) fn put_run(
     alloc: Global,
@@ -71,9 +91,9 @@ pub(crate) fn put_run(
     ensures { OnOk result (members_view object.new.entries
         ≡ objects.put_all (spec.kept_run (has_name bad.now) (view step.now)) (members_view object.old.entries)) }
 {
-    if is_known_run(bad, step) {
+    if is_when_kept(bad, step) {
         put_known(alloc, object, bad, step)
     } else {
-        put_text(alloc, object, "command", "true")
+        put_idle(alloc, object)
     }
 }

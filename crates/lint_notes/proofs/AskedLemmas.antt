@@ -1,5 +1,5 @@
 -- What a step misses on hosts, one on each.
-use Rattle.std.proofs.Common.{◌≡◌, ℕ, ◌+◌, ◌<◌, Bool, true, false, cond, ◌||◌, is_some, option_map, Option, Some, List, [], ◌∷◌, ◌++◌, get_or, length, map, take, refl, sym, ap, ◌∙◌}
+use Rattle.std.proofs.Common.{◌≡◌, ℕ, ◌+◌, ◌<◌, Bool, true, false, cond, ◌||◌, is_some, option_map, Some, List, [], ◌∷◌, ◌++◌, get_or, length, map, take, refl, sym, ap, ◌∙◌}
 use Rattle.std.specs.List.{find, list_any}
 use Rattle.std.proofs.lemmas.Grind.{take_at_read}
 use Rattle.std.proofs.lemmas.List.{get_or-map, length-map, map-append}
@@ -7,7 +7,6 @@ use Rattle.group_tree.specs.Names.{Name, is_among}
 use Rattle.lint_notes.specs.Hosts.{asking, lack_count, noted_lack}
 use Rattle.lint_notes.specs.Inside.{AreMissed, has_missed}
 use Rattle.lint_notes.specs.Laws.{NamesMissedAreTold}
-use Rattle.lint_notes.specs.Notes.{Note}
 use Rattle.lint_notes.specs.declared.missed.Missed.{Missed}
 
 module _ (missed : ℕ → List Name) (hosts : List ℕ) (sets : List Missed) where

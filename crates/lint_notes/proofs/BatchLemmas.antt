@@ -1,13 +1,13 @@
 -- Sizes of plays, one behind the other, and the smallest of batches.
 use Rattle.std.proofs.Common.{◌≡◌, ℕ, ◌+◌, ◌<◌, ◌≤◌, Option, None, Some, List, [], ◌∷◌, ◌++◌, map, drop, drop-cons, add-one, min, length, length-append, arith, refl, sym, ap, ◌∙◌, subst, inl, inr, ◌⊎◌}
-use Rattle.std.specs.Prelude.{IfOk, Ok, Err, Result, is_some, slice_index_or, true}
+use Rattle.std.specs.Prelude.{IfOk, Ok, Err, Result, is_some, slice_index_or}
 use Rattle.std.proofs.lemmas.List.{get_or_append_left, get_or_default}
 use Rattle.std.proofs.lemmas.Bool.{cases_lt}
 use Rattle.std.proofs.Math.Seq.{get_or-append_seam}
 use Rattle.domains.specs.FleetViews.{FleetView}
 use Rattle.play_model.specs.declared.play.Play.{Play}
 use Rattle.fleet_numbers.specs.NumberLists.{list_at}
-use Rattle.lint_notes.specs.Batches.{AreSmallestOf, IsSmallestIn, IsSmallestOf, least_of, smallest}
+use Rattle.lint_notes.specs.Batches.{IsSmallestIn, IsSmallestOf, least_of, smallest}
 
 -- the first so many plays have their sizes
 pub record AreSmallestSoFar (fleet : FleetView) (plays : List Play) (sizes : List (Option ℕ)) (count : ℕ) : Type 0 where

@@ -5,7 +5,6 @@ use Rattle.std.specs.List.{list_any}
 use Rattle.cond.specs.Meaning.{Environment, Verdict, Found, operand_value, found_holds, found_same, test_meaning, turned}
 use Rattle.cond.specs.Trees.{written, written_operand, all_of, verdict_step, tree_verdict, part_verdict, verdicts, bytes_of, trees_of}
 use Rattle.cond.specs.Trees as said
-use Rattle.cond.specs.declared.condition.Cond.{Cond}
 use Rattle.cond.specs.declared.condition.Part.{Part}
 use Rattle.cond.specs.declared.condition.Part.TheVariants as part
 use Rattle.cond.specs.declared.leaf.Operand.{Operand}
@@ -17,7 +16,7 @@ use Rattle.cond.specs.declared.tree.Tree.TheOpen.{Tree-F}
 use Rattle.cond.specs.declared.tree.Tree.TheViews.{roll-Tree}
 use Rattle.cond.specs.declared.tree.Tree.TheOpen as tree
 use Rattle.cond.specs.declared.tree.Tree.TheFolds.{map-Tree, fold-roll-Tree, ind-Tree}
-use Rattle.lint_notes.specs.Conditions.{any_of, asks, asks_in_part, asks_in_tree, asks_step, is_constant, looks_up}
+use Rattle.lint_notes.specs.Conditions.{any_of, asks, asks_in_part, asks_in_tree, asks_step, looks_up}
 use Rattle.lint_notes.specs.Laws.{ConstantsAreAlike}
 
 neither_left : (a b : Bool) → (a || b) ≡ false → a ≡ false

@@ -10,3 +10,5 @@ pub mod ProgramLemmas
 pub mod BatchLemmas
 pub mod AskedLemmas
 pub mod LacksLemmas
+pub mod GivenLemmas
+pub mod AdviceLemmas

@@ -21,17 +21,17 @@ refused_lint inventory playbook allowed old new fleet built (Fleet fault) keeps 
 refused_lint inventory playbook allowed old new fleet built (Write fault) keeps refused = absurd refused
 
 pub writes_notes : (AreNotes : List Note → Type 0) (allowed : List ℕ) (notes : List Note) (old new : Option (List ℕ)) (end : LintEnd) → AreNotes notes
-    → Appends old new (notes_text (told allowed notes)) → end ≡ end_of (told allowed notes) → WritesNotes AreNotes allowed old new end
+    → Appends old new (notes_text allowed notes) → end ≡ end_of (told allowed notes) → WritesNotes AreNotes allowed old new end
 writes_notes AreNotes allowed notes old new end are written ends = record {
-  text = notes_text (told allowed notes);
+  text = notes_text allowed notes;
   is = record { notes = notes; are = are; text_is = refl; ends = ends };
   written = written;
 }
 
 pub breaks_notes : (AreNotes : List Note → Type 0) (allowed : List ℕ) (notes : List Note) (old new : Option (List ℕ)) (count : ℕ) → AreNotes notes
-    → SendsFirst old new (notes_text (told allowed notes)) count → BreaksNotes AreNotes allowed old new count
+    → SendsFirst old new (notes_text allowed notes) count → BreaksNotes AreNotes allowed old new count
 breaks_notes AreNotes allowed notes old new count are written = record {
-  text = notes_text (told allowed notes);
+  text = notes_text allowed notes;
   end = end_of (told allowed notes);
   is = record { notes = notes; are = are; text_is = refl; ends = refl };
   written = written;

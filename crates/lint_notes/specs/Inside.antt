@@ -1,5 +1,5 @@
 -- Words of the passes.
-use Rattle.std.specs.Prelude.{◌≡◌, ℕ, Bool, true, is_none, if◌then◌else◌, Option, None, Some, option_map, List, [], ◌++◌, filter, map, slice_get}
+use Rattle.std.specs.Prelude.{◌≡◌, ℕ, Bool, if◌then◌else◌, Option, None, Some, option_map, List, [], ◌++◌, filter, map, slice_get}
 use Rattle.std.specs.Borrow.{Bor}
 use Rattle.std.specs.List.{list_any}
 use Rattle.std.specs.Option.{option_or}
@@ -14,6 +14,7 @@ use Rattle.host_vars.specs.HostVars.{known_of}
 use Rattle.host_vars.specs.declared.vars.Vars.{Vars}
 use Rattle.lint_notes.specs.Hosts.{Crowd, asking}
 use Rattle.lint_notes.specs.NamesRead.{once_after}
+pub use Rattle.lint_notes.specs.Given.{has_missed}
 pub use Rattle.lint_notes.specs.Lacks.{finds_none, lacks_in}
 use Rattle.lint_notes.specs.declared.missed.Missed.{Missed}
 use Rattle.lint_notes.specs.declared.crowd.Crowd as code
@@ -30,9 +31,6 @@ missed_in fleet plays vars number place host = missed_by fleet plays number plac
 
 abbrev pub missed_from : Stand → List Vars → ℕ → List Name
 missed_from stand vars = missed_in stand.registry.now.fleet.now stand.registry.now.plays.now vars stand.number stand.place
-
-abbrev pub has_missed : Missed → Name → Bool
-has_missed missed name = list_any (λ key. same_name name key.now) missed.names.keys
 
 -- the set has the names of the list
 abbrev pub AreListed : Missed → List Name → Type 0

@@ -1,5 +1,5 @@
 -- Which names the waiting hosts lack, as far as that was looked up.
-use Rattle.std.specs.Prelude.{◌≡◌, ℕ, Bool, true, is_none, Option, None, Some, option_map, List, count_by, slice_get}
+use Rattle.std.specs.Prelude.{◌≡◌, ℕ, Bool, true, is_none, Option, None, Some, option_map, List, [], ◌∷◌, count_by, length, slice_get}
 use Rattle.std.specs.Borrow.{Bor}
 use Rattle.std.specs.HashMap.{HashMap, get_by}
 use Rattle.std.specs.List.{find}
@@ -20,6 +20,11 @@ lacks_in vars name host = finds_none (slice_get vars host) name
 abbrev pub lack_in : List Vars → List ℕ → Name → Option Lack
 lack_in vars waiting name =
     option_map (λ first. record { hosts = count_by (lacks_in vars name) waiting; first = first }) (find (lacks_in vars name) waiting)
+
+-- all of them lack a name that nobody has
+abbrev pub lacked_by_all : List ℕ → Option Lack
+lacked_by_all [] = None
+lacked_by_all (host ∷ hosts) = Some (record { hosts = length (host ∷ hosts); first = host })
 
 abbrev pub known_lack : {S : Type 0} → HashMap (Bor Name) (Option Lack) S → Name → Option (Option Lack)
 known_lack known name = get_by (λ key. same_name name key.now) known

@@ -1,5 +1,6 @@
 pub mod Kinds
 pub mod Notes
+pub mod Advice
 pub mod NotesText
 pub mod NearKeys
 pub mod Groups
@@ -15,4 +16,5 @@ pub mod AllNotes
 pub mod LintTexts
 pub mod Laws
 pub mod Lacks
+pub mod Given
 pub mod Inside

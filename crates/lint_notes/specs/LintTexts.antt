@@ -40,7 +40,7 @@ pub record AreFleetNotesIn (inventory : List ℕ) (notes : List Note) : Type 0 w
 pub record IsTextOf (AreNotes : List Note → Type 0) (allowed text : List ℕ) (end : LintEnd) : Type 0 where
   pub notes : List Note
   pub are : AreNotes notes
-  pub text_is : text ≡ notes_text (told allowed notes)
+  pub text_is : text ≡ notes_text allowed notes
   pub ends : end ≡ end_of (told allowed notes)
 
 -- that text went out, and nothing else

@@ -2,8 +2,9 @@
 use Rattle.std.specs.Prelude.{ℕ, Bool, true, false, List, [], ◌∷◌, ◌++◌, codes, decimal, flat_map, length}
 use Rattle.group_tree.specs.Names.{Name}
 use Rattle.recap.specs.LimitsText.{field_text}
+use Rattle.lint_notes.specs.Advice.{helps}
 use Rattle.lint_notes.specs.Kinds.{kind_name}
-use Rattle.lint_notes.specs.Notes.{Note, kind_of, zero_limit, empty_limit, group_down, near_key, case_hosts, no_hosts, down_hosts, idle_serial, one_failure}
+use Rattle.lint_notes.specs.Notes.{Note, kind_of, told, zero_limit, empty_limit, group_down, near_key, case_hosts, no_hosts, down_hosts, idle_serial, one_failure}
 use Rattle.lint_notes.specs.Notes.{unknown_name, missing_name, constant_condition, shell_word, local_step, long_word, dash_name, idle_handler}
 use Rattle.lint_notes.specs.declared.step_path.StepPath.{StepPath}
 use Rattle.lint_notes.specs.declared.end.LintEnd.{LintEnd}
@@ -58,9 +59,9 @@ note_line note = kind_name (kind_of note) ++ (details note ++ codes "\n")
 abbrev pub count_line : ℕ → List ℕ
 count_line count = field_text (codes "notes=") count ++ codes "\n"
 
--- a line a note, and how many they are
-abbrev pub notes_text : List Note → List ℕ
-notes_text notes = flat_map note_line notes ++ count_line (length notes)
+-- a line a note that is told, how many they are, and of each kind what to do
+abbrev pub notes_text : List ℕ → List Note → List ℕ
+notes_text allowed notes = flat_map note_line (told allowed notes) ++ (count_line (length (told allowed notes)) ++ helps allowed notes)
 
 -- whether there is any
 abbrev pub end_of : List Note → LintEnd

@@ -1,5 +1,5 @@
 -- What is noted of the programs that steps run, and of the words that these get.
-use Rattle.std.specs.Prelude.{ℕ, ◌-◌, ◌==◌, Bool, true, false, not, ◌&&◌, ◌||◌, nat_lt, if◌then◌else◌, Option, None, Some, option_map, List, [], ◌∷◌, codes, drop, length, slice_index, take}
+use Rattle.std.specs.Prelude.{ℕ, ◌-◌, ◌==◌, Bool, false, not, ◌&&◌, ◌||◌, nat_lt, if◌then◌else◌, Option, None, Some, option_map, List, [], ◌∷◌, codes, drop, length, slice_index, take}
 use Rattle.std.specs.List.{find, list_all, list_any}
 use Rattle.group_tree.specs.Names.{Name, same_name}
 use Rattle.domains.specs.Numbered.{host_at}

@@ -9,7 +9,7 @@ use Rattle.lint_notes.specs.Notes.{Note, shell_word, idle_handler, noted}
 use Rattle.lint_notes.specs.Hosts.{Crowd, asking_by, name_note}
 use Rattle.lint_notes.specs.NamesRead.{names_asked}
 use Rattle.lint_notes.specs.Conditions.{condition_note}
-use Rattle.lint_notes.specs.Programs.{local_note, long_note, dash_note}
+use Rattle.lint_notes.specs.Programs.{calls_ssh, local_note, long_note, dash_note}
 use Rattle.lint_notes.specs.declared.step_path.StepPath.{StepPath}
 
 -- where a step stands in the play of this number: among its tasks, or among the handlers behind them
@@ -30,8 +30,9 @@ is_shell_word word = is_among word shell_words
 abbrev pub first_shell_word : List Name → Option Name
 first_shell_word words = find is_shell_word (drop 1 words)
 
+-- behind `ssh` a shell at the other end reads them
 abbrev pub shell_note : StepPath → Step → Option Note
-shell_note at step = option_map (shell_word at) (first_shell_word step.words)
+shell_note at step = if calls_ssh step.words then None else option_map (shell_word at) (first_shell_word step.words)
 
 abbrev pub notifies : ℕ → Step → Bool
 notifies handler task = has_number handler task.notify.items

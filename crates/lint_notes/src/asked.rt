@@ -1,19 +1,21 @@
 //! The names that a step reads, each once.
 ghost use Rattle.std.specs.Prelude.{◌≡◌, ◌&&◌, ◌∷◌, ◌++◌, [], not, IfOk, OnOk};
 ghost use Rattle.needed_results.specs.Reads as reads;
-ghost use Rattle.needed_results.specs.Reads.{names_in_word, names_in_words};
+ghost use Rattle.needed_results.specs.Reads.{names_in_part, names_in_word, names_in_words};
+ghost use Rattle.text_parts.specs.Seen.{said};
 ghost use Rattle.lint_notes.specs.NamesRead.{is_asked, is_asked_behind, names_asked};
 ghost use Rattle.lint_notes.specs.Inside.{AreListed, crowd_of, has_missed, has_name, names_of, with_fresh};
 
 use crate::crowd::Crowd;
 use crate::mentioned::list_mentioned;
 use crate::missed::Missed;
-use crate::reading::first_in_word;
+use crate::reading::name_in;
 use crate::registered::{Registered, registers};
 use crate::stand::Stand;
 use cond::Names;
 use play_model::{Step, Words};
 use std::alloc::{AllocError, Global};
+use text_parts::{Part, first_word_part};
 
 /// Names that no step before the one that stands there sets, and that a waiting host lacks.
 #[derive(Clone, Copy)]
@@ -43,21 +45,6 @@ impl Names for Behind<'_, '_> {
 
     fn has(&self, name: &str) -> bool {
         self.asked.has(name) && !registers(name, self.step)
-    }
-}
-
-/// Those of some names that were not found before.
-#[derive(Drop)]
-struct Fresh<'n, 'a, N: Names> {
-    names: &'n N,
-    found: &'n Missed<'a>,
-}
-
-impl<N: Names> Names for Fresh<'_, '_, N> {
-    ghost holds = { λ fresh name. N.holds fresh.names.now name && not (has_missed fresh.found.now name) };
-
-    fn has(&self, name: &str) -> bool {
-        self.names.has(name) && !self.found.has(name)
     }
 }
 
@@ -97,9 +84,26 @@ fn is_fresh<N: Names>(names: &N, found: &Missed<'_>, name: &str) -> bool
     names.has(name) && !found.has(name)
 }
 
-/// Adds those of the names in the holes of the word.
+/// Adds the name that the part reads, if it is one of them.
+fn add_in_part<'s, N: Names>(
+    part: Part<'s>,
+    names: &N,
+    list: &mut Vec<&'s str>,
+    found: &mut Missed<'s>,
+) -> Result<(), AllocError>
+    requires { AreListed found.old (names_of list.old.items) }
+    ensures list { OnOk result (names_of list.new.items ≡ with_fresh (N.holds names.now) (names_of list.old.items) (names_in_part (said part.entry))) }
+    ensures found { OnOk result (AreListed found.new (names_of list.new.items)) }
+{
+    match name_in(part) {
+        Some(name) => add_read(&[name], names, list, found),
+        None => Ok(()),
+    }
+}
+
+/// Adds those of the names in the holes of the word, in one pass over it.
+#[tactic(auto, using(crate::proofs::OnceLemmas::fresh_part, crate::proofs::OnceLemmas::fresh_end))]
 fn add_in_word<'s, N: Names>(
-    alloc: Global,
     word: &'s str,
     names: &N,
     list: &mut Vec<&'s str>,
@@ -109,8 +113,10 @@ fn add_in_word<'s, N: Names>(
     ensures list { OnOk result (names_of list.new.items ≡ with_fresh (N.holds names.now) (names_of list.old.items) (names_in_word word.now)) }
     ensures found { OnOk result (AreListed found.new (names_of list.new.items)) }
 {
-    while let Some(name) = first_in_word(alloc, word, &Fresh { names, found }) {
-        add(name, list, found)?;
+    let mut rest = word;
+    while let Some((part, behind)) = first_word_part(rest) {
+        add_in_part(part, names, list, found)?;
+        rest = behind;
     }
     Ok(())
 }
@@ -118,7 +124,6 @@ fn add_in_word<'s, N: Names>(
 /// Adds those of the names in the holes of the words.
 #[tactic(auto, using(crate::proofs::OnceLemmas::with_words_is))]
 fn add_in_words<'s, N: Names>(
-    alloc: Global,
     words: &'s Words,
     names: &N,
     list: &mut Vec<&'s str>,
@@ -129,7 +134,7 @@ fn add_in_words<'s, N: Names>(
     ensures found { OnOk result (AreListed found.new (names_of list.new.items)) }
 {
     for place in 0..words.len() {
-        add_in_word(alloc, words.at(place), names, list, found)?;
+        add_in_word(words.at(place), names, list, found)?;
     }
     Ok(())
 }
@@ -149,7 +154,7 @@ fn add_before<'s, N: Names>(
 {
     let read = list_mentioned(alloc, &step.when)?;
     add_read(read.as_slice(), names, list, found)?;
-    add_in_words(alloc, &step.words, names, list, found)
+    add_in_words(&step.words, names, list, found)
 }
 
 /// Adds those that it reads behind that.

@@ -2,24 +2,29 @@
 ghost use Rattle.std.specs.Prelude.{◌≡◌, OnOk, count_by};
 ghost use Rattle.std.specs.List.{find};
 ghost use Rattle.lint_notes.specs.Lacks as spec;
+ghost use Rattle.lint_notes.specs.Given.{AreAllGiven, has_missed};
 ghost use Rattle.lint_notes.specs.Lacks.{KnowsLacks, lack_in, lacks_in};
 
 use crate::lack::Lack;
 use crate::mentioned::list_mentioned;
-use crate::reading::first_in_word;
-use cond::{Cond, Env, Names};
+use crate::missed::Missed;
+use crate::reading::name_in;
+use cond::{Cond, Env};
 use host_vars::Vars;
 use indexmap::IndexMap;
 use play_model::{Step, Words};
 use std::alloc::{AllocError, Global};
+use text_parts::first_word_part;
 
-/// The variables of all hosts, the waiting ones by their numbers, rising, and what was looked up of them.
+/// The variables of all hosts, the names that any of them has, the waiting hosts by their numbers, rising, and what was looked up of them. What nobody has isn't looked up.
 #[derive(Drop)]
 pub(crate) struct Lacks<'a, 's> {
     pub(crate) vars: &'s [Vars],
     pub(crate) waiting: &'s [usize],
+    given: &'s Missed<'a>,
     known: IndexMap<&'a str, Option<Lack>>,
     ghost knows: { KnowsLacks vars.now waiting.now known },
+    ghost all: { AreAllGiven (has_missed given.now) vars.now },
 }
 
 impl<'a, 's> Lacks<'a, 's> {
@@ -30,18 +35,21 @@ impl<'a, 's> Lacks<'a, 's> {
         alloc: Global,
         vars: &'s [Vars],
         waiting: &'s [usize],
+        given: &'s Missed<'a>,
         steps: &'a [Step],
     ) -> Result<Lacks<'a, 's>, AllocError>
+        requires { AreAllGiven (has_missed given.now) vars.now }
         ensures vars { IfOk result (λ lacks. lacks.vars.now ≡ vars.now) }
         ensures waiting { IfOk result (λ lacks. lacks.waiting.now ≡ waiting.now) }
     {
         let mut known = IndexMap::new(alloc);
         for step in steps {
-            learn_step(alloc, vars, waiting, step, &mut known)?;
+            learn_step(alloc, vars, waiting, given, step, &mut known)?;
         }
         Ok(Lacks {
             vars,
             waiting,
+            given,
             known,
         })
     }
@@ -52,24 +60,31 @@ impl<'a, 's> Lacks<'a, 's> {
     {
         match known_lack(&self.known, name) {
             Some(lack) => lack,
-            None => look_up(self.vars, self.waiting, name),
+            None => self.find(name),
+        }
+    }
+
+    fn find(&self, name: &str) -> Option<Lack>
+        ensures { result ≡ lack_in self.now.vars.now self.now.waiting.now name.now }
+    {
+        if self.given.has(name) {
+            look_up(self.vars, self.waiting, name)
+        } else {
+            lacked_by_all(self.waiting)
         }
     }
 }
 
-/// Names of which nothing is kept.
-#[derive(Drop)]
-struct Unknown<'k, 'a> {
-    known: &'k IndexMap<&'a str, Option<Lack>>,
-}
-
-impl Names for Unknown<'_, '_> {
-    ghost use Rattle.std.specs.Prelude.{is_none};
-
-    ghost holds = { λ unknown name. is_none (spec.known_lack unknown.known.now name) };
-
-    fn has(&self, name: &str) -> bool {
-        known_lack(self.known, name).is_none()
+/// What is kept of a name that nobody has.
+fn lacked_by_all(waiting: &[usize]) -> Option<Lack>
+    ensures { result ≡ spec.lacked_by_all waiting.now }
+{
+    match waiting.first() {
+        Some(first) => Some(Lack {
+            hosts: waiting.len(),
+            first: *first,
+        }),
+        None => None,
     }
 }
 
@@ -119,7 +134,7 @@ fn look_up(vars: &[Vars], waiting: &[usize], name: &str) -> Option<Lack>
     }
 }
 
-fn learn<'a>(
+fn keep<'a>(
     vars: &[Vars],
     waiting: &[usize],
     name: &'a str,
@@ -133,10 +148,28 @@ fn learn<'a>(
     Ok(())
 }
 
+/// Keeps the name, where nothing is kept of it and anybody has it.
+fn learn<'a>(
+    vars: &[Vars],
+    waiting: &[usize],
+    given: &Missed<'_>,
+    name: &'a str,
+    known: &mut IndexMap<&'a str, Option<Lack>>,
+) -> Result<(), AllocError>
+    requires { KnowsLacks vars.now waiting.now known.old }
+    ensures { OnOk result (KnowsLacks vars.now waiting.now known.new) }
+{
+    if known_lack(known, name).is_some() || !given.has(name) {
+        return Ok(());
+    }
+    keep(vars, waiting, name, known)
+}
+
 /// Keeps these names.
 fn learn_all<'a>(
     vars: &[Vars],
     waiting: &[usize],
+    given: &Missed<'_>,
     names: &[&'a str],
     known: &mut IndexMap<&'a str, Option<Lack>>,
 ) -> Result<(), AllocError>
@@ -144,38 +177,37 @@ fn learn_all<'a>(
     ensures { OnOk result (KnowsLacks vars.now waiting.now known.new) }
 {
     for name in names {
-        if known_lack(known, *name).is_none() {
-            learn(vars, waiting, *name, known)?;
-        }
+        learn(vars, waiting, given, *name, known)?;
     }
     Ok(())
 }
 
-/// Keeps the names in the holes of a word.
+/// Keeps the names in the holes of a word, in one pass over it.
 fn learn_word<'a>(
-    alloc: Global,
     vars: &[Vars],
     waiting: &[usize],
+    given: &Missed<'_>,
     word: &'a str,
     known: &mut IndexMap<&'a str, Option<Lack>>,
 ) -> Result<(), AllocError>
     requires { KnowsLacks vars.now waiting.now known.old }
     ensures { OnOk result (KnowsLacks vars.now waiting.now known.new) }
 {
-    for _name in 0..u64::MAX {
-        match first_in_word(alloc, word, &Unknown { known }) {
-            Some(name) => learn(vars, waiting, name, known)?,
-            None => return Ok(()),
+    let mut rest = word;
+    while let Some((part, behind)) = first_word_part(rest) {
+        if let Some(name) = name_in(part) {
+            learn(vars, waiting, given, name, known)?;
         }
+        rest = behind;
     }
     Ok(())
 }
 
 /// Keeps the names in the holes of words.
 fn learn_words<'a>(
-    alloc: Global,
     vars: &[Vars],
     waiting: &[usize],
+    given: &Missed<'_>,
     words: &'a Words,
     known: &mut IndexMap<&'a str, Option<Lack>>,
 ) -> Result<(), AllocError>
@@ -183,7 +215,7 @@ fn learn_words<'a>(
     ensures { OnOk result (KnowsLacks vars.now waiting.now known.new) }
 {
     for place in 0..words.len() {
-        learn_word(alloc, vars, waiting, words.at(place), known)?;
+        learn_word(vars, waiting, given, words.at(place), known)?;
     }
     Ok(())
 }
@@ -193,6 +225,7 @@ fn learn_condition<'a>(
     alloc: Global,
     vars: &[Vars],
     waiting: &[usize],
+    given: &Missed<'_>,
     condition: &'a Option<Cond>,
     known: &mut IndexMap<&'a str, Option<Lack>>,
 ) -> Result<(), AllocError>
@@ -200,7 +233,7 @@ fn learn_condition<'a>(
     ensures { OnOk result (KnowsLacks vars.now waiting.now known.new) }
 {
     let names = list_mentioned(alloc, condition)?;
-    learn_all(vars, waiting, names.as_slice(), known)
+    learn_all(vars, waiting, given, names.as_slice(), known)
 }
 
 /// Keeps whatever the step reads.
@@ -208,14 +241,15 @@ fn learn_step<'a>(
     alloc: Global,
     vars: &[Vars],
     waiting: &[usize],
+    given: &Missed<'_>,
     step: &'a Step,
     known: &mut IndexMap<&'a str, Option<Lack>>,
 ) -> Result<(), AllocError>
     requires { KnowsLacks vars.now waiting.now known.old }
     ensures { OnOk result (KnowsLacks vars.now waiting.now known.new) }
 {
-    learn_condition(alloc, vars, waiting, &step.when, known)?;
-    learn_words(alloc, vars, waiting, &step.words, known)?;
-    learn_condition(alloc, vars, waiting, &step.changed_when, known)?;
-    learn_condition(alloc, vars, waiting, &step.failed_when, known)
+    learn_condition(alloc, vars, waiting, given, &step.when, known)?;
+    learn_words(vars, waiting, given, &step.words, known)?;
+    learn_condition(alloc, vars, waiting, given, &step.changed_when, known)?;
+    learn_condition(alloc, vars, waiting, given, &step.failed_when, known)
 }

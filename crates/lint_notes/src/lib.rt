@@ -1,16 +1,17 @@
 //! What is accepted of an inventory and a playbook and probably not meant.
 #![tactic(auto)]
 
+mod advice;
 mod allowed;
 mod asked;
 mod asking;
 mod batches;
-mod blanks;
 mod bytes;
 mod case_hosts;
 mod conditions;
 mod crowd;
 mod end;
+mod given;
 mod groups;
 mod kind;
 mod lack;

@@ -3,7 +3,8 @@ ghost use Rattle.std.specs.Prelude.{◌≡◌, ◌<◌, ◌||◌, ◌++◌, ◌^
 ghost use Rattle.group_tree.specs.Names.{Name};
 ghost use Rattle.domains.specs.Fleets.{IsFleetOf};
 ghost use Rattle.needed_results.specs.Registers.{is_registered_by};
-ghost use Rattle.lint_notes.specs.Inside.{crowd_of, has_name, lacks_in, missed_in};
+ghost use Rattle.lint_notes.specs.Given.{AreAllGiven};
+ghost use Rattle.lint_notes.specs.Inside.{crowd_of, has_missed, has_name, lacks_in, missed_in};
 ghost use Rattle.lint_notes.specs.AllNotes.{AreNotesOf};
 ghost use Rattle.lint_notes.specs.Hosts.{down_for, waiting_for};
 ghost use Rattle.lint_notes.specs.Playbooks.{batch_notes, play_notes, plays_notes, steps_notes};
@@ -12,6 +13,7 @@ use crate::asked::Asked;
 use crate::batches::{failure_note, list_smallest, size_note};
 use crate::case_hosts::list_fleet_notes;
 use crate::crowd::Crowd;
+use crate::given::list_given;
 use crate::lacks::Lacks;
 use crate::notes::Notes;
 use crate::registered::Registered;
@@ -89,7 +91,8 @@ fn note_play<'a>(
     numbered: Numbered<'a>,
     smallest: Option<usize>,
 ) -> Result<(), AllocError>
-    requires { numbered.number < 2 ^ 63 }
+    requires number { numbered.number < 2 ^ 63 }
+    requires given { AreAllGiven (has_missed scene.given.now) scene.vars.now }
     ensures notes { OnOk result (notes.new ≡ notes.old
         ++ play_notes scene.entry.fleet.now (lacks_in scene.entry.vars.now)
         (missed_in scene.entry.registry.now.fleet.now scene.entry.registry.now.plays.now scene.entry.vars.now numbered.entry.number)
@@ -108,6 +111,7 @@ fn note_play<'a>(
         alloc,
         scene.vars,
         targets.waiting.as_slice(),
+        scene.given,
         numbered.play.steps(),
     )?;
     let crowd = Crowd {
@@ -126,7 +130,8 @@ fn note_plays<'a>(
     sizes: &[Option<usize>],
     plays: &'a [Play],
 ) -> Result<(), AllocError>
-    requires { length sizes.now ≡ length plays.now }
+    requires sizes { length sizes.now ≡ length plays.now }
+    requires given { AreAllGiven (has_missed scene.given.now) scene.vars.now }
     ensures { OnOk result (notes.new ≡ notes.old ++ plays_notes scene.entry.fleet.now (lacks_in scene.entry.vars.now)
         (missed_in scene.entry.registry.now.fleet.now scene.entry.registry.now.plays.now scene.entry.vars.now) sizes.now plays.now) }
 {
@@ -156,9 +161,11 @@ pub(crate) fn list_notes<'a, A: Allocator>(
     let sizes = list_smallest(alloc, fleet, plays)?;
     let mut notes = list_fleet_notes(alloc, tree, fleet)?;
     let registry = Registry::of(alloc, fleet, plays)?;
+    let given = list_given(alloc, tree)?;
     let scene = Scene {
         fleet,
         vars: vars.as_slice(),
+        given: &given,
         registry: &registry,
     };
     note_plays(alloc, &mut notes, scene, sizes.as_slice(), plays)?;

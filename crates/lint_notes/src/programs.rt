@@ -50,7 +50,7 @@ fn is_ssh(word: &str) -> bool
 }
 
 #[tactic(auto, using(crate::proofs::ProgramLemmas::calls_first))]
-fn calls_ssh(words: &Words) -> bool
+pub(crate) fn calls_ssh(words: &Words) -> bool
     ensures { result ≡ model.calls_ssh words.now }
 {
     !words.is_empty() && is_ssh(words.at(0))

@@ -1,31 +1,16 @@
-//! The first of some names that a word reads.
-ghost use Rattle.std.specs.Prelude.{◌≡◌, option_map};
-ghost use Rattle.std.specs.List.{find};
-ghost use Rattle.needed_results.specs.Reads.{names_in_word};
-ghost use Rattle.needed_results.specs.Lookups.{told_in};
+//! The name that a part of a word reads.
+ghost use Rattle.std.specs.Prelude.{◌≡◌, ◌∷◌, [], MatchOption};
+ghost use Rattle.text_parts.specs.Seen.{said};
+ghost use Rattle.needed_results.specs.Reads.{names_in_part};
 
-use crate::blanks::Blanks;
-use cond::Names;
-use std::alloc::Global;
-use text_parts::{RenderFault, render};
+use text_parts::{Part, Ref};
 
-/// The first of these names in the holes of the word.
-pub(crate) fn first_in_word<'s, N: Names>(
-    alloc: Global,
-    word: &'s str,
-    names: &N,
-) -> Option<&'s str>
-    ensures { option_map (λ name. name.now) result ≡ find (N.holds names.now) (names_in_word word.now) }
+/// The name in the hole that the part is, if it is one with a name.
+pub(crate) fn name_in(part: Part<'_>) -> Option<&str>
+    ensures { MatchOption result (names_in_part (said part.entry) ≡ []) (λ name. names_in_part (said part.entry) ≡ name.now ∷ []) }
 {
-    told_name(render(alloc, &Blanks { names }, word))
-}
-
-// The name without a value. Every other fault is told of words in which each name has one.
-fn told_name<'w>(rendered: Result<String, RenderFault<'w>>) -> Option<&'w str>
-    ensures { option_map (λ name. name.now) result ≡ told_in rendered.entry }
-{
-    match rendered {
-        Err(RenderFault::Undefined { name }) => Some(name),
-        _ => None,
+    match part {
+        Part::Hole(Ref::Whole(name) | Ref::Field(name, _)) => Some(name),
+        Part::Hole(Ref::Hostname) | Part::Plain(_) | Part::Braces => None,
     }
 }

@@ -14,7 +14,7 @@ use crate::conditions::condition_note;
 use crate::crowd::Crowd;
 use crate::note::Note;
 use crate::notes::Notes;
-use crate::programs::{dash_note, local_note, long_note};
+use crate::programs::{calls_ssh, dash_note, local_note, long_note};
 use crate::step_path::StepPath;
 use play_model::{Play, Step, Words};
 use std::alloc::{AllocError, Global};
@@ -46,6 +46,9 @@ fn find_shell_word(words: &Words) -> Option<&str>
 fn shell_note<'a>(at: StepPath, step: &'a Step) -> Option<Note<'a>>
     ensures { option_map seen result ≡ model.shell_note at step.now }
 {
+    if calls_ssh(&step.words) {
+        return None;
+    }
     match find_shell_word(&step.words) {
         Some(word) => Some(Note::ShellWord { at, word }),
         None => None,

@@ -5,6 +5,7 @@ ghost use Rattle.bounded_io.specs.Writing.{Writes};
 ghost use Rattle.lint_notes.specs.Notes.{seen, told};
 ghost use Rattle.lint_notes.specs.NotesText.{count_line, end_of, note_line, notes_text};
 
+use crate::advice::write_helps;
 use crate::allowed::Allowed;
 use crate::end::LintEnd;
 use crate::note::Note;
@@ -56,18 +57,19 @@ fn write_count<W: Write>(text: &mut TextWriter<'_, W>, count: u64)
     text.write_str("\n");
 }
 
-/// Writes the notes that are told, and how many they are; says whether there is any.
+/// Writes the notes that are told, how many they are, and of each kind what to do; says whether there is any.
 #[tactic(auto, using(bounded_io::proofs::Pieces::pieces_of_text))]
 fn write_notes<W: Write>(
     text: &mut TextWriter<'_, W>,
     notes: &Notes<'_>,
     allowed: &Allowed<'_>,
 ) -> LintEnd
-    ensures writes { Writes W.contents text.old text.new (notes_text (told allowed.now notes.now)) }
+    ensures writes { Writes W.contents text.old text.new (notes_text allowed.now notes.now) }
     ensures end { result ≡ end_of (told allowed.now notes.now) }
 {
     let count = write_lines(text, notes.as_slice(), allowed);
     write_count(text, count as u64);
+    write_helps(text, notes.as_slice(), allowed);
     if count == 0 {
         LintEnd::Clean
     } else {
@@ -81,7 +83,7 @@ pub(crate) fn send_notes<W: Write>(
     allowed: &Allowed<'_>,
     out: &mut W,
 ) -> Result<LintEnd, WriteFault>
-    ensures text { SendsText (W.contents out.old) (W.contents out.new) (notes_text (told allowed.now notes.now)) result }
+    ensures text { SendsText (W.contents out.old) (W.contents out.new) (notes_text allowed.now notes.now) result }
     ensures end { IfOk result (λ end. end ≡ end_of (told allowed.now notes.now)) }
 {
     let mut text = TextWriter::new(out);

@@ -1,17 +1,17 @@
 -- What is known of a condition at the outset is so on each host that turns out as was foreseen.
 use Rattle.std.proofs.Common.{◌≡◌, ℕ, Bool, true, false, not, ◌&&◌, ◌||◌, bytes_eq, is_some, option_map, Option, Some, None, Ok, Err, List, [], ◌∷◌, ◌++◌, map, take, drop, sym, refl, ap, subst, ◌∙◌, inl, inr}
-use Rattle.std.specs.Prelude.{◌⊎◌, codes, box_value, string_bytes, if◌then◌else◌}
+use Rattle.std.specs.Prelude.{codes, box_value, string_bytes, if◌then◌else◌}
 use Rattle.std.proofs.lemmas.Slice.Eq.{bytes_eq-Decides}
 use Rattle.std.proofs.lemmas.List.Folds.{list_any-append}
 use Rattle.group_tree.specs.Names.{Name, same_name, is_among}
-use Rattle.group_tree.specs.Variables.{Scalar, Text, Int, Truth}
+use Rattle.group_tree.specs.Variables.{Scalar}
 use Rattle.text_parts.specs.Words.{name_of}
 use Rattle.cond.specs.Grammar as grammar
-use Rattle.cond.specs.Meaning.{Environment, Value, Plain, value_holds, same_value, Verdict, Found, named, value_at, ref_value, operand_value, found_holds, found_same, is_found, state_holds, test_meaning, contrary_if, turned, either, both}
-use Rattle.missing_names.specs.Outset.{Outset, Standing, variable, registered, perhaps, nothing, is_there, is_field_there, has_value, known_at}
+use Rattle.cond.specs.Meaning.{Environment, Value, Plain, value_holds, Verdict, Found, named, value_at, ref_value, operand_value, found_holds, found_same, is_found, state_holds, test_meaning, contrary_if, turned, either, both}
+use Rattle.missing_names.specs.Outset.{Outset, Standing, variable, registered, perhaps, nothing, is_there, is_field_there, has_value}
 use Rattle.missing_names.specs.Outlook as outlook
 use Rattle.missing_names.specs.Outlook.{Outlook, is_missed, is_result_missed, missed_if, missed_in_ref, missed_in_operand, missed_in_test, known_operand, known_same, known_test, test_outlook, linked, chained, outlook_step, tree_outlook, part_outlook, outlooks, outlook_of, decides, known_chain}
-use Rattle.missing_names.specs.Accords.{Accords, LacksCode, IsForetold, IsForeseen}
+use Rattle.missing_names.specs.Accords.{Accords, IsForetold, IsForeseen}
 use Rattle.cond.specs.Trees.{written, any_of, all_of, verdict_step, tree_verdict, part_verdict, verdicts, verdict_of, bytes_of, trees_of}
 use Rattle.cond.specs.declared.states.State.{State}
 use Rattle.cond.specs.declared.states.State.TheVariants as state

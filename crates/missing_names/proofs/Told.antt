@@ -1,16 +1,13 @@
 -- A step wants a value of no other name than those that were told of it.
-use Rattle.std.proofs.Common.{◌≡◌, ℕ, ℤ, Bool, true, false, cond, ◌||◌, is_some, option_map, nat_lt, Option, Some, None, Ok, Err, List, [], ◌∷◌, ◌++◌, flat_map, length, sym, refl, ap, subst, ◌∙◌, inl, inr}
+use Rattle.std.proofs.Common.{◌≡◌, ℕ, ℤ, Bool, true, false, cond, is_some, option_map, nat_lt, Option, Some, None, Ok, Err, List, [], ◌∷◌, ◌++◌, flat_map, length, sym, refl, ap, subst, ◌∙◌, inl, inr}
 use Rattle.std.specs.Prelude.{◌⊎◌, option_and_then, if◌then◌else◌}
 use Rattle.std.specs.Option.{option_or}
-use Rattle.std.proofs.lemmas.List.Folds.{list_any-append}
-use Rattle.std.proofs.lemmas.Slice.Eq.{bytes_eq-Decides}
-use Rattle.group_tree.specs.Names.{Name, same_name, is_among}
+use Rattle.group_tree.specs.Names.{Name, is_among}
 use Rattle.group_tree.specs.Variables.{Scalar}
 use Rattle.text_parts.specs.Words.{Ref, whole, part, hostname, name_of, Part, plain, hole, braces, parts_of}
 use Rattle.text_parts.specs.Faults.{max_rendered}
-use Rattle.text_parts.specs.Renders.{first_undefined, rendered, undefined_in}
-use Rattle.text_parts.specs.declared.field.Field.{Field}
-use Rattle.cond.specs.Meaning.{Environment, Plain, Verdict, value_at}
+use Rattle.text_parts.specs.Renders.{first_undefined, rendered}
+use Rattle.cond.specs.Meaning.{Plain, Verdict}
 use Rattle.cond.specs.declared.condition.Cond.{Cond}
 use Rattle.play_model.specs.Results.{Row}
 use Rattle.play_model.specs.declared.step.Step.{Step}
@@ -18,18 +15,18 @@ use Rattle.host_vars.specs.Conditions.{result_or_variable, scalar_in}
 use Rattle.host_track.specs.Hosts.{Known, environment_in, is_called, values_in, with_result}
 use Rattle.host_track.specs.Judging.{decided, register_of}
 use Rattle.host_track.specs.Endings as ending
-use Rattle.host_track.specs.Endings.{Ending, table_row}
-use Rattle.host_track.specs.Asking.{Request, asked_if, asks, ended, is_to_run, job, settled, text, with_word, worded, worded_by, words_asked}
-use Rattle.host_track.specs.Undefined.{first_name, name_in, undefined_by}
-use Rattle.missing_names.specs.Accords.{Accords, IsForetold, IsForeseen}
+use Rattle.host_track.specs.Endings.{table_row}
+use Rattle.host_track.specs.Asking.{Request, asked_if, asks, ended, is_to_run, job, settled, text, with_word, worded_by, words_asked}
+use Rattle.host_track.specs.Undefined.{first_name, undefined_by}
+use Rattle.missing_names.specs.Accords.{Accords, IsForetold}
 use Rattle.missing_names.specs.Accords as accords
 use Rattle.missing_names.specs.Laws.{AsksForToldNames, Follows, IsTold, JudgesByToldNames, LacksCode}
-use Rattle.missing_names.specs.Misses.{behind, has_no_text, missed_behind, missed_by, missed_if_run, missed_in_hole, missed_in_part, missed_in_word, missed_in_words, missed_names, once_behind, outlook_if, outset_of, with_name}
-use Rattle.missing_names.specs.Outlook.{decides, missed_if, is_result_missed}
+use Rattle.missing_names.specs.Misses.{behind, has_no_text, missed_behind, missed_by, missed_if_run, missed_in_hole, missed_in_part, missed_in_word, missed_in_words, missed_names, outlook_if, outset_of}
+use Rattle.missing_names.specs.Outlook.{decides, missed_if}
 use Rattle.missing_names.specs.Outset.{Outset, Standing, variable, registered, perhaps, nothing}
 use Rattle.missing_names.specs.Past.{Past}
 use Rattle.missing_names.proofs.Onces.{among_once}
-use Rattle.missing_names.proofs.Foresights.{condition_foreseen, field_said, goes_on, behind_same, or_left, or_right, same_itself, stands_alone, told_left, told_right}
+use Rattle.missing_names.proofs.Foresights.{condition_foreseen, field_said, goes_on, behind_same, stands_alone, told_left, told_right}
 use Rattle.missing_names.proofs.Standings.{Fits, accords_before, accords_behind, behind_fits, field_of, name_fits, without_code}
 
 no_field : (scalar : Option Scalar) → option_and_then scalar_in (option_map Plain scalar) ≡ None → option_map Plain scalar ≡ None

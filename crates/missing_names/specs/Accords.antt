@@ -1,5 +1,5 @@
 -- A host that turns out as was foreseen at the outset, and what that says of its conditions.
-use Rattle.std.specs.Prelude.{◌≡◌, ◌⊎◌, Bool, true, is_some, Option, Some, None, Ok, Err, List}
+use Rattle.std.specs.Prelude.{◌≡◌, ◌⊎◌, Bool, true, is_some, Some, None, Ok, Err, List}
 use Rattle.group_tree.specs.Names.{Name, is_among}
 use Rattle.cond.specs.Grammar.{Ref}
 use Rattle.cond.specs.Meaning.{Environment, Value, Verdict, value_at}

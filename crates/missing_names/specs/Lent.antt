@@ -6,6 +6,7 @@ use Rattle.group_tree.specs.Scalars.{lent_scalar}
 use Rattle.missing_names.specs.Outset as outset
 use Rattle.missing_names.specs.declared.standing.Standing.{Standing}
 use Rattle.missing_names.specs.declared.standing.Standing.TheVariants as standing
+use Rattle.missing_names.specs.declared.found.Found.{Found}
 
 abbrev pub stood : Standing → outset.Standing
 stood (standing.Variable scalar) = outset.variable (lent_scalar scalar)
@@ -15,3 +16,7 @@ stood standing.Nothing = outset.nothing
 
 abbrev pub lent_names : List (Bor Name) → List Name
 lent_names names = map (λ (name : Bor Name). name.now) names
+
+-- the names that were found
+abbrev pub names_found : Found → List Name
+names_found found = lent_names found.names.keys

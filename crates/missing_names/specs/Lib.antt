@@ -5,7 +5,6 @@ pub mod Accords
 pub mod Past
 pub mod Misses
 pub mod Spots
-pub mod Gaps
 pub mod Places
 pub mod Inside
 pub mod NoValues

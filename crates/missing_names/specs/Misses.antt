@@ -1,5 +1,5 @@
 -- The names that a step may look up in vain.
-use Rattle.std.specs.Prelude.{Bool, true, false, if◌then◌else◌, is_some, Option, Some, None, ℕ, List, [], ◌∷◌, ◌++◌, flat_map}
+use Rattle.std.specs.Prelude.{Bool, true, false, if◌then◌else◌, Option, Some, None, ℕ, List, [], ◌∷◌, ◌++◌, flat_map}
 use Rattle.group_tree.specs.Names.{Name, is_among}
 use Rattle.text_parts.specs.Words.{Ref, whole, part, hostname, Part, plain, hole, braces, parts_of}
 use Rattle.cond.specs.Meaning.{Value, Registered, Plain}

@@ -1,5 +1,5 @@
 -- A host at the outset: what each name will stand for when a condition is asked, as far as that is known before anything has run.
-use Rattle.std.specs.Prelude.{ℕ, Bool, true, false, if◌then◌else◌, Option, Some, None, List}
+use Rattle.std.specs.Prelude.{Bool, true, false, if◌then◌else◌, Option, Some, None}
 use Rattle.group_tree.specs.Names.{Name}
 use Rattle.group_tree.specs.Variables.{Scalar, Text}
 use Rattle.cond.specs.Grammar.{Ref, whole, part, hostname}

@@ -1,8 +1,6 @@
 //! Names that were found.
 ghost use Rattle.std.specs.Prelude.{◌≡◌, [], IfOk, OnOk};
-ghost use Rattle.group_tree.specs.Names.{is_among};
-ghost use Rattle.missing_names.specs.Gaps.{names_found};
-ghost use Rattle.missing_names.specs.Lent.{lent_names};
+ghost use Rattle.missing_names.specs.Lent.{lent_names, names_found};
 ghost use Rattle.missing_names.specs.Misses.{once_behind, with_name};
 
 use indexmap::IndexSet;
@@ -21,12 +19,6 @@ impl<'s> Found<'s> {
         Found {
             names: IndexSet::new(alloc),
         }
-    }
-
-    pub(crate) fn has(&self, name: &str) -> bool
-        ensures { result ≡ is_among name.now (names_found self.now) }
-    {
-        self.names.contains(name)
     }
 
     /// Adds the name behind the others, where it doesn't stand there.

@@ -1,8 +1,7 @@
 //! The names that a step misses.
 ghost use Rattle.std.specs.Prelude.{◌≡◌, IfOk, OnOk};
-ghost use Rattle.missing_names.specs.Gaps.{names_found};
 ghost use Rattle.missing_names.specs.Inside.{outset_before};
-ghost use Rattle.missing_names.specs.Lent.{lent_names};
+ghost use Rattle.missing_names.specs.Lent.{lent_names, names_found};
 ghost use Rattle.missing_names.specs.Misses as spec;
 ghost use Rattle.missing_names.specs.Misses.{missed_behind, missed_by, missed_if_run, once_behind, outlook_if};
 
@@ -66,7 +65,7 @@ fn add_run<'s>(
     if decides(false, holds) {
         return Ok(());
     }
-    add_words(alloc, &step.words, before, found)?;
+    add_words(&step.words, before, found)?;
     add_behind(alloc, step, before, found)
 }
 

@@ -161,7 +161,7 @@ module _ (may : Work → Ending → Type 0) (is_watched : Bool) where
     lines_are_safe args gives (line.State inventory journal) says asks wish result logs is does = inl does.1
     lines_are_safe args gives (line.Check inventory playbook plan) says asks wish result logs is does = inl does.1
     lines_are_safe args gives (line.Lint inventory playbook) says asks wish result logs is does = inl does.1
-    lines_are_safe args gives (line.Explain number) says asks wish result logs is does = inl does.2
+    lines_are_safe args gives (line.Explain word) says asks wish result logs is does = inl does.2
     lines_are_safe args gives (line.Print message) says asks wish result logs is does = inl does.2
     lines_are_safe args gives (line.Run inventory playbook forks) says asks wish result logs is does = by (either_is_safe (form_of wish.json) may given sources input_old input_new out_old out_new asks wish.from wish inventory playbook forks result logs does)
       where

@@ -34,4 +34,5 @@ pub mod Status
 pub mod Strictness
 pub mod Systems
 pub mod Texts
+pub mod Watching
 pub mod WordTexts

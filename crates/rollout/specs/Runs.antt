@@ -90,8 +90,8 @@ Does may asks wish sources (Check inventory playbook plan) input_old input_new o
     Checks sources inventory playbook plan input_old input_new out_old out_new result × (logs ≡ [])
 Does may asks wish sources (Lint inventory playbook) input_old input_new out_old out_new result logs =
     Lints wish.allowed sources inventory playbook input_old input_new out_old out_new result × (logs ≡ [])
-Does may asks wish sources (Explain number) input_old input_new out_old out_new result logs =
-    Keeps input_old input_new × Explains (string_bytes number) out_old out_new result × (logs ≡ [])
+Does may asks wish sources (Explain word) input_old input_new out_old out_new result logs =
+    Keeps input_old input_new × Explains (string_bytes word) out_old out_new result × (logs ≡ [])
 Does may asks wish sources (Print message) input_old input_new out_old out_new result logs =
     Keeps input_old input_new × Prints (messages.text_of message) out_old out_new result × (logs ≡ [])
 

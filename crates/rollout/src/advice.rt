@@ -62,7 +62,7 @@ fn told(alloc: Global, fault: &Fault, texts: &Texts<'_>) -> Result<Option<String
         Fault::Read(fault) => on_inventory(alloc, fault, &texts.inventory),
         Fault::Fleet(fault) => on_fleet(alloc, fault, &texts.inventory),
         Fault::Playbook(fault) => on_playbook(alloc, fault, &texts.playbook),
-        Fault::Pattern(fault) => on_pattern(alloc, fault, &texts.fleet),
+        Fault::Pattern(fault) => on_pattern(alloc, fault, &texts.fleet, &texts.playbook),
         _ => Ok(None),
     }
 }
@@ -100,16 +100,16 @@ fn on_playbook(
     kept(play_help(alloc, fault, document))
 }
 
-#[tactic(auto, using(help_lines::proofs::LineLemmas::lines_help))]
 fn on_pattern(
     alloc: Global,
     fault: &PatternFault,
     fleet: &Option<Fleet>,
+    document: &Document<'_>,
 ) -> Result<Option<String>, AllocError>
     ensures { IfOk result (λ help. MayHelp true (option_map string_bytes help)) }
 {
     match names_of(alloc, fleet) {
-        Ok(names) => kept(pattern_help(alloc, fault, names.as_slice())),
+        Ok(names) => kept(pattern_help(alloc, fault, names.as_slice(), document)),
         Err(refused) => Err(refused),
     }
 }

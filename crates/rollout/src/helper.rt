@@ -25,7 +25,8 @@ pub struct Helper {
 impl Helper {
     /// A line helps where somebody looks at what is reported, or more than the line of a fault is asked for.
     pub fn new<S: System>(system: &S, alloc: Global, line: &Line, wishes: &Wishes) -> Helper
-        ensures { result.is_wanted ≡ true → (S.may_watch system.now || (wish_as wishes.now).verbose) ≡ true }
+        ensures asked { result.is_wanted ≡ true → (S.may_watch system.now || (wish_as wishes.now).verbose) ≡ true }
+        ensures verbose { (wish_as wishes.now).verbose ≡ true → result.is_wanted ≡ true }
     {
         let is_wanted = is_wanted(system, wishes);
         let (inventory, playbook) = files_of(alloc, line);
@@ -91,7 +92,8 @@ impl Helper {
 
 #[tactic(auto, using(crate::proofs::Asking::watched_so))]
 fn is_wanted<S: System>(system: &S, wishes: &Wishes) -> bool
-    ensures { result ≡ true → (S.may_watch system.now || (wish_as wishes.now).verbose) ≡ true }
+    ensures asked { result ≡ true → (S.may_watch system.now || (wish_as wishes.now).verbose) ≡ true }
+    ensures verbose { (wish_as wishes.now).verbose ≡ true → result ≡ true }
 {
     wishes.is_verbose || system.is_watched()
 }

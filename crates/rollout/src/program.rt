@@ -6,6 +6,7 @@ ghost use Rattle.command_line.specs.Wishes.{wish_as};
 ghost use Rattle.rollout.specs.Endings.{reporting_as};
 ghost use Rattle.rollout.specs.Runs.{Attempts, Does, Performs, Runs, StartsSafely};
 ghost use Rattle.rollout.specs.Systems.{sources_of};
+ghost use Rattle.rollout.specs.Watching.{IsWatchedAs};
 
 use crate::attendant::Attendant;
 use crate::commands::{check, explain, lint, print, state};
@@ -158,7 +159,9 @@ fn attempt<
 }
 
 /// From now on a run is told of, and a plan, which has more to tell of than what it prints.
-fn begin_telling<S: System, T: Tell>(system: &S, tell: &mut T, line: &Line, wishes: &Wishes) {
+fn begin_telling<S: System, T: Tell>(system: &S, tell: &mut T, line: &Line, wishes: &Wishes)
+    ensures { IsWatchedAs T.tells_as (wish_as wishes.now) tell.old tell.new line.now }
+{
     match line {
         Line::Run { .. } => tell.run_begins(system.seen(wishes, true)),
         Line::Plan { .. } => tell.run_begins(system.seen(wishes, false)),
@@ -270,7 +273,7 @@ fn follow<
             ),
             history,
         ),
-        Line::Explain { number } => (explain(number.as_str(), out), history),
+        Line::Explain { word } => (explain(word.as_str(), out), history),
         Line::Print(message) => (print(message.as_str(), out), history),
     }
 }

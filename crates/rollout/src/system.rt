@@ -1,7 +1,9 @@
 //! What the system gives the program: the words of its line, and files; and whoever types its commands.
 ghost use Rattle.std.specs.Prelude.{◌≡◌, Bool, List, ℕ, Option, None, IfOk, IfErr, map, string_bytes, true};
 ghost use Rattle.std.specs.IoError.{error_kind};
+ghost use Rattle.command_line.specs.Wishes.{wish_as};
 ghost use Rattle.rollout.specs.Systems.{Fails, Files, Gives, Known, Opens};
+ghost use Rattle.rollout.specs.Watching.{IsSeenSo};
 
 use crate::folder::folder_of;
 use bounded_io::{Fallible, Input};
@@ -50,7 +52,8 @@ pub trait System: Prompt + Shelf {
     fn is_there(&self, name: &str) -> bool;
 
     /// How what is told is seen, by what was asked for. How wide the lines may be is asked for where one may be drawn.
-    fn seen(&self, wishes: &Wishes, draws: bool) -> Seen;
+    fn seen(&self, wishes: &Wishes, draws: bool) -> Seen
+        ensures { IsSeenSo (wish_as wishes.now) draws result };
 
     ghost may_watch: { Self → Bool } = { λ _. true };
 

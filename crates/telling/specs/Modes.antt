@@ -1,10 +1,12 @@
 -- How much is told of a run.
-use Rattle.std.specs.Prelude.{Bool, true, false, not, ◌&&◌, if◌then◌else◌}
+use Rattle.std.specs.Prelude.{◌≡◌, Bool, true, false, not, ◌&&◌, if◌then◌else◌}
 use Rattle.telling.specs.declared.form.Form.{Form}
 use Rattle.telling.specs.declared.form.Form.TheVariants.{Plain, Json}
 use Rattle.telling.specs.declared.mode.Mode.{Mode}
 use Rattle.telling.specs.declared.mode.Mode.TheVariants.{Nothing, OneLine, AllLines, AllJson}
 use Rattle.telling.specs.declared.mode.Seen.{Seen}
+use Rattle.telling.specs.declared.screen.Screen.{Screen}
+use Rattle.telling.specs.Screens.{blank}
 
 -- somebody is there to see it
 abbrev pub sees_one_line : Seen → Bool
@@ -36,3 +38,8 @@ form_of Nothing = Plain
 form_of OneLine = Plain
 form_of AllLines = Plain
 form_of AllJson = Json
+
+-- as much is told as is wanted where it is seen so, and nothing is drawn yet
+pub record TellsAs (mode : Mode) (screen : Screen) (seen : Seen) : Type 0 where
+  pub mode_is : mode ≡ mode_of seen
+  pub screen_is : screen ≡ blank seen.width (not seen.is_dumb)

@@ -1,10 +1,11 @@
 //! Whoever tells of a run.
-ghost use Rattle.std.specs.Prelude.{◌≡◌, [], ◌++◌, IfSome, None, false, not, true};
+ghost use Rattle.std.specs.Prelude.{◌≡◌, [], ◌++◌, IfSome, None, false, true};
 ghost use Rattle.bounded_io.specs.Sending.{SendsText};
 ghost use Rattle.roll_core.specs.Tellings.{telling_of};
 ghost use Rattle.telling.specs.Forms.{lines_as, play_as};
 ghost use Rattle.telling.specs.Hearing.{Draws, Hears, Tells};
 ghost use Rattle.telling.specs.Modes as spec;
+ghost use Rattle.telling.specs.Modes.{TellsAs};
 ghost use Rattle.telling.specs.Screens as screens;
 ghost use Rattle.telling.specs.StatusLines.{status_text};
 
@@ -25,8 +26,14 @@ use std::sync::Wait;
 
 /// Tells of a run to whoever started it.
 pub trait Tell: Watch {
+    ghost use Rattle.telling.specs.declared.mode.Seen.{Seen};
+
+    /// It tells of a run as of one that is seen so.
+    ghost tells_as: { Self → Seen → Type 0 };
+
     /// A run may begin, and is seen so.
-    fn run_begins(&mut self, seen: Seen);
+    fn run_begins(&mut self, seen: Seen)
+        ensures { tells_as self.new seen };
 
     /// The fault that the run ends with was told, if there is one.
     fn run_ends(&mut self);
@@ -209,9 +216,10 @@ impl<H: Wait, E: Write + Drop> Watch for Teller<'_, H, E> {
 }
 
 impl<H: Wait, E: Write + Drop> Tell for Teller<'_, H, E> {
+    ghost tells_as = { λ teller seen. TellsAs teller.mode teller.screen seen };
+
     fn run_begins(&mut self, seen: Seen)
-        ensures mode { self.new.mode ≡ spec.mode_of seen }
-        ensures screen { self.new.screen ≡ screens.blank seen.width (not seen.is_dumb) }
+        ensures tells { TellsAs self.new.mode self.new.screen seen }
         ensures outlet { self.new.outlet ≡ self.old.outlet }
     {
         self.mode = mode_of(&seen);

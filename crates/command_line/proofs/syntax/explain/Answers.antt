@@ -12,9 +12,9 @@ pub returns-clause-app : goal.returns-clause-app
 returns-clause-app c =
     let new : App = new_app (codes "explain") in
     let described : app_of c.about.result ≡ new = ap app_of_fields c.about.ensures ∙ c.new.ensures.app in
-    IfOk-weaker c.arg.result _ _ (λ r h. h.shape c.number.ensures.local ∙ ap₂ with_rule described c.number.ensures.rule) c.arg.ensures
+    IfOk-weaker c.arg.result _ _ (λ r h. h.shape c.topic.ensures.local ∙ ap₂ with_rule described c.topic.ensures.rule) c.arg.ensures
 
 pub returns-clause-local : goal.returns-clause-local
 returns-clause-local c =
     let described : (fields_of c.about.result).has_globals ≡ false = ap (λ (f : Command-F Command). f.has_globals) c.about.ensures ∙ c.new.ensures.local in
-    IfOk-weaker c.arg.result _ _ (λ r h. h.globals ∙ ap₂ (λ (a b : Bool). a || b) described c.number.ensures.local) c.arg.ensures
+    IfOk-weaker c.arg.result _ _ (λ r h. h.globals ∙ ap₂ (λ (a b : Bool). a || b) described c.topic.ensures.local) c.arg.ensures

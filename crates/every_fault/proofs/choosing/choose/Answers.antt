@@ -1,14 +1,16 @@
-use Rattle.std.proofs.Common.{option_map, subst}
-use Rattle.std.proofs.lemmas.Result.{IfOk-weaker}
-use Rattle.every_fault.specs.KeptTexts.{IsChosen}
+use Rattle.std.proofs.Common.{rules, option_map}
 use Rattle.every_fault.proofs.choosing.choose.Goals as goal
+use Rattle.every_fault.proofs.choosing.choose.Goals.{then-accepted, else-accepted}
 
-pub returns-in-Ok : goal.returns-in-Ok
-returns-in-Ok c =
-    IfOk-weaker c.whole_or_kept.result _ _
-    (λ chosen is. record {
-      told = c.in-Ok.told;
-      tells = c.in-Ok.ensures;
-      is = subst (λ silent. IsChosen c.args.playbook.now silent (option_map (λ bytes. bytes.items) chosen)) (rw c.as_slice.ensures.value at c.is_silent.ensures) is;
-    })
-    c.whole_or_kept.ensures
+pub returns-in-Ok-aim_if : goal.returns-in-Ok-aim_if
+returns-in-Ok-aim_if c = record {
+  told = c.in-Ok.told;
+  tells = c.in-Ok.ensures;
+  whole = rw c.as_slice.ensures.value at c.is_silent-is_whole.ensures;
+  known = c.in-Ok-knows_hosts.known;
+  knows = c.in-Ok-knows_hosts.ensures;
+  all_hosts = elim c.if-accepted.branch [ then-accepted w ↦ search rules | else-accepted w ↦ search rules ];
+  chosen = option_map (λ bytes. bytes.items) c.in-Ok-whole_or_kept.text;
+  is = c.in-Ok-whole_or_kept.ensures;
+  aimed = c.in-Ok-aim_if.ensures;
+}

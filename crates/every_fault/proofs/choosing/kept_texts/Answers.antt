@@ -1,11 +1,14 @@
-use Rattle.std.proofs.Common.{option_map, subst}
+use Rattle.std.proofs.Common.{◌&&◌, Bool, is_some, option_map, ap, ◌∙◌, subst}
 use Rattle.std.proofs.lemmas.Result.{IfOk-weaker}
 use Rattle.every_fault.specs.Inventories.{IsFleetPart, standing_of}
+use Rattle.every_fault.specs.KeptTexts.{AreTextsOf}
 use Rattle.every_fault.proofs.choosing.kept_texts.Goals as goal
 
 pub returns-in-Ok-find_fleet : goal.returns-in-Ok-find_fleet
 returns-in-Ok-find_fleet c =
     let standing = option_map standing_of c.in-Ok-fleet_part.standing in
+    let read = rw c.as_slice.ensures.value at c.is_silent-is_read.ensures in
+    let found = option_map standing_of c.in-Ok-find_fleet.found in
     IfOk-weaker c.texts_of.result _ _
     (λ texts are. record {
       told = c.in-Ok.told;
@@ -13,10 +16,9 @@ returns-in-Ok-find_fleet c =
       fleet_told = c.in-Ok-fleet_part._told;
       standing = standing;
       of_fleet =
-          subst (λ silent. IsFleetPart c.args.inventory.now 0 silent c.in-Ok-fleet_part._told standing) (rw c.as_slice.ensures.value at c.is_silent-is_read.ensures)
-          c.in-Ok-fleet_part.ensures;
-      found = option_map standing_of c.in-Ok-find_fleet.found;
+          subst (λ silent. IsFleetPart c.args.inventory.now 0 silent c.in-Ok-fleet_part._told standing) read c.in-Ok-fleet_part.ensures;
+      found = found;
       is_found = c.in-Ok-find_fleet.ensures;
-      are = are;
+      are = subst (λ (accepted : Bool). AreTextsOf accepted found (option_map (λ text. text.now) c.args.playbook) texts) (c.is_accepted-accepted.ensures ∙ ap (λ (silent : Bool). silent && is_some standing) read) are;
     })
     c.texts_of.ensures

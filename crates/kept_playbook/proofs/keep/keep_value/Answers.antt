@@ -4,7 +4,7 @@ use Rattle.serde_json.specs.Read.{max_depth}
 use Rattle.serde_json.specs.View.{view}
 use Rattle.playbook_faults.specs.Names.{has_name}
 use Rattle.kept_playbook.specs.Plays.{kept_document}
-use Rattle.kept_playbook.proofs.DepthLaws.{kept_within}
+use Rattle.kept_playbook.proofs.PlayDepths.{kept_within}
 use Rattle.kept_playbook.proofs.keep.keep_value.Goals as goal
 
 pub returns : goal.returns

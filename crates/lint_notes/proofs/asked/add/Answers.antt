@@ -1,6 +1,6 @@
 use Rattle.std.proofs.Common.{Bor, List, ap, sym, ◌∙◌, ◌||◌}
 use Rattle.group_tree.specs.Names.{Name, is_among, same_name}
-use Rattle.lint_notes.specs.Inside.{has_missed, names_of}
+use Rattle.lint_notes.specs.Inside.{names_of}
 use Rattle.lint_notes.proofs.OnceLemmas.{among_pushed, names_pushed}
 use Rattle.lint_notes.proofs.asked.add.Goals as goal
 

@@ -1,4 +1,4 @@
-use Rattle.std.proofs.Common.{◌≡◌, Bool, true, false, is_some, Option, Some, None, sym, ap, ◌∙◌}
+use Rattle.std.proofs.Common.{sym, ◌∙◌}
 use Rattle.lint_notes.proofs.BatchLemmas.{none_asked, where_asked}
 use Rattle.lint_notes.proofs.batches.smallest_of.Goals as goal
 

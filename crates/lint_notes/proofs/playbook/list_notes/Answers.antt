@@ -1,10 +1,19 @@
-use Rattle.std.proofs.Common.{◌++◌, List, Option, ℕ, map, ap, ◌∙◌}
+use Rattle.std.proofs.Common.{◌++◌, List, Option, ℕ, map, ap, subst, sym, ◌∙◌}
 use Rattle.host_vars.specs.HostVars.{variables_of}
+use Rattle.host_vars.specs.declared.vars.Vars.{Vars}
 use Rattle.lint_notes.specs.CaseHosts.{fleet_notes}
-use Rattle.lint_notes.specs.Inside.{lacks_in, missed_in}
+use Rattle.lint_notes.specs.Given.{AreAllGiven}
+use Rattle.lint_notes.specs.Inside.{has_missed, lacks_in, missed_in}
 use Rattle.lint_notes.specs.Playbooks.{plays_notes}
+use Rattle.lint_notes.proofs.GivenLemmas.{all_given}
 use Rattle.lint_notes.proofs.SameLemmas.{notes_of_all}
 use Rattle.lint_notes.proofs.playbook.list_notes.Goals as goal
+
+pub note_plays-requires-clause-given : goal.note_plays-requires-clause-given
+note_plays-requires-clause-given g c =
+    let passes = has_missed c.in_ok-given.given in
+    subst (λ (l : List Vars). AreAllGiven passes l) (sym c.as_slice.ensures.value)
+    (all_given c.args.tree.now c.args.fleet.now.hosts c.in_ok-vars.vars.items c.in_ok-vars.ensures.variables c.in_ok-vars.ensures.results passes c.in_ok-given.ensures)
 
 pub returns : goal.returns
 returns g c =

@@ -1,4 +1,4 @@
-use Rattle.std.proofs.Common.{◌≡◌, ◌++◌, ◌==◌, Bool, List, flat_map, length, ap, sym, ◌∙◌}
+use Rattle.std.proofs.Common.{◌++◌, ◌==◌, Bool, List, flat_map, ap, sym, ◌∙◌}
 use Rattle.std.specs.Prelude.{if◌then◌else◌}
 use Rattle.group_tree.specs.Names.{Name}
 use Rattle.lint_notes.specs.Hosts.{Crowd, asking, asking_by, name_note}

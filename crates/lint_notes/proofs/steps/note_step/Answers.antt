@@ -1,4 +1,4 @@
-use Rattle.std.proofs.Common.{◌≡◌, ◌++◌, List, Option, flat_map, ap, ◌∙◌}
+use Rattle.std.proofs.Common.{◌≡◌, ◌++◌, Option, flat_map, ap, ◌∙◌}
 use Rattle.group_tree.specs.Names.{Name}
 use Rattle.lint_notes.specs.Hosts.{asking_by, name_note}
 use Rattle.lint_notes.specs.Inside.{crowd_of, has_name, missed_from}

@@ -1,5 +1,5 @@
 use Rattle.std.proofs.Common.{◌≡◌, drop}
-use Rattle.missing_names.specs.Gaps.{names_found}
+use Rattle.missing_names.specs.Lent.{names_found}
 use Rattle.missing_names.specs.Misses.{missed_in_words, once_behind}
 use Rattle.missing_names.proofs.Onces.{once_words}
 use Rattle.missing_names.proofs.gaps.add_words.Given as goal

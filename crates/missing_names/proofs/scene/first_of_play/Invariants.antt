@@ -1,4 +1,4 @@
-use Rattle.std.proofs.Common.{◌≡◌, ◌≤◌, drop, length}
+use Rattle.std.proofs.Common.{◌≡◌, drop}
 use Rattle.play_model.specs.declared.step.Step.{Step}
 use Rattle.step_words.specs.Inside.{views_of}
 use Rattle.missing_names.specs.NoValues.{first_of, misses_of_play, misses_of_step}

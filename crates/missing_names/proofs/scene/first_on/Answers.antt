@@ -1,4 +1,4 @@
-use Rattle.std.proofs.Common.{◌≡◌, ◌+◌, ℕ, Bor, List, Some, None, get_or, slice_get, ap, ◌∙◌}
+use Rattle.std.proofs.Common.{◌≡◌, ◌+◌, ℕ, Bor, List, get_or, slice_get, ap, ◌∙◌}
 use Rattle.domains.specs.Numbered.{host_at}
 use Rattle.group_tree.specs.Names.{Name}
 use Rattle.host_track.specs.Hosts.{Known}

@@ -12,7 +12,7 @@ returns-in-Ok g c =
     let given : List Word = map string_bytes c.args.words.now in
     let found = c.in-Ok.field-0 in
     let asked = c.in-Ok.ensures in
-    let helps = helps_where_asked c.new-helper.result.is_wanted (g.S.System.may_watch c.args.system.now || found.wishes.is_verbose) _ c.help-help.ensures c.new-helper.ensures in
+    let helps = helps_where_asked c.new-helper.result.is_wanted (g.S.System.may_watch c.args.system.now || found.wishes.is_verbose) _ c.help-help.ensures c.new-helper.ensures.asked in
     gains_as c.args.history c.follow-outcome.result.1
     (λ logs does. inl (follows_line (g.R.Runner.may c.args.runner.now) (g.S.System.may_watch c.args.system.now) (sources_of (g.S.System.files c.args.system.now) (g.I.Input.is_reliable c.args.input.now)) given found.line
     (g.I.Read.remaining c.args.input.now) (g.I.Read.remaining c.follow-outcome.new.input) (g.O.Write.contents c.args.out.now) (g.O.Write.contents c.follow-outcome.new.out) _ c.follow-outcome.result.0 logs

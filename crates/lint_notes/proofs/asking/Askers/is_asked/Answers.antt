@@ -1,4 +1,4 @@
-use Rattle.std.proofs.Common.{◌≡◌, ◌<◌, Bool, true, false, ◌&&◌, get_or, length, arith, sym, ap, ◌∙◌}
+use Rattle.std.proofs.Common.{◌≡◌, ◌<◌, true, false, ◌&&◌, get_or, length, arith, sym, ap, ◌∙◌}
 use Rattle.group_tree.specs.Names.{is_among}
 use Rattle.lint_notes.specs.Inside.{missed_from}
 use Rattle.lint_notes.specs.Lacks.{lacks_in}

@@ -1,4 +1,4 @@
-use Rattle.std.proofs.Common.{◌≡◌, ℕ, is_some, Option, ap, ◌∙◌}
+use Rattle.std.proofs.Common.{ℕ, is_some, Option, ap, ◌∙◌}
 use Rattle.std.specs.Prelude.{count_by}
 use Rattle.lint_notes.specs.Lacks.{lacks_in}
 use Rattle.lint_notes.specs.declared.lack.Lack.{Lack}

@@ -1,6 +1,5 @@
 use Rattle.std.proofs.Common.{◌≡◌, drop}
-use Rattle.missing_names.specs.Gaps.{names_found}
-use Rattle.missing_names.specs.Lent.{lent_names}
+use Rattle.missing_names.specs.Lent.{lent_names, names_found}
 use Rattle.missing_names.specs.Misses.{once_behind}
 use Rattle.missing_names.proofs.found.Found.add_all.Given as goal
 

@@ -1,0 +1,11 @@
+-- Whether notes of a kind are told.
+use Rattle.std.proofs.Common.{◌≡◌, Bool, not, ◌&&◌, List, map, sym, ap, ◌∙◌}
+use Rattle.std.specs.List.{list_any}
+use Rattle.group_tree.proofs.MemberLemmas.{list_any-map}
+use Rattle.lint_notes.specs.Advice.{is_of}
+use Rattle.lint_notes.specs.Notes.{seen}
+use Rattle.lint_notes.specs.declared.kind.Kind.{Kind}
+use Rattle.lint_notes.specs.declared.note.Note as code
+
+pub tells_some : (kind : Kind) (notes : List code.Note) (some : Bool) → some ≡ list_any (λ note. is_of kind (seen note)) notes → some ≡ list_any (is_of kind) (map seen notes)
+tells_some kind notes some is = is ∙ sym (list_any-map (is_of kind) seen notes)

@@ -1,0 +1,74 @@
+//! The names to which an inventory gives a value, on whatever host.
+ghost use Rattle.std.specs.Prelude.{◌≡◌, ◌||◌, IfOk, OnOk};
+ghost use Rattle.std.specs.List.{list_any};
+ghost use Rattle.group_tree.specs.Names.{Name};
+ghost use Rattle.lint_notes.specs.Given.{group_gives, hosts_give, is_given, is_named};
+ghost use Rattle.lint_notes.specs.Inside.{has_missed};
+
+use crate::missed::Missed;
+use domains::{WalkedGroup, list_walk};
+use group_tree::{Group, Host, Tree, Variable};
+use std::alloc::{AllocError, Allocator, Global};
+
+/// Adds the names of these variables.
+fn add_variables<'t, A: Allocator>(
+    variables: &'t [Variable<A>],
+    names: &mut Missed<'t>,
+) -> Result<(), AllocError>
+    ensures { OnOk result ((name : Name) → has_missed names.new name ≡ (has_missed names.old name || is_named name variables.now)) }
+{
+    for variable in variables {
+        names.add(variable.name())?;
+    }
+    Ok(())
+}
+
+/// Adds those of the hosts' variables.
+fn add_hosts<'t, A: Allocator>(
+    hosts: &'t [Host<A>],
+    names: &mut Missed<'t>,
+) -> Result<(), AllocError>
+    ensures { OnOk result ((name : Name) → has_missed names.new name ≡ (has_missed names.old name || hosts_give name hosts.now)) }
+{
+    for host in hosts {
+        add_variables(host.variables(), names)?;
+    }
+    Ok(())
+}
+
+/// Adds those of the group's own variables, and of the hosts that it lists itself.
+fn add_group<'t, A: Allocator>(
+    group: &'t Group<A>,
+    names: &mut Missed<'t>,
+) -> Result<(), AllocError>
+    ensures { OnOk result ((name : Name) → has_missed names.new name ≡ (has_missed names.old name || group_gives name group.now)) }
+{
+    add_variables(group.variables(), names)?;
+    add_hosts(group.hosts(), names)
+}
+
+fn add_groups<'t, A: Allocator>(
+    groups: &[WalkedGroup<'t, A>],
+    names: &mut Missed<'t>,
+) -> Result<(), AllocError>
+    ensures { OnOk result ((name : Name) → has_missed names.new name ≡ (has_missed names.old name || list_any (λ walked. group_gives name walked.group.now) groups.now)) }
+{
+    for walked in groups {
+        add_group(walked.group, names)?;
+    }
+    Ok(())
+}
+
+/// The names of the variables of all groups and hosts, each once. It fails for want of memory alone.
+pub(crate) fn list_given<'t, A: Allocator>(
+    alloc: Global,
+    tree: &'t Tree<A>,
+) -> Result<Missed<'t>, AllocError>
+    ensures { IfOk result (λ names. (name : Name) → has_missed names name ≡ is_given tree.now name) }
+{
+    let mut groups = Vec::new(alloc);
+    list_walk(tree.root(), 0, &mut groups)?;
+    let mut names = Missed::new(alloc);
+    add_groups(groups.as_slice(), &mut names)?;
+    Ok(names)
+}
