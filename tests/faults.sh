@@ -56,7 +56,7 @@ for names in 'alpah alpha' 'omgea omega' 'wbe web' 'zooo zoo'; do
     set -- $names
     printf '[{"hosts": "%s", "tasks": [{"command": "true"}]}]' "$1" >"$work/pattern.json"
     run plan -v "$work/names.json" "$work/pattern.json"
-    [ "$status" -eq 1 ] && [ "$(head -n 1 "$work/errors")" = "rollout: 304 NoSuchName name=$1" ] && sed -n 2p "$work/errors" | grep -q "^  did you mean $2?" && pass || fail "a name close to $2: $(cat "$work/errors")"
+    [ "$status" -eq 1 ] && [ "$(head -n 1 "$work/errors")" = "rollout: 304 NoSuchName name=$1" ] && sed -n 2p "$work/errors" | grep -q "^  0/hosts, \"$1\": did you mean $2?" && pass || fail "a name close to $2: $(cat "$work/errors")"
 done
 
 # What keeps a file from being read goes to standard error, alone.

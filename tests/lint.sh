@@ -583,6 +583,7 @@ told 'and nothing is left' 'rollout: 703 UnknownKey at=0/become' ''
 for what in '708 [step] * 17' '709 [dict(step, tasks=step["tasks"] * 257)]'; do
     python3 -c 'import json, sys; step = {"hosts": "all", "tasks": [{"command": "echo ;", "x": 1}]}; print(json.dumps(eval(sys.argv[1])))' "${what#* }" >"$playbook"
     run lint "$inventory" "$playbook"
+    without_advice
     [ "$status" -eq 1 ] && [ "$(head -c 12 "$work/out")" = "rollout: ${what%% *}" ] && [ "$(tail -n 2 "$work/out")" = "faults=1${newline}notes=0" ] && pass || fail "beside ${what%% *} no step is noted: $(tail -n 2 "$work/out")"
 done
 python3 -c 'import json; print(json.dumps([{"hosts": "all", "tasks": [{"command": "echo ;", "x": 1}] * 101}]))' >"$playbook"
@@ -658,6 +659,7 @@ import json
 print(json.dumps([{"hosts": "all", "tasks": [{"command": "echo | cat"}] * 256}] * 16))' >"$work/many.json"
 printf '{"all":{"hosts":{"a":null}}}' >"$work/one.json"
 run lint "$work/one.json" "$work/many.json"
+without_advice
 [ "$status" -eq 1 ] && [ "$(tail -n 1 "$work/out")" = notes=4096 ] && [ "$(grep -c ' word=|$' "$work/out")" -eq 4096 ] && pass || fail "4,096 notes: status $status, $(tail -n 1 "$work/out")"
 
 if [ -w /dev/full ]; then

@@ -70,7 +70,7 @@ def _playbooks():
     yield _row("33 times not", [("503 TooDeep step=1 key=when at=128", "32")], playbook=[_play([{**TRUE, "when": "not " * 33 + "a"}])])
     longest = [("504 TooLong step=1 key=when at=4096", "4096"), ("504 TooLong step=1 key=when at=4096", "4096")]
     yield _row("texts of 4,097 bytes in a list", longest, playbook=[_play([{**TRUE, "when": ["n" * 4097, "n" * 4096, " " * 4096 + "n"]}])])
-    words = [("602 BadBraces step=1", "..", "filter")]
+    words = [("602 BadBraces step=1", "<here>{{ a | b }}", "filter")]
     yield _row("a long word with bad braces", words, playbook=[_play([{"command": {"argv": ["x" * 500 + "{{ a | b }}" + "\u00e9" * 500]}}])])
     yield _row("a long name of a handler", [(f"704 NoSuchHandler name={'h' * 1000}", "handlers")], playbook=[_play([{**TRUE, "notify": "h" * 1000}])])
     yield _row("a long name in a pattern", [(f"304 NoSuchName name={'h' * 1000}", "name")], playbook=[{"hosts": "h" * 1000, "tasks": [TRUE]}])
