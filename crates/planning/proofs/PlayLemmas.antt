@@ -1,5 +1,5 @@
 -- A playbook has a first play.
-use Rattle.std.proofs.Common.{◌≡◌, ℕ, ◌<◌, Bool, true, false, List, ◌++◌, length, map, refl, arith}
+use Rattle.std.proofs.Common.{◌≡◌, ℕ, ◌<◌, Bool, true, false, List, [], ◌++◌, length, map, refl, arith}
 use Rattle.std.proofs.lemmas.Bool.{ltb-true}
 use Rattle.std.proofs.lemmas.List.{length-map}
 use Rattle.std.proofs.lemmas.Slice.Zip.{AllZip-long}
@@ -18,5 +18,5 @@ pub has_play : (most : ℕ) (text : List ℕ) (plays : List Play) → IsReadAs m
 has_play most text plays reads =
     let many : length plays ≡ length (plays_of reads.document) = AllZip-long IsPlay (plays_of reads.document) plays reads.says in
     let written : length (plays_of reads.document) ≡ length (plays_in reads.document) = length-map (plays_in reads.document) play_of in
-    let some = ltb-true 0 (length (plays_in reads.document)) (kept_first (nat_lt 0 (length (plays_in reads.document))) BadShape _ _ reads.keeps_all) in
+    let some = ltb-true 0 (length (plays_in reads.document)) (kept_first (nat_lt 0 (length (plays_in reads.document))) (BadShape []) _ _ reads.keeps_all) in
     omega (arith, many, written, some)

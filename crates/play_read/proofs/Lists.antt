@@ -1,8 +1,9 @@
 -- Lists, place by place.
-use Rattle.std.proofs.Common.{◌≡◌, ℕ, ◌+◌, ◌<◌, ◌≤◌, Option, Some, None, List, [], ◌∷◌, ◌++◌, length, get_or, take, drop, map, sym, ap, ◌∙◌, refl, subst, arith}
+use Rattle.std.proofs.Common.{◌≡◌, ◌≤◌, Option, Some, None, List, [], ◌∷◌, ◌++◌, length, map, sym, ap, ◌∙◌, subst, arith}
 use Rattle.std.specs.List.{AllZip, filter_map}
 use Rattle.std.specs.List.{cons_option}
-use Rattle.std.proofs.lemmas.List.{drop_more, take_more, map-append, length-map}
+use Rattle.std.proofs.lemmas.List.{map-append, length-map}
+pub use Rattle.play_rules.proofs.Lists.{left_at, taken_at}
 
 pub all_zip_append : {A B : Type 0} (R : A → B → Type 0) (xs us : List A) (ys vs : List B) → AllZip R xs ys → AllZip R us vs → AllZip R (xs ++ us) (ys ++ vs)
 all_zip_append R [] us [] vs each more = more
@@ -27,13 +28,3 @@ filter_map_short {B = B} f (x ∷ xs) = by_case (f x) (filter_map_short f xs)
 
 pub as_many : {A B : Type 0} (f : A → B) (xs : List A) (ys : List B) → map f xs ≡ ys → length xs ≡ length ys
 as_many f xs ys are = sym (length-map xs f) ∙ ap (λ zs. length zs) are
-
-module _ {A B : Type 0} (f : A → B) (xs : List A) (i : ℕ) (x : A) (within : i < length xs) (is : x ≡ get_or xs i x) where
-  -- what is left, and what was taken, of a list and of its images
-  pub left_at : map f (drop i xs) ≡ f x ∷ map f (drop (i + 1) xs)
-  left_at =
-      ap (map f) (drop_more xs i x within) ∙ ap (λ (item : A). f item ∷ map f (drop (i + 1) xs)) (sym is)
-
-  pub taken_at : map f (take (i + 1) xs) ≡ map f (take i xs) ++ f x ∷ []
-  taken_at =
-      ap (map f) (take_more xs i x within ∙ ap (λ (item : A). take i xs ++ item ∷ []) (sym is)) ∙ map-append f (take i xs) (x ∷ [])

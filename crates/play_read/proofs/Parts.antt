@@ -8,7 +8,7 @@ use Rattle.std.proofs.lemmas.Bool.{or_parts}
 use Rattle.std.proofs.lemmas.List.{map-append, append-nil}
 use Rattle.serde_json.specs.Data.{Data}
 use Rattle.play_rules.specs.Breaches.{Breach, Spot, Check, Broken, first_of}
-use Rattle.play_rules.specs.Commands.{bad_command}
+use Rattle.play_rules.specs.CommandPlaces.{bad_command}
 use Rattle.play_rules.specs.Keys.{task_keys, handler_keys}
 use Rattle.play_rules.specs.Steps.{bad_step, unknown_key, bad_task_name, bad_handler_name, bad_register, bad_ignore, bad_notify}
 use Rattle.play_rules.specs.Steps.{condition_checks, checks_of_task, checks_of_handler}

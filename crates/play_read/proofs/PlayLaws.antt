@@ -9,13 +9,14 @@ use Rattle.play_rules.specs.Breaches.{BadShape, BadSerial, TooManySteps, unless,
 use Rattle.play_rules.specs.Keys.{hosts_key, serial_key, max_fail_key, on_blocked_key, play_keys}
 use Rattle.play_rules.specs.Plays.{tasks_in, handlers_in, bad_tasks, bad_handlers, too_many_steps, bad_settings}
 use Rattle.play_rules.specs.Settings.{size_of, are_few, bad_hosts, bad_serial, bad_percent, bad_mode, sizes_in}
+use Rattle.play_rules.specs.Paths.{under}
 use Rattle.play_rules.specs.Steps.{unknown_key}
 use Rattle.play_read.proofs.Lists.{filter_map_short}
 
 few_given : (serial : Option Data) → bad_serial serial ≡ [] → length (sizes_in serial) ≤ 64
 few_given None none = omega arith
 few_given (Some value) none =
-    let few : are_few (listed value) ≡ true = kept (are_few (listed value)) BadSerial (no_first (unless (are_few (listed value)) BadSerial) _ none) in
+    let few : are_few (listed value) ≡ true = kept (are_few (listed value)) _ (no_first (unless (are_few (listed value)) (BadSerial (under [] serial_key))) _ none) in
     let most : length (listed value) ≤ 64 = leb-true _ _ (and_parts (nat_le 1 (length (listed value))) (nat_le (length (listed value)) 64) few).1 in
     omega (arith, most, filter_map_short size_of (listed value))
 
@@ -24,7 +25,7 @@ module _ (play : Data) (none : bad_settings play ≡ []) where
   of_serial : joined
       (bad_serial (get serial_key play) ∷ bad_percent (get max_fail_key play) ∷ bad_mode (get on_blocked_key play) ∷ bad_tasks play ∷ bad_handlers play ∷ too_many_steps play ∷ []) ≡ []
   of_serial =
-      no_second (bad_hosts (get hosts_key play)) _ (no_second (unknown_key play_keys play) _ (no_second (unless (is_object play) BadShape) _ none))
+      no_second (bad_hosts (get hosts_key play)) _ (no_second (unknown_key play_keys play) _ (no_second (unless (is_object play) (BadShape [])) _ none))
 
   of_tasks : joined (bad_tasks play ∷ bad_handlers play ∷ too_many_steps play ∷ []) ≡ []
   of_tasks =
@@ -35,7 +36,7 @@ module _ (play : Data) (none : bad_settings play ≡ []) where
 
   pub some_task : 1 ≤ length (tasks_in play)
   some_task =
-      omega (arith, ltb-true 0 (length (tasks_in play)) (kept (nat_lt 0 (length (tasks_in play))) BadShape (no_first (bad_tasks play) _ of_tasks)))
+      omega (arith, ltb-true 0 (length (tasks_in play)) (kept (nat_lt 0 (length (tasks_in play))) _ (no_first (bad_tasks play) _ of_tasks)))
 
   pub few_steps : length (tasks_in play) + length (handlers_in play) ≤ 256
   few_steps =

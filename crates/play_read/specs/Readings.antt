@@ -3,13 +3,14 @@ use Rattle.std.specs.Prelude.{◌≡◌, Option, Some, None, List, [], ◌∷◌
 use Rattle.serde_json.specs.Data.{Data}
 use Rattle.play_model.specs.declared.step.Step.{Step}
 use Rattle.play_rules.specs.Breaches.{Breach, Spot, Check, Broken, joined}
-use Rattle.play_rules.specs.Commands.{bad_command}
+use Rattle.play_rules.specs.CommandPlaces.{bad_command}
 use Rattle.play_rules.specs.Keys.{task_keys, handler_keys}
 use Rattle.play_rules.specs.Steps.{WrittenStep, bad_step, unknown_key, bad_task_name, bad_handler_name, bad_register, bad_ignore, condition_checks}
 use Rattle.play_rules.specs.Checks.{Named, rule, IsFirst}
 use Rattle.play_rules.specs.Faults.{key_name, named_by}
 use Rattle.play_read.specs.Says.{Says}
-use Rattle.play_rules.specs.Verdicts.{breach_at}
+use Rattle.play_rules.specs.Paths.{Path}
+use Rattle.play_rules.specs.Verdicts.{breach_from}
 use Rattle.play_read.specs.declared.step_flaw.StepFlaw.{StepFlaw}
 use Rattle.play_read.specs.declared.step_flaw.StepFlaw.TheVariants as flaw
 
@@ -24,11 +25,15 @@ pub record IsStep (written : WrittenStep) (step : Step) : Type 0 where
   pub ignore_errors : step.ignore_errors ≡ written.ignore_errors
   pub notify : step.notify.items ≡ written.notify
 
--- what a flaw names, where the step stands at this spot; want of memory names nothing
+-- what a flaw names, where the step stands at this spot and has this path; want of memory names nothing
+abbrev pub named_below : Path → Spot → StepFlaw → Option Named
+named_below path spot (flaw.Rule broken) = Some (rule (breach_from path spot broken))
+named_below path spot (flaw.Condition key found) = named_by spot (key_name key) found
+named_below path spot flaw.Memory = None
+
+-- seen from the step
 abbrev pub named_in : Spot → StepFlaw → Option Named
-named_in spot (flaw.Rule broken) = Some (rule (breach_at spot broken))
-named_in spot (flaw.Condition key found) = named_by spot (key_name key) found
-named_in spot flaw.Memory = None
+named_in spot found = named_below [] spot found
 
 -- the flaw names the first of these checks that is not kept, or want of memory
 abbrev pub IsFlawAt : Spot → StepFlaw → List Check → Type 0

@@ -11,6 +11,7 @@ use Rattle.cond.specs.declared.fault.CondFault.TheVariants as fault
 use Rattle.group_tree.specs.Names.{Name}
 use Rattle.play_rules.specs.Breaches.{Spot, Check, BadShape}
 use Rattle.play_rules.specs.Conditions as rules
+use Rattle.play_rules.specs.Paths.{element_or, under}
 use Rattle.play_rules.specs.Checks.{Named, rule, IsFirst}
 use Rattle.play_rules.specs.Faults.{named_by}
 use Rattle.play_read.specs.declared.clause.Clause.{Clause}
@@ -81,7 +82,7 @@ abbrev pub IsFaultOfText : Spot → Name → CondFault → List Check → Type 0
 IsFaultOfText spot key found checks = MatchOption (named_by spot key found) ⊤ (λ named. IsFirst named checks)
 
 abbrev pub named_at : Spot → Name → ConditionFlaw → Option Named
-named_at spot key (flaw.BadShape place) = Some (rule BadShape)
+named_at spot key (flaw.BadShape place) = Some (rule (BadShape (element_or (under [] key) place)))
 named_at spot key (flaw.Bad found) = named_by spot key found
 
 abbrev pub IsFlawOf : Spot → Name → ConditionFlaw → List Check → Type 0

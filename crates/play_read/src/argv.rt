@@ -6,6 +6,7 @@ ghost use Rattle.play_rules.specs.Commands as spec;
 
 use itoa::Buffer;
 use play_model::Words;
+use play_rules::is_word;
 use serde_json::Value;
 use std::alloc::{AllocError, Global};
 
@@ -28,16 +29,6 @@ fn are_words(list: &[Value]) -> bool
         }
     }
     true
-}
-
-fn is_word(value: &Value) -> bool
-    ensures { result ≡ spec.is_word (view value.now) }
-{
-    match value {
-        Value::String(_) => true,
-        Value::Number(number) => number.as_i64().is_some(),
-        _ => false,
-    }
 }
 
 fn words_among(alloc: Global, list: &[Value]) -> Result<Words, AllocError>

@@ -1,6 +1,5 @@
 //! The parts of a condition, as a document lists them.
 ghost use Rattle.std.specs.Prelude.{◌≡◌, map, option_map};
-ghost use Rattle.std.specs.List.{list_all};
 ghost use Rattle.serde_json.specs.View.{view};
 ghost use Rattle.play_rules.specs.Conditions as spec;
 ghost use Rattle.play_read.specs.Says.{said};
@@ -30,15 +29,4 @@ pub(crate) fn clause_of(value: &Value) -> Option<Clause<'_>>
         Value::String(text) => Some(Clause::Text(text.as_str())),
         _ => None,
     }
-}
-
-pub(crate) fn are_clauses(list: &[Value]) -> bool
-    ensures { result ≡ list_all spec.is_clause (map view list.now) }
-{
-    for value in list {
-        if clause_of(value).is_none() {
-            return false;
-        }
-    }
-    true
 }

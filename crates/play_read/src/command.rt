@@ -9,9 +9,10 @@ ghost use Rattle.play_rules.specs.Commands as spec;
 use crate::argv::words_listed;
 use crate::free::free_words;
 use play_model::Words;
+use play_rules::count_entries;
 use serde_json::Value;
 use std::alloc::{AllocError, Global};
-use text_parts::{elements_of, entries_of};
+use text_parts::elements_of;
 
 /// The words of a step's command: free-form text, or an object with one key alone, `argv` or `cmd`; nothing where a step
 /// has neither `command` nor its long form or both, or the value has another shape. It fails for want of memory alone.
@@ -78,14 +79,5 @@ fn written_words(alloc: Global, value: &Value) -> Result<Option<Words>, AllocErr
     match cmd.as_str() {
         Some(text) => free_words(alloc, text),
         None => Ok(None),
-    }
-}
-
-fn count_entries(value: &Value) -> usize
-    ensures { result ≡ length (entries_in (view value.now)) }
-{
-    match entries_of(value) {
-        Some(object) => object.len(),
-        None => 0,
     }
 }

@@ -1,5 +1,6 @@
 //! From a key of a step to its condition.
-ghost use Rattle.std.specs.Prelude.{IfOk, IfErr};
+ghost use Rattle.std.specs.Prelude.{◌≡◌, IfOk, IfErr, true};
+ghost use Rattle.std.specs.List.{flat_map, list_all};
 ghost use Rattle.serde_json.specs.Find.{get};
 ghost use Rattle.serde_json.specs.View.{view};
 ghost use Rattle.play_rules.specs.Breaches.{Spot};
@@ -8,14 +9,14 @@ ghost use Rattle.play_rules.specs.Checks.{AllKept};
 ghost use Rattle.play_rules.specs.Faults.{key_name};
 ghost use Rattle.play_read.specs.Says.{Says, IsFlawOf};
 
-use crate::clause::{are_clauses, clause_of, clauses_listed};
+use crate::clause::clauses_listed;
 use crate::condition_flaw::ConditionFlaw;
 use crate::gathering::gather;
+use crate::shapes::check_shapes;
 use cond::Cond;
 use play_rules::ConditionKey;
 use serde_json::Value;
 use std::alloc::Global;
-use text_parts::elements_of;
 
 /// The condition under a key of a step: the texts and truth values that it lists, joined by `and`; none where the key is
 /// missing, null or an empty list. The shapes of all parts come before the first text that is no condition.
@@ -45,10 +46,24 @@ fn read_given(
     ensures says { IfOk result (λ tree. Says (spec.clauses_of (view value.now)) tree) }
     ensures err { (spot : Spot) → IfErr result (λ flaw. IsFlawOf spot (key_name key) flaw (spec.checks_of spot (key_name key) (view value.now))) }
 {
-    let list = clauses_listed(value);
-    if !are_clauses(list) {
-        return Err(ConditionFlaw::BadShape(place_of_bad(value)));
+    match check_shapes(value) {
+        Ok(()) => read_parts(alloc, key, value),
+        Err(place) => Err(ConditionFlaw::BadShape(place)),
     }
+}
+
+/// The condition of a value of which each part is a text or a truth value.
+fn read_parts(
+    alloc: Global,
+    key: ConditionKey,
+    value: &Value,
+) -> Result<Option<Cond>, ConditionFlaw>
+    requires { list_all spec.is_clause (spec.clauses_listed (view value.now)) ≡ true }
+    ensures kept { (spot : Spot) → IfOk result (λ _. AllKept (flat_map (spec.asked_of spot (key_name key)) (spec.clauses_of (view value.now)))) }
+    ensures says { IfOk result (λ tree. Says (spec.clauses_of (view value.now)) tree) }
+    ensures err { (spot : Spot) → IfErr result (λ flaw. IsFlawOf spot (key_name key) flaw (flat_map (spec.asked_of spot (key_name key)) (spec.clauses_of (view value.now)))) }
+{
+    let list = clauses_listed(value);
     if list.is_empty() {
         return Ok(None);
     }
@@ -56,11 +71,4 @@ fn read_given(
         Ok(all) => Ok(Some(all.finish())),
         Err(fault) => Err(ConditionFlaw::Bad(fault)),
     }
-}
-
-/// Where the first part that is neither a text nor a truth value stands, if in a list.
-fn place_of_bad(value: &Value) -> Option<usize> {
-    elements_of(value)?
-        .iter()
-        .position(|part| clause_of(part).is_none())
 }

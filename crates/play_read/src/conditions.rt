@@ -1,5 +1,5 @@
 //! The conditions of a step.
-ghost use Rattle.std.specs.Prelude.{◌≡◌, IfOk, IfErr, OnOk};
+ghost use Rattle.std.specs.Prelude.{◌≡◌, [], IfOk, IfErr, OnOk};
 ghost use Rattle.serde_json.specs.View.{view};
 ghost use Rattle.play_rules.specs.Breaches.{Spot};
 ghost use Rattle.play_rules.specs.Conditions.{checks_at, clauses_at};
@@ -7,6 +7,7 @@ ghost use Rattle.play_rules.specs.Keys.{when_key, changed_key, failed_key};
 ghost use Rattle.play_rules.specs.Steps.{condition_checks};
 ghost use Rattle.play_rules.specs.Checks.{AllKept};
 ghost use Rattle.play_rules.specs.Faults.{key_name};
+ghost use Rattle.play_rules.specs.Paths.{below, element_or, under};
 ghost use Rattle.play_read.specs.Says.{Says, named_at};
 ghost use Rattle.play_read.specs.Readings.{named_in, IsFlawAt};
 
@@ -74,7 +75,9 @@ fn seen_from_step<'a>(key: ConditionKey, flaw: ConditionFlaw) -> StepFlaw<'a>
     }
 }
 
-fn below_key<'a>(key: ConditionKey, place: Option<usize>) -> Below<'a> {
+fn below_key<'a>(key: ConditionKey, place: Option<usize>) -> Below<'a>
+    ensures { below [] result ≡ element_or (under [] (key_name key)) place }
+{
     match place {
         Some(index) => Below::Element(key.name(), index),
         None => Below::Key(key.name()),

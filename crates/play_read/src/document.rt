@@ -30,7 +30,7 @@ fn listed(document: &Value) -> &[Value]
 
 /// The top value is no list, or is empty.
 fn bad_top(alloc: Global) -> PlayFault
-    ensures { named_of result ≡ Some (rule BadShape) }
+    ensures { named_of result ≡ Some (rule (BadShape [])) }
 {
     PlayFault::BadShape {
         at: String::new(alloc),
@@ -71,9 +71,9 @@ pub(crate) fn only_play(alloc: Global, document: &Value) -> Result<Play, PlayFau
 
 fn read_each(alloc: Global, plays: &[Value]) -> Result<Vec<Play>, PlayFault>
     requires { length plays.now ≤ 16 }
-    ensures kept { IfOk result (λ _. AllKept (spec.checks_of_plays (nat_lt 1 (length plays.now)) 1 (map view plays.now))) }
+    ensures kept { IfOk result (λ _. AllKept (spec.checks_of_plays (nat_lt 1 (length plays.now)) 0 (map view plays.now))) }
     ensures says { IfOk result (λ read. AllZip IsPlay (map spec.play_of (map view plays.now)) read.items) }
-    ensures err { IfErr result (λ fault. IsRefusal fault (spec.checks_of_plays (nat_lt 1 (length plays.now)) 1 (map view plays.now))) }
+    ensures err { IfErr result (λ fault. IsRefusal fault (spec.checks_of_plays (nat_lt 1 (length plays.now)) 0 (map view plays.now))) }
 {
     let mut read = Vec::with_capacity(alloc, plays.len())?;
     for index in 0..plays.len() {
@@ -88,7 +88,8 @@ fn read_each(alloc: Global, plays: &[Value]) -> Result<Vec<Play>, PlayFault>
 /// The place of a play in a file of so many.
 fn place_of(index: usize, plays: usize) -> PlayPlace
     requires { index < plays }
-    ensures { result.told ≡ spec.told (nat_lt 1 plays) (index + 1) }
+    ensures place { result.index ≡ index }
+    ensures told { result.told ≡ spec.told (nat_lt 1 plays) (index + 1) }
 {
     PlayPlace {
         index,

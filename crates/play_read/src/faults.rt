@@ -1,10 +1,11 @@
 //! From what is wrong with a play or a step to the fault that tells it.
-ghost use Rattle.std.specs.Prelude.{◌≡◌, Some, IfOk};
+ghost use Rattle.std.specs.Prelude.{◌≡◌, Some, IfOk, string_bytes};
 ghost use Rattle.play_rules.specs.Plays.{spot_at};
 ghost use Rattle.play_rules.specs.Checks.{rule};
 ghost use Rattle.play_rules.specs.Faults.{key_name, named_by, named_of};
-ghost use Rattle.play_rules.specs.Verdicts.{breach_at};
-ghost use Rattle.play_read.specs.Readings.{named_in};
+ghost use Rattle.play_rules.specs.Verdicts.{breach_from};
+ghost use Rattle.play_read.specs.Places.{play_path, step_path};
+ghost use Rattle.play_read.specs.Readings.{named_below};
 
 use crate::path::{path_below, path_of_play, path_of_step};
 use crate::place::{PlayPlace, StepPlace};
@@ -21,7 +22,7 @@ fn rule_fault(
     step: usize,
     flaw: Flaw<'_>,
 ) -> Result<PlayFault, AllocError>
-    ensures { IfOk result (λ fault. named_of fault ≡ Some (rule (breach_at (spot_at play step) flaw.entry))) }
+    ensures { IfOk result (λ fault. named_of fault ≡ Some (rule (breach_from path.now (spot_at play step) flaw.entry))) }
 {
     match flaw {
         Flaw::BadShape(below) => Ok(PlayFault::BadShape {
@@ -47,10 +48,17 @@ pub(crate) fn fault_of_play(
     place: PlayPlace,
     flaw: Flaw<'_>,
 ) -> Result<PlayFault, AllocError>
-    ensures { IfOk result (λ fault. named_of fault ≡ Some (rule (breach_at (spot_at place.told 0) flaw.entry))) }
+    ensures { IfOk result (λ fault. named_of fault ≡ Some (rule (breach_from (play_path place) (spot_at place.told 0) flaw.entry))) }
 {
-    let path = path_of_play(alloc, place)?;
+    let path = path_of_play(alloc, place.index)?;
     rule_fault(alloc, path.as_str(), place.told, 0, flaw)
+}
+
+fn path_of(alloc: Global, place: StepPlace) -> Result<String, AllocError>
+    ensures { IfOk result (λ path. string_bytes path ≡ step_path place) }
+{
+    let play = path_of_play(alloc, place.play.index)?;
+    path_of_step(alloc, play.as_str(), place.list.key(), place.index)
 }
 
 pub(crate) fn fault_of_step(
@@ -58,11 +66,11 @@ pub(crate) fn fault_of_step(
     place: StepPlace,
     flaw: StepFlaw<'_>,
 ) -> Result<PlayFault, AllocError>
-    ensures { IfOk result (λ fault. named_of fault ≡ named_in (spot_at place.play.told place.number) flaw.entry) }
+    ensures { IfOk result (λ fault. named_of fault ≡ named_below (step_path place) (spot_at place.play.told place.number) flaw.entry) }
 {
     match flaw {
         StepFlaw::Rule(flaw) => {
-            let path = path_of_step(alloc, place)?;
+            let path = path_of(alloc, place)?;
             rule_fault(alloc, path.as_str(), place.play.told, place.number, flaw)
         }
         StepFlaw::Condition(key, fault) => Ok(fault_of_condition(place, key, fault)),

@@ -3,13 +3,14 @@ ghost use Rattle.std.specs.Prelude.{◌≡◌, ◌∷◌, ◌+◌, ◌++◌, ◌
 ghost use Rattle.std.specs.List.{filter_map};
 ghost use Rattle.serde_json.specs.View.{view};
 ghost use Rattle.play_model.specs.Plays.{HasPlainWords, NotifiesNobody};
-ghost use Rattle.play_rules.specs.Breaches.{Broken};
+ghost use Rattle.play_rules.specs.Breaches.{Broken, all_in};
 ghost use Rattle.play_rules.specs.Plays.{spot_at, checks_of_handlers};
 ghost use Rattle.play_rules.specs.Steps as spec;
 ghost use Rattle.play_rules.specs.Checks.{AllKept};
 ghost use Rattle.play_rules.specs.Faults.{IsRefusal};
 ghost use Rattle.play_read.specs.Readings.{IsStep};
 ghost use Rattle.play_read.specs.Known.{known};
+ghost use Rattle.play_read.specs.Places.{play_path, step_path};
 ghost use Rattle.play_read.specs.Reads.{AreSteps};
 
 use crate::faults::fault_of_step;
@@ -57,7 +58,7 @@ fn read_one<'a>(
     ensures names { OnOk result (known names.new ≡ known names.old ++ filter_map spec.name_in (view handler.now ∷ [])) }
     ensures says { OnOk result (IsStep (spec.handler_of (view handler.now)) into.new) }
     ensures plain { OnOk result (HasPlainWords into.new) }
-    ensures err { IfErr result (λ fault. IsRefusal fault (spec.checks_of_handler (spot_at place.play.told place.number) (view handler.now)
+    ensures err { IfErr result (λ fault. IsRefusal fault (all_in (step_path place) (spec.checks_of_handler (spot_at place.play.told place.number) (view handler.now))
         ++ map Broken (spec.twice_named (known names.old) (view handler.now)))) }
 {
     match fill_handler(alloc, handler, into) {
@@ -77,11 +78,11 @@ pub(crate) fn read_handlers<'a>(
 ) -> Result<Vec<Step>, PlayFault>
     requires few { tasks + length handlers.now ≤ 256 }
     requires none { known names.old ≡ [] }
-    ensures kept { IfOk result (λ _. AllKept (checks_of_handlers play.told (tasks + 1) [] (map view handlers.now))) }
+    ensures kept { IfOk result (λ _. AllKept (checks_of_handlers (play_path play) play.told (tasks + 1) 0 [] (map view handlers.now))) }
     ensures names { OnOk result (known names.new ≡ filter_map spec.name_in (map view handlers.now)) }
     ensures says { IfOk result (λ steps. AreSteps (map spec.handler_of (map view handlers.now)) steps.items) }
     ensures plain { IfOk result (λ steps. All HasPlainWords steps.items) }
-    ensures err { IfErr result (λ fault. IsRefusal fault (checks_of_handlers play.told (tasks + 1) [] (map view handlers.now))) }
+    ensures err { IfErr result (λ fault. IsRefusal fault (checks_of_handlers (play_path play) play.told (tasks + 1) 0 [] (map view handlers.now))) }
 {
     let mut steps = Vec::with_capacity(alloc, handlers.len())?;
     for index in 0..handlers.len() {

@@ -1,4 +1,6 @@
 //! Where in the text a play or a step stands.
+ghost use Rattle.std.specs.Prelude.{◌≡◌};
+ghost use Rattle.play_read.specs.Places.{key_of};
 
 /// A play by its place in the file, from 0, and its number, from 1, where the file has several.
 #[derive(Clone, Copy, Debug)]
@@ -15,7 +17,9 @@ pub(crate) enum StepList {
 }
 
 impl StepList {
-    pub(crate) fn key(self) -> &'static str {
+    pub(crate) fn key(self) -> &'static str
+        ensures { result.now ≡ key_of self }
+    {
         match self {
             StepList::Tasks => "tasks",
             StepList::Handlers => "handlers",

@@ -1,13 +1,14 @@
 //! A play, whole.
 ghost use Rattle.std.specs.Prelude.{◌≡◌, [], All, IfErr, IfOk, map};
 ghost use Rattle.serde_json.specs.View.{view};
-ghost use Rattle.play_rules.specs.Breaches.{Broken};
+ghost use Rattle.play_rules.specs.Breaches.{Broken, all_in};
 ghost use Rattle.play_rules.specs.Plays as spec;
 ghost use Rattle.play_rules.specs.Steps.{handler_of, step_of};
 ghost use Rattle.play_model.specs.Plays.{HasPlainWords};
 ghost use Rattle.play_rules.specs.Checks.{AllKept};
 ghost use Rattle.play_rules.specs.Faults.{IsRefusal};
 ghost use Rattle.play_rules.specs.declared.fault.PlayFault.TheVariants.{Memory};
+ghost use Rattle.play_read.specs.Places.{play_path};
 ghost use Rattle.play_read.specs.Reads.{AreSteps, IsPlay};
 
 use crate::faults::fault_of_play;
@@ -24,7 +25,7 @@ use std::alloc::Global;
 
 fn check_settings(alloc: Global, place: PlayPlace, play: &Value) -> Result<(), PlayFault>
     ensures ok { IfOk result (λ _. spec.bad_settings (view play.now) ≡ []) }
-    ensures err { IfErr result (λ fault. IsRefusal fault (map Broken (spec.bad_settings (view play.now)))) }
+    ensures err { IfErr result (λ fault. IsRefusal fault (all_in (play_path place) (map Broken (spec.bad_settings (view play.now))))) }
 {
     match check_play(play) {
         Ok(()) => Ok(()),
@@ -35,9 +36,9 @@ fn check_settings(alloc: Global, place: PlayPlace, play: &Value) -> Result<(), P
 /// The play that a value says, or the first check of it that is not kept: those of its settings, then of its handlers,
 /// then of its tasks.
 pub(crate) fn read_one(alloc: Global, place: PlayPlace, play: &Value) -> Result<Play, PlayFault>
-    ensures kept { IfOk result (λ _. AllKept (spec.checks_of_play place.told (view play.now))) }
+    ensures kept { IfOk result (λ _. AllKept (spec.checks_of_play (play_path place) place.told (view play.now))) }
     ensures says { IfOk result (IsPlay (spec.play_of (view play.now))) }
-    ensures err { IfErr result (λ fault. IsRefusal fault (spec.checks_of_play place.told (view play.now))) }
+    ensures err { IfErr result (λ fault. IsRefusal fault (spec.checks_of_play (play_path place) place.told (view play.now))) }
 {
     check_settings(alloc, place, play)?;
     let tasks = tasks_of(play);

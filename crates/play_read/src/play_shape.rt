@@ -1,9 +1,11 @@
 //! A play without its steps.
-ghost use Rattle.std.specs.Prelude.{◌≡◌, ◌+◌, ◌||◌, length, nat_le};
+ghost use Rattle.std.specs.Prelude.{◌≡◌, ◌+◌, ◌||◌, [], length, nat_le};
 ghost use Rattle.serde_json.specs.Find.{get};
 ghost use Rattle.serde_json.specs.View.{view};
 ghost use Rattle.text_parts.specs.Shapes.{is_null, is_list, is_object};
 ghost use Rattle.play_rules.specs.Breaches.{BadShape, unless};
+ghost use Rattle.play_rules.specs.Keys.{tasks_key};
+ghost use Rattle.play_rules.specs.Paths.{below, given_path};
 ghost use Rattle.play_rules.specs.Plays as spec;
 ghost use Rattle.play_rules.specs.Verdicts.{IsVerdict};
 
@@ -31,7 +33,7 @@ pub fn check_play<'a>(play: &'a Value) -> Result<(), Flaw<'a>>
 }
 
 fn check_object<'a>(play: &'a Value) -> Result<(), Flaw<'a>>
-    ensures { IsVerdict result (unless (is_object (view play.now)) BadShape) }
+    ensures { IsVerdict result (unless (is_object (view play.now)) (BadShape [])) }
 {
     if play.is_object() {
         Ok(())
@@ -50,7 +52,9 @@ fn check_tasks<'a>(play: &'a Value) -> Result<(), Flaw<'a>>
     }
 }
 
-fn place_of_tasks<'a>(play: &'a Value) -> Below<'a> {
+fn place_of_tasks<'a>(play: &'a Value) -> Below<'a>
+    ensures { below [] result ≡ given_path [] tasks_key (view play.now) }
+{
     if play.get("tasks").is_some() {
         Below::Key("tasks")
     } else {

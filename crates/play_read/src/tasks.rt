@@ -2,13 +2,14 @@
 ghost use Rattle.std.specs.Prelude.{◌≡◌, ◌+◌, ◌++◌, ◌≤◌, [], All, IfOk, IfErr, OnOk, length, map};
 ghost use Rattle.serde_json.specs.View.{view};
 ghost use Rattle.play_model.specs.Plays.{HasPlainWords, AreNumbersBelow};
-ghost use Rattle.play_rules.specs.Breaches.{Broken};
+ghost use Rattle.play_rules.specs.Breaches.{Broken, all_in};
 ghost use Rattle.play_rules.specs.Plays.{spot_at, checks_of_tasks};
 ghost use Rattle.play_rules.specs.Steps as spec;
 ghost use Rattle.play_rules.specs.Checks.{AllKept};
 ghost use Rattle.play_rules.specs.Faults.{IsRefusal};
 ghost use Rattle.play_read.specs.Readings.{IsStep};
 ghost use Rattle.play_read.specs.Known.{known};
+ghost use Rattle.play_read.specs.Places.{play_path, step_path};
 ghost use Rattle.play_read.specs.Reads.{AreSteps};
 
 use crate::faults::fault_of_step;
@@ -34,7 +35,7 @@ fn read_one(
     ensures found { IfOk result (λ _. spec.unknown_handlers (known handlers.now) (view task.now) ≡ []) }
     ensures says { OnOk result (IsStep (spec.step_of (known handlers.now) (view task.now)) into.new) }
     ensures plain { OnOk result (HasPlainWords into.new) }
-    ensures err { IfErr result (λ fault. IsRefusal fault (spec.checks_of_task (spot_at place.play.told place.number) (view task.now)
+    ensures err { IfErr result (λ fault. IsRefusal fault (all_in (step_path place) (spec.checks_of_task (spot_at place.play.told place.number) (view task.now))
         ++ map Broken (spec.unknown_handlers (known handlers.now) (view task.now)))) }
 {
     match fill_task(alloc, task, into) {
@@ -59,10 +60,10 @@ pub(crate) fn read_tasks(
     handlers: &HandlerNames<'_>,
 ) -> Result<Vec<Step>, PlayFault>
     requires few { length tasks.now + behind ≤ 256 }
-    ensures kept { IfOk result (λ _. AllKept (checks_of_tasks play.told 1 (known handlers.now) (map view tasks.now))) }
+    ensures kept { IfOk result (λ _. AllKept (checks_of_tasks (play_path play) play.told 0 (known handlers.now) (map view tasks.now))) }
     ensures says { IfOk result (λ steps. AreSteps (map (spec.step_of (known handlers.now)) (map view tasks.now)) steps.items) }
     ensures plain { IfOk result (λ steps. All HasPlainWords steps.items) }
-    ensures err { IfErr result (λ fault. IsRefusal fault (checks_of_tasks play.told 1 (known handlers.now) (map view tasks.now))) }
+    ensures err { IfErr result (λ fault. IsRefusal fault (checks_of_tasks (play_path play) play.told 0 (known handlers.now) (map view tasks.now))) }
 {
     let mut steps = Vec::with_capacity(alloc, tasks.len() + behind)?;
     for index in 0..tasks.len() {

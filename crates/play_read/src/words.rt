@@ -4,28 +4,28 @@ ghost use Rattle.std.specs.List.{list_any};
 ghost use Rattle.serde_json.specs.View.{view};
 ghost use Rattle.text_parts.specs.Words.{has_braces};
 ghost use Rattle.play_rules.specs.Breaches.{Spot, Broken};
+ghost use Rattle.play_rules.specs.CommandPlaces.{bad_command};
 ghost use Rattle.play_rules.specs.Commands as spec;
 ghost use Rattle.play_rules.specs.Checks.{AllKept};
 ghost use Rattle.play_read.specs.Readings.{IsFlawAt};
 
 use crate::command::words_in;
-use crate::command_place::place_of_bad;
 use crate::step_flaw::StepFlaw;
 use play_model::Words;
-use play_rules::Flaw;
+use play_rules::{Flaw, place_of_bad_command};
 use serde_json::Value;
 use std::alloc::Global;
 use text_parts::check_word;
 
 /// The words of a step's command: it has the shape of one, and each opening brace in the words begins a hole.
 pub(crate) fn read_words<'a>(alloc: Global, step: &'a Value) -> Result<Words, StepFlaw<'a>>
-    ensures kept { (spot : Spot) → IfOk result (λ _. AllKept (map Broken (spec.bad_command spot (view step.now)))) }
+    ensures kept { (spot : Spot) → IfOk result (λ _. AllKept (map Broken (bad_command spot (view step.now)))) }
     ensures says { IfOk result (λ words. spec.words_in (view step.now) ≡ Some words) }
     ensures plain { IfOk result (λ words. All (λ word. IsFalse (has_braces word)) words) }
-    ensures err { (spot : Spot) → IfErr result (λ flaw. IsFlawAt spot flaw (map Broken (spec.bad_command spot (view step.now)))) }
+    ensures err { (spot : Spot) → IfErr result (λ flaw. IsFlawAt spot flaw (map Broken (bad_command spot (view step.now)))) }
 {
     let Some(words) = words_in(alloc, step)? else {
-        return Err(StepFlaw::Rule(Flaw::BadShape(place_of_bad(step))));
+        return Err(StepFlaw::Rule(Flaw::BadShape(place_of_bad_command(step))));
     };
     if have_bad_braces(&words) {
         return Err(StepFlaw::Rule(Flaw::BadBraces));

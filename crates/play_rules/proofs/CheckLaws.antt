@@ -1,10 +1,10 @@
 -- Lists of checks, one after another.
-use Rattle.std.proofs.Common.{◌≡◌, ℕ, Some, None, Option, List, [], ◌∷◌, ◌++◌, map, inl, inr}
-use Rattle.std.specs.Prelude.{◌⊎◌, ⊤, MatchOption}
-use Rattle.group_tree.specs.Names.{Name}
-use Rattle.play_rules.specs.Breaches.{Breach, Spot, Check, Broken, Asked, first_of}
-use Rattle.play_rules.specs.Checks.{IsCondition, Named, rule, IsFaultOf, AllKept, IsFirst}
+use Rattle.std.proofs.Common.{◌≡◌, Some, None, Option, List, [], ◌∷◌, ◌++◌, ap, map, inl, inr}
+use Rattle.std.specs.Prelude.{⊤, MatchOption}
+use Rattle.play_rules.specs.Breaches.{Breach, Check, Broken, Asked, all_in, first_of}
+use Rattle.play_rules.specs.Checks.{Named, named_from, rule, AllKept, IsFirst}
 use Rattle.play_rules.specs.Faults.{named_of, IsRefusal}
+use Rattle.play_rules.specs.Paths.{Path}
 use Rattle.play_rules.specs.Laws.{KeptTogether, FirstOfWhole}
 use Rattle.play_rules.specs.declared.fault.PlayFault.{PlayFault}
 
@@ -51,3 +51,15 @@ none_broken (breach ∷ broken) e = cc
 pub first_broken : (broken : List Breach) (breach : Breach) → first_of broken ≡ Some breach → IsFirst (rule breach) (map Broken broken)
 first_broken [] breach e = cc
 first_broken (first ∷ broken) breach e = cc
+
+-- seen from the top value they are the same checks
+pub kept_in : (at : Path) (checks : List Check) → AllKept checks → AllKept (all_in at checks)
+kept_in at [] kept = tt
+kept_in at (Broken breach ∷ checks) kept = absurd kept
+kept_in at (Asked spot key text ∷ checks) kept = (kept.0, kept_in at checks kept.1)
+
+pub first_in : (at : Path) (named : Named) (checks : List Check) → IsFirst named checks → IsFirst (named_from at named) (all_in at checks)
+first_in at named [] is = absurd is
+first_in at named (Broken breach ∷ checks) is = ap (named_from at) is
+first_in at named (Asked spot key text ∷ checks) is =
+    elim is [ inl fault ↦ inl (fault.0, ap (named_from at) fault.1, fault.2) | inr later ↦ inr (later.0, first_in at named checks later.1) ]

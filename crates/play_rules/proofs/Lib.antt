@@ -1,1 +1,5 @@
+pub mod Lists
+pub mod EntryLaws
+pub mod PlaceLaws
+pub mod PathLaws
 pub mod CheckLaws

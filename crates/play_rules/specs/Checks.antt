@@ -4,7 +4,8 @@ use Rattle.group_tree.specs.Names.{Name}
 use Rattle.cond.specs.Grammar.{Any, any_depth}
 use Rattle.cond.specs.Conditions.{most_bytes, most_depth, Writes, Breaks}
 use Rattle.cond.specs.declared.fault.CondFault.{CondFault}
-use Rattle.play_rules.specs.Breaches.{Breach, Spot, Check, Broken, Asked}
+use Rattle.play_rules.specs.Breaches.{Breach, Spot, Check, Broken, Asked, breach_in}
+use Rattle.play_rules.specs.Paths.{Path}
 
 -- the text writes a condition within the bounds
 pub record IsCondition (text : List ℕ) : Type 0 where
@@ -23,6 +24,11 @@ AllKept (Asked spot key text ∷ later) = IsCondition text × AllKept later
 pub data Named : Type 0 where
   rule : Breach → Named
   condition : Spot → Name → CondFault → Named
+
+-- the same seen from the top value, where it is seen from what stands at this path
+abbrev pub named_from : Path → Named → Named
+named_from at (rule breach) = rule (breach_in at breach)
+named_from at (condition spot key fault) = condition spot key fault
 
 -- it names a fault of this text
 abbrev pub IsFaultOf : Named → Spot → Name → List ℕ → Type 0

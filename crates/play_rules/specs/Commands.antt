@@ -1,16 +1,14 @@
 -- What a step runs: the words of its command.
-use Rattle.std.specs.Prelude.{ℕ, zero, suc, ◌+◌, ◌-◌, Bool, true, false, not, ◌&&◌, ◌||◌, ◌==◌, Option, Some, None, is_some, option_map, option_and_then, unwrap_or, List, [], ◌∷◌, ◌++◌, length, drop, filter, nat_lt, nat_eq, codes, if◌then◌else◌}
+use Rattle.std.specs.Prelude.{ℕ, zero, suc, ◌+◌, Bool, not, ◌&&◌, ◌||◌, ◌==◌, Option, Some, None, is_some, option_map, option_and_then, unwrap_or, List, [], ◌∷◌, ◌++◌, length, drop, filter, nat_lt, nat_eq, codes, if◌then◌else◌}
 use Rattle.std.specs.List.{list_any, list_all, filter_map, starts_with}
 use Rattle.std.specs.Fmt.{signed_decimal}
 use Rattle.std.specs.Option.{option_or}
 use Rattle.serde_json.specs.Data.{Data, null, boolean, number, string, array, object}
 use Rattle.serde_json.specs.Find.{get, as_i64, as_str}
-use Rattle.group_tree.specs.Names.{Name}
 use Rattle.text_parts.specs.Patterns.{is_filled}
-use Rattle.text_parts.specs.Words.{is_blank, starts, has_braces}
+use Rattle.text_parts.specs.Words.{is_blank, starts}
 use Rattle.text_parts.specs.Shapes.{elements_of, entries_in}
 use Rattle.play_rules.specs.Keys.{command_key, long_command_key, argv_key, cmd_key}
-use Rattle.play_rules.specs.Breaches.{Breach, BadShape, BadBraces, Spot, unless}
 
 abbrev pub Word : Type 0
 Word = List ℕ
@@ -95,15 +93,3 @@ command_in step = one_of (get command_key step) (get long_command_key step)
 
 abbrev pub words_in : Data → Option (List Word)
 words_in step = option_and_then words_of (command_in step)
-
--- 602: an opening brace in a word begins no hole
-abbrev pub bad_braces : Spot → List Word → List Breach
-bad_braces spot words = unless (not (list_any has_braces words)) (BadBraces spot)
-
-abbrev pub bad_words : Spot → Option (List Word) → List Breach
-bad_words spot None = BadShape ∷ []
-bad_words spot (Some words) = bad_braces spot words
-
--- 702, and then 602 of the words
-abbrev pub bad_command : Spot → Data → List Breach
-bad_command spot step = bad_words spot (words_in step)

@@ -1,5 +1,5 @@
 -- Which check a fault names.
-use Rattle.std.specs.Prelude.{◌≡◌, ℕ, Option, Some, None, Result, List, ⊤, MatchOption, MatchResult, codes, string_bytes}
+use Rattle.std.specs.Prelude.{ℕ, Option, Some, None, List, ⊤, MatchOption, codes, string_bytes}
 use Rattle.cond.specs.Faults as conditions
 use Rattle.cond.specs.declared.fault.CondFault.{CondFault}
 use Rattle.cond.specs.declared.fault.CondFault.TheVariants as cond
@@ -7,7 +7,7 @@ use Rattle.group_tree.specs.Names.{Name}
 use Rattle.play_rules.specs.Breaches as rules
 use Rattle.play_rules.specs.Breaches.{Check, Spot}
 use Rattle.play_rules.specs.Plays.{spot_at}
-use Rattle.play_rules.specs.Checks.{Named, rule, condition, AllKept, IsFirst}
+use Rattle.play_rules.specs.Checks.{Named, rule, condition, IsFirst}
 use Rattle.play_rules.specs.declared.key.ConditionKey.{ConditionKey}
 use Rattle.play_rules.specs.declared.key.ConditionKey.TheVariants.{When, ChangedWhen, FailedWhen}
 use Rattle.play_rules.specs.declared.fault.PlayFault.{PlayFault}
@@ -43,12 +43,12 @@ named_by spot key (cond.TooLong at) = Some (condition spot key (cond.TooLong at)
 -- want of memory names nothing
 abbrev pub named_of : PlayFault → Option Named
 named_of fault.NotJson = Some (rule rules.NotJson)
-named_of (fault.BadShape at) = Some (rule rules.BadShape)
-named_of (fault.UnknownKey at) = Some (rule rules.UnknownKey)
+named_of (fault.BadShape at) = Some (rule (rules.BadShape (string_bytes at)))
+named_of (fault.UnknownKey at) = Some (rule (rules.UnknownKey (string_bytes at)))
 named_of (fault.NoSuchHandler name) = Some (rule (rules.NoSuchHandler (string_bytes name)))
 named_of (fault.TwiceHandler name) = Some (rule (rules.TwiceHandler (string_bytes name)))
-named_of (fault.BadSerial at) = Some (rule rules.BadSerial)
-named_of (fault.BadPercent at) = Some (rule rules.BadPercent)
+named_of (fault.BadSerial at) = Some (rule (rules.BadSerial (string_bytes at)))
+named_of (fault.BadPercent at) = Some (rule (rules.BadPercent (string_bytes at)))
 named_of fault.ManyPlays = Some (rule rules.ManyPlays)
 named_of fault.TooManySteps = Some (rule rules.TooManySteps)
 named_of (fault.BadCondition play step key found) = named_by (spot_at play step) (key_name key) found

@@ -1,7 +1,10 @@
 pub mod Keys
+pub mod Paths
 pub mod Breaches
+pub mod Entries
 pub mod Settings
 pub mod Commands
+pub mod CommandPlaces
 pub mod Conditions
 pub mod Steps
 pub mod Plays

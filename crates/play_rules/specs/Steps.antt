@@ -1,50 +1,55 @@
--- A step: the rules that it breaks, and what it says.
-use Rattle.std.specs.Prelude.{ℕ, suc, Bool, true, false, not, Option, Some, None, is_some, option_and_then, option_to_list, unwrap_or, position, List, [], ◌∷◌, ◌++◌, map, filter, if◌then◌else◌}
-use Rattle.std.specs.List.{list_all, filter_map}
+-- A step: the rules that it breaks, each path seen from the step, and what it says.
+use Rattle.std.specs.Prelude.{ℕ, Bool, false, not, Option, Some, None, is_some, option_and_then, unwrap_or, position, List, [], ◌∷◌, ◌++◌, map, filter, if◌then◌else◌}
+use Rattle.std.specs.List.{filter_map, flat_map}
 use Rattle.serde_json.specs.Data.{Data}
 use Rattle.serde_json.specs.Find.{get, as_str, as_bool}
 use Rattle.group_tree.specs.Names.{Name, same_name, is_among}
 use Rattle.text_parts.specs.Words.{is_name}
-use Rattle.text_parts.specs.Shapes.{entries_in, is_object, is_truth, is_text}
+use Rattle.text_parts.specs.Shapes.{Entry, entries_in, is_object, is_truth, is_text}
 use Rattle.play_rules.specs.Keys.{name_key, register_key, when_key, changed_key, failed_key, ignore_key, notify_key, task_keys, handler_keys}
 use Rattle.play_rules.specs.Breaches.{Breach, BadShape, UnknownKey, NoSuchHandler, TwiceHandler, Check, Broken, Spot, unless, joined, where_given, is_known}
 use Rattle.play_rules.specs.Settings.{texts_in, bad_texts}
-use Rattle.play_rules.specs.Commands.{Word, words_in, bad_command}
+use Rattle.play_rules.specs.Commands.{Word, words_in}
+use Rattle.play_rules.specs.CommandPlaces.{bad_command}
+use Rattle.play_rules.specs.Paths.{under, given_path}
 use Rattle.play_rules.specs.Conditions.{Clause, clauses_at, checks_at}
 
 -- 702: a step is no object
 abbrev pub bad_step : Data → List Breach
-bad_step step = unless (is_object step) BadShape
+bad_step step = unless (is_object step) (BadShape [])
 
--- 703: a key that the step may not have
+-- 703: each key that a play or a step may not have, in the order of their bytes
+abbrev pub unknown_entry : List Name → Entry → List Breach
+unknown_entry keys entry = unless (is_known keys entry) (UnknownKey (under [] entry.name))
+
 abbrev pub unknown_key : List Name → Data → List Breach
-unknown_key keys value = unless (list_all (is_known keys) (entries_in value)) UnknownKey
+unknown_key keys value = flat_map (unknown_entry keys) (entries_in value)
 
 abbrev pub name_in : Data → Option Name
 name_in step = option_and_then as_str (get name_key step)
 
 -- 702: a task's name is no text
 abbrev pub bad_task_name : Data → List Breach
-bad_task_name step = where_given (λ value. unless (is_text value) BadShape) (get name_key step)
+bad_task_name step = where_given (λ value. unless (is_text value) (BadShape (under [] name_key))) (get name_key step)
 
 -- 702: a handler's name is no text, or is missing
 abbrev pub bad_handler_name : Data → List Breach
-bad_handler_name step = unless (is_some (name_in step)) BadShape
+bad_handler_name step = unless (is_some (name_in step)) (BadShape (given_path [] name_key step))
 
 -- 702: what a result is registered under is no name
 abbrev pub registered : Data → Option Name
 registered value = option_and_then (λ text. if is_name text then Some text else None) (as_str value)
 
 abbrev pub bad_register : Data → List Breach
-bad_register step = where_given (λ value. unless (is_some (registered value)) BadShape) (get register_key step)
+bad_register step = where_given (λ value. unless (is_some (registered value)) (BadShape (under [] register_key))) (get register_key step)
 
 -- 702: `ignore_errors` is no truth value
 abbrev pub bad_ignore : Data → List Breach
-bad_ignore step = where_given (λ value. unless (is_truth value) BadShape) (get ignore_key step)
+bad_ignore step = where_given (λ value. unless (is_truth value) (BadShape (under [] ignore_key))) (get ignore_key step)
 
--- 702: `notify` is no text and no list of texts
+-- 702: each value under `notify` that is no text
 abbrev pub bad_notify : Data → List Breach
-bad_notify step = where_given bad_texts (get notify_key step)
+bad_notify step = where_given (bad_texts (under [] notify_key)) (get notify_key step)
 
 -- the handlers that a task notifies, by their names
 abbrev pub notified_in : Data → List Name

@@ -3,17 +3,23 @@ use Rattle.std.specs.Prelude.{◌≡◌, ℕ, Some, Result, List, [], MatchResul
 use Rattle.std.specs.Borrow.{Bor}
 use Rattle.play_rules.specs.Breaches as rules
 use Rattle.play_rules.specs.Breaches.{Breach, Spot, first_of}
+use Rattle.play_rules.specs.Keys.{max_fail_key}
+use Rattle.play_rules.specs.Paths.{Path, below, under}
 use Rattle.play_rules.specs.declared.flaw.Flaw.{Flaw}
 use Rattle.play_rules.specs.declared.flaw.Flaw.TheVariants as flaw
 
--- of the flaw of a step at this place
+-- of the flaw of a play or step at this place, which has this path
+abbrev pub breach_from : Path → Spot → Flaw → Breach
+breach_from path spot (flaw.BadShape at) = rules.BadShape (below path at)
+breach_from path spot (flaw.UnknownKey key) = rules.UnknownKey (under path key.now)
+breach_from path spot (flaw.BadSerial at) = rules.BadSerial (below path at)
+breach_from path spot flaw.BadPercent = rules.BadPercent (under path max_fail_key)
+breach_from path spot flaw.TooManySteps = rules.TooManySteps
+breach_from path spot flaw.BadBraces = rules.BadBraces spot
+
+-- seen from there
 abbrev pub breach_at : Spot → Flaw → Breach
-breach_at spot (flaw.BadShape at) = rules.BadShape
-breach_at spot (flaw.UnknownKey key) = rules.UnknownKey
-breach_at spot (flaw.BadSerial at) = rules.BadSerial
-breach_at spot flaw.BadPercent = rules.BadPercent
-breach_at spot flaw.TooManySteps = rules.TooManySteps
-breach_at spot flaw.BadBraces = rules.BadBraces spot
+breach_at spot found = breach_from [] spot found
 
 -- no rule is broken, or the flaw names the first that is
 abbrev pub IsVerdict : {T : Type 0} → Result T Flaw → List Breach → Type 0

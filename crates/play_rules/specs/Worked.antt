@@ -1,8 +1,8 @@
 -- Small playbooks, written out, against which the definitions are read.
-use Rattle.std.specs.Prelude.{ℕ, List, [], ◌∷◌, codes, true, false}
-use Rattle.serde_json.specs.Data.{unsigned, Data, null, boolean, number, string, array, object, Items, no_items, item, Members, no_members, member}
+use Rattle.std.specs.Prelude.{List, [], ◌∷◌, codes, true}
+use Rattle.serde_json.specs.Data.{unsigned, Data, null, boolean, number, string, array, object, Items, no_items, item, no_members, member}
 use Rattle.group_tree.specs.Names.{Name}
-use Rattle.play_rules.specs.Keys.{hosts_key, serial_key, max_fail_key, on_blocked_key, tasks_key, handlers_key, name_key, command_key, argv_key, cmd_key, register_key, when_key, ignore_key, notify_key}
+use Rattle.play_rules.specs.Keys.{hosts_key, serial_key, max_fail_key, on_blocked_key, tasks_key, handlers_key, name_key, command_key, argv_key, register_key, when_key, ignore_key, notify_key}
 
 abbrev pub one : Name → Data → Data
 one key value = object (member key value no_members)

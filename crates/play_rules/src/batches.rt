@@ -1,14 +1,17 @@
 //! The key `serial`.
-ghost use Rattle.std.specs.Prelude.{◌≡◌, ◌≤◌, ◌++◌, IfOk, map, length};
-ghost use Rattle.std.specs.List.{filter_map, list_all};
+ghost use Rattle.std.specs.Prelude.{◌≡◌, ◌≤◌, ◌++◌, [], IfOk, map, length};
+ghost use Rattle.std.specs.List.{filter_map};
 ghost use Rattle.serde_json.specs.Find.{get};
 ghost use Rattle.serde_json.specs.View.{view};
+ghost use Rattle.play_rules.specs.Breaches.{BadSerial};
+ghost use Rattle.play_rules.specs.Entries.{bad_entries, bad_from};
 ghost use Rattle.play_rules.specs.Keys.{serial_key};
+ghost use Rattle.play_rules.specs.Paths.{under};
 ghost use Rattle.play_rules.specs.Settings as spec;
 ghost use Rattle.play_rules.specs.Verdicts.{IsVerdict};
 
 use crate::flaw::{Below, Flaw};
-use crate::sizes::size_of;
+use crate::sizes::{is_size, size_of};
 use play_model::{SIZES_BOUND, Size};
 use serde_json::Value;
 use std::alloc::{AllocError, Global};
@@ -25,38 +28,35 @@ pub fn check_serial<'a>(play: &'a Value) -> Result<(), Flaw<'a>>
 }
 
 fn check_given<'a>(serial: &'a Value) -> Result<(), Flaw<'a>>
-    ensures { IsVerdict result (spec.bad_given (view serial.now)) }
+    ensures { IsVerdict result (spec.bad_given (under [] serial_key) (view serial.now)) }
 {
     let entries = listed(serial);
     if entries.is_empty() || entries.len() > SIZES_BOUND {
         return Err(Flaw::BadSerial(Below::Key("serial")));
     }
-    if !are_sizes(entries) {
-        return Err(Flaw::BadSerial(place_of_bad(serial)));
-    }
-    Ok(())
+    check_sizes(serial)
 }
 
-fn are_sizes(entries: &[Value]) -> bool
-    ensures { result ≡ list_all spec.is_size (map view entries.now) }
+/// Of several values that are no size the first is told.
+fn check_sizes<'a>(serial: &'a Value) -> Result<(), Flaw<'a>>
+    ensures { IsVerdict result (bad_entries BadSerial spec.is_size (under [] serial_key) (view serial.now)) }
 {
-    for entry in entries {
-        if size_of(entry).is_none() {
-            return false;
+    match elements_of(serial) {
+        Some(list) => check_each(list),
+        None if is_size(serial) => Ok(()),
+        None => Err(Flaw::BadSerial(Below::Key("serial"))),
+    }
+}
+
+fn check_each<'a>(list: &'a [Value]) -> Result<(), Flaw<'a>>
+    ensures { IsVerdict result (bad_from BadSerial spec.is_size (under [] serial_key) 0 (map view list.now)) }
+{
+    for index in 0..list.len() {
+        if !is_size(&list[index]) {
+            return Err(Flaw::BadSerial(Below::Element("serial", index)));
         }
     }
-    true
-}
-
-/// Where the first entry that is no size stands.
-fn place_of_bad<'a>(serial: &'a Value) -> Below<'a> {
-    let Some(entries) = elements_of(serial) else {
-        return Below::Key("serial");
-    };
-    match entries.iter().position(|entry| size_of(entry).is_none()) {
-        Some(index) => Below::Element("serial", index),
-        None => Below::Key("serial"),
-    }
+    Ok(())
 }
 
 /// The sizes that `serial` says; none where a play hasn't it. It fails for want of memory alone.

@@ -1,6 +1,6 @@
 //! The keys that a play, a task or a handler may have.
 ghost use Rattle.std.specs.Prelude.{◌≡◌};
-ghost use Rattle.std.specs.List.{list_all};
+ghost use Rattle.std.specs.List.{flat_map};
 ghost use Rattle.serde_json.specs.View.{view, members_view};
 ghost use Rattle.group_tree.specs.Names.{is_among};
 ghost use Rattle.text_parts.specs.Shapes.{entries};

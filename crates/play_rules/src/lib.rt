@@ -2,6 +2,7 @@
 #![tactic(auto)]
 
 mod batches;
+mod command_place;
 mod fault;
 mod flaw;
 mod key;
@@ -17,6 +18,7 @@ mod texts;
 mod worked;
 
 pub use batches::{check_serial, sizes_in};
+pub use command_place::{count_entries, is_word, place_of_bad_command};
 pub use fault::PlayFault;
 pub use flaw::{Below, Flaw};
 pub use key::ConditionKey;

@@ -1,9 +1,10 @@
 //! The key `hosts`.
-ghost use Rattle.std.specs.Prelude.{◌≡◌, ◌++◌, IfOk, map, string_bytes};
+ghost use Rattle.std.specs.Prelude.{◌≡◌, ◌++◌, [], IfOk, map, string_bytes};
 ghost use Rattle.std.specs.List.{flat_map, list_any};
 ghost use Rattle.serde_json.specs.Find.{get};
 ghost use Rattle.serde_json.specs.View.{view};
 ghost use Rattle.play_rules.specs.Keys.{hosts_key};
+ghost use Rattle.play_rules.specs.Paths.{under};
 ghost use Rattle.play_rules.specs.Settings as spec;
 ghost use Rattle.play_rules.specs.Verdicts.{IsVerdict, lent_texts};
 
@@ -24,7 +25,7 @@ pub fn check_hosts<'a>(play: &'a Value) -> Result<(), Flaw<'a>>
 }
 
 fn check_pattern<'a>(hosts: &'a Value) -> Result<(), Flaw<'a>>
-    ensures { IsVerdict result (spec.bad_pattern (view hosts.now)) }
+    ensures { IsVerdict result (spec.bad_pattern (under [] hosts_key) (view hosts.now)) }
 {
     check_texts("hosts", hosts)?;
     if have_name(listed(hosts)) {

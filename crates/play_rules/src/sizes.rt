@@ -20,6 +20,13 @@ pub fn size_of(value: &Value) -> Option<Size>
     }
 }
 
+/// Whether the value is a size. It takes no memory.
+pub fn is_size(value: &Value) -> bool
+    ensures { result ≡ spec.is_size (view value.now) }
+{
+    size_of(value).is_some()
+}
+
 fn size_in_text(text: &str) -> Option<Size>
     ensures { result ≡ spec.size_in_text text.now }
 {

@@ -75,15 +75,16 @@ pub fn each_key_says_its_part()
     } ∷ [] }
 {}
 
-/// Each broken rule is listed: settings first, then handlers, then tasks.
+/// Each broken rule is listed with its path: settings first, then handlers, then tasks.
 pub fn faults_are_listed_in_their_order()
     ensures several { checks 16 faulty
-        ≡ breach.Broken breach.UnknownKey ∷ breach.Broken breach.BadShape ∷ breach.Broken breach.BadSerial ∷ breach.Broken breach.BadPercent
+        ≡ breach.Broken (breach.UnknownKey (codes "1/x")) ∷ breach.Broken (breach.BadShape (codes "1")) ∷ breach.Broken (breach.BadSerial (codes "1/serial"))
+        ∷ breach.Broken (breach.BadPercent (codes "1/max_fail_percentage"))
         ∷ breach.Broken (breach.TwiceHandler (codes "restart"))
-        ∷ breach.Broken (breach.BadBraces (spot_at (Some 2) 1)) ∷ breach.Broken breach.BadShape
+        ∷ breach.Broken (breach.BadBraces (spot_at (Some 2) 1)) ∷ breach.Broken (breach.BadShape (codes "1/tasks/0/ignore_errors"))
         ∷ breach.Broken (breach.NoSuchHandler (codes "gone")) ∷ [] }
     ensures one_alone { checks 1 smallest ≡ [] }
-    ensures no_list { checks 16 null ≡ breach.Broken breach.BadShape ∷ [] }
+    ensures no_list { checks 16 null ≡ breach.Broken (breach.BadShape []) ∷ [] }
 {}
 
 pub fn sizes_are_numbers_digits_or_shares()

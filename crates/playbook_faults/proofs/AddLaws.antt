@@ -9,14 +9,13 @@ use Rattle.serde_json.specs.declared.value.Value.{Value}
 use Rattle.cond.specs.Faults.{number_of}
 use Rattle.cond.specs.declared.fault.CondFault.{CondFault}
 use Rattle.cond.specs.declared.fault.CondFault.TheVariants as cond
-use Rattle.play_rules.specs.Checks.{condition}
-use Rattle.play_rules.specs.Faults.{key_name}
+use Rattle.play_rules.specs.Checks.{Named, condition}
+use Rattle.play_rules.specs.Faults.{key_name, named_of}
 use Rattle.play_rules.specs.Plays.{spot_at}
 use Rattle.play_rules.specs.declared.key.ConditionKey.{ConditionKey}
 use Rattle.play_rules.specs.declared.fault.PlayFault.{PlayFault}
 use Rattle.play_rules.specs.declared.fault.PlayFault.TheVariants as fault
 use Rattle.play_read.proofs.Lists.{taken_at}
-use Rattle.playbook_faults.specs.Faults.{Fault, told_by}
 use Rattle.playbook_faults.specs.Findings.{Finding, each_at}
 use Rattle.playbook_faults.specs.Telling.{IsToldBy, Tells, Keeps, Holds, Adds, ToldOf}
 use Rattle.playbook_faults.specs.declared.told.Told.{Told}
@@ -120,8 +119,8 @@ adds_refusing t0 t1 all same refused = record {
 pub ruleset findings_in_turn = (adds_refusing, adds_nothing, adds_same, adds_two, adds_three, adds_four, adds_five, adds_six, adds_seven, adds_eight, adds_each, adds_at)
 
 -- a fault that is kept, or counted
-module _ (t0 t1 : Telling) (finding : Finding) (told : Fault) (is_told : IsToldBy finding.check finding.at (told ∷ [])) (most : t1.most ≡ t0.most) where
-  pub adds_kept : (fault : PlayFault) → told_by fault ≡ Some told → length t0.faults.items < t0.most
+module _ (t0 t1 : Telling) (finding : Finding) (told : Named) (is_told : IsToldBy finding (told ∷ [])) (most : t1.most ≡ t0.most) where
+  pub adds_kept : (fault : PlayFault) → named_of fault ≡ Some told → length t0.faults.items < t0.most
       → (t1.refused ≡ false → (t0.refused ≡ false) × (t1.faults.items ≡ t0.faults.items ++ fault ∷ []) × (t1.more ≡ t0.more)) → Adds t0 t1 (finding ∷ [])
   adds_kept fault tells room after = record {
     same_most = most;
@@ -131,8 +130,8 @@ module _ (t0 t1 : Telling) (finding : Finding) (told : Fault) (is_told : IsToldB
         record {
           faults = old.faults ++ told ∷ [];
           tells = tells_both before (finding ∷ []) old.faults (told ∷ []) old.tells (tells_one finding (told ∷ []) is_told);
-          shows = first_as told_by t0.most t1.most (old.faults ++ told ∷ []) (t0.faults.items ++ fault ∷ []) t1.faults.items t0.more t1.more most state.1 state.2
-              (first_kept told_by t0.most old.faults t0.faults.items t0.more old.shows fault told tells room);
+          shows = first_as named_of t0.most t1.most (old.faults ++ told ∷ []) (t0.faults.items ++ fault ∷ []) t1.faults.items t0.more t1.more most state.1 state.2
+              (first_kept named_of t0.most old.faults t0.faults.items t0.more old.shows fault told tells room);
         };
   }
 
@@ -146,13 +145,13 @@ module _ (t0 t1 : Telling) (finding : Finding) (told : Fault) (is_told : IsToldB
         record {
           faults = old.faults ++ told ∷ [];
           tells = tells_both before (finding ∷ []) old.faults (told ∷ []) old.tells (tells_one finding (told ∷ []) is_told);
-          shows = first_as told_by t0.most t1.most (old.faults ++ told ∷ []) t0.faults.items t1.faults.items (t0.more + 1) t1.more most state.1 state.2
-              (first_counted told_by t0.most old.faults t0.faults.items t0.more old.shows told full);
+          shows = first_as named_of t0.most t1.most (old.faults ++ told ∷ []) t0.faults.items t1.faults.items (t0.more + 1) t1.more most state.1 state.2
+              (first_counted named_of t0.most old.faults t0.faults.items t0.more old.shows told full);
         };
   }
 
 -- a text that is a condition
-pub adds_silent : (telling : Telling) (finding : Finding) → IsToldBy finding.check finding.at [] → Adds telling telling (finding ∷ [])
+pub adds_silent : (telling : Telling) (finding : Finding) → IsToldBy finding [] → Adds telling telling (finding ∷ [])
 adds_silent telling finding is = record {
   same_most = refl;
   holds = λ before holds kept.
@@ -173,7 +172,7 @@ told_up_to result findings most given same tells = subst (λ (n : ℕ). IfOk res
 
 -- a fault that has a number is told
 pub told_condition : (play : Option ℕ) (step : ℕ) (key : ConditionKey) (found : CondFault) → is_some (number_of found) ≡ true
-    → told_by (fault.BadCondition play step key found) ≡ Some (record { names = condition (spot_at play step) (key_name key) found; at = [] })
+    → named_of (fault.BadCondition play step key found) ≡ Some (condition (spot_at play step) (key_name key) found)
 told_condition play step key (cond.BadToken at) numbered = refl
 told_condition play step key (cond.Unexpected at) numbered = refl
 told_condition play step key (cond.TooDeep at) numbered = refl

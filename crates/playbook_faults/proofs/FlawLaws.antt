@@ -6,8 +6,9 @@ use Rattle.serde_json.specs.Data.{Data}
 use Rattle.text_parts.specs.Shapes.{is_text, listed}
 use Rattle.play_rules.specs.Breaches.{Breach, BadShape, first_of, unless, where_given}
 use Rattle.play_rules.specs.Settings.{bad_pattern, has_name}
-use Rattle.playbook_faults.specs.Paths.{Path}
-use Rattle.playbook_faults.specs.Findings.{Finding, broken, all_broken, bad_entries}
+use Rattle.play_rules.specs.Paths.{Path}
+use Rattle.playbook_faults.specs.Findings.{Finding, bad_entries, broken, each_broken}
+use Rattle.play_rules.proofs.EntryLaws.{none_bad}
 use Rattle.playbook_faults.specs.Settings.{pattern_findings}
 
 pub lone : (kept : Bool) (breach found : Breach) → first_of (unless kept breach) ≡ Some found → breach ∷ [] ≡ unless kept breach
@@ -19,20 +20,28 @@ pub lone_given : (given : Option Data) (test : Data → Bool) (breach found : Br
 lone_given None test breach found first = absurd (cc)
 lone_given (Some value) test breach found first = lone (test value) breach found first
 
-module _ (at : Path) (hosts : Data) where
+module _ (at path : Path) (hosts : Data) where
   abbrev by_texts : Bool → List Finding
-  by_texts texts = if texts then all_broken at (bad_pattern hosts) else bad_entries BadShape is_text at hosts
+  by_texts texts = if texts then each_broken (unless (list_any has_name (listed hosts)) (BadShape at)) else bad_entries BadShape is_text at hosts
 
-  pub pattern_kept : list_all is_text (listed hosts) ≡ true → bad_pattern hosts ≡ [] → [] ≡ pattern_findings at hosts
-  pattern_kept texts none = sym (ap by_texts texts ∙ ap (all_broken at) none)
+  named : (kept : Bool) → unless kept (BadShape path) ≡ [] → [] ≡ each_broken (unless kept (BadShape at))
+  named true none = refl
+  named false none = absurd (cc)
 
-  lone_pattern : (texts named : Bool) (found : Breach) → texts ≡ true → first_of (unless texts BadShape ++ unless named BadShape) ≡ Some found → BadShape ∷ [] ≡ unless texts BadShape ++ unless named BadShape
-  lone_pattern true named found is first = lone named BadShape found first
-  lone_pattern false named found is first = absurd (cc)
+  unnamed : (kept : Bool) (found : Breach) → first_of (unless kept (BadShape path)) ≡ Some found → broken at BadShape ∷ [] ≡ each_broken (unless kept (BadShape at))
+  unnamed true found first = absurd (cc)
+  unnamed false found first = refl
 
-  pub pattern_broken : (found : Breach) → list_all is_text (listed hosts) ≡ true → first_of (bad_pattern hosts) ≡ Some found → broken at BadShape ∷ [] ≡ pattern_findings at hosts
+  -- of texts alone that no name is in them
+  lone_rule : list_all is_text (listed hosts) ≡ true → bad_pattern path hosts ≡ unless (list_any has_name (listed hosts)) (BadShape path)
+  lone_rule texts = ap (λ (l : List Breach). l ++ unless (list_any has_name (listed hosts)) (BadShape path)) (none_bad BadShape is_text path hosts texts)
+
+  pub pattern_kept : list_all is_text (listed hosts) ≡ true → bad_pattern path hosts ≡ [] → [] ≡ pattern_findings at hosts
+  pattern_kept texts none = named (list_any has_name (listed hosts)) (sym (lone_rule texts) ∙ none) ∙ sym (ap by_texts texts)
+
+  pub pattern_broken : (found : Breach) → list_all is_text (listed hosts) ≡ true → first_of (bad_pattern path hosts) ≡ Some found → broken at BadShape ∷ [] ≡ pattern_findings at hosts
   pattern_broken found texts first =
-      ap (all_broken at) (lone_pattern (list_all is_text (listed hosts)) (list_any has_name (listed hosts)) found texts first) ∙ sym (ap by_texts texts)
+      unnamed (list_any has_name (listed hosts)) found (ap first_of (sym (lone_rule texts)) ∙ first) ∙ sym (ap by_texts texts)
 
-  pub pattern_entries : list_all is_text (listed hosts) ≡ false → bad_entries BadShape is_text at hosts ≡ pattern_findings at hosts
-  pattern_entries texts = sym (ap by_texts texts)
+pub pattern_entries : (at : Path) (hosts : Data) → list_all is_text (listed hosts) ≡ false → bad_entries BadShape is_text at hosts ≡ pattern_findings at hosts
+pattern_entries at hosts texts = sym (ap (by_texts at at hosts) texts)

@@ -10,10 +10,10 @@ use Rattle.serde_json.specs.Data.{Data}
 use Rattle.serde_json.specs.View.{view}
 use Rattle.serde_json.specs.declared.value.Value.{Value}
 use Rattle.group_tree.specs.Names.{Name, same_name, is_among}
-use Rattle.play_rules.specs.Breaches.{NoSuchHandler}
+use Rattle.play_rules.specs.Breaches.{Broken, NoSuchHandler}
 use Rattle.play_rules.specs.Steps.{is_missing}
 use Rattle.play_read.proofs.Lists.{taken_at}
-use Rattle.playbook_faults.specs.Findings.{broken, all_broken}
+use Rattle.playbook_faults.specs.Findings.{each_broken}
 use Rattle.playbook_faults.specs.Names.{has_name, Knows}
 use Rattle.playbook_faults.specs.StepFindings.{once, once_more, missing_names}
 use Rattle.playbook_faults.specs.declared.names.NameSet.{NameSet}
@@ -46,14 +46,14 @@ is_old met name is = ap (λ (b : Bool). cond b [] (name ∷ []) ++ []) is
 
 -- one more of the names that are missing
 pub missing_more : (known before more : List Name) → missing_names known (before ++ more)
-    ≡ missing_names known before ++ all_broken [] (map NoSuchHandler (once (filter (is_missing known) before) (filter (is_missing known) more)))
+    ≡ missing_names known before ++ each_broken (map NoSuchHandler (once (filter (is_missing known) before) (filter (is_missing known) more)))
 missing_more known before more =
     let front = filter (is_missing known) before in
     let back = filter (is_missing known) more in
-    ap (λ (l : List Name). all_broken [] (map NoSuchHandler (once [] l))) (filter-append (is_missing known) before more)
-    ∙ ap (λ (l : List Name). all_broken [] (map NoSuchHandler l)) (once-append [] front back)
-    ∙ ap (all_broken []) (map-append NoSuchHandler (once [] front) (once front back))
-    ∙ map-append (broken []) (map NoSuchHandler (once [] front)) (map NoSuchHandler (once front back))
+    ap (λ (l : List Name). each_broken (map NoSuchHandler (once [] l))) (filter-append (is_missing known) before more)
+    ∙ ap (λ (l : List Name). each_broken (map NoSuchHandler l)) (once-append [] front back)
+    ∙ ap each_broken (map-append NoSuchHandler (once [] front) (once front back))
+    ∙ map-append Broken (map NoSuchHandler (once [] front)) (map NoSuchHandler (once front back))
 
 -- the names among one more value
 pub found_more : (found : Data → Option Name) (xs : List Value) (i : ℕ) (item : Value) → i < length xs → item ≡ get_or xs i item

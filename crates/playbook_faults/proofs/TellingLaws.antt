@@ -2,22 +2,22 @@
 use Rattle.std.proofs.Common.{◌≡◌, ℕ, ◌+◌, ◌<◌, ◌≤◌, Option, Some, List, [], ◌∷◌, ◌++◌, length, take, map, refl, sym, ap, ◌∙◌, subst, arith, append_assoc, append-nil, length-append, length-take, take_all}
 use Rattle.std.proofs.lemmas.List.{map-append, length-map, take-append-le}
 use Rattle.playbook_faults.specs.Firsts.{AreFirst}
-use Rattle.playbook_faults.specs.Faults.{Fault}
+use Rattle.play_rules.specs.Checks.{Named}
 use Rattle.playbook_faults.specs.Findings.{Finding}
 use Rattle.playbook_faults.specs.Telling.{IsToldBy, Tells}
 
-pub tells_both : (before after : List Finding) (faults others : List Fault) → Tells before faults → Tells after others → Tells (before ++ after) (faults ++ others)
-tells_both [] after faults others none more = subst (λ (front : List Fault). Tells after (front ++ others)) (sym none) more
+pub tells_both : (before after : List Finding) (faults others : List Named) → Tells before faults → Tells after others → Tells (before ++ after) (faults ++ others)
+tells_both [] after faults others none more = subst (λ (front : List Named). Tells after (front ++ others)) (sym none) more
 tells_both (finding ∷ before) after faults others some more =
     record {
       first = some.first;
       rest = some.rest ++ others;
-      parts = ap (λ (l : List Fault). l ++ others) some.parts ∙ append_assoc some.first some.rest others;
+      parts = ap (λ (l : List Named). l ++ others) some.parts ∙ append_assoc some.first some.rest others;
       is = some.is;
       others = tells_both before after some.rest others some.others more;
     }
 
-pub tells_one : (finding : Finding) (told : List Fault) → IsToldBy finding.check finding.at told → Tells (finding ∷ []) told
+pub tells_one : (finding : Finding) (told : List Named) → IsToldBy finding told → Tells (finding ∷ []) told
 tells_one finding told is = record { first = told; rest = []; parts = sym (append-nil told); is = is; others = refl }
 
 abbrev given : {X : Type 0} → X → Option X

@@ -7,11 +7,10 @@ use Rattle.serde_json.specs.View.{view}
 use Rattle.serde_json.specs.declared.value.Value.{Value}
 use Rattle.group_tree.specs.Names.{Name}
 use Rattle.text_parts.specs.Texts.{IsNoJson}
-use Rattle.play_rules.specs.Breaches.{NotJson}
+use Rattle.play_rules.specs.Breaches.{Broken, NotJson}
 use Rattle.play_rules.specs.Plays.{handlers_in, tasks_in}
 use Rattle.play_read.proofs.Lists.{as_many}
-use Rattle.playbook_faults.specs.Paths.{Path}
-use Rattle.playbook_faults.specs.Findings.{broken}
+use Rattle.play_rules.specs.Paths.{Path}
 use Rattle.playbook_faults.specs.PlayFindings.{document_findings, handlers_findings, known_handlers, steps_findings, tasks_findings}
 use Rattle.playbook_faults.specs.Telling.{TellsOf, ToldOf}
 use Rattle.playbook_faults.specs.declared.told.Told.{Told}
@@ -30,6 +29,6 @@ module _ {E : Type 0} (most : ℕ) (text : List ℕ) where
   tells_document (Ok told) document utf8 is tells = record { findings = document_findings 16 document; found = inr (document, utf8, is, refl); tells = tells }
   tells_document (Err error) document utf8 is tells = tells
 
-  pub tells_no_json : (result : Result Told E) → IsNoJson text → IfOk result (ToldOf (broken [] NotJson ∷ []) most) → IfOk result (TellsOf 16 most text)
-  tells_no_json (Ok told) none tells = record { findings = broken [] NotJson ∷ []; found = inl (refl, none); tells = tells }
+  pub tells_no_json : (result : Result Told E) → IsNoJson text → IfOk result (ToldOf (Broken NotJson ∷ []) most) → IfOk result (TellsOf 16 most text)
+  tells_no_json (Ok told) none tells = record { findings = Broken NotJson ∷ []; found = inl (refl, none); tells = tells }
   tells_no_json (Err error) none tells = tells

@@ -1,15 +1,12 @@
 -- What is told of a text, and whether reading it accepts it.
 use Rattle.std.proofs.Common.{◌≡◌, ℕ, zero, suc, Option, Some, None, List, [], ◌∷◌, ◌++◌, map, take, refl, sym, ap, ◌∙◌, subst, arith, inl, inr}
-use Rattle.std.specs.Prelude.{option_map}
 use Rattle.serde_json.specs.Data.{Data}
 use Rattle.serde_json.specs.Read.{read}
-use Rattle.play_rules.specs.Breaches.{NotJson}
+use Rattle.play_rules.specs.Breaches.{Broken, NotJson}
 use Rattle.play_rules.specs.Checks.{Named, rule}
 use Rattle.play_rules.specs.Faults.{named_of}
 use Rattle.play_rules.specs.declared.fault.PlayFault.{PlayFault}
 use Rattle.playbook_faults.specs.Firsts.{AreFirst}
-use Rattle.playbook_faults.specs.Faults.{Fault, path_of, told_by}
-use Rattle.playbook_faults.specs.Findings.{broken}
 use Rattle.playbook_faults.specs.Laws.{NothingTold, NothingToldOfAccepted, FirstTold}
 use Rattle.playbook_faults.specs.PlayFindings.{document_findings}
 use Rattle.playbook_faults.specs.Telling.{Tells}
@@ -35,10 +32,10 @@ module _ {X F : Type 0} (says : F → Option X) where
   none_at_all zero [] (one ∷ kept) more none shows = let e = shows.kept_are in absurd (cc)
   none_at_all (suc most) [] (one ∷ kept) more none shows = let e = shows.kept_are in absurd (cc)
 
-no_json_told : (faults : List Fault) → Tells (broken [] NotJson ∷ []) faults → faults ≡ record { names = rule NotJson; at = [] } ∷ []
-no_json_told faults tells = tells.parts ∙ ap (λ (l : List Fault). l ++ tells.rest) tells.is ∙ ap (λ (l : List Fault). record { names = rule NotJson; at = [] } ∷ l) tells.others
+no_json_told : (faults : List Named) → Tells (Broken NotJson ∷ []) faults → faults ≡ rule NotJson ∷ []
+no_json_told faults tells = tells.parts ∙ ap (λ (l : List Named). l ++ tells.rest) tells.is ∙ ap (λ (l : List Named). rule NotJson ∷ l) tells.others
 
-some_fault : (P : Type 0) (fault : Fault) → fault ∷ [] ≡ [] → P
+some_fault : (P : Type 0) (fault : Named) → fault ∷ [] ≡ [] → P
 some_fault P fault e = absurd (cc)
 
 same_value : (first second : Data) (found : Option Data) → found ≡ Some first → found ≡ Some second → first ≡ second
@@ -50,43 +47,39 @@ no_value P document found none some = absurd (cc)
 pub nothing_told : NothingTold
 nothing_told plays most text told tells none no_more =
     let faults = tells.tells.faults in
-    let no_fault : faults ≡ [] = none_kept told_by most faults told.faults.items told.more none no_more tells.tells.shows in
+    let no_fault : faults ≡ [] = none_kept named_of most faults told.faults.items told.more none no_more tells.tells.shows in
     elim (tells.found) [
       | inl no_json ↦
           let one = no_json_told faults (subst (λ l. Tells l faults) no_json.0 tells.tells.tells) in
-          some_fault _ (record { names = rule NotJson; at = [] }) (sym one ∙ no_fault)
+          some_fault _ (rule NotJson) (sym one ∙ no_fault)
       | inr json ↦
-          (json.0, json.1, json.2, faultless_is_kept plays json.0 (subst (λ (l : List Fault). Tells (document_findings plays json.0) l) no_fault (subst (λ l. Tells l faults) json.3 tells.tells.tells)))
+          (json.0, json.1, json.2, faultless_is_kept plays json.0 (subst (λ (l : List Named). Tells (document_findings plays json.0) l) no_fault (subst (λ l. Tells l faults) json.3 tells.tells.tells)))
     ]
 
 pub nothing_told_of_accepted : NothingToldOfAccepted
 nothing_told_of_accepted plays most text told document tells utf8 is kept =
     let faults = tells.tells.faults in
-    none_at_all told_by most faults told.faults.items told.more (elim (tells.found) [
+    none_at_all named_of most faults told.faults.items told.more (elim (tells.found) [
       | inl no_json ↦ no_value (faults ≡ []) document (read text) (no_json.1 utf8) is
       | inr json ↦
           let same = same_value json.0 document (read text) json.2 is in
           kept_is_without_fault plays document faults (subst (λ (d : Data). Tells (document_findings plays d) faults) same (subst (λ l. Tells l faults) json.3 tells.tells.tells)) kept
     ]) tells.tells.shows
 
-names_of : (found : Option Named) (at : List ℕ) (fault : Fault) → option_map (λ (named : Named). record { names = named; at = at }) found ≡ Some fault → found ≡ Some fault.names
-names_of None at fault e = absurd (cc)
-names_of (Some named) at fault e = let same : record { names = named; at = at } ≡ fault = cc in ap (λ (f : Fault). Some f.names) same
-
 pub first_told : FirstTold
 first_told plays most text told fault others tells are =
     let faults = tells.tells.faults in
-    let shown = subst (λ (l : List PlayFault). AreFirst told_by most faults l told.more) are tells.tells.shows in
-    let first = first_says told_by most faults fault others told.more shown in (
-      first.0.names,
-      names_of (named_of fault) (path_of fault) first.0 first.3,
+    let shown = subst (λ (l : List PlayFault). AreFirst named_of most faults l told.more) are tells.tells.shows in
+    let first = first_says named_of most faults fault others told.more shown in (
+      first.0,
+      first.3,
       elim (tells.found) [
         | inl no_json ↦
             let one = no_json_told faults (subst (λ l. Tells l faults) no_json.0 tells.tells.tells) in
             let e = sym first.2 ∙ one in
-            let same : first.0 ≡ record { names = rule NotJson; at = [] } = cc in
-            inl (ap (λ (f : Fault). f.names) same, no_json.1)
+            let same : first.0 ≡ rule NotJson = cc in
+            inl (same, no_json.1)
         | inr json ↦
-            inr (json.0, json.1, json.2, first_fault_first plays json.0 first.0 first.1 (subst (λ (l : List Fault). Tells (document_findings plays json.0) l) first.2 (subst (λ l. Tells l faults) json.3 tells.tells.tells)))
+            inr (json.0, json.1, json.2, first_fault_first plays json.0 first.0 first.1 (subst (λ (l : List Named). Tells (document_findings plays json.0) l) first.2 (subst (λ l. Tells l faults) json.3 tells.tells.tells)))
       ],
     )

@@ -4,6 +4,7 @@ use Rattle.serde_json.specs.Data.{Data}
 use Rattle.text_parts.specs.Shapes.{is_text}
 use Rattle.play_rules.specs.Breaches.{Breach, BadShape, BadSerial}
 use Rattle.play_rules.specs.Conditions.{is_clause}
+use Rattle.play_rules.specs.Paths.{Path}
 use Rattle.play_rules.specs.Settings.{is_size}
 use Rattle.playbook_faults.specs.declared.entries.Test.{Test}
 use Rattle.playbook_faults.specs.declared.entries.Test.TheVariants.{Text, Clause, Size}
@@ -13,8 +14,8 @@ passes Text = is_text
 passes Clause = is_clause
 passes Size = is_size
 
--- the rule that another entry breaks
-abbrev pub breach_for : Test → Breach
+-- the rule that another entry breaks, at its path
+abbrev pub breach_for : Test → Path → Breach
 breach_for Text = BadShape
 breach_for Clause = BadShape
 breach_for Size = BadSerial

@@ -9,7 +9,6 @@ use Rattle.play_rules.specs.Faults.{named_of}
 use Rattle.play_rules.specs.Plays.{checks}
 use Rattle.play_rules.specs.declared.fault.PlayFault.{PlayFault}
 use Rattle.play_read.specs.Reads.{IsFirstOf}
-use Rattle.playbook_faults.specs.Faults.{Fault}
 use Rattle.playbook_faults.specs.PlayFindings.{document_findings}
 use Rattle.playbook_faults.specs.Telling.{Tells, TellsOf}
 use Rattle.playbook_faults.specs.declared.told.Told.{Told}
@@ -17,7 +16,7 @@ use Rattle.playbook_faults.specs.declared.told.Told.{Told}
 -- there is none where all checks of the document are kept
 abbrev pub NoneOfKept : Type 0
 NoneOfKept =
-    (plays : ℕ) (document : Data) (faults : List Fault) → Tells (document_findings plays document) faults → AllKept (checks plays document) → faults ≡ []
+    (plays : ℕ) (document : Data) (faults : List Named) → Tells (document_findings plays document) faults → AllKept (checks plays document) → faults ≡ []
 
 -- and nowhere else
 abbrev pub KeptWithNone : Type 0
@@ -27,7 +26,7 @@ KeptWithNone =
 -- the first names the first check that is not kept
 abbrev pub FirstIsFirst : Type 0
 FirstIsFirst =
-    (plays : ℕ) (document : Data) (fault : Fault) (others : List Fault) → Tells (document_findings plays document) (fault ∷ others) → IsFirst fault.names (checks plays document)
+    (plays : ℕ) (document : Data) (fault : Named) (others : List Named) → Tells (document_findings plays document) (fault ∷ others) → IsFirst fault (checks plays document)
 
 -- where nothing is told of a text, it is accepted
 abbrev pub NothingTold : Type 0

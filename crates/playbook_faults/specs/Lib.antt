@@ -1,6 +1,4 @@
-pub mod Paths
 pub mod Firsts
-pub mod Faults
 pub mod Rules
 pub mod Findings
 pub mod Entries

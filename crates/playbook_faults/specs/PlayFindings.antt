@@ -6,18 +6,18 @@ use Rattle.serde_json.specs.Find.{get}
 use Rattle.group_tree.specs.Names.{Name}
 use Rattle.text_parts.specs.Shapes.{is_list, is_null, is_object}
 use Rattle.play_rules.specs.Keys.{handlers_key, play_keys}
-use Rattle.play_rules.specs.Breaches.{BadShape, TooManySteps, ManyPlays}
+use Rattle.play_rules.specs.Breaches.{BadShape, TooManySteps, ManyPlays, Broken}
 use Rattle.play_rules.specs.Steps.{name_in, twice_named}
 use Rattle.play_rules.specs.Plays.{handler_names, handlers_in, plays_in, spot_at, tasks_in, told}
-use Rattle.playbook_faults.specs.Paths.{Path, task_path, handler_path}
-use Rattle.playbook_faults.specs.Findings.{Finding, broken, all_broken, each_at}
+use Rattle.play_rules.specs.Paths.{Path, task_path, handler_path}
+use Rattle.playbook_faults.specs.Findings.{Finding, broken, each_at, each_broken}
 use Rattle.playbook_faults.specs.StepFindings.{unknown_keys, task_findings, handler_findings, missing_handlers}
 use Rattle.playbook_faults.specs.Settings.{hosts_findings, serial_findings, percent_findings, mode_findings, tasks_shape, handlers_shape}
 
 -- a handler, and after it whether its name stood before; `first` is the first handler's number among the play's steps
 abbrev pub handler_at : Path → Option ℕ → ℕ → List Data → ℕ → Data → List Finding
 handler_at at number first handlers place handler =
-    handler_findings (handler_path at place) (spot_at number (first + place)) handler ++ all_broken [] (twice_named (filter_map name_in (take place handlers)) handler)
+    handler_findings (handler_path at place) (spot_at number (first + place)) handler ++ each_broken (twice_named (filter_map name_in (take place handlers)) handler)
 
 abbrev pub handlers_findings : Path → Option ℕ → ℕ → List Data → List Finding
 handlers_findings at number first handlers = each_at (handler_at at number first handlers) 0 handlers
@@ -52,7 +52,7 @@ abbrev pub few_steps : Data → Bool
 few_steps play = nat_le (length (tasks_in play) + length (handlers_in play)) 256
 
 abbrev pub counted_steps : Path → Option ℕ → Data → List Finding
-counted_steps at number play = if few_steps play then steps_findings at number play else broken [] TooManySteps ∷ []
+counted_steps at number play = if few_steps play then steps_findings at number play else Broken TooManySteps ∷ []
 
 abbrev pub parts_of_play : Path → Option ℕ → Data → List Finding
 parts_of_play at number play =
@@ -70,7 +70,7 @@ play_at several place play = play_findings (decimal place) (told several (place 
 abbrev pub plays_findings : ℕ → List Data → List Finding
 plays_findings most [] = broken [] BadShape ∷ []
 plays_findings most (play ∷ plays) =
-    if nat_le (length (play ∷ plays)) most then each_at (play_at (nat_lt 1 (length (play ∷ plays)))) 0 (play ∷ plays) else broken [] ManyPlays ∷ []
+    if nat_le (length (play ∷ plays)) most then each_at (play_at (nat_lt 1 (length (play ∷ plays)))) 0 (play ∷ plays) else Broken ManyPlays ∷ []
 
 abbrev pub document_findings : ℕ → Data → List Finding
 document_findings most document = plays_findings most (plays_in document)

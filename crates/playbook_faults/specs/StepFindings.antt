@@ -1,28 +1,24 @@
 -- What is found in a step.
-use Rattle.std.specs.Prelude.{is_some, List, [], ◌∷◌, ◌++◌, filter, map, if◌then◌else◌}
+use Rattle.std.specs.Prelude.{List, [], ◌∷◌, ◌++◌, filter, map, if◌then◌else◌}
 use Rattle.std.specs.List.{flat_map}
 use Rattle.serde_json.specs.Data.{Data}
 use Rattle.serde_json.specs.Find.{get}
 use Rattle.group_tree.specs.Names.{Name, is_among}
 use Rattle.text_parts.specs.Shapes.{Entry, entries_in, is_null, is_object, is_text}
-use Rattle.play_rules.specs.Keys.{name_key, register_key, when_key, changed_key, failed_key, ignore_key, notify_key, task_keys, handler_keys}
+use Rattle.play_rules.specs.Keys.{when_key, changed_key, failed_key, notify_key, task_keys, handler_keys}
 use Rattle.play_rules.specs.Breaches.{BadShape, UnknownKey, NoSuchHandler, Spot, unless, where_given, is_known}
 use Rattle.play_rules.specs.Conditions.{clause_of, clauses_listed, is_clause}
 use Rattle.play_rules.specs.Steps.{bad_task_name, bad_handler_name, bad_register, bad_ignore, is_missing, notified_in}
-use Rattle.playbook_faults.specs.Paths.{Path, under}
-use Rattle.playbook_faults.specs.Findings.{Finding, broken, all_broken, asked_of, bad_entries}
+use Rattle.play_rules.specs.Paths.{Path, under}
+use Rattle.playbook_faults.specs.Findings.{Finding, all_broken, asked_of, bad_entries, broken, each_broken}
 use Rattle.playbook_faults.specs.Commands.{command_findings}
 
 -- each key that may not stand there, in the order of their bytes
 abbrev pub key_finding : List Name → Path → Entry → List Finding
-key_finding keys at entry = all_broken (under at entry.name) (unless (is_known keys entry) UnknownKey)
+key_finding keys at entry = each_broken (unless (is_known keys entry) (UnknownKey (under at entry.name)))
 
 abbrev pub unknown_keys : List Name → Path → Data → List Finding
 unknown_keys keys at value = flat_map (key_finding keys at) (entries_in value)
-
--- the value under the key, or where it is missing what it is missing in
-abbrev pub given_path : Path → Name → Data → Path
-given_path at key value = if is_some (get key value) then under at key else at
 
 -- each part of a condition that is neither a text nor a truth value; null is as if nothing were given
 abbrev pub clause_findings : Path → Data → List Finding
@@ -47,13 +43,13 @@ notify_findings at step = where_given (bad_entries BadShape is_text (under at no
 
 abbrev pub parts_of_task : Path → Spot → Data → List Finding
 parts_of_task at spot step =
-    unknown_keys task_keys at step ++ (all_broken (under at name_key) (bad_task_name step) ++ (command_findings at spot step ++ (all_broken (under at register_key) (bad_register step)
-    ++ (condition_findings at spot step ++ (all_broken (under at ignore_key) (bad_ignore step) ++ notify_findings at step)))))
+    unknown_keys task_keys at step ++ (all_broken at (bad_task_name step) ++ (command_findings at spot step ++ (all_broken at (bad_register step)
+    ++ (condition_findings at spot step ++ (all_broken at (bad_ignore step) ++ notify_findings at step)))))
 
 abbrev pub parts_of_handler : Path → Spot → Data → List Finding
 parts_of_handler at spot step =
-    unknown_keys handler_keys at step ++ (all_broken (given_path at name_key step) (bad_handler_name step) ++ (command_findings at spot step ++ (all_broken (under at register_key) (bad_register step)
-    ++ (condition_findings at spot step ++ all_broken (under at ignore_key) (bad_ignore step)))))
+    unknown_keys handler_keys at step ++ (all_broken at (bad_handler_name step) ++ (command_findings at spot step ++ (all_broken at (bad_register step)
+    ++ (condition_findings at spot step ++ all_broken at (bad_ignore step)))))
 
 -- of a step that is no object nothing else is told
 abbrev pub task_findings : Path → Spot → Data → List Finding
@@ -73,7 +69,7 @@ once before (name ∷ names) = once_more before name ++ once (before ++ name ∷
 
 -- each name that the task notifies and that no handler has, once
 abbrev pub missing_names : List Name → List Name → List Finding
-missing_names handlers names = all_broken [] (map NoSuchHandler (once [] (filter (is_missing handlers) names)))
+missing_names handlers names = each_broken (map NoSuchHandler (once [] (filter (is_missing handlers) names)))
 
 abbrev pub missing_handlers : List Name → Data → List Finding
 missing_handlers handlers task = missing_names handlers (notified_in task)

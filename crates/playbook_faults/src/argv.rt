@@ -8,6 +8,7 @@ ghost use Rattle.playbook_faults.specs.Commands as spec;
 
 use crate::verdict::Verdict;
 use itoa::Buffer;
+use play_rules::is_word;
 use serde_json::Value;
 use text_parts::check_word;
 
@@ -25,16 +26,6 @@ pub(crate) fn verdict_on(bad: bool) -> Verdict
         Verdict::BadBraces
     } else {
         Verdict::Good
-    }
-}
-
-pub(crate) fn is_word(value: &Value) -> bool
-    ensures { result ≡ rules.is_word (view value.now) }
-{
-    match value {
-        Value::String(_) => true,
-        Value::Number(number) => number.as_i64().is_some(),
-        _ => false,
     }
 }
 

@@ -1,8 +1,8 @@
 //! The key `command` of a step, or its long form.
-ghost use Rattle.std.specs.Prelude.{◌≡◌, length, option_map, option_and_then};
+ghost use Rattle.std.specs.Prelude.{◌≡◌, option_map, option_and_then};
 ghost use Rattle.serde_json.specs.Find.{get, as_str};
 ghost use Rattle.serde_json.specs.View.{view};
-ghost use Rattle.text_parts.specs.Shapes.{entries_in, elements_of};
+ghost use Rattle.text_parts.specs.Shapes.{elements_of};
 ghost use Rattle.play_rules.specs.Commands as rules;
 ghost use Rattle.play_rules.specs.Keys.{argv_key, cmd_key};
 ghost use Rattle.play_rules.specs.Plays.{spot_at};
@@ -10,15 +10,14 @@ ghost use Rattle.playbook_faults.specs.Commands as spec;
 ghost use Rattle.playbook_faults.specs.Telling.{Adds};
 
 use crate::argv::judge_list;
-use crate::command_place::place_of_bad;
 use crate::free::judge_text;
 use crate::place::Place;
 use crate::rule::Rule;
 use crate::telling::Telling;
 use crate::verdict::Verdict;
-use play_rules::PlayFault;
+use play_rules::{PlayFault, count_entries, place_of_bad_command};
 use serde_json::Value;
-use text_parts::{elements_of, entries_of};
+use text_parts::elements_of;
 
 fn command_in(step: &Value) -> Option<&Value>
     ensures { option_map (λ command. view command.now) result ≡ rules.command_in (view step.now) }
@@ -29,15 +28,6 @@ fn command_in(step: &Value) -> Option<&Value>
             None => Some(command),
         },
         None => step.get("ansible.builtin.command"),
-    }
-}
-
-pub(crate) fn count_entries(value: &Value) -> usize
-    ensures { result ≡ length (entries_in (view value.now)) }
-{
-    match entries_of(value) {
-        Some(object) => object.len(),
-        None => 0,
     }
 }
 
@@ -110,7 +100,7 @@ pub(crate) fn tell_command(telling: &mut Telling, at: &str, place: Place, step: 
     ensures { Adds telling.old telling.new (spec.command_findings at.now (spot_at place.play place.step) (view step.now)) }
 {
     match judge(step) {
-        Verdict::BadShape => telling.tell(Rule::Shape, at, place_of_bad(step)),
+        Verdict::BadShape => telling.tell(Rule::Shape, at, place_of_bad_command(step)),
         Verdict::BadBraces => telling.tell_fault(PlayFault::BadBraces {
             play: place.play,
             step: place.step,

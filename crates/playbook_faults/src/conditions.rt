@@ -9,7 +9,7 @@ ghost use Rattle.play_rules.specs.Checks.{IsCondition};
 ghost use Rattle.play_rules.specs.Conditions as rules;
 ghost use Rattle.play_rules.specs.Faults.{key_name};
 ghost use Rattle.play_rules.specs.Plays.{spot_at};
-ghost use Rattle.playbook_faults.specs.Paths.{under};
+ghost use Rattle.play_rules.specs.Paths.{under};
 ghost use Rattle.playbook_faults.specs.StepFindings as spec;
 ghost use Rattle.playbook_faults.specs.Telling.{Adds};
 
@@ -37,7 +37,7 @@ fn flaw_of(alloc: Global, text: &str) -> Result<Option<CondFault>, AllocError>
 /// The text under this key of a step has to be a condition.
 #[tactic(auto, using(crate::proofs::AddLaws::findings_in_turn))]
 fn ask(telling: &mut Telling, place: Place, key: ConditionKey, text: &str)
-    ensures { Adds telling.old telling.new (record { check = Asked (spot_at place.play place.step) (key_name key) text.now; at = [] } ∷ []) }
+    ensures { Adds telling.old telling.new (Asked (spot_at place.play place.step) (key_name key) text.now ∷ []) }
 {
     match flaw_of(telling.alloc(), text) {
         Ok(Some(fault)) => telling.tell_fault(PlayFault::BadCondition {

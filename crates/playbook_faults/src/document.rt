@@ -6,11 +6,10 @@ ghost use Rattle.playbook_faults.specs.Findings.{each_at};
 ghost use Rattle.playbook_faults.specs.PlayFindings as spec;
 ghost use Rattle.playbook_faults.specs.Telling.{Adds};
 
-use crate::path::path_of_play;
 use crate::play::tell_play;
 use crate::rule::Rule;
 use crate::telling::Telling;
-use play_read::PLAYS_BOUND;
+use play_read::{PLAYS_BOUND, path_of_play};
 use play_rules::{Below, PlayFault};
 use serde_json::Value;
 use std::alloc::AllocError;

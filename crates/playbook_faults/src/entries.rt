@@ -4,8 +4,8 @@ ghost use Rattle.serde_json.specs.View.{view};
 ghost use Rattle.play_rules.specs.Breaches.{unless};
 ghost use Rattle.playbook_faults.specs.Entries.{breach_for, passes};
 ghost use Rattle.playbook_faults.specs.Findings as spec;
-ghost use Rattle.playbook_faults.specs.Findings.{all_broken};
-ghost use Rattle.playbook_faults.specs.Paths.{under};
+ghost use Rattle.playbook_faults.specs.Findings.{each_broken};
+ghost use Rattle.play_rules.specs.Paths.{Path, under};
 ghost use Rattle.playbook_faults.specs.Rules.{breach_of};
 ghost use Rattle.playbook_faults.specs.Telling.{Adds};
 
@@ -27,7 +27,7 @@ pub(crate) enum Test {
 impl Test {
     /// The rule that another entry breaks.
     fn rule(self) -> Rule
-        ensures { breach_of result ≡ breach_for self }
+        ensures { (at : Path) → breach_of result at ≡ breach_for self at }
     {
         match self {
             Test::Text | Test::Clause => Rule::Shape,
@@ -66,7 +66,7 @@ fn tell_each(telling: &mut Telling, test: Test, at: &str, key: &str, entries: &[
 
 #[tactic(auto, using(crate::proofs::AddLaws::findings_in_turn))]
 fn tell_alone(telling: &mut Telling, test: Test, at: &str, key: &str, value: &Value)
-    ensures { Adds telling.old telling.new (all_broken (under at.now key.now) (unless (passes test (view value.now)) (breach_for test))) }
+    ensures { Adds telling.old telling.new (each_broken (unless (passes test (view value.now)) (breach_for test (under at.now key.now)))) }
 {
     if !test.passes(value) {
         telling.tell(test.rule(), at, Below::Key(key));

@@ -3,8 +3,7 @@ ghost use Rattle.std.specs.Prelude.{◌≡◌, ◌∷◌, [], Some, IfOk, IsUtf8
 ghost use Rattle.serde_json.specs.Read.{read};
 ghost use Rattle.serde_json.specs.View.{view};
 ghost use Rattle.text_parts.specs.Texts.{IsNoJson};
-ghost use Rattle.play_rules.specs.Breaches.{NotJson};
-ghost use Rattle.playbook_faults.specs.Findings.{broken};
+ghost use Rattle.play_rules.specs.Breaches.{Broken, NotJson};
 ghost use Rattle.playbook_faults.specs.PlayFindings.{document_findings};
 ghost use Rattle.playbook_faults.specs.Telling.{TellsOf, ToldOf};
 
@@ -35,7 +34,7 @@ fn faults_of(alloc: Global, document: &Value, most: usize) -> Result<Told, Alloc
 }
 
 fn no_json(alloc: Global, most: usize) -> Result<Told, AllocError>
-    ensures { IfOk result (ToldOf (broken [] NotJson ∷ []) most) }
+    ensures { IfOk result (ToldOf (Broken NotJson ∷ []) most) }
 {
     let mut telling = Telling::new(alloc, most);
     telling.tell_fault(PlayFault::NotJson);

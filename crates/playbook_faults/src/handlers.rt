@@ -5,18 +5,18 @@ ghost use Rattle.serde_json.specs.View.{view};
 ghost use Rattle.group_tree.specs.Names.{Name};
 ghost use Rattle.play_rules.specs.Plays.{spot_at};
 ghost use Rattle.play_rules.specs.Steps.{name_in, twice, twice_named};
-ghost use Rattle.playbook_faults.specs.Findings.{all_broken};
+ghost use Rattle.playbook_faults.specs.Findings.{each_broken};
 ghost use Rattle.playbook_faults.specs.Names.{Knows};
-ghost use Rattle.playbook_faults.specs.Paths.{handler_path};
+ghost use Rattle.play_rules.specs.Paths.{handler_path};
 ghost use Rattle.playbook_faults.specs.PlayFindings as spec;
 ghost use Rattle.playbook_faults.specs.StepFindings.{handler_findings};
 ghost use Rattle.playbook_faults.specs.Telling.{Adds};
 
 use crate::names::NameSet;
-use crate::path::path_of_step;
 use crate::place::Place;
 use crate::step::tell_handler;
 use crate::telling::Telling;
+use play_read::path_of_step;
 use play_rules::name_in;
 use serde_json::Value;
 use std::alloc::AllocError;
@@ -24,7 +24,7 @@ use std::alloc::AllocError;
 /// Tells the name where a handler before has it; it is known from then on.
 #[tactic(auto, using(crate::proofs::AddLaws::findings_in_turn))]
 fn tell_name<'a>(telling: &mut Telling, names: &mut NameSet<'a>, name: &'a str)
-    ensures adds { (met : List Name) → Knows met names.old → Adds telling.old telling.new (all_broken [] (twice met name.now)) }
+    ensures adds { (met : List Name) → Knows met names.old → Adds telling.old telling.new (each_broken (twice met name.now)) }
     ensures knows { (met : List Name) → Knows met names.old → telling.new.refused ≡ false → Knows (met ++ name.now ∷ []) names.new }
 {
     match names.add(name) {
@@ -39,7 +39,7 @@ fn tell_name<'a>(telling: &mut Telling, names: &mut NameSet<'a>, name: &'a str)
 
 #[tactic(auto, using(crate::proofs::AddLaws::findings_in_turn))]
 fn tell_twice<'a>(telling: &mut Telling, names: &mut NameSet<'a>, handler: &'a Value)
-    ensures adds { (met : List Name) → Knows met names.old → Adds telling.old telling.new (all_broken [] (twice_named met (view handler.now))) }
+    ensures adds { (met : List Name) → Knows met names.old → Adds telling.old telling.new (each_broken (twice_named met (view handler.now))) }
     ensures knows { (met : List Name) → Knows met names.old → telling.new.refused ≡ false → Knows (met ++ filter_map name_in (view handler.now ∷ [])) names.new }
 {
     if let Some(name) = name_in(handler) {

@@ -5,7 +5,7 @@ ghost use Rattle.serde_json.specs.Find.{get};
 ghost use Rattle.serde_json.specs.View.{view};
 ghost use Rattle.text_parts.specs.Shapes.{is_text};
 ghost use Rattle.play_rules.specs.Keys.{hosts_key};
-ghost use Rattle.playbook_faults.specs.Paths.{under};
+ghost use Rattle.play_rules.specs.Paths.{under};
 ghost use Rattle.playbook_faults.specs.Settings as spec;
 ghost use Rattle.playbook_faults.specs.Telling.{Adds};
 

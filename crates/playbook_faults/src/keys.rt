@@ -7,8 +7,8 @@ ghost use Rattle.text_parts.specs.Shapes.{entries};
 ghost use Rattle.play_rules.specs.Breaches.{UnknownKey, unless};
 ghost use Rattle.play_rules.specs.KeyLists.{keys_of};
 ghost use Rattle.play_rules.specs.Keys as rules;
-ghost use Rattle.playbook_faults.specs.Findings.{all_broken};
-ghost use Rattle.playbook_faults.specs.Paths.{under};
+ghost use Rattle.playbook_faults.specs.Findings.{each_broken};
+ghost use Rattle.play_rules.specs.Paths.{under};
 ghost use Rattle.playbook_faults.specs.StepFindings.{key_finding, unknown_keys};
 ghost use Rattle.playbook_faults.specs.Telling.{Adds};
 
@@ -57,7 +57,7 @@ fn is_handler_key(key: &str) -> bool
 
 #[tactic(auto, using(crate::proofs::AddLaws::findings_in_turn))]
 fn tell_key(telling: &mut Telling, keys: Keys, at: &str, key: &str)
-    ensures { Adds telling.old telling.new (all_broken (under at.now key.now) (unless (is_among key.now (keys_of keys)) UnknownKey)) }
+    ensures { Adds telling.old telling.new (each_broken (unless (is_among key.now (keys_of keys)) (UnknownKey (under at.now key.now)))) }
 {
     if !have(keys, key) {
         telling.tell(Rule::Key, at, Below::Key(key));

@@ -3,7 +3,6 @@
 
 mod argv;
 mod command;
-mod command_place;
 mod conditions;
 mod document;
 mod entries;
@@ -16,7 +15,6 @@ mod keys;
 mod laws;
 mod missing;
 mod names;
-mod path;
 mod patterns;
 mod pieces;
 mod place;

@@ -6,7 +6,7 @@ ghost use Rattle.serde_json.specs.View.{view};
 ghost use Rattle.group_tree.specs.Names.{Name};
 ghost use Rattle.play_rules.specs.Breaches.{NoSuchHandler};
 ghost use Rattle.play_rules.specs.Steps.{is_missing};
-ghost use Rattle.playbook_faults.specs.Findings.{all_broken};
+ghost use Rattle.playbook_faults.specs.Findings.{each_broken};
 ghost use Rattle.playbook_faults.specs.Names.{Knows};
 ghost use Rattle.playbook_faults.specs.StepFindings as spec;
 ghost use Rattle.playbook_faults.specs.Telling.{Adds};
@@ -26,7 +26,7 @@ fn tell_name<'a>(
     name: &'a str,
 )
     ensures adds { (known met : List Name) → Knows known handlers.now → Knows met before.old
-        → Adds telling.old telling.new (all_broken [] (map NoSuchHandler (spec.once met (filter (is_missing known) (name.now ∷ []))))) }
+        → Adds telling.old telling.new (each_broken (map NoSuchHandler (spec.once met (filter (is_missing known) (name.now ∷ []))))) }
     ensures knows { (known met : List Name) → Knows known handlers.now → Knows met before.old → telling.new.refused ≡ false
         → Knows (met ++ filter (is_missing known) (name.now ∷ [])) before.new }
 {
@@ -51,7 +51,7 @@ fn tell_value<'a>(
     value: &'a Value,
 )
     ensures adds { (known met : List Name) → Knows known handlers.now → Knows met before.old
-        → Adds telling.old telling.new (all_broken [] (map NoSuchHandler (spec.once met (filter (is_missing known) (filter_map as_str (view value.now ∷ [])))))) }
+        → Adds telling.old telling.new (each_broken (map NoSuchHandler (spec.once met (filter (is_missing known) (filter_map as_str (view value.now ∷ [])))))) }
     ensures knows { (known met : List Name) → Knows known handlers.now → Knows met before.old → telling.new.refused ≡ false
         → Knows (met ++ filter (is_missing known) (filter_map as_str (view value.now ∷ []))) before.new }
 {

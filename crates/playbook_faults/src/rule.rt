@@ -1,7 +1,7 @@
 //! Rules that are broken at a place in the text.
 ghost use Rattle.std.specs.Prelude.{◌≡◌, Some, string_bytes};
 ghost use Rattle.play_rules.specs.Checks.{rule};
-ghost use Rattle.playbook_faults.specs.Faults.{told_by};
+ghost use Rattle.play_rules.specs.Faults.{named_of};
 ghost use Rattle.playbook_faults.specs.Rules.{breach_of};
 
 use play_rules::PlayFault;
@@ -17,7 +17,7 @@ pub(crate) enum Rule {
 impl Rule {
     /// The fault that tells that the rule is broken at this path.
     pub(crate) fn broken_at(self, at: String) -> PlayFault
-        ensures { told_by result ≡ Some (record { names = rule (breach_of self); at = string_bytes at }) }
+        ensures { named_of result ≡ Some (rule (breach_of self (string_bytes at))) }
     {
         match self {
             Rule::Shape => PlayFault::BadShape { at },

@@ -3,7 +3,7 @@ ghost use Rattle.std.specs.Prelude.{◌≡◌, is_some, map};
 ghost use Rattle.serde_json.specs.View.{view};
 ghost use Rattle.play_rules.specs.Keys.{serial_key};
 ghost use Rattle.play_rules.specs.Settings as rules;
-ghost use Rattle.playbook_faults.specs.Paths.{under};
+ghost use Rattle.play_rules.specs.Paths.{under};
 ghost use Rattle.playbook_faults.specs.Settings as spec;
 ghost use Rattle.playbook_faults.specs.Telling.{Adds};
 

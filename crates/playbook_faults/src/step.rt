@@ -2,11 +2,10 @@
 ghost use Rattle.std.specs.Prelude.{◌≡◌};
 ghost use Rattle.serde_json.specs.View.{view};
 ghost use Rattle.text_parts.specs.Shapes.{is_object};
-ghost use Rattle.play_rules.specs.Keys.{name_key, register_key, ignore_key};
 ghost use Rattle.play_rules.specs.Plays.{spot_at};
 ghost use Rattle.play_rules.specs.Steps as rules;
 ghost use Rattle.playbook_faults.specs.Findings.{all_broken};
-ghost use Rattle.playbook_faults.specs.Paths.{Path, below, under};
+ghost use Rattle.play_rules.specs.Paths.{Path, below, given_path};
 ghost use Rattle.playbook_faults.specs.StepFindings as spec;
 ghost use Rattle.playbook_faults.specs.Telling.{Adds};
 
@@ -22,7 +21,7 @@ use serde_json::Value;
 
 #[tactic(auto, using(crate::proofs::AddLaws::findings_in_turn))]
 fn tell_register(telling: &mut Telling, at: &str, step: &Value)
-    ensures { Adds telling.old telling.new (all_broken (under at.now register_key) (rules.bad_register (view step.now))) }
+    ensures { Adds telling.old telling.new (all_broken at.now (rules.bad_register (view step.now))) }
 {
     match register_of(step) {
         Ok(_given) => {}
@@ -32,7 +31,7 @@ fn tell_register(telling: &mut Telling, at: &str, step: &Value)
 
 #[tactic(auto, using(crate::proofs::AddLaws::findings_in_turn))]
 fn tell_ignore(telling: &mut Telling, at: &str, step: &Value)
-    ensures { Adds telling.old telling.new (all_broken (under at.now ignore_key) (rules.bad_ignore (view step.now))) }
+    ensures { Adds telling.old telling.new (all_broken at.now (rules.bad_ignore (view step.now))) }
 {
     match ignores_errors(step) {
         Ok(_given) => {}
@@ -42,7 +41,7 @@ fn tell_ignore(telling: &mut Telling, at: &str, step: &Value)
 
 #[tactic(auto, using(crate::proofs::AddLaws::findings_in_turn))]
 fn tell_name_of_task(telling: &mut Telling, at: &str, task: &Value)
-    ensures { Adds telling.old telling.new (all_broken (under at.now name_key) (rules.bad_task_name (view task.now))) }
+    ensures { Adds telling.old telling.new (all_broken at.now (rules.bad_task_name (view task.now))) }
 {
     match name_of_task(task) {
         Ok(_given) => {}
@@ -52,7 +51,7 @@ fn tell_name_of_task(telling: &mut Telling, at: &str, task: &Value)
 
 /// What stands under this key, or what it is missing in.
 pub(crate) fn given_below<'a>(key: &'a str, value: &Value) -> Below<'a>
-    ensures { (at : Path) → below at result ≡ spec.given_path at key.now (view value.now) }
+    ensures { (at : Path) → below at result ≡ given_path at key.now (view value.now) }
 {
     match value.get(key) {
         Some(_given) => Below::Key(key),
@@ -62,7 +61,7 @@ pub(crate) fn given_below<'a>(key: &'a str, value: &Value) -> Below<'a>
 
 #[tactic(auto, using(crate::proofs::AddLaws::findings_in_turn))]
 fn tell_name_of_handler(telling: &mut Telling, at: &str, handler: &Value)
-    ensures { Adds telling.old telling.new (all_broken (spec.given_path at.now name_key (view handler.now)) (rules.bad_handler_name (view handler.now))) }
+    ensures { Adds telling.old telling.new (all_broken at.now (rules.bad_handler_name (view handler.now))) }
 {
     match name_of_handler(handler) {
         Ok(_given) => {}

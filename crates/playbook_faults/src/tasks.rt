@@ -4,17 +4,17 @@ ghost use Rattle.serde_json.specs.View.{view};
 ghost use Rattle.group_tree.specs.Names.{Name};
 ghost use Rattle.play_rules.specs.Plays.{spot_at};
 ghost use Rattle.playbook_faults.specs.Names.{KnowsBy};
-ghost use Rattle.playbook_faults.specs.Paths.{task_path};
+ghost use Rattle.play_rules.specs.Paths.{task_path};
 ghost use Rattle.playbook_faults.specs.PlayFindings as spec;
 ghost use Rattle.playbook_faults.specs.StepFindings.{task_findings};
 ghost use Rattle.playbook_faults.specs.Telling.{Adds};
 
 use crate::missing::tell_missing_handlers;
 use crate::names::NameSet;
-use crate::path::path_of_step;
 use crate::place::Place;
 use crate::step::tell_task;
 use crate::telling::Telling;
+use play_read::path_of_step;
 use serde_json::Value;
 use std::alloc::AllocError;
 

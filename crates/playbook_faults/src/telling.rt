@@ -1,15 +1,16 @@
 //! The faults of a playbook as they are found.
 ghost use Rattle.std.specs.Prelude.{◌≡◌, ◌+◌, ◌∷◌, ◌++◌, [], Some, List, IfOk, true, false, length, nat_lt};
-ghost use Rattle.play_rules.specs.Breaches.{NoSuchHandler, TwiceHandler};
-ghost use Rattle.playbook_faults.specs.Faults.{Fault, told_by};
+ghost use Rattle.play_rules.specs.Breaches.{Broken, NoSuchHandler, TwiceHandler};
+ghost use Rattle.play_rules.specs.Checks.{Named};
+ghost use Rattle.play_rules.specs.Faults.{named_of};
 ghost use Rattle.playbook_faults.specs.Findings.{Finding, broken};
-ghost use Rattle.playbook_faults.specs.Paths.{below};
+ghost use Rattle.play_rules.specs.Paths.{below};
 ghost use Rattle.playbook_faults.specs.Rules.{breach_of};
 ghost use Rattle.playbook_faults.specs.Telling.{Adds, Holds, Keeps, IsToldBy, ToldOf};
 
-use crate::path::path_below;
 use crate::rule::Rule;
 use crate::told::Told;
+use play_read::path_below;
 use play_rules::{Below, PlayFault};
 use std::alloc::{AllocError, Global};
 
@@ -86,7 +87,7 @@ impl Telling {
 
     /// A fault that takes no memory of its own.
     pub(crate) fn tell_fault(&mut self, fault: PlayFault)
-        ensures { (finding : Finding) (told : Fault) → told_by fault ≡ Some told → IsToldBy finding.check finding.at (told ∷ []) → Adds self.old self.new (finding ∷ []) }
+        ensures { (finding : Finding) (told : Named) → named_of fault ≡ Some told → IsToldBy finding (told ∷ []) → Adds self.old self.new (finding ∷ []) }
     {
         if self.has_room() {
             self.keep(fault);
@@ -113,7 +114,7 @@ impl Telling {
     /// A task notifies a handler of this name, which isn't there.
     #[tactic(auto, using(crate::proofs::AddLaws::adds_refusing))]
     pub(crate) fn tell_missing(&mut self, name: &str)
-        ensures { Adds self.old self.new (broken [] (NoSuchHandler name.now) ∷ []) }
+        ensures { Adds self.old self.new (Broken (NoSuchHandler name.now) ∷ []) }
     {
         if self.has_room() {
             match String::from_str(self.alloc, name) {
@@ -128,7 +129,7 @@ impl Telling {
     /// A handler has this name, which one before it has.
     #[tactic(auto, using(crate::proofs::AddLaws::adds_refusing))]
     pub(crate) fn tell_twice(&mut self, name: &str)
-        ensures { Adds self.old self.new (broken [] (TwiceHandler name.now) ∷ []) }
+        ensures { Adds self.old self.new (Broken (TwiceHandler name.now) ∷ []) }
     {
         if self.has_room() {
             match String::from_str(self.alloc, name) {

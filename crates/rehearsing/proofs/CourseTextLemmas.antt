@@ -62,7 +62,7 @@ few_plays most text plays reads =
     let many : length plays ≡ length (plays_of reads.document) = AllZip-long IsPlay (plays_of reads.document) plays reads.says in
     let written : length (plays_of reads.document) ≡ length (plays_in reads.document) = length-map (plays_in reads.document) play_of in
     let count = length (plays_in reads.document) in
-    let few = leb-true count most (kept_second (nat_lt 0 count) (nat_le count most) BadShape ManyPlays _ reads.keeps_all) in
+    let few = leb-true count most (kept_second (nat_lt 0 count) (nat_le count most) (BadShape []) ManyPlays _ reads.keeps_all) in
     omega (arith, many, written, few)
 
 -- so many plays of so many hosts open no more batches than a number may count

@@ -1,7 +1,7 @@
 use Rattle.std.proofs.Common.{map}
 use Rattle.serde_json.specs.View.{view}
 use Rattle.play_rules.specs.Breaches.{Broken}
-use Rattle.play_rules.specs.Commands.{bad_command}
+use Rattle.play_rules.specs.CommandPlaces.{bad_command}
 use Rattle.play_rules.specs.Steps.{bad_register}
 use Rattle.play_read.specs.Readings.{IsFlawAt, checks_of_head}
 use Rattle.play_read.proofs.Parts.{flaw_here, passed_on}

@@ -1,15 +1,25 @@
-use Rattle.std.proofs.Common.{sym, ◌∙◌}
+use Rattle.std.proofs.Common.{[]}
 use Rattle.serde_json.specs.View.{view}
 use Rattle.play_rules.specs.Faults.{key_name}
-use Rattle.play_read.proofs.Given.{kept_given, says_given, some_listed}
+use Rattle.play_rules.specs.Paths.{under}
+use Rattle.play_read.proofs.Given.{flaw_of_shape, flaw_of_text, kept_both, shapes_pass}
+use Rattle.play_read.proofs.Parts.{if_err_more, if_ok_more}
 use Rattle.play_read.proofs.condition_reading.read_given.Goals as goal
+
+pub read_parts-requires : goal.read_parts-requires
+read_parts-requires c = shapes_pass [] (view c.args.value.now) (c.in-Ok.ensures [])
 
 pub returns-in-Ok-clause-kept : goal.returns-in-Ok-clause-kept
 returns-in-Ok-clause-kept c = λ spot.
-    let all = sym c.are_clauses.ensures ∙ c.if-not-are_clauses.false in
-    kept_given (view c.args.value.now) _ c.clauses_listed-list.ensures c.in-Ok.all c.in-Ok.ensures.ok all spot (key_name c.args.key)
+    let key = key_name c.args.key in
+    if_ok_more c.read_parts.result _ _ (kept_both spot key (view c.args.value.now) (c.in-Ok.ensures (under [] key))) (c.read_parts.ensures.kept spot)
 
-pub returns-in-Ok-clause-says : goal.returns-in-Ok-clause-says
-returns-in-Ok-clause-says c =
-    let all = sym c.are_clauses.ensures ∙ c.if-not-are_clauses.false in
-    says_given (view c.args.value.now) _ c.clauses_listed-list.ensures c.in-Ok.all c.in-Ok.ensures.ok all (some_listed view c.clauses_listed-list.result.now (sym c.is_empty.ensures ∙ c.if-is_empty.false)) c.finish.result c.finish.ensures
+pub returns-in-Ok-clause-err : goal.returns-in-Ok-clause-err
+returns-in-Ok-clause-err c = λ spot.
+    let key = key_name c.args.key in
+    if_err_more c.read_parts.result _ _ (λ flaw. flaw_of_text spot key (view c.args.value.now) flaw (c.in-Ok.ensures (under [] key))) (c.read_parts.ensures.err spot)
+
+pub returns-in-Err-clause-err : goal.returns-in-Err-clause-err
+returns-in-Err-clause-err c = λ spot.
+    let key = key_name c.args.key in
+    flaw_of_shape spot key (view c.args.value.now) c.in-Err.place (c.in-Err.ensures (under [] key))

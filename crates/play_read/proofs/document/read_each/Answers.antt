@@ -13,8 +13,8 @@ returns-in-Err-clause-err c =
     let play = c.index-plays-index.result in
     let several = nat_lt 1 (length plays) in
     let left = left_at view plays l.index play c.loop-index-test.true c.index-plays-index.is in
-    plays_refused several (l.index + 1) (map view (drop l.index plays)) (view play) (map view (drop (l.index + 1) plays)) left (checks_of_plays several 1 (map view plays)) l.invariant.leads
-    c.place_of.result.told c.place_of.ensures c.in-Err.fault c.in-Err.ensures.err
+    plays_refused several l.index (map view (drop l.index plays)) (view play) (map view (drop (l.index + 1) plays)) left (checks_of_plays several 0 (map view plays)) l.invariant.leads
+    c.place_of.result.told c.place_of.ensures.told c.place_of.result.index c.place_of.ensures.place c.in-Err.fault c.in-Err.ensures.err
 
 pub loop-index-preserved : goal.loop-index-preserved
 loop-index-preserved c =
@@ -26,7 +26,7 @@ loop-index-preserved c =
     let taken = taken_at view plays l.index play c.loop-index-test.true c.index-plays-index.is in
     record {
       leads =
-          plays_on several (l.index + 1) (map view (drop l.index plays)) (view play) (map view (drop (l.index + 1) plays)) left (checks_of_plays several 1 (map view plays)) l.invariant.leads
-          c.place_of.result.told c.place_of.ensures c.in-Ok.ensures.kept;
+          plays_on several l.index (map view (drop l.index plays)) (view play) (map view (drop (l.index + 1) plays)) left (checks_of_plays several 0 (map view plays)) l.invariant.leads
+          c.place_of.result.told c.place_of.ensures.told c.place_of.result.index c.place_of.ensures.place c.in-Ok.ensures.kept;
       says = all_zip_more IsPlay play_of (map view (take l.index plays)) _ l.read.items _ (view play) c.in-Ok.play taken c.in_ok-push-in-Ok.ensures.items l.invariant.says c.in-Ok.ensures.says;
     }

@@ -1,4 +1,4 @@
-use Rattle.std.proofs.Common.{◌+◌, length, nat_lt, map, take, drop}
+use Rattle.std.proofs.Common.{length, nat_lt, map, take, drop}
 use Rattle.std.specs.List.{AllZip}
 use Rattle.serde_json.specs.View.{view}
 use Rattle.play_rules.specs.Plays.{checks_of_plays, play_of}
@@ -8,7 +8,7 @@ use Rattle.play_read.proofs.document.read_each.Given as goal
 
 abbrev pub invariant-loop-index : goal.invariant-loop-index
 invariant-loop-index l = record {
-  leads : Leads (checks_of_plays (nat_lt 1 (length l.plays)) (l.index + 1) (map view (drop l.index l.plays)))
-      (checks_of_plays (nat_lt 1 (length l.plays)) 1 (map view l.plays));
+  leads : Leads (checks_of_plays (nat_lt 1 (length l.plays)) l.index (map view (drop l.index l.plays)))
+      (checks_of_plays (nat_lt 1 (length l.plays)) 0 (map view l.plays));
   says : AllZip IsPlay (map play_of (map view (take l.index l.plays))) l.read.items;
 }

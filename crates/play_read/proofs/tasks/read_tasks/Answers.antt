@@ -8,6 +8,7 @@ use Rattle.play_rules.specs.Plays.{checks_of_tasks}
 use Rattle.play_rules.specs.Steps.{step_of}
 use Rattle.play_read.specs.Readings.{IsStep}
 use Rattle.play_read.specs.Known.{known}
+use Rattle.play_read.specs.Places.{play_path}
 use Rattle.play_read.proofs.Lists.{left_at, taken_at, all_zip_more}
 use Rattle.play_read.proofs.StepLaws.{tasks_on, tasks_refused}
 use Rattle.play_read.proofs.tasks.read_tasks.Goals as goal
@@ -19,8 +20,8 @@ returns-in-Err-clause-err c =
     let task = c.index-tasks-index.result in
     let names = known c.args.handlers.now in
     let left = left_at view tasks l.index task c.loop-index-test.true c.index-tasks-index.is in
-    tasks_refused c.args.play.told (l.index + 1) names (map view (drop l.index tasks)) (view task) (map view (drop (l.index + 1) tasks)) left
-    (checks_of_tasks c.args.play.told 1 names (map view tasks)) l.invariant.leads c.in-Err.fault c.in-Err.ensures.err
+    tasks_refused (play_path c.args.play) c.args.play.told l.index names (map view (drop l.index tasks)) (view task) (map view (drop (l.index + 1) tasks)) left
+    (checks_of_tasks (play_path c.args.play) c.args.play.told 0 names (map view tasks)) l.invariant.leads c.in-Err.fault c.in-Err.ensures.err
 
 pub loop-index-preserved : goal.loop-index-preserved
 loop-index-preserved c =
@@ -34,8 +35,8 @@ loop-index-preserved c =
     let pushed = c.in_ok-push-in-Ok.ensures.items in
     record {
       leads =
-          tasks_on c.args.play.told (l.index + 1) names (map view (drop l.index tasks)) (view task) (map view (drop (l.index + 1) tasks)) left
-          (checks_of_tasks c.args.play.told 1 names (map view tasks)) l.invariant.leads read.kept read.found;
+          tasks_on (play_path c.args.play) c.args.play.told l.index names (map view (drop l.index tasks)) (view task) (map view (drop (l.index + 1) tasks)) left
+          (checks_of_tasks (play_path c.args.play) c.args.play.told 0 names (map view tasks)) l.invariant.leads read.kept read.found;
       says = all_zip_more IsStep (step_of names) (map view (take l.index tasks)) _ l.steps.items _ (view task) c.read_one.new.into taken pushed l.invariant.says read.says;
       plain = subst (λ (steps : List Step). All HasPlainWords steps) (sym pushed) (All-push HasPlainWords l.steps.items c.read_one.new.into l.invariant.plain read.plain);
     }

@@ -4,7 +4,7 @@ use borrow.Author.Tests.{leb-true}
 use Rattle.std.specs.Prelude.{nat_le}
 use Rattle.serde_json.specs.Data.{Data}
 use Rattle.serde_json.specs.View.{view}
-use Rattle.play_rules.specs.Breaches.{BadShape, ManyPlays}
+use Rattle.play_rules.specs.Breaches.{Broken, BadShape, ManyPlays}
 use Rattle.play_rules.specs.Checks.{rule}
 use Rattle.play_rules.specs.Plays.{plays_in}
 use Rattle.play_read.proofs.Lists.{as_many}
@@ -42,6 +42,6 @@ returns-else-are_few c =
     let count = as_many view own plays c.plays_of-plays.ensures in
     let some : 0 < length plays = grind (arith, nat_tests, c.is_empty.ensures, c.if-is_empty.false, count) in
     let many = sym c.are_few.ensures ∙ c.if-are_few.false in
-    adds_same c.args.telling.now c.tell_fault.new.self (broken [] ManyPlays ∷ []) (plays_findings 16 plays)
-    (c.tell_fault.ensures (broken [] ManyPlays) (record { names = rule ManyPlays; at = [] }) refl refl)
+    adds_same c.args.telling.now c.tell_fault.new.self (Broken ManyPlays ∷ []) (plays_findings 16 plays)
+    (c.tell_fault.ensures (Broken ManyPlays) (rule ManyPlays) refl refl)
     (many_plays 16 plays some (ap (λ n. nat_le n 16) (sym count) ∙ many))

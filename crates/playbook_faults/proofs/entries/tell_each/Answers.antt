@@ -1,6 +1,6 @@
 use Rattle.playbook_faults.specs.Entries.{breach_for, passes}
 use Rattle.playbook_faults.specs.Findings.{bad_entry}
-use Rattle.playbook_faults.specs.Paths.{under}
+use Rattle.play_rules.specs.Paths.{under}
 use Rattle.playbook_faults.proofs.AddLaws.{adds_at}
 use Rattle.playbook_faults.proofs.entries.tell_each.Goals as goal
 

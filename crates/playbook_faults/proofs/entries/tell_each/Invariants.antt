@@ -2,7 +2,7 @@ use Rattle.std.proofs.Common.{map, take}
 use Rattle.serde_json.specs.View.{view}
 use Rattle.playbook_faults.specs.Entries.{breach_for, passes}
 use Rattle.playbook_faults.specs.Findings.{bad_entry, each_at}
-use Rattle.playbook_faults.specs.Paths.{under}
+use Rattle.play_rules.specs.Paths.{under}
 use Rattle.playbook_faults.specs.Telling.{Adds}
 use Rattle.playbook_faults.proofs.entries.tell_each.Given as goal
 

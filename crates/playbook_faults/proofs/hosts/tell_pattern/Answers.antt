@@ -7,8 +7,8 @@ use Rattle.play_rules.specs.Breaches.{BadShape, first_of}
 use Rattle.play_rules.specs.Keys.{hosts_key}
 use Rattle.play_rules.specs.Plays.{spot_at}
 use Rattle.play_rules.specs.Settings.{bad_hosts}
-use Rattle.playbook_faults.specs.Findings.{broken, bad_entries}
-use Rattle.playbook_faults.specs.Paths.{under}
+use Rattle.playbook_faults.specs.Findings.{bad_entries, broken}
+use Rattle.play_rules.specs.Paths.{under}
 use Rattle.playbook_faults.specs.Settings.{pattern_findings}
 use Rattle.playbook_faults.proofs.AddLaws.{adds_nothing, adds_same}
 use Rattle.playbook_faults.proofs.FlawLaws.{pattern_kept, pattern_broken, pattern_entries}
@@ -19,7 +19,7 @@ returns-in-Ok c =
     let at = under c.args.at.now hosts_key in
     let hosts = view c.args.hosts.now in
     let texts = ap (list_all is_text) (sym c.listed.ensures) ∙ sym c.are_texts.ensures ∙ c.if-are_texts.true in
-    adds_nothing c.args.telling.now (pattern_findings at hosts) (pattern_kept at hosts texts (ap bad_hosts (sym c.requires) ∙ c.in-Ok.ensures))
+    adds_nothing c.args.telling.now (pattern_findings at hosts) (pattern_kept at (under [] hosts_key) hosts texts (ap bad_hosts (sym c.requires) ∙ c.in-Ok.ensures))
 
 pub returns-in-Err : goal.returns-in-Err
 returns-in-Err c =
@@ -27,7 +27,7 @@ returns-in-Err c =
     let hosts = view c.args.hosts.now in
     let texts = ap (list_all is_text) (sym c.listed.ensures) ∙ sym c.are_texts.ensures ∙ c.if-are_texts.true in
     adds_same c.args.telling.now c.tell.new.self (broken at BadShape ∷ []) (pattern_findings at hosts) c.tell.ensures
-    (pattern_broken at hosts _ texts (ap (λ (given : Option Data). first_of (bad_hosts given)) (sym c.requires) ∙ c.in-Err.ensures (spot_at None 0)))
+    (pattern_broken at (under [] hosts_key) hosts _ texts (ap (λ (given : Option Data). first_of (bad_hosts given)) (sym c.requires) ∙ c.in-Err.ensures (spot_at None 0)))
 
 pub returns-else-are_texts : goal.returns-else-are_texts
 returns-else-are_texts c =

@@ -8,7 +8,7 @@ use Rattle.serde_json.specs.declared.value.Value.{Value}
 use Rattle.group_tree.specs.Names.{Name}
 use Rattle.play_rules.specs.Breaches.{NoSuchHandler}
 use Rattle.play_rules.specs.Steps.{is_missing}
-use Rattle.playbook_faults.specs.Findings.{all_broken}
+use Rattle.playbook_faults.specs.Findings.{each_broken}
 use Rattle.playbook_faults.specs.Names.{Knows}
 use Rattle.playbook_faults.specs.StepFindings.{missing_names, once}
 use Rattle.playbook_faults.specs.Telling.{Adds}
@@ -27,7 +27,7 @@ loop-name-preserved c =
     let further = found_more as_str names l.name-index value c.loop-name-test.true c.name-item.is in
     record {
       adds = λ known knows.
-          adds_two c.args.telling.now l.telling c.tell_value.new.telling (missing_names known before) (all_broken [] (map NoSuchHandler (once (filter (is_missing known) before) (filter (is_missing known) more)))) _
+          adds_two c.args.telling.now l.telling c.tell_value.new.telling (missing_names known before) (each_broken (map NoSuchHandler (once (filter (is_missing known) before) (filter (is_missing known) more)))) _
           (l.invariant.adds known knows) (c.tell_value.ensures.adds known (filter (is_missing known) before) knows (l.invariant.knows known knows kept))
           (sym (missing_more known before more) ∙ ap (missing_names known) further);
       knows = λ known knows later.

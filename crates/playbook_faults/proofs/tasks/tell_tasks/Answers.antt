@@ -1,7 +1,7 @@
 use Rattle.std.proofs.Common.{◌+◌, refl}
 use Rattle.serde_json.specs.View.{view}
 use Rattle.play_rules.specs.Plays.{spot_at}
-use Rattle.playbook_faults.specs.Paths.{task_path}
+use Rattle.play_rules.specs.Paths.{task_path}
 use Rattle.playbook_faults.specs.PlayFindings.{missing_by, task_at}
 use Rattle.playbook_faults.specs.StepFindings.{task_findings}
 use Rattle.playbook_faults.proofs.AddLaws.{adds_at, adds_two}

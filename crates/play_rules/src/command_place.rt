@@ -1,20 +1,19 @@
 //! Where a command has another shape than the format asks for.
-ghost use Rattle.std.specs.Prelude.{◌≡◌, map};
+ghost use Rattle.std.specs.Prelude.{◌≡◌, length, map};
 ghost use Rattle.serde_json.specs.View.{view};
 ghost use Rattle.text_parts.specs.Shapes as shapes;
+ghost use Rattle.play_rules.specs.CommandPlaces as spec;
+ghost use Rattle.play_rules.specs.Commands as commands;
 ghost use Rattle.play_rules.specs.Keys.{argv_key};
-ghost use Rattle.playbook_faults.specs.Commands as spec;
-ghost use Rattle.playbook_faults.specs.Paths.{Path, below, under};
+ghost use Rattle.play_rules.specs.Paths.{Path, below, under};
 
-use crate::argv::is_word;
-use crate::command::count_entries;
-use play_rules::Below;
+use crate::flaw::Below;
 use serde_json::Value;
-use text_parts::elements_of;
+use text_parts::{elements_of, entries_of};
 
 /// The place of what is wrong with a step's command: the step itself, where it has neither form of the key or both; else the
 /// value under the key, or the part of it.
-pub(crate) fn place_of_bad<'a>(step: &'a Value) -> Below<'a>
+pub fn place_of_bad_command<'a>(step: &'a Value) -> Below<'a>
     ensures { (at : Path) → below at result ≡ spec.bad_path at (view step.now) }
 {
     match step.get("command") {
@@ -72,4 +71,25 @@ fn place_of_no_word(list: &[Value]) -> Option<usize>
         }
     }
     None
+}
+
+/// How many entries an object has; any other value has none.
+pub fn count_entries(value: &Value) -> usize
+    ensures { result ≡ length (shapes.entries_in (view value.now)) }
+{
+    match entries_of(value) {
+        Some(object) => object.len(),
+        None => 0,
+    }
+}
+
+/// Whether the value is a word of a command: a text, or a whole number.
+pub fn is_word(value: &Value) -> bool
+    ensures { result ≡ commands.is_word (view value.now) }
+{
+    match value {
+        Value::String(_) => true,
+        Value::Number(number) => number.as_i64().is_some(),
+        _ => false,
+    }
 }

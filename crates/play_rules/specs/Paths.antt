@@ -1,5 +1,8 @@
--- Paths in a text: the keys and the places in lists, from 0, on the way from the top value, joined by `/`.
-use Rattle.std.specs.Prelude.{ℕ, List, ◌∷◌, ◌++◌, decimal}
+-- Paths in a text: the keys and the places in lists, from 0, on the way from the top value, joined by `/`; the top value's is
+-- empty. What is seen from a play or a step has its path from there, which begins with `/` or is empty.
+use Rattle.std.specs.Prelude.{ℕ, Option, Some, None, is_some, List, ◌∷◌, ◌++◌, decimal, if◌then◌else◌}
+use Rattle.serde_json.specs.Data.{Data}
+use Rattle.serde_json.specs.Find.{get}
 use Rattle.group_tree.specs.Names.{Name}
 use Rattle.play_rules.specs.Keys.{tasks_key, handlers_key}
 use Rattle.play_rules.specs.declared.flaw.Below.{Below}
@@ -14,6 +17,15 @@ under path key = path ++ 47 ∷ key
 
 abbrev pub element : Path → ℕ → Path
 element path place = under path (decimal place)
+
+-- this element, or the list itself
+abbrev pub element_or : Path → Option ℕ → Path
+element_or path None = path
+element_or path (Some place) = element path place
+
+-- the value under the key, or where it is missing what it is missing in
+abbrev pub given_path : Path → Name → Data → Path
+given_path path key value = if is_some (get key value) then under path key else path
 
 -- what stands below a play or a step
 abbrev pub below : Path → Below → Path

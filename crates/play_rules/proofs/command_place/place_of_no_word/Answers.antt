@@ -1,6 +1,6 @@
 use Rattle.std.proofs.Common.{sym, ◌∙◌}
-use Rattle.playbook_faults.proofs.PlaceLaws.{no_word_here, word_here, no_more_words}
-use Rattle.playbook_faults.proofs.command_place.place_of_no_word.Goals as goal
+use Rattle.play_rules.proofs.PlaceLaws.{no_word_here, word_here, no_more_words}
+use Rattle.play_rules.proofs.command_place.place_of_no_word.Goals as goal
 
 pub loop-index-preserved : goal.loop-index-preserved
 loop-index-preserved c =

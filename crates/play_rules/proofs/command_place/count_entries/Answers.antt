@@ -1,7 +1,7 @@
 use Rattle.std.proofs.Common.{length, ap, ◌∙◌}
 use Rattle.text_parts.specs.Shapes.{entries}
 use Rattle.text_parts.proofs.ListLaws.{entries_counted}
-use Rattle.playbook_faults.proofs.command.count_entries.Goals as goal
+use Rattle.play_rules.proofs.command_place.count_entries.Goals as goal
 
 pub returns-in-Some : goal.returns-in-Some
 returns-in-Some c =
