@@ -17,15 +17,13 @@ pub(crate) fn write_bytes<W: Write>(
     ensures { SendsBytes (W.contents out.old) (W.contents out.new) written bytes.now result }
 {
     let Some(end) = written.checked_add(bytes.len() as u64) else {
-        return Err(WriteFault { written });
+        return Err(WriteFault::behind(written));
     };
     let mut sent = 0;
     while sent < bytes.len() {
         let taken = write_some(out, &bytes[sent..]);
         if taken == 0 {
-            return Err(WriteFault {
-                written: written + sent as u64,
-            });
+            return Err(WriteFault::behind(written + sent as u64));
         }
         sent += taken;
     }

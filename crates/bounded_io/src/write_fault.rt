@@ -5,13 +5,27 @@ use std::error::Error;
 use std::fmt;
 
 /// The writer refused a write or took nothing, or the text had 2^64 bytes and more. Exactly the first `written` bytes
-/// of the text went out.
+/// of the text went out. Nothing else makes one.
 #[derive(Clone, Copy, Debug, PartialEq, Eq)]
 pub struct WriteFault {
-    pub written: u64,
+    written: u64,
 }
 
 impl WriteFault {
+    /// The fault of a text that broke off behind so many bytes.
+    pub(crate) fn behind(written: u64) -> WriteFault
+        ensures { result.written ≡ written }
+    {
+        WriteFault { written }
+    }
+
+    /// How many bytes went out.
+    pub fn written(&self) -> u64
+        ensures { result ≡ self.now.written }
+    {
+        self.written
+    }
+
     /// The fault's number.
     pub fn number(&self) -> u16
         ensures { result ≡ 904 }

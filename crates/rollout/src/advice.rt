@@ -15,7 +15,7 @@ use play_rules::PlayFault;
 use recap::{group_name, host_name};
 use std::alloc::{AllocError, Global};
 
-/// The texts of an inventory and a playbook, and the fleet that they are for, where one can be had.
+/// The texts of an inventory and a playbook, and the fleet that they are for, where names are looked up in one and it can be had.
 #[derive(Drop)]
 pub struct Texts<'t> {
     inventory: Document<'t>,
@@ -24,16 +24,38 @@ pub struct Texts<'t> {
 }
 
 impl<'t> Texts<'t> {
+    /// As much of them as these faults are told by.
     pub fn read(
         alloc: Global,
         inventory: &'t [u8],
         playbook: &'t [u8],
+        faults: &[Fault],
     ) -> Result<Texts<'t>, AllocError> {
         Ok(Texts {
             inventory: Document::read(alloc, inventory)?,
             playbook: Document::read(alloc, playbook)?,
-            fleet: known_fleet(alloc, inventory)?,
+            fleet: fleet_for(alloc, inventory, faults)?,
         })
+    }
+}
+
+/// Making a fleet of what is kept of a great inventory takes longer than all else, so it is made for those alone that look names up.
+fn fleet_for(
+    alloc: Global,
+    inventory: &[u8],
+    faults: &[Fault],
+) -> Result<Option<Fleet>, AllocError> {
+    if faults.iter().any(|fault| is_of_pattern(fault)) {
+        known_fleet(alloc, inventory)
+    } else {
+        Ok(None)
+    }
+}
+
+fn is_of_pattern(fault: &Fault) -> bool {
+    match fault {
+        Fault::Pattern(_) => true,
+        _ => false,
     }
 }
 

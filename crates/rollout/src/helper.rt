@@ -83,7 +83,8 @@ impl Helper {
     {
         let inventory = text_of(system, alloc, &self.inventory);
         let playbook = text_of(system, alloc, &self.playbook);
-        match Texts::read(alloc, inventory.as_slice(), playbook.as_slice()) {
+        let faults = std::slice::from_ref(fault);
+        match Texts::read(alloc, inventory.as_slice(), playbook.as_slice(), faults) {
             Ok(texts) => advice_on(alloc, fault, &texts),
             Err(_refused) => None,
         }

@@ -15,10 +15,13 @@ mod folder;
 mod helper;
 mod inputs;
 mod list;
+mod playbook_rows;
 mod program;
+mod row;
 mod source;
 mod status;
 mod system;
+mod text_rows;
 mod wished;
 mod words;
 

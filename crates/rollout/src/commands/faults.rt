@@ -139,7 +139,12 @@ pub(crate) fn tell_faults<W: Write>(
     ensures err { IfErr result (λ fault. LosesFound found.now beside.now (W.contents out.old) (W.contents out.new) fault ⊎ WantsMemory (W.contents out.old) (W.contents out.new) fault) }
 {
     let nothing: &[u8] = &[];
-    match Texts::read(alloc, inventory, playbook.unwrap_or(nothing)) {
+    match Texts::read(
+        alloc,
+        inventory,
+        playbook.unwrap_or(nothing),
+        found.faults.as_slice(),
+    ) {
         Ok(texts) => send_faults(alloc, found, beside, &texts, out),
         Err(_refused) => Err(Fault::Memory),
     }

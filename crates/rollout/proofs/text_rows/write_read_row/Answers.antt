@@ -1,5 +1,5 @@
 -- Where a name is long, the rows are told equal by computing them.
-use Rattle.rollout.proofs.fault_line.write_read_row.Goals as goal
+use Rattle.rollout.proofs.text_rows.write_read_row.Goals as goal
 
 pub returns-in-TwicePlaced : goal.returns-in-TwicePlaced
 returns-in-TwicePlaced g c = rw c.in-TwicePlaced.is c.row-in-TwicePlaced.ensures

@@ -1,4 +1,4 @@
-use Rattle.rollout.proofs.fault_line.write_fleet_row.Goals as goal
+use Rattle.rollout.proofs.text_rows.write_fleet_row.Goals as goal
 
 pub returns-in-TooManyHosts : goal.returns-in-TooManyHosts
 returns-in-TooManyHosts g c = rw c.in-TooManyHosts.is c.row.ensures

@@ -1,5 +1,5 @@
 -- Where a name is long, the rows are told equal by computing them.
-use Rattle.rollout.proofs.fault_line.write_playbook_row.Goals as goal
+use Rattle.rollout.proofs.playbook_rows.write_playbook_row.Goals as goal
 
 pub returns-in-UnknownKey : goal.returns-in-UnknownKey
 returns-in-UnknownKey g c = rw c.in-UnknownKey.is c.path_row-in-UnknownKey.ensures
