@@ -163,7 +163,7 @@ said() {
 }
 written one HEAD 'play: a b' 'open: a'
 said 'why it is none that went well' 'a halted
-next: mend what is down, or mark it as down in the inventory ("down": true); then go on, by --resume JOURNAL --mended NAMES, or without a journal by a narrower "hosts" (docs/DURING_AND_AFTER.md)' inventory one --resume journal
+next: mend what is down; then go on, by --resume JOURNAL --mended NAMES, or without a journal, what is still down marked ("down": true), by a narrower "hosts" (docs/DURING_AND_AFTER.md)' inventory one --resume journal
 
 # ---- who is mended is not told to stay down
 
@@ -182,7 +182,7 @@ written fails HEAD 'play: a b c d' 'open: a d' 'closed: updated:a updated:d' 'op
 said 'in which play a host failed, and nothing of the plays before' 'play 2
 d failed in play 2 at step 1: rc=7
 e off from the start
-next: mend what is down, or mark it as down in the inventory ("down": true); then go on, by --resume JOURNAL --mended NAMES, or without a journal by a narrower "hosts" (docs/DURING_AND_AFTER.md)' inventory fails --resume journal
+next: mend what is down; then go on, by --resume JOURNAL --mended NAMES, or without a journal, what is still down marked ("down": true), by a narrower "hosts" (docs/DURING_AND_AFTER.md)' inventory fails --resume journal
 mkfifo pipe
 written one HEAD 'play: a b c d' 'open: a' 'closed: updated:a'
 cat inventory >pipe &

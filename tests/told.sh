@@ -145,7 +145,7 @@ output failed at step 6 (by its output): rc=0, judged by failed_when
 permission failed at step 10 (starts): not started
 when failed at step 2 (when): gone has no value
 word failed at step 3 (word): filled has no value
-next: mend what is down, or mark it as down in the inventory ("down": true); then go on, by --resume JOURNAL --mended NAMES, or without a journal by a narrower "hosts" (docs/DURING_AND_AFTER.md)
+next: mend what is down; then go on, by --resume JOURNAL --mended NAMES, or without a journal, what is still down marked ("down": true), by a narrower "hosts" (docs/DURING_AND_AFTER.md)
 REASONS
 LC_ALL=C sort "$work/told" >"$work/told.sorted"
 for forks in 1 5 64; do
@@ -317,7 +317,7 @@ verbose "$work/twelve.json" "$work/play.json"
 [ "$(head -n 1 "$work/errors")" = 'note: h00 h01 are down and stay down: 2 hosts of the plays are left out' ] && pass || fail "two plays leave hosts out: $(head -n 1 "$work/errors")"
 
 # follows WHAT STATUS LINES INVENTORY PLAYBOOK WORD..: these lines follow the recap of such a run, at each number of forks
-next='next: mend what is down, or mark it as down in the inventory ("down": true); then go on, by --resume JOURNAL --mended NAMES, or without a journal by a narrower "hosts" (docs/DURING_AND_AFTER.md)'
+next='next: mend what is down; then go on, by --resume JOURNAL --mended NAMES, or without a journal, what is still down marked ("down": true), by a narrower "hosts" (docs/DURING_AND_AFTER.md)'
 follows() {
     what=$1 want=$2 lines=$3
     shift 3

@@ -7,8 +7,8 @@ from rules import turned
 from texts import as_text
 
 MOST_NAMED = 10
-NEXT = ', or without a journal by a narrower "hosts" (docs/DURING_AND_AFTER.md)'
-MENDING = 'mend what is down, or mark it as down in the inventory ("down": true); then go on, by --resume JOURNAL --mended NAMES'
+NEXT = ' by a narrower "hosts" (docs/DURING_AND_AFTER.md)'
+MENDING = 'mend what is down; then go on, by --resume JOURNAL --mended NAMES, or without a journal, what is still down marked ("down": true),'
 
 
 def left_out(fleet, targets):
@@ -32,7 +32,7 @@ def why(fleet, plays, courses):
     lines = [_down(host, status, rows.get(host), len(plays) > 1) for host, status in last.state.items()]
     lines += [_waits(fleet, last.state, host) for host in fleet.hosts]
     any_down = any(status in DOWN for status in last.state.values())
-    return as_text([line for line in lines if line] + [f"next: {MENDING if any_down else 'go on, by --resume JOURNAL'}{NEXT}"])
+    return as_text([line for line in lines if line] + [f"next: {MENDING if any_down else 'go on, by --resume JOURNAL, or without a journal'}{NEXT}"])
 
 
 def _last_rows(courses):

@@ -37,12 +37,12 @@ has_why None statuses = true
 
 -- what comes first, where any host is down
 abbrev pub mending_text : Bool → List ℕ
-mending_text true = codes "next: mend what is down, or mark it as down in the inventory (\"down\": true); then go on, by --resume JOURNAL --mended NAMES"
-mending_text false = codes "next: go on, by --resume JOURNAL"
+mending_text true = codes "next: mend what is down; then go on, by --resume JOURNAL --mended NAMES, or without a journal, what is still down marked (\"down\": true),"
+mending_text false = codes "next: go on, by --resume JOURNAL, or without a journal"
 
 -- what is to be done next
 abbrev pub advice_text : Bool → List ℕ
-advice_text any_down = mending_text any_down ++ codes ", or without a journal by a narrower \"hosts\" (docs/DURING_AND_AFTER.md)\n"
+advice_text any_down = mending_text any_down ++ codes " by a narrower \"hosts\" (docs/DURING_AND_AFTER.md)\n"
 
 -- why each host that is down is so, the outermost group without room of each that waits or was set aside, and what is to be done next
 abbrev pub why_by : FleetView → Bool → (ℕ → Option LastRow) → (ℕ → Bool) → List Status → List ℕ

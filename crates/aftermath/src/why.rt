@@ -64,10 +64,10 @@ fn write_mending<W: Write>(text: &mut TextWriter<'_, W>, any_down: bool)
 {
     if any_down {
         text.write_str(
-            "next: mend what is down, or mark it as down in the inventory (\"down\": true); then go on, by --resume JOURNAL --mended NAMES",
+            "next: mend what is down; then go on, by --resume JOURNAL --mended NAMES, or without a journal, what is still down marked (\"down\": true),",
         );
     } else {
-        text.write_str("next: go on, by --resume JOURNAL");
+        text.write_str("next: go on, by --resume JOURNAL, or without a journal");
     }
 }
 
@@ -76,7 +76,7 @@ fn write_advice<W: Write>(text: &mut TextWriter<'_, W>, any_down: bool)
     ensures { Writes W.contents text.old text.new (spec.advice_text any_down) }
 {
     write_mending(text, any_down);
-    text.write_str(", or without a journal by a narrower \"hosts\" (docs/DURING_AND_AFTER.md)\n");
+    text.write_str(" by a narrower \"hosts\" (docs/DURING_AND_AFTER.md)\n");
 }
 
 /// Writes the lines, where `rows` are the hosts' last rows and `full` says of each group whether it has no room.
