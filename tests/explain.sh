@@ -46,7 +46,7 @@ rollout: 301 NotNested host=web-1 first=rack9 second=row1
 ```
 
 The host is in both groups, both have a limit, and neither stands below the other; it is the first such by name, with its
-first two. Where one has all hosts of the other, put the other below it ([racks and services](FROM_ANSIBLE.md#racks-and-services)). Else
+first two. Where the host is in one by mistake, take it out there. Where one has all hosts of the other, put the other below it ([racks and services](FROM_ANSIBLE.md#racks-and-services)). Else
 keep `max_down` on one kind of group, as the racks, the same for every pair that `lint` tells, and take it off the other, or move it to groups of its hosts below those that keep it.
 ' ''
 run explain local-step

@@ -208,7 +208,7 @@ noted_alone 'nothing at all' '{}' ''
 noted_alone 'no hosts, and a limit on all of them' '{"all":{"vars":{"max_down":0}}}' 'empty-limit group=all'
 noted_alone 'all hosts' '{"all":{"vars":{"max_down":"0%"},"hosts":{"a":null}}}' 'zero-limit group=all members=1'
 noted_alone 'hosts of an inventory alone are not told' "$some" ''
-noted_alone 'nor is a limit that is none' '{"g":{"vars":{"most_down":0},"hosts":{"a":{"max_down":0}}}}' ''
+noted_alone 'nor is a limit that is none, at a group or a host' '{"g":{"vars":{"most_down":0},"hosts":{"a":{"max_down":0}}}}' 'near-key group=g host=a name=max_down'
 
 # Variables of groups, and names of hosts.
 
@@ -223,7 +223,12 @@ noted_alone 'by the bytes of its name' '{"g":{"vars":{"\u006dax_dow\u006e ":1,"m
 noted_alone 'a variable `down` of a group, whatever it says' '{"all":{"vars":{"down":true},"children":{"g":{"vars":{"down":0},"hosts":{"a":{"down":true}}},"f":{"vars":{"down":""}}}}}' 'group-down group=all
 group-down group=f
 group-down group=g'
-noted_alone 'variables of hosts are no notes' '{"all":{"hosts":{"a":{"Down":1,"maxdown":2,"down":true}}}}' ''
+noted_alone 'variables of hosts too, and a limit of a group there' '{"all":{"hosts":{"a":{"Down":1,"maxdown":2,"max_down":1,"down":true,"v":1},"A":{"max-down":null}}},"g":{"vars":{"maxdown":1},"hosts":{"a":{"v":1},"b":{"max_down":"x"}}}}' 'near-key group=g name=maxdown
+near-key group=all host=a name=Down
+near-key group=all host=a name=max_down
+near-key group=all host=a name=maxdown
+near-key group=g host=b name=max_down
+case-hosts host=A other=a'
 noted_alone 'nor are values that are no variables' '{"all":{"vars":{"maxdown":null,"down":[1],"Down":{},"max-down":1.5},"hosts":{"a":null}}}' ''
 noted_alone 'of a group first its limit, then its variables by name; all before the groups behind it' '{"g":{"vars":{"max_down":0,"maxdown":1,"down":1,"Down":1},"hosts":{"a":null}},"h":{"vars":{"max_down":1,"Max_down":1}}}' 'zero-limit group=g members=1
 near-key group=g name=Down
@@ -488,11 +493,19 @@ refused 'a name beside an unknown key' "$three" '[{"hosts":"all","become":true,"
 missing-name at=0/tasks/0 name=x hosts=2 of=3 host=a"
 refused 'a step without a command registers all the same' "$one" "[$(play "{\"shell\":\"x {{ q }}\",\"register\":\"r\",\"when\":\"q\"},$(task '"when":"r.rc == 0 and rr.rc == 0"')")]" \
     "rollout: 703 UnknownKey at=0/tasks/0/shell${newline}rollout: 702 BadShape at=0/tasks/0" "unknown-name at=0/tasks/0 name=q${newline}unknown-name at=0/tasks/1 name=rr"
-refused 'of a step whose when is none nothing is looked up' "$one" "[$(play '{"command":"echo {{ y }} ;","when":["y is defined","z >"],"register":"q","failed_when":"z"},{"command":"echo {{ q.rc }} {{ p }}"}')]" \
-    'rollout: 501 BadToken step=1 key=when at=2' 'unknown-name at=0/tasks/1 name=p'
+refused 'of a step whose when is none the words are looked at, behind the parts of it that can be read' "$one" "[$(play '{"command":"echo {{ y }} ;","when":["y is defined","z >"],"register":"q","failed_when":"z"},{"command":"echo {{ q.rc }} {{ p }}"}')]" \
+    'rollout: 501 BadToken step=1 key=when at=2' "shell-word at=0/tasks/0 word=;${newline}unknown-name at=0/tasks/1 name=p"
+refused 'and so are its other conditions; what some hosts have is not told, nor a condition that asks nothing' "$three" "[$(play '{"command":"echo {{ vv }} {{ x }}","when":[true,"x >"],"changed_when":"q"}')]" \
+    'rollout: 501 BadToken step=1 key=when at=2' "unknown-name at=0/tasks/0 name=vv${newline}unknown-name at=0/tasks/0 name=q"
+refused 'nor is a default told from that' "$one" "[$(play '{"command":"echo {{ y }}","when":"y | default(1)"},{"command":"echo {{ y }}","when":"y is defind"}')]" \
+    "rollout: 501 BadToken step=1 key=when at=2${newline}rollout: 502 Unexpected step=2 key=when at=5" ''
+refused 'the rest of another condition isn'"'"'t looked at behind such a part' "$one" "[$(play "$(task '"changed_when":["y is defined and y = 1","y == 1"],"failed_when":["y >","z"]')")]" \
+    "rollout: 501 BadToken step=1 key=changed_when at=19${newline}rollout: 501 BadToken step=1 key=failed_when at=2" 'unknown-name at=0/tasks/0 name=z'
+refused 'where a part that is none may ask whether a name is defined nothing is' "$one" "[$(play '{"command":"echo {{ y }} ;","when":[true,"y is defined >"],"register":"q","failed_when":"z"},{"command":"echo {{ q.rc }} {{ p }}"}')]" \
+    'rollout: 501 BadToken step=1 key=when at=13' 'unknown-name at=0/tasks/1 name=p'
 refused 'nor of one whose when is of another kind' "$one" "[$(play '{"command":"echo {{ y }} ;","when":[true,7]},{"command":"echo ;","when":{"a":1}}')]" "rollout: 702 BadShape at=0/tasks/0/when/1${newline}rollout: 702 BadShape at=0/tasks/1/when" ''
-refused 'parts of changed_when and failed_when that can be read are' "$one" "[$(play "$(task '"changed_when":["z >","y"],"failed_when":"p >"'),$(task '"failed_when":[7,"p"]')")]" \
-    "rollout: 501 BadToken step=1 key=changed_when at=2${newline}rollout: 501 BadToken step=1 key=failed_when at=2${newline}rollout: 702 BadShape at=0/tasks/1/failed_when/0" "unknown-name at=0/tasks/0 name=y
+refused 'parts of changed_when and failed_when that can be read are' "$one" "[$(play "$(task '"changed_when":["z >","y"],"failed_when":"p >"'),$(task '"failed_when":["7 >","p"]'),$(task '"failed_when":[7,"q"]')")]" \
+    "rollout: 501 BadToken step=1 key=changed_when at=2${newline}rollout: 501 BadToken step=1 key=failed_when at=2${newline}rollout: 501 BadToken step=2 key=failed_when at=2${newline}rollout: 702 BadShape at=0/tasks/2/failed_when/0" "unknown-name at=0/tasks/0 name=y
 unknown-name at=0/tasks/1 name=p"
 refused 'a guard before a failed_when that is none' "$three" "[$(play '{"command":"echo {{ x }}","when":"x is defined","failed_when":"x >"}')]" 'rollout: 501 BadToken step=1 key=failed_when at=2' ''
 refused 'of a step whose words are none the conditions are looked at' "$one" "[$(play "$(printf '{"command":"echo %sy%s","when":"y","failed_when":"y","register":"r"}' "'" "'"),{\"command\":\"echo {{ y }} {{ 1 }}\",\"when\":true},$(task '"when":"r.rc == 1"')")]" \
@@ -612,9 +625,28 @@ unsought() {
 }
 
 bad_down='{"all":{"hosts":{"a":{"down":1}}}}'
+ok_play=$(play '{"command":"true"}')
 unsought 'beside faults of the inventory' "$bad_down" "$ok" 'empty-limit, no-hosts, down-hosts, idle-serial, one-failure'
+unsought 'beside limits that cross' "$crossing" "$ok" 'zero-limit, empty-limit, no-hosts, down-hosts, idle-serial, one-failure'
+unsought 'and faults of the playbook' "$crossing" "[$(play '{"command":"true","x":1}')]" 'zero-limit, empty-limit, no-hosts, down-hosts, idle-serial, one-failure, idle-handler'
+unsought 'and a when that is none' "$crossing" "[$(play "$(task '"when":"x >"')")]" 'zero-limit, empty-limit, no-hosts, down-hosts, idle-serial, one-failure, missing-name, constant-condition, idle-handler'
+unsought 'beside a group that starts over its limit' '{"g":{"vars":{"max_down":0},"hosts":{"a":{"down":true}}}}' "$ok" 'zero-limit, empty-limit, no-hosts, down-hosts, idle-serial, one-failure'
+unsought 'where what is kept has limits' '{"g":{"vars":{"max_down":0},"hosts":{"a":{"down":1}}}}' "$ok" 'empty-limit, no-hosts, down-hosts, idle-serial, one-failure'
 unsought 'beside faults of the playbook' "$one" "[$(play '{"command":"true","x":1}')]" 'one-failure, idle-handler'
+unsought 'beside a when that is none' "$one" "[$(play "$(task '"when":"x >"')")]" 'one-failure, missing-name, constant-condition, idle-handler'
+unsought 'of a handler too, beside faults of the inventory' "$bad_down" "[$(play "$(task '"name":"t"')" "$(task '"name":"h","when":[1]')")]" 'empty-limit, no-hosts, down-hosts, idle-serial, one-failure, missing-name, constant-condition, idle-handler'
+unsought 'beside another condition that is none' "$one" "[$(play "$(task '"failed_when":"x >"')")]" 'one-failure, missing-name, constant-condition, idle-handler'
 unsought 'beside faults of both' "$bad_down" "[$(play '{"command":"true","x":1}')]" 'empty-limit, no-hosts, down-hosts, idle-serial, one-failure, idle-handler'
+unsought 'beside a playbook of too many plays' "$one" "[$(for i in 1 2 3 4 5 6 7 8 9 10 11 12 13 14 15 16; do echo "$ok_play,"; done)$ok_play]" 'anything of plays and steps'
+unsought 'beside one that is no list' "$one" '{}' 'anything of plays and steps'
+unsought 'beside one that is no JSON, and faults of the inventory' "$bad_down" '{' 'empty-limit, anything of plays and steps'
+unsought 'and limits that cross' "$crossing" '[]' 'zero-limit, empty-limit, anything of plays and steps'
+texts "$bad_down" ''
+run lint "$inventory"
+[ "$(tail -n 1 "$work/out")" = '  not looked for beside these faults: empty-limit' ] && pass || fail "of an inventory alone: $(tail -n 1 "$work/out")"
+texts "$crossing" ''
+run lint "$inventory"
+[ "$(tail -n 1 "$work/out")" = '  not looked for beside these faults: zero-limit, empty-limit' ] && pass || fail "of an inventory alone whose limits cross: $(tail -n 1 "$work/out")"
 unsought 'where nothing is kept' '{' "$ok" 'anything else'
 unsought 'without faults' "$one" "$ok" ''
 

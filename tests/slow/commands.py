@@ -6,7 +6,7 @@ from answers import Lines
 from checking import judged, read_batches
 from course import next_boundary
 from entries import digest
-from every import every_fault, fault_lines, has_all_hosts, is_accepted, is_fleet, looked_at
+from every import every_fault, fault_lines, has_all_hosts, has_all_conditions, has_limits, has_plays, is_accepted, is_fleet, looked_at
 from expecting import number_in_plan, number_in_table, read_expectations, unmet
 from facts import accepted, coursed, gone_on, planned, plays_before, ran, status_of_plan, targeted, went_on
 from faults import Fault
@@ -122,8 +122,8 @@ def lint(inventory, playbook=None, allowed=()):
     allowed."""
     faults = every_fault(inventory, playbook)
     if faults:
-        of_playbook = (True, is_fleet(inventory)) if playbook is None else (is_accepted(playbook), has_all_hosts(inventory, playbook))
-        beside = [] if turned("notes-beside-faults") else lines_beside_faults(looked_at(inventory, playbook), allowed, *of_playbook)
+        of_playbook = (True, True, is_fleet(inventory)) if playbook is None else (is_accepted(playbook), has_all_conditions(playbook), has_all_hosts(inventory, playbook))
+        beside = [] if turned("notes-beside-faults") else lines_beside_faults(looked_at(inventory, playbook), allowed, *of_playbook, has_limits(inventory), has_plays(inventory, playbook))
         return Said("".join(fault_lines(faults)) + as_text(beside), "", 0 if turned("faults-make-status-one") else 1)
     fleet, plays, targets = (Fleet(read_inventory(inventory)), [], []) if playbook is None else accepted(inventory, playbook)
     lines, count = lint_lines(fleet, plays, targets, allowed)

@@ -107,17 +107,31 @@ def _with_ends_of_options(random, play):
 
 
 def _with_names(value, random, key=None):
-    """The same inventory, in which some groups have variables with names like those of keys, and some hosts names like those of others."""
+    """The same inventory, in which some groups and hosts have variables with names like those of keys, and some hosts names like those of others."""
     if not isinstance(value, Members):
         return value
     found = Members((name, _with_names(below, random, name)) for name, below in value)
     if key == "vars":
         names = [name for name in random.sample(KEYS, random.choice([0, 0, 1, 1, 2])) if name != "max_down" and name not in found.names()]
         return Members([*found, *((name, random.choice([1, "x", True, None, []])) for name in names)])
+    if key == "hosts":
+        found = _with_keys(found)
     if key == "hosts" and random.random() < 0.4:
         names = [name for name in random.sample(ALIKE, random.choice([1, 1, 2, 3])) if name not in found.names()]
         return Members([*found, *((name, None) for name in names)])
     return found
+
+
+def _with_keys(hosts):
+    """The same hosts, of which some have a variable with a name like a key's."""
+    own = Random(" ".join(hosts.names()))
+    return Members((name, _with_key(given, own) if own.random() < 0.1 else given) for name, given in hosts)
+
+
+def _with_key(given, random):
+    name = random.choice(KEYS)
+    held = given if isinstance(given, Members) else Members([])
+    return given if name == "down" or name in held.names() else Members([*held, (name, random.choice([1, "x", True, None]))])
 
 
 def _lists(random):

@@ -5,7 +5,7 @@ from faults import Every, Fault
 from fleet import Fleet
 from inventory import places_in, read_inventory
 from json_text import NotJson, read_json
-from kept_texts import aimed_playbook, kept_inventory, kept_playbook, says_hosts, single_inventory
+from kept_texts import aimed_playbook, kept_inventory, kept_playbook, knows_conditions, says_hosts, single_inventory
 from playbook import plays_in, read_playbook
 from rules import turned
 
@@ -32,10 +32,20 @@ def looked_at(inventory, playbook=None):
     """The fleet, the plays and the hosts of each that can be read of both files, or of what is kept of them, where each pattern is one of names that name something; no plays where these can't be
     read, and None where there is no fleet."""
     fleet = fleet_of(inventory)
-    plays = [] if playbook is None or fleet is None else _first([lambda: plays_in(aimed_playbook(_kept_plays(playbook), fleet))])
+    plays = [] if playbook is None or fleet is None else _looked_at(playbook, fleet)
     if fleet is None or (plays is None and turned("kept-groups-beside-no-plays")):
         return None
     return fleet, plays or [], [fleet.target(play.parts) for play in plays or []]
+
+
+def _looked_at(playbook, fleet):
+    """The plays of a playbook, or of what is kept of it, each for hosts of the fleet; None where these can't be read."""
+    return _first([lambda: plays_in(aimed_playbook(_kept_plays(playbook), fleet))])
+
+
+def has_plays(inventory, playbook=None):
+    """Whether plays are looked at; None where no playbook was given."""
+    return None if playbook is None else fleet_of(inventory) is not None and _looked_at(playbook, fleet_of(inventory)) is not None
 
 
 def _unknown(fleet, plays):
@@ -65,9 +75,20 @@ def is_accepted(playbook):
     return not told.found
 
 
+def has_all_conditions(playbook):
+    """Whether the text of a playbook has no fault under its conditions."""
+    top = _first([lambda: read_json(playbook)])
+    return top is not None and knows_conditions(top)
+
+
 def is_fleet(inventory):
     """Whether the inventory is accepted as it is."""
     return _first([lambda: Fleet(read_inventory(inventory))]) is not None
+
+
+def has_limits(inventory):
+    """Whether the inventory is a fleet with its limits, or what is kept of it is."""
+    return _first([lambda way=way: Fleet(way()) for way in (lambda: read_inventory(inventory), lambda: _kept_places(inventory))]) is not None
 
 
 def has_all_hosts(inventory, playbook):

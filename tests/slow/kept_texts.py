@@ -166,8 +166,8 @@ def _named(handlers):
 
 
 def _kept_step(step, known, names):
-    """A step without what is wrong in it, which notifies handlers of these names. Where its words can't be read they are idle; where a part of its `when` can't be, nothing is looked up either,
-    though it keeps its name, what it registers and whom it notifies."""
+    """A step without what is wrong in it, which notifies handlers of these names. Where its words can't be read they are idle; where a part of its `when` that can't be may look first whether a name
+    has a value, nothing is looked up either, though it keeps its name, what it registers and whom it notifies."""
     if not isinstance(step, dict):
         return IDLE_STEP
     kept = {key: value for key, value in step.items() if key in known or turned("kept-steps-have-known-keys")}
@@ -177,10 +177,10 @@ def _kept_step(step, known, names):
     _keep(kept, "notify", [name for name in _parts(step.get("notify")) if name in names or turned("kept-steps-notify-kept-handlers")], known)
     for key in CONDITIONS:
         _keep(kept, key, _conditions(step.get(key)), known)
-    is_guarded = _is_all(step.get("when")) or turned("kept-when-hides-words")
-    if is_guarded and _is_right(_read_words, step):
+    is_guarded = _has_guard(step.get("when")) and not turned("kept-guards-hide-words")
+    if not is_guarded and _is_right(_read_words, step):
         return kept
-    gone = COMMANDS if is_guarded and not turned("kept-conditions-without-words") else (*COMMANDS, *CONDITIONS)
+    gone = (*COMMANDS, *CONDITIONS) if is_guarded or turned("kept-conditions-without-words") else COMMANDS
     gone += ("register",) if turned("kept-steps-register-without-words") else ()
     return {key: value for key, value in kept.items() if key not in gone} | IDLE_STEP
 
@@ -208,14 +208,27 @@ def _parts(value):
 
 
 def _conditions(value):
-    """The parts that are truth values or conditions."""
-    if not _is_all(value) and turned("kept-conditions-beside-bad-ones"):
+    """The parts that are truth values or conditions; none where another may look first whether a name has a value."""
+    if not _is_all(value) and turned("kept-conditions-beside-bad-ones") or (_has_guard(value) and not turned("kept-guards-hide-conditions")):
         return []
     return [part for part in _parts(value) if _is_condition(part)]
 
 
 def _is_all(value):
     return all(_is_condition(part) for part in _parts(value))
+
+
+def _has_guard(value):
+    """Whether a part of a condition can't be read and may look first whether a name has a value: by `is defined`, misspelt or not, or a default."""
+    return any(not _is_condition(part) and (not isinstance(part, str) or "def" in part or turned("kept-words-without-guards")) for part in _parts(value))
+
+
+def knows_conditions(top):
+    """Whether each part of each condition of a playbook can be read."""
+    plays = top if isinstance(top, list) else []
+    lists = [play.get(key) for play in plays if isinstance(play, dict) for key in ("tasks", "handlers")]
+    steps = [step for steps in lists if isinstance(steps, list) for step in steps if isinstance(step, dict)]
+    return all(_is_all(step.get(key)) for step in steps for key in (["when"] if turned("kept-conditions-guard-each-other") else CONDITIONS))
 
 
 def _is_condition(part):

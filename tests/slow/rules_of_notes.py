@@ -1,6 +1,8 @@
 """The rules of what `lint` notes, each as it is while it isn't turned."""
 
 NOTES = {
+    "lint-limits-at-hosts-limit-nothing": "A `max_down` among a host's variables is noted.",
+    "lint-keys-are-near-at-hosts-too": "Variables of hosts whose names are nearly keys are noted.",
     "lint-a-byte-less-is-near": "A name is nearly `max_down` where a byte of that is missing.",
     "lint-a-byte-more-is-near": "A name is nearly `max_down` where it has a byte more.",
     "lint-a-path-to-ssh-is-ssh": "A path that ends in `/ssh` is that program too.",

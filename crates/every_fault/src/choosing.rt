@@ -1,34 +1,54 @@
 //! The texts of which more is told beside faults.
-ghost use Rattle.std.specs.Prelude.{◌≡◌, ◌&&◌, IfOk, is_some, option_map};
+ghost use Rattle.std.specs.Prelude.{◌≡◌, IfOk, is_some, option_map};
 ghost use Rattle.every_fault.specs.Inventories.{standing_of};
-ghost use Rattle.every_fault.specs.KeptTexts.{AreKeptTexts, AreTextsOf, IsAimedIf, IsChosen, IsChosenPlaybook, IsChosenText};
+ghost use Rattle.every_fault.specs.KeptTexts.{AreKeptTexts, AreTextsOf, IsAimedIf, IsChosen, IsChosenPlaybook, IsChosenText, IsLeftOut, hosts_known};
 
 use crate::fleet::fleet_part;
 use crate::silence::is_silent;
 use crate::standing::{Standing, find_fleet};
 use domains::Fleet;
 use inventory_faults::inventory_faults;
-use kept_playbook::{aim_playbook, keep_playbook, knows_hosts};
+use kept_playbook::{aim_playbook, keep_playbook, knows_conditions, knows_hosts};
 use playbook_faults::playbook_faults;
 use std::alloc::{AllocError, Global};
 
-/// The inventory says the fleet in which `every_fault` looks names up. There is a playbook where one was given that is JSON; it may say no plays, and does where nothing is told of the given
-/// one.
+/// What isn't there of a playbook's text.
+#[derive(Clone, Copy, Debug, PartialEq, Eq)]
+pub enum LeftOut {
+    Nothing,
+    /// Something that can't be read, but nothing of what says when steps run.
+    Parts,
+    /// A part of a step's `when`, perhaps beside other things.
+    Conditions,
+}
+
+/// Which hosts of an inventory and a playbook are known.
+#[derive(Clone, Copy, Debug, PartialEq, Eq)]
+pub enum KnownHosts {
+    /// The inventory is accepted, and each play is for hosts that it has.
+    All,
+    /// Others may be there, or plays may be for others.
+    Some,
+    /// The same, and no limit is known either.
+    Unlimited,
+}
+
+/// The inventory says the fleet in which `every_fault` looks names up. There is a playbook where one was given that is JSON. Where nothing is told of the given one it says
+/// plays; what is kept of another may say none.
 #[derive(Drop)]
 pub struct KeptTexts {
     pub inventory: Vec<u8>,
     pub playbook: Option<Vec<u8>>,
-    /// Whether nothing is told of the text of the playbook that was given.
-    pub is_whole: bool,
-    /// Whether the inventory is accepted, and each play is for hosts that it has.
-    pub has_all_hosts: bool,
+    /// Nothing where nothing is told of the text of the playbook that was given.
+    pub left_out: LeftOut,
+    pub hosts: KnownHosts,
 }
 
 /// What `KeptTexts` says of a playbook.
 #[derive(Drop)]
 struct Chosen {
     text: Option<Vec<u8>>,
-    is_whole: bool,
+    left_out: LeftOut,
     has_all_hosts: bool,
 }
 
@@ -50,32 +70,33 @@ pub fn kept_texts(
         Ok((_told, standing)) => standing,
         Err(refused) => return Err(refused),
     };
-    let accepted = is_accepted(is_read, &standing);
+    let limited = is_there(&standing);
     match find_fleet(alloc, inventory, standing) {
-        Ok(found) => texts_of(alloc, accepted, found, playbook),
+        Ok(found) => texts_of(alloc, is_read, limited, found, playbook),
         Err(refused) => Err(refused),
     }
 }
 
-/// Whether nothing is told of the inventory's text, and it says a fleet.
-fn is_accepted(is_read: bool, standing: &Option<Standing<'_>>) -> bool
-    ensures { result ≡ (is_read && is_some (option_map standing_of standing.now)) }
+fn is_there(standing: &Option<Standing<'_>>) -> bool
+    ensures { result ≡ is_some (option_map standing_of standing.now) }
 {
-    is_read && standing.is_some()
+    standing.is_some()
 }
 
+/// Of an inventory that can be read or can't, and says a fleet with its limits or doesn't.
 fn texts_of(
     alloc: Global,
-    accepted: bool,
+    is_read: bool,
+    limited: bool,
     found: Option<Standing<'_>>,
     playbook: Option<&[u8]>,
 ) -> Result<Option<KeptTexts>, AllocError>
-    ensures { IfOk result (AreTextsOf accepted (option_map standing_of found.entry) (option_map (λ text. text.now) playbook.entry)) }
+    ensures { IfOk result (AreTextsOf is_read limited (option_map standing_of found.entry) (option_map (λ text. text.now) playbook.entry)) }
 {
     let Some(standing) = found else {
         return Ok(None);
     };
-    let chosen = match choose_playbook(alloc, &standing.fleet, accepted, playbook) {
+    let chosen = match choose_playbook(alloc, &standing.fleet, is_read && limited, playbook) {
         Ok(chosen) => chosen,
         Err(refused) => return Err(refused),
     };
@@ -83,10 +104,22 @@ fn texts_of(
         Ok(inventory) => Ok(Some(KeptTexts {
             inventory,
             playbook: chosen.text,
-            is_whole: chosen.is_whole,
-            has_all_hosts: chosen.has_all_hosts,
+            left_out: chosen.left_out,
+            hosts: known_hosts(limited, chosen.has_all_hosts),
         })),
         Err(refused) => Err(refused),
+    }
+}
+
+fn known_hosts(limited: bool, has_all: bool) -> KnownHosts
+    ensures { result ≡ hosts_known limited has_all }
+{
+    if has_all {
+        KnownHosts::All
+    } else if limited {
+        KnownHosts::Some
+    } else {
+        KnownHosts::Unlimited
     }
 }
 
@@ -97,13 +130,13 @@ fn choose_playbook(
     playbook: Option<&[u8]>,
 ) -> Result<Chosen, AllocError>
     ensures { IfOk result (λ chosen. IsChosenPlaybook fleet.now accepted (option_map (λ text. text.now) playbook.entry)
-        (option_map (λ bytes. bytes.items) chosen.text) chosen.is_whole chosen.has_all_hosts) }
+        (option_map (λ bytes. bytes.items) chosen.text) chosen.left_out chosen.has_all_hosts) }
 {
     match playbook {
         Some(playbook) => choose(alloc, fleet, accepted, playbook),
         None => Ok(Chosen {
             text: None,
-            is_whole: true,
+            left_out: LeftOut::Nothing,
             has_all_hosts: accepted,
         }),
     }
@@ -115,7 +148,7 @@ fn choose(
     accepted: bool,
     playbook: &[u8],
 ) -> Result<Chosen, AllocError>
-    ensures { IfOk result (λ chosen. IsChosenText fleet.now accepted playbook.now (option_map (λ bytes. bytes.items) chosen.text) chosen.is_whole chosen.has_all_hosts) }
+    ensures { IfOk result (λ chosen. IsChosenText fleet.now accepted playbook.now (option_map (λ bytes. bytes.items) chosen.text) chosen.left_out chosen.has_all_hosts) }
 {
     let told = match playbook_faults(alloc, playbook, 0) {
         Ok(told) => told,
@@ -126,6 +159,10 @@ fn choose(
         Ok(known) => known,
         Err(refused) => return Err(refused),
     };
+    let left_out = match what_is_left_out(alloc, playbook, is_whole) {
+        Ok(left_out) => left_out,
+        Err(refused) => return Err(refused),
+    };
     let text = match whole_or_kept(alloc, playbook, is_whole) {
         Ok(text) => text,
         Err(refused) => return Err(refused),
@@ -133,9 +170,23 @@ fn choose(
     match aim_if(alloc, fleet, text) {
         Ok(text) => Ok(Chosen {
             text,
-            is_whole,
+            left_out,
             has_all_hosts: accepted && known,
         }),
+        Err(refused) => Err(refused),
+    }
+}
+
+/// What isn't there of the playbook, of which nothing is told, or something.
+fn what_is_left_out(alloc: Global, playbook: &[u8], is_whole: bool) -> Result<LeftOut, AllocError>
+    ensures { IfOk result (IsLeftOut playbook.now is_whole) }
+{
+    if is_whole {
+        return Ok(LeftOut::Nothing);
+    }
+    match knows_conditions(alloc, playbook) {
+        Ok(true) => Ok(LeftOut::Parts),
+        Ok(false) => Ok(LeftOut::Conditions),
         Err(refused) => Err(refused),
     }
 }

@@ -9,5 +9,5 @@ mod silence;
 mod standing;
 mod text;
 
-pub use choosing::{KeptTexts, kept_texts};
+pub use choosing::{KeptTexts, KnownHosts, LeftOut, kept_texts};
 pub use every::{EveryFault, every_fault};

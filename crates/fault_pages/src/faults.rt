@@ -117,7 +117,7 @@ rollout: 301 NotNested host=web-1 first=rack9 second=row1
 ```
 
 The host is in both groups, both have a limit, and neither stands below the other; it is the first such by name, with its
-first two. Where one has all hosts of the other, put the other below it ([racks and services](FROM_ANSIBLE.md#racks-and-services)). Else
+first two. Where the host is in one by mistake, take it out there. Where one has all hosts of the other, put the other below it ([racks and services](FROM_ANSIBLE.md#racks-and-services)). Else
 keep `max_down` on one kind of group, as the racks, the same for every pair that `lint` tells, and take it off the other, or move it to groups of its hosts below those that keep it.
 ";
 
@@ -242,7 +242,7 @@ rollout: 702 BadShape at=0/tasks/0/command
 ```
 
 An empty path may mean that the two files were given in the wrong order. A key that is missing is told at the object that should have it: `at=0` lacks `hosts` or `tasks`,
-`at=0/tasks/0` lacks `command`. A command that is one text may hold no quotes and no backslash: write it as `{\"argv\": [\"echo\", \"it's\"]}`.
+`at=0/tasks/0` lacks `command`, `at=0/handlers/0` its `name`; so are two commands in one step. What is wrong with an element of a list is told at its place. A command that is one text may hold no quotes and no backslash: write it as `{\"argv\": [\"echo\", \"it's\"]}`.
 ";
 
 pub(crate) const OF_703: &str = "\

@@ -7,7 +7,7 @@ zero-limit group=G members=N: none of G's N hosts may be down: its limit is 0, o
 $ echo '{\"db\": {\"vars\": {\"max_down\": \"30%\"}, \"hosts\": {\"db1\": null, \"db2\": null, \"db3\": null}}}' | rollout lint /dev/stdin
 zero-limit group=db members=3
 notes=1
-  zero-limit: write a max_down of 1 or more: as it is, a play that names a host of the group is blocked, or sets the host aside; `explain zero-limit` says more, `--allow zero-limit` switches it off
+  zero-limit: write a max_down of 1 or more; of few hosts a percentage may be 0, since it is rounded down: as it is, a play that names a host of the group is blocked, or sets the host aside; `explain zero-limit` says more, `--allow zero-limit` switches it off
 ```
 
 30 % of three hosts are 0.9, and of a host a part counts for nothing. No batch may take any of them, so a play that names one is blocked, or sets it aside. Write a `max_down` of 1 or more. If nothing is to be updated there,
@@ -43,17 +43,18 @@ give it another name, or `--allow group-down`.
 ";
 
 pub(crate) const OF_NEAR_KEY: &str = "\
-near-key group=G name=NAME: G has a variable NAME that is nearly `max_down` or `down`, and isn't it
+near-key group=G [host=H] name=NAME: G, or H as G lists it, has a variable NAME that is nearly `max_down` or `down`; or H has `max_down`, which is a group's
 
 ```
 $ echo '{\"rack1\": {\"vars\": {\"max-down\": 1}, \"hosts\": {\"web1\": null, \"web2\": null}}}' | rollout lint /dev/stdin
 near-key group=rack1 name=max-down
 notes=1
-  near-key: write max_down where it is to limit the group, and down where a host is down; `explain near-key` says more, `--allow near-key` switches it off
+  near-key: write max_down in the vars of the group that it is to limit, and \"down\": true at a host that is down: elsewhere either is a variable like any other; `explain near-key` says more, `--allow near-key` switches it off
 ```
 
 As it is, it is a variable as others, and limits nothing. A name is nearly a key where small and capital letters, `_`, `-`, `.` and blanks apart it is `max_down` or `down`, or where a byte more, a byte less, another byte or two
-neighbours swapped make `max_down` of it. Write `max_down` where it is to limit the group, and `down` at the hosts that are down. Where it is a variable that steps read: `--allow near-key`.
+neighbours swapped make `max_down` of it. Write `max_down` in the `vars` of the group that it is to limit, and `down` at the hosts that are down. At hosts
+`max_down` limits nothing either: so an inventory looks that `ansible-inventory` wrote without `--export`. Where it is a variable that steps read: `--allow near-key`.
 ";
 
 pub(crate) const OF_CASE_HOSTS: &str = "\

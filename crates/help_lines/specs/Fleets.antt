@@ -9,7 +9,7 @@ twice_help first second =
 -- two limited groups that cross
 unfoldable pub crossing_help : Text → Text → List Text
 crossing_help first second =
-    cut first ∷ codes " and " ∷ cut second ∷ codes " share hosts and have limits: where one has all hosts of the other, put the other below it; else keep max_down on one kind in all such lines, as racks, and take it off the other, or move it to groups of its hosts below the kept one" ∷ []
+    cut first ∷ codes " and " ∷ cut second ∷ codes " share hosts and have limits: a host that is in one by mistake goes; where one has all hosts of the other, put the other below it; else keep max_down on one kind in all such lines, as racks, and move the other's to groups of its hosts below these" ∷ []
 
 -- a group of which too many hosts are down, with names of such hosts
 unfoldable pub down_help : Text → Text → List Text

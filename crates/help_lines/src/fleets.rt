@@ -42,7 +42,7 @@ pub fn tell_crossing<'t>(
             Piece::Said(" and "),
             Piece::Cut(second.as_bytes()),
             Piece::Said(
-                " share hosts and have limits: where one has all hosts of the other, put the other below it; else keep max_down on one kind in all such lines, as racks, and take it off the other, or move it to groups of its hosts below the kept one",
+                " share hosts and have limits: a host that is in one by mistake goes; where one has all hosts of the other, put the other below it; else keep max_down on one kind in all such lines, as racks, and move the other's to groups of its hosts below these",
             ),
         ],
     )

@@ -1,5 +1,5 @@
 -- What the notes on kept texts come to.
-use Rattle.std.proofs.Common.{inl, inr, ◌≡◌, ℕ, true, List, [], ◌++◌, Option, Some, None, Result, Ok, Err, sym, subst}
+use Rattle.std.proofs.Common.{inl, inr, ◌≡◌, ℕ, Bool, true, List, [], ◌++◌, Option, Some, None, Result, Ok, Err, sym, subst}
 use Rattle.std.specs.Prelude.{IfOk}
 use Rattle.domains.specs.declared.pattern_fault.PatternFault.TheVariants.{NoSuchName, Memory}
 use Rattle.planning.specs.declared.fault.PlanFault.{PlanFault}
@@ -8,7 +8,7 @@ use Rattle.lint_notes.specs.LintTexts.{IsTextOf}
 use Rattle.lint_notes.specs.declared.end.LintEnd.{LintEnd}
 use Rattle.every_fault.specs.KeptTexts.{AreKeptTexts, playbook_of}
 use Rattle.every_fault.specs.declared.choosing.KeptTexts.{KeptTexts}
-use Rattle.kept_notes.specs.Beside.{AreNotesOn, AreRefused, IsBeside, IsNotedOf, IsNotedOfOne, IsTextOn, IsToldOf, IsTrueOn, RefusesOn, WritesOn, hidden_kinds, tells_rule, unsought}
+use Rattle.kept_notes.specs.Beside.{AreNotesOn, AreRefused, IsBeside, IsNotedOf, IsNotedOfOne, IsTextOn, IsToldOf, IsTrueOn, RefusesOn, WritesOn, hidden_kinds, tells_rule, unsought_if}
 
 -- what went out to an empty list is all that it holds
 pub written_is : (kinds inventory : List ℕ) (playbook : Option (List ℕ)) (text : List ℕ) (end : LintEnd) → WritesOn kinds inventory playbook (Some []) (Some text) end → IsTextOn kinds inventory playbook text
@@ -35,17 +35,17 @@ pub are_refused : (kinds inventory : List ℕ) (playbook : Option (List ℕ)) (o
 are_refused kinds inventory playbook old new fault rule fails =
     record { fault = fault; is_rule = rule; refuses = refuses_on kinds inventory playbook old new fault rule fails }
 
-module _ {T E : Type 0} (bytes : T → List ℕ) (kinds inventory : List ℕ) where
-  pub noted_in : (playbook : List ℕ) (result : Result T E) → AreRefused inventory (Some playbook) → IfOk result (λ text. IsNotedOfOne kinds inventory (bytes text))
-      → IfOk result (λ text. IsNotedOf kinds inventory (Some playbook) (bytes text))
+module _ {T E : Type 0} (bytes : T → List ℕ) (has_plays : T → Bool) (kinds inventory : List ℕ) where
+  pub noted_in : (playbook : List ℕ) (result : Result T E) → AreRefused inventory (Some playbook) → IfOk result (λ noted. IsNotedOf kinds inventory None (bytes noted) (has_plays noted))
+      → IfOk result (λ noted. IsNotedOf kinds inventory (Some playbook) (bytes noted) (has_plays noted))
   noted_in playbook (Ok text) refused noted = inr (refused, noted)
   noted_in playbook (Err failed) refused noted = tt
 
 module _ {T E : Type 0} (bytes : T → List ℕ) (allowed : List ℕ) (kept : KeptTexts) where
-  pub ended_so : (notes : List ℕ) (result : Result T E) → IsNotedOf (hidden_kinds kept.has_all_hosts kept.is_whole ++ allowed) kept.inventory.items (playbook_of kept) notes
-      → IfOk result (λ text. bytes text ≡ notes ++ unsought kept.has_all_hosts kept.is_whole) → IfOk result (λ text. IsToldOf allowed kept (bytes text))
-  ended_so notes (Ok text) noted is = record { notes = notes; noted = noted; text_is = is }
-  ended_so notes (Err failed) noted is = tt
+  pub ended_so : (notes : List ℕ) (has_plays : Bool) (result : Result T E) → IsNotedOf (hidden_kinds kept.hosts kept.left_out ++ allowed) kept.inventory.items (playbook_of kept) notes has_plays
+      → IfOk result (λ text. bytes text ≡ notes ++ unsought_if has_plays kept.hosts kept.left_out) → IfOk result (λ text. IsToldOf allowed kept (bytes text))
+  ended_so notes has_plays (Ok text) noted is = record { notes = notes; has_plays = has_plays; noted = noted; text_is = is }
+  ended_so notes has_plays (Err failed) noted is = tt
 
   pub beside_in : (inventory : List ℕ) (playbook : Option (List ℕ)) (result : Result T E) → AreKeptTexts inventory playbook (Some kept)
       → IfOk result (λ text. IsToldOf allowed kept (bytes text)) → IfOk result (λ text. IsBeside allowed inventory playbook (bytes text))

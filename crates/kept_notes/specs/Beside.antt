@@ -11,6 +11,10 @@ use Rattle.lint_notes.specs.Notes.{Note}
 use Rattle.lint_notes.specs.declared.end.LintEnd.{LintEnd}
 use Rattle.every_fault.specs.KeptTexts.{AreKeptTexts, playbook_of}
 use Rattle.every_fault.specs.declared.choosing.KeptTexts.{KeptTexts}
+use Rattle.every_fault.specs.declared.choosing.KnownHosts.{KnownHosts}
+use Rattle.every_fault.specs.declared.choosing.KnownHosts.TheVariants as known
+use Rattle.every_fault.specs.declared.choosing.LeftOut.{LeftOut}
+use Rattle.every_fault.specs.declared.choosing.LeftOut.TheVariants.{Nothing, Parts, Conditions}
 
 -- the notes on an inventory, or on one and a playbook
 abbrev pub AreNotesOn : List ℕ → Option (List ℕ) → (List Note → Type 0)
@@ -44,13 +48,23 @@ pub record AreRefused (inventory : List ℕ) (playbook : Option (List ℕ)) : Ty
   pub is_rule : tells_rule fault ≡ true
   pub refuses : RefusesOn inventory playbook fault
 
+-- where all hosts are known, and where not all are
+abbrev pub all_hidden : LeftOut → List ℕ
+all_hidden Nothing = []
+all_hidden Parts = codes "one-failure,idle-handler,"
+all_hidden Conditions = codes "one-failure,missing-name,constant-condition,idle-handler,"
+
+abbrev pub some_hidden : LeftOut → List ℕ
+some_hidden Nothing = codes "empty-limit,no-hosts,down-hosts,idle-serial,one-failure,"
+some_hidden Parts = codes "empty-limit,no-hosts,down-hosts,idle-serial,one-failure,idle-handler,"
+some_hidden Conditions = codes "empty-limit,no-hosts,down-hosts,idle-serial,one-failure,missing-name,constant-condition,idle-handler,"
+
 -- Kinds of notes that may be there only for what was left out: of hosts and limits, where not all hosts are known; of handlers, where something was left out of the playbook, which may notify; and of the
--- smallest batch, where either was.
-abbrev pub hidden_kinds : Bool → Bool → List ℕ
-hidden_kinds true true = []
-hidden_kinds true false = codes "one-failure,idle-handler,"
-hidden_kinds false true = codes "empty-limit,no-hosts,down-hosts,idle-serial,one-failure,"
-hidden_kinds false false = codes "empty-limit,no-hosts,down-hosts,idle-serial,one-failure,idle-handler,"
+-- smallest batch, where either was; and of what some hosts miss and of conditions that ask nothing, where a part of `when` was.
+abbrev pub hidden_kinds : KnownHosts → LeftOut → List ℕ
+hidden_kinds known.All left_out = all_hidden left_out
+hidden_kinds known.Some left_out = some_hidden left_out
+hidden_kinds known.Unlimited left_out = some_hidden left_out
 
 -- the text of those notes on these texts that no kind in the list switches off
 pub record IsTextOn (kinds inventory : List ℕ) (playbook : Option (List ℕ)) (text : List ℕ) : Type 0 where
@@ -61,18 +75,43 @@ pub record IsTextOn (kinds inventory : List ℕ) (playbook : Option (List ℕ)) 
 abbrev pub IsNotedOfOne : List ℕ → List ℕ → List ℕ → Type 0
 IsNotedOfOne kinds inventory text = IsTextOn kinds inventory None text ⊎ (AreRefused inventory None × (text ≡ []))
 
--- beside a playbook that isn't accepted only groups and hosts are noted
-abbrev pub IsNotedOf : List ℕ → List ℕ → Option (List ℕ) → List ℕ → Type 0
-IsNotedOf kinds inventory None text = IsNotedOfOne kinds inventory text
-IsNotedOf kinds inventory (Some playbook) text =
-    IsTextOn kinds inventory (Some playbook) text ⊎ (AreRefused inventory (Some playbook) × IsNotedOfOne kinds inventory text)
+-- beside a playbook that isn't accepted only groups and hosts are noted; whether plays are
+abbrev pub IsNotedOf : List ℕ → List ℕ → Option (List ℕ) → List ℕ → Bool → Type 0
+IsNotedOf kinds inventory None text has_plays = IsNotedOfOne kinds inventory text × (has_plays ≡ false)
+IsNotedOf kinds inventory (Some playbook) text has_plays =
+    (IsTextOn kinds inventory (Some playbook) text × (has_plays ≡ true)) ⊎ (AreRefused inventory (Some playbook) × (IsNotedOfOne kinds inventory text × (has_plays ≡ false)))
 
--- of which kinds notes aren't looked for beside faults: what is mended may give them
-abbrev pub unsought : Bool → Bool → List ℕ
-unsought true true = []
-unsought true false = codes "  not looked for beside these faults: one-failure, idle-handler\n"
-unsought false true = codes "  not looked for beside these faults: empty-limit, no-hosts, down-hosts, idle-serial, one-failure\n"
-unsought false false = codes "  not looked for beside these faults: empty-limit, no-hosts, down-hosts, idle-serial, one-failure, idle-handler\n"
+-- Of which kinds notes aren't looked for beside faults: what is mended may give them. Where no limit is known none is looked for that is about one.
+abbrev pub unsought : KnownHosts → LeftOut → List ℕ
+unsought known.All Nothing = []
+unsought known.All Parts = codes "  not looked for beside these faults: one-failure, idle-handler\n"
+unsought known.All Conditions = codes "  not looked for beside these faults: one-failure, missing-name, constant-condition, idle-handler\n"
+unsought known.Some Nothing = codes "  not looked for beside these faults: empty-limit, no-hosts, down-hosts, idle-serial, one-failure\n"
+unsought known.Some Parts = codes "  not looked for beside these faults: empty-limit, no-hosts, down-hosts, idle-serial, one-failure, idle-handler\n"
+unsought known.Some Conditions = codes "  not looked for beside these faults: empty-limit, no-hosts, down-hosts, idle-serial, one-failure, missing-name, constant-condition, idle-handler\n"
+unsought known.Unlimited Nothing = codes "  not looked for beside these faults: zero-limit, empty-limit, no-hosts, down-hosts, idle-serial, one-failure\n"
+unsought known.Unlimited Parts = codes "  not looked for beside these faults: zero-limit, empty-limit, no-hosts, down-hosts, idle-serial, one-failure, idle-handler\n"
+unsought known.Unlimited Conditions = codes "  not looked for beside these faults: zero-limit, empty-limit, no-hosts, down-hosts, idle-serial, one-failure, missing-name, constant-condition, idle-handler\n"
+
+-- the same where no plays can be read, and where none were given, of which nothing is left out then
+abbrev pub unsought_alone : KnownHosts → List ℕ
+unsought_alone known.All = []
+unsought_alone known.Some = codes "  not looked for beside these faults: empty-limit\n"
+unsought_alone known.Unlimited = codes "  not looked for beside these faults: zero-limit, empty-limit\n"
+
+abbrev pub unsought_with_plays : KnownHosts → List ℕ
+unsought_with_plays known.All = codes "  not looked for beside these faults: anything of plays and steps\n"
+unsought_with_plays known.Some = codes "  not looked for beside these faults: empty-limit, anything of plays and steps\n"
+unsought_with_plays known.Unlimited = codes "  not looked for beside these faults: zero-limit, empty-limit, anything of plays and steps\n"
+
+abbrev pub unsought_without_plays : KnownHosts → LeftOut → List ℕ
+unsought_without_plays hosts Nothing = unsought_alone hosts
+unsought_without_plays hosts Parts = unsought_with_plays hosts
+unsought_without_plays hosts Conditions = unsought_with_plays hosts
+
+abbrev pub unsought_if : Bool → KnownHosts → LeftOut → List ℕ
+unsought_if true hosts left_out = unsought hosts left_out
+unsought_if false hosts left_out = unsought_without_plays hosts left_out
 
 -- none are where nothing is kept
 abbrev pub nothing_sought : List ℕ
@@ -81,8 +120,9 @@ nothing_sought = codes "  not looked for beside these faults: anything else\n"
 -- the notes on what is kept, and what isn't looked for
 pub record IsToldOf (allowed : List ℕ) (kept : KeptTexts) (text : List ℕ) : Type 0 where
   pub notes : List ℕ
-  pub noted : IsNotedOf (hidden_kinds kept.has_all_hosts kept.is_whole ++ allowed) kept.inventory.items (playbook_of kept) notes
-  pub text_is : text ≡ notes ++ unsought kept.has_all_hosts kept.is_whole
+  pub has_plays : Bool
+  pub noted : IsNotedOf (hidden_kinds kept.hosts kept.left_out ++ allowed) kept.inventory.items (playbook_of kept) notes has_plays
+  pub text_is : text ≡ notes ++ unsought_if has_plays kept.hosts kept.left_out
 
 -- of what is kept, and where nothing is
 abbrev pub IsToldIf : List ℕ → Option KeptTexts → List ℕ → Type 0

@@ -1,12 +1,13 @@
 //! From texts that are refused to the notes beside their faults.
-ghost use Rattle.std.specs.Prelude.{◌≡◌, ◌++◌, IfOk, Some};
+ghost use Rattle.std.specs.Prelude.{◌≡◌, ◌++◌, IfOk, None, Some};
 ghost use Rattle.std.specs.Option.{option_map};
 ghost use Rattle.std.specs.String.{string_bytes};
 ghost use Rattle.every_fault.specs.KeptTexts.{playbook_of};
+ghost use Rattle.kept_notes.specs.Beside as spec;
 ghost use Rattle.kept_notes.specs.Beside.{IsBeside, IsNotedOf, IsNotedOfOne, IsToldOf, hidden_kinds, unsought};
 
 use crate::rule::tells_rule;
-use every_fault::{KeptTexts, kept_texts};
+use every_fault::{KeptTexts, KnownHosts, LeftOut, kept_texts};
 use lint_notes::{Allowed, lint_fleet_text, lint_text};
 use std::alloc::{AllocError, Global};
 
@@ -36,7 +37,10 @@ fn tell_kept(alloc: Global, kept: &KeptTexts, allowed: &Allowed<'_>) -> Result<V
     ensures { IfOk result (λ text. IsToldOf allowed.now kept.now text.items) }
 {
     match notes_on(alloc, kept, allowed) {
-        Ok(notes) => ended(notes, kinds_unsought(kept.has_all_hosts, kept.is_whole)),
+        Ok(noted) => ended(
+            noted.text,
+            line_behind(noted.has_plays, kept.hosts, kept.left_out),
+        ),
         Err(refused) => Err(refused),
     }
 }
@@ -49,28 +53,77 @@ fn ended(notes: Vec<u8>, line: &str) -> Result<Vec<u8>, AllocError>
     Ok(text)
 }
 
-fn kinds_unsought(has_all_hosts: bool, is_whole: bool) -> &'static str
-    ensures { result.now ≡ unsought has_all_hosts is_whole }
+/// What isn't looked for, where plays are noted or aren't.
+fn line_behind(has_plays: bool, hosts: KnownHosts, left_out: LeftOut) -> &'static str
+    ensures { result.now ≡ spec.unsought_if has_plays hosts left_out }
 {
-    match (has_all_hosts, is_whole) {
-        (true, true) => "",
-        (true, false) => "  not looked for beside these faults: one-failure, idle-handler\n",
-        (false, true) =>
-            "  not looked for beside these faults: empty-limit, no-hosts, down-hosts, idle-serial, one-failure\n",
-        (false, false) =>
-            "  not looked for beside these faults: empty-limit, no-hosts, down-hosts, idle-serial, one-failure, idle-handler\n",
+    if has_plays {
+        return kinds_unsought(hosts, left_out);
+    }
+    match left_out {
+        LeftOut::Nothing => unsought_alone(hosts),
+        LeftOut::Parts | LeftOut::Conditions => unsought_with_plays(hosts),
     }
 }
 
-/// The notes on texts that are kept.
-fn notes_on(alloc: Global, kept: &KeptTexts, allowed: &Allowed<'_>) -> Result<Vec<u8>, AllocError>
-    ensures { IfOk result (λ text. IsNotedOf (hidden_kinds kept.now.has_all_hosts kept.now.is_whole ++ allowed.now) kept.now.inventory.items (playbook_of kept.now) text.items) }
+fn unsought_alone(hosts: KnownHosts) -> &'static str
+    ensures { result.now ≡ spec.unsought_alone hosts }
 {
-    let kinds = match hidden_with(
-        alloc,
-        kinds_hidden(kept.has_all_hosts, kept.is_whole),
-        allowed,
-    ) {
+    match hosts {
+        KnownHosts::All => "",
+        KnownHosts::Some => "  not looked for beside these faults: empty-limit\n",
+        KnownHosts::Unlimited => "  not looked for beside these faults: zero-limit, empty-limit\n",
+    }
+}
+
+fn unsought_with_plays(hosts: KnownHosts) -> &'static str
+    ensures { result.now ≡ spec.unsought_with_plays hosts }
+{
+    match hosts {
+        KnownHosts::All => "  not looked for beside these faults: anything of plays and steps\n",
+        KnownHosts::Some =>
+            "  not looked for beside these faults: empty-limit, anything of plays and steps\n",
+        KnownHosts::Unlimited =>
+            "  not looked for beside these faults: zero-limit, empty-limit, anything of plays and steps\n",
+    }
+}
+
+fn kinds_unsought(hosts: KnownHosts, left_out: LeftOut) -> &'static str
+    ensures { result.now ≡ unsought hosts left_out }
+{
+    match (hosts, left_out) {
+        (KnownHosts::All, LeftOut::Nothing) => "",
+        (KnownHosts::All, LeftOut::Parts) =>
+            "  not looked for beside these faults: one-failure, idle-handler\n",
+        (KnownHosts::All, LeftOut::Conditions) =>
+            "  not looked for beside these faults: one-failure, missing-name, constant-condition, idle-handler\n",
+        (KnownHosts::Some, LeftOut::Nothing) =>
+            "  not looked for beside these faults: empty-limit, no-hosts, down-hosts, idle-serial, one-failure\n",
+        (KnownHosts::Some, LeftOut::Parts) =>
+            "  not looked for beside these faults: empty-limit, no-hosts, down-hosts, idle-serial, one-failure, idle-handler\n",
+        (KnownHosts::Some, LeftOut::Conditions) =>
+            "  not looked for beside these faults: empty-limit, no-hosts, down-hosts, idle-serial, one-failure, missing-name, constant-condition, idle-handler\n",
+        (KnownHosts::Unlimited, LeftOut::Nothing) =>
+            "  not looked for beside these faults: zero-limit, empty-limit, no-hosts, down-hosts, idle-serial, one-failure\n",
+        (KnownHosts::Unlimited, LeftOut::Parts) =>
+            "  not looked for beside these faults: zero-limit, empty-limit, no-hosts, down-hosts, idle-serial, one-failure, idle-handler\n",
+        (KnownHosts::Unlimited, LeftOut::Conditions) =>
+            "  not looked for beside these faults: zero-limit, empty-limit, no-hosts, down-hosts, idle-serial, one-failure, missing-name, constant-condition, idle-handler\n",
+    }
+}
+
+/// The text of notes, and whether plays are among what is noted.
+#[derive(Drop)]
+struct Noted {
+    text: Vec<u8>,
+    has_plays: bool,
+}
+
+/// The notes on texts that are kept.
+fn notes_on(alloc: Global, kept: &KeptTexts, allowed: &Allowed<'_>) -> Result<Noted, AllocError>
+    ensures { IfOk result (λ noted. IsNotedOf (hidden_kinds kept.now.hosts kept.now.left_out ++ allowed.now) kept.now.inventory.items (playbook_of kept.now) noted.text.items noted.has_plays) }
+{
+    let kinds = match hidden_with(alloc, kinds_hidden(kept.hosts, kept.left_out), allowed) {
         Ok(kinds) => kinds,
         Err(refused) => return Err(refused),
     };
@@ -82,19 +135,38 @@ fn notes_on(alloc: Global, kept: &KeptTexts, allowed: &Allowed<'_>) -> Result<Ve
             playbook.as_slice(),
             &hidden,
         ),
-        None => notes_on_one(alloc, kept.inventory.as_slice(), &hidden),
+        None => noted_alone(alloc, kept.inventory.as_slice(), &hidden),
     }
 }
 
 /// Kinds of notes that may be there only for what was left out.
-fn kinds_hidden(has_all_hosts: bool, is_whole: bool) -> &'static str
-    ensures { result.now ≡ hidden_kinds has_all_hosts is_whole }
+fn kinds_hidden(hosts: KnownHosts, left_out: LeftOut) -> &'static str
+    ensures { result.now ≡ hidden_kinds hosts left_out }
 {
-    match (has_all_hosts, is_whole) {
-        (true, true) => "",
-        (true, false) => "one-failure,idle-handler,",
-        (false, true) => "empty-limit,no-hosts,down-hosts,idle-serial,one-failure,",
-        (false, false) => "empty-limit,no-hosts,down-hosts,idle-serial,one-failure,idle-handler,",
+    match hosts {
+        KnownHosts::All => all_hidden(left_out),
+        KnownHosts::Some | KnownHosts::Unlimited => some_hidden(left_out),
+    }
+}
+
+fn all_hidden(left_out: LeftOut) -> &'static str
+    ensures { result.now ≡ spec.all_hidden left_out }
+{
+    match left_out {
+        LeftOut::Nothing => "",
+        LeftOut::Parts => "one-failure,idle-handler,",
+        LeftOut::Conditions => "one-failure,missing-name,constant-condition,idle-handler,",
+    }
+}
+
+fn some_hidden(left_out: LeftOut) -> &'static str
+    ensures { result.now ≡ spec.some_hidden left_out }
+{
+    match left_out {
+        LeftOut::Nothing => "empty-limit,no-hosts,down-hosts,idle-serial,one-failure,",
+        LeftOut::Parts => "empty-limit,no-hosts,down-hosts,idle-serial,one-failure,idle-handler,",
+        LeftOut::Conditions =>
+            "empty-limit,no-hosts,down-hosts,idle-serial,one-failure,missing-name,constant-condition,idle-handler,",
     }
 }
 
@@ -106,18 +178,33 @@ fn hidden_with(alloc: Global, hidden: &str, allowed: &Allowed<'_>) -> Result<Str
     Ok(kinds)
 }
 
+fn noted_alone(alloc: Global, inventory: &[u8], hidden: &Allowed<'_>) -> Result<Noted, AllocError>
+    ensures { IfOk result (λ noted. IsNotedOf hidden.now inventory.now None noted.text.items noted.has_plays) }
+{
+    match notes_on_one(alloc, inventory, hidden) {
+        Ok(text) => Ok(Noted {
+            text,
+            has_plays: false,
+        }),
+        Err(refused) => Err(refused),
+    }
+}
+
 fn notes_on_both(
     alloc: Global,
     inventory: &[u8],
     playbook: &[u8],
     hidden: &Allowed<'_>,
-) -> Result<Vec<u8>, AllocError>
-    ensures { IfOk result (λ text. IsNotedOf hidden.now inventory.now (Some playbook.now) text.items) }
+) -> Result<Noted, AllocError>
+    ensures { IfOk result (λ noted. IsNotedOf hidden.now inventory.now (Some playbook.now) noted.text.items noted.has_plays) }
 {
     let mut text = Vec::new(alloc);
     match lint_text(alloc, inventory, playbook, hidden, &mut text) {
-        Ok(_) => Ok(text),
-        Err(fault) if tells_rule(&fault) => notes_on_one(alloc, inventory, hidden),
+        Ok(_) => Ok(Noted {
+            text,
+            has_plays: true,
+        }),
+        Err(fault) if tells_rule(&fault) => noted_alone(alloc, inventory, hidden),
         Err(_) => Err(AllocError),
     }
 }

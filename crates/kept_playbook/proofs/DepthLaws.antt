@@ -14,10 +14,10 @@ use Rattle.play_rules.specs.Commands.{words_in}
 use Rattle.play_rules.specs.Plays.{listed_in}
 use Rattle.play_rules.specs.Steps.{name_in, bad_task_name, bad_register, bad_ignore}
 use Rattle.std.specs.List.{filter_map}
-use Rattle.kept_playbook.specs.Conditions.{Test, is_kept_part, parts_at, kept_parts}
+use Rattle.kept_playbook.specs.Conditions.{Test, has_guard, is_kept_part, parts_at, kept_parts, unguarded_parts}
 use Rattle.kept_playbook.specs.Objects.{entry, put_all, object_of, list_of, given, given_if, is_kept, unbroken, list_if_any}
 use Rattle.kept_playbook.specs.Steps as steps
-use Rattle.kept_playbook.specs.Steps.{are_good, is_known_when, kept_words, kept_conditions, known_run, kept_run, kept_entries, kept_handler, is_kept_name, kept_notify, kept_task, idle_entry}
+use Rattle.kept_playbook.specs.Steps.{are_good, kept_words, kept_condition, kept_conditions, known_run, kept_run, kept_entries, kept_handler, is_kept_name, kept_notify, kept_task, idle_entry}
 use Rattle.kept_playbook.specs.Plays.{has_own_name, named_own}
 
 -- each value nests at most so deep
@@ -146,21 +146,28 @@ module _ (is_bad : Test) (step : Data) (most : ℕ) (some : 1 ≤ most) (within 
       both (suc most) (given command_key step) (given long_command_key step) (given-depth command_key step most within) (given-depth long_command_key step most within)
   words_if false = (omega arith, tt)
 
+  condition-depth : (key : Name) → Shallow (suc most) (kept_condition is_bad key step)
+  condition-depth key = list_if_any-depth key (unguarded_parts is_bad key step) most (by_case (has_guard is_bad key step)) some
+    where
+      by_case : (guarded : Bool) → Depths 0 (cond guarded [] (kept_parts is_bad key step))
+      by_case true = tt
+      by_case false = parts-depth is_bad (parts_at key step)
+
   conditions-depth : Shallow (suc most) (kept_conditions is_bad step)
   conditions-depth =
-      let changed = list_if_any changed_key (kept_parts is_bad changed_key step) in
-      let failed = list_if_any failed_key (kept_parts is_bad failed_key step) in
-      let told = both (suc most) changed failed (list_if_any-depth changed_key (kept_parts is_bad changed_key step) most (parts-depth is_bad (parts_at changed_key step)) some)
-      (list_if_any-depth failed_key (kept_parts is_bad failed_key step) most (parts-depth is_bad (parts_at failed_key step)) some) in
-      both (suc most) (given when_key step) (changed ++ failed) (given-depth when_key step most within) told
+      let when = kept_condition is_bad when_key step in
+      let changed = kept_condition is_bad changed_key step in
+      let failed = kept_condition is_bad failed_key step in
+      let told = both (suc most) changed failed (condition-depth changed_key) (condition-depth failed_key) in
+      both (suc most) when (changed ++ failed) (condition-depth when_key) told
 
-  run_if : (known : Bool) → Shallow (suc most) (cond known (known_run is_bad step) (idle_entry ∷ []))
-  run_if true = both (suc most) (kept_words step) (kept_conditions is_bad step) (words_if (are_good (words_in step))) conditions-depth
-  run_if false = (omega arith, tt)
+  run_if : (guarded : Bool) → Shallow (suc most) (cond guarded (idle_entry ∷ []) (known_run is_bad step))
+  run_if true = (omega arith, tt)
+  run_if false = both (suc most) (kept_words step) (kept_conditions is_bad step) (words_if (are_good (words_in step))) conditions-depth
 
   entries-depth : Shallow (suc most) (kept_entries is_bad step)
   entries-depth =
-      both (suc most) (steps.kept_settings step) (kept_run is_bad step) settings-depth (run_if (is_known_when is_bad step))
+      both (suc most) (steps.kept_settings step) (kept_run is_bad step) settings-depth (run_if (has_guard is_bad when_key step))
 
   pub handler-depth : depth (kept_handler is_bad step) ≤ suc most
   handler-depth = object-depth (kept_entries is_bad step) most entries-depth

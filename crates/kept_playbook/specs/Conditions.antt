@@ -1,6 +1,6 @@
 -- The parts of a step's conditions that are kept, and which texts are conditions.
-use Rattle.std.specs.Prelude.{◌≡◌, ℕ, Bool, true, false, not, Option, Some, None, List, ◌++◌, filter}
-use Rattle.std.specs.List.{filter_map, flat_map}
+use Rattle.std.specs.Prelude.{◌≡◌, ℕ, nat_eq, if◌then◌else◌, Bool, true, false, not, ◌&&◌, ◌||◌, Option, Some, None, List, [], ◌∷◌, ◌++◌, codes, filter}
+use Rattle.std.specs.List.{filter_map, flat_map, list_all, list_any, starts_with}
 use Rattle.serde_json.specs.Data.{Data}
 use Rattle.serde_json.specs.Find.{get, as_str}
 use Rattle.group_tree.specs.Names.{Name, is_among}
@@ -28,6 +28,41 @@ is_kept_part is_bad part = stands is_bad (clause_of part)
 
 abbrev pub kept_parts : Test → Name → Data → List Data
 kept_parts is_bad key step = filter (is_kept_part is_bad) (parts_at key step)
+
+-- the letters stand somewhere in the text
+abbrev pub mentions : List ℕ → List ℕ → Bool
+mentions word [] = false
+mentions word (first ∷ later) = starts_with nat_eq (first ∷ later) word || mentions word later
+
+-- `is defined`, misspelt or not, and a default that is given: a text with these letters may look first whether a name has a value, and so may whatever is neither a text nor a truth value
+abbrev pub may_ask : Option Clause → Bool
+may_ask None = true
+may_ask (Some (Truth truth)) = false
+may_ask (Some (Text text)) = mentions (codes "def") text
+
+-- a part that can't be read may guard a name that nothing gives
+abbrev pub may_guard : Test → Data → Bool
+may_guard is_bad part = not (is_kept_part is_bad part) && may_ask (clause_of part)
+
+abbrev pub has_guard : Test → Name → Data → Bool
+has_guard is_bad key step = list_any (may_guard is_bad) (parts_at key step)
+
+-- the parts that can be read, and none where one that can't be may guard them
+abbrev pub unguarded_parts : Test → Name → Data → List Data
+unguarded_parts is_bad key step = if has_guard is_bad key step then [] else kept_parts is_bad key step
+
+-- each part of each condition can be read
+abbrev pub knows_key : Test → Data → Name → Bool
+knows_key is_bad step key = list_all (is_kept_part is_bad) (parts_at key step)
+
+abbrev pub knows_step : Test → Data → Bool
+knows_step is_bad step = knows_key is_bad step when_key && (knows_key is_bad step changed_key && knows_key is_bad step failed_key)
+
+abbrev pub knows_conditions_of : Test → Data → Bool
+knows_conditions_of is_bad play = list_all (knows_step is_bad) (tasks_in play) && list_all (knows_step is_bad) (handlers_in play)
+
+abbrev pub knows_conditions : Test → Data → Bool
+knows_conditions is_bad document = list_all (knows_conditions_of is_bad) (plays_in document)
 
 -- the texts that stand as conditions in a document
 abbrev pub texts_at : Name → Data → List (List ℕ)

@@ -1,6 +1,6 @@
 -- What is kept of a step.
 use Rattle.std.specs.Prelude.{Bool, false, not, Option, Some, None, option_map, unwrap_or, List, [], ◌∷◌, ◌++◌, codes, filter, if◌then◌else◌}
-use Rattle.std.specs.List.{list_all, list_any}
+use Rattle.std.specs.List.{list_any}
 use Rattle.serde_json.specs.Data.{Data, string}
 use Rattle.serde_json.specs.Find.{get, as_str}
 use Rattle.group_tree.specs.Names.{Name, is_among}
@@ -10,7 +10,7 @@ use Rattle.play_rules.specs.Breaches.{where_given}
 use Rattle.play_rules.specs.Commands.{Word, words_in}
 use Rattle.play_rules.specs.Keys.{name_key, command_key, long_command_key, register_key, when_key, changed_key, failed_key, ignore_key, notify_key}
 use Rattle.play_rules.specs.Steps.{bad_task_name, bad_register, bad_ignore}
-use Rattle.kept_playbook.specs.Conditions.{Test, is_kept_part, parts_at, kept_parts}
+use Rattle.kept_playbook.specs.Conditions.{Test, has_guard, unguarded_parts}
 use Rattle.kept_playbook.specs.Objects.{entry, given, unbroken, list_if_any, object_of}
 
 -- words that are one hole for the host's name: no name is looked up in them, no shell is meant, and they are no program that a step might run here
@@ -22,26 +22,23 @@ abbrev pub are_good : Option (List Word) → Bool
 are_good None = false
 are_good (Some words) = not (list_any has_braces words)
 
--- when the step runs is known: each part of `when` is a condition or a truth value
-abbrev pub is_known_when : Test → Data → Bool
-is_known_when is_bad step = list_all (is_kept_part is_bad) (parts_at when_key step)
-
 -- the command as it is, where its words are good
 abbrev pub kept_words : Data → List Entry
 kept_words step =
     if are_good (words_in step) then given command_key step ++ given long_command_key step else idle_entry ∷ []
 
--- `when` as it is; of what decides whether it changed or failed, the parts that can be read
+abbrev pub kept_condition : Test → Name → Data → List Entry
+kept_condition is_bad key step = list_if_any key (unguarded_parts is_bad key step)
+
 abbrev pub kept_conditions : Test → Data → List Entry
-kept_conditions is_bad step =
-    given when_key step ++ (list_if_any changed_key (kept_parts is_bad changed_key step) ++ list_if_any failed_key (kept_parts is_bad failed_key step))
+kept_conditions is_bad step = kept_condition is_bad when_key step ++ (kept_condition is_bad changed_key step ++ kept_condition is_bad failed_key step)
 
 abbrev pub known_run : Test → Data → List Entry
 known_run is_bad step = kept_words step ++ kept_conditions is_bad step
 
--- where `when` can't be read neither words nor conditions stay: a name may have been guarded by what can't be read
+-- where a part of `when` that can't be read may have looked first whether a name has a value, neither words nor conditions stay
 abbrev pub kept_run : Test → Data → List Entry
-kept_run is_bad step = if is_known_when is_bad step then known_run is_bad step else idle_entry ∷ []
+kept_run is_bad step = if has_guard is_bad when_key step then idle_entry ∷ [] else known_run is_bad step
 
 abbrev pub kept_settings : Data → List Entry
 kept_settings step =

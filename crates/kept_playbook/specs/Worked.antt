@@ -7,7 +7,7 @@ use Rattle.play_rules.specs.Worked.{list}
 
 -- the texts in it that are no conditions
 abbrev pub bad : List Name
-bad = codes "v =" ∷ codes "v ==" ∷ []
+bad = codes "v =" ∷ codes "v ==" ∷ codes "v is defined =" ∷ []
 
 abbrev pub restart : Data
 restart = object (member command_key (string (codes "b")) (member name_key (string (codes "r")) no_members))
@@ -19,9 +19,9 @@ half =
 
 abbrev pub kept_half : Data
 kept_half =
-    object (member changed_key (list (boolean false ∷ [])) (member command_key (string (codes "a")) (member notify_key (list (string (codes "r") ∷ [])) (member when_key (string (codes "v == 1")) no_members))))
+    object (member changed_key (list (boolean false ∷ [])) (member command_key (string (codes "a")) (member notify_key (list (string (codes "r") ∷ [])) (member when_key (list (string (codes "v == 1") ∷ [])) no_members))))
 
--- when it runs can't be read
+-- when it runs can't be read, and no part of that asks whether a name is defined
 abbrev pub unknown : Data
 unknown =
     object (member command_key (string (codes "a")) (member register_key (string (codes "s")) (member when_key (string (codes "v ==")) no_members)))
@@ -30,8 +30,20 @@ abbrev pub idle : Data
 idle = object (member command_key (string (codes "{{ inventory_hostname }}")) no_members)
 
 abbrev pub kept_unknown : Data
-kept_unknown =
+kept_unknown = object (member command_key (string (codes "a")) (member register_key (string (codes "s")) no_members))
+
+abbrev pub resting_unknown : Data
+resting_unknown =
     object (member command_key (string (codes "{{ inventory_hostname }}")) (member register_key (string (codes "s")) no_members))
+
+-- a part of it may ask
+abbrev pub guarded : Data
+guarded =
+    object (member command_key (string (codes "a")) (member register_key (string (codes "t")) (member when_key (list (boolean true ∷ string (codes "v is defined =") ∷ [])) no_members)))
+
+abbrev pub kept_guarded : Data
+kept_guarded =
+    object (member command_key (string (codes "{{ inventory_hostname }}")) (member register_key (string (codes "t")) no_members))
 
 -- what it runs can't be read, and when it does can
 abbrev pub worded : Data
@@ -39,16 +51,16 @@ worded = object (member command_key (boolean true) (member when_key (string (cod
 
 abbrev pub kept_worded : Data
 kept_worded =
-    object (member command_key (string (codes "{{ inventory_hostname }}")) (member when_key (string (codes "w")) no_members))
+    object (member command_key (string (codes "{{ inventory_hostname }}")) (member when_key (list (string (codes "w") ∷ [])) no_members))
 
--- the second handler has the name of the first, the fourth task is no object, the second play is none, and the third is for nobody
+-- the second handler has the name of the first, the fifth task is no object, the second play is none, and the third is for nobody
 abbrev pub sample : Data
 sample =
-    list (object (member handlers_key (list (restart ∷ restart ∷ [])) (member hosts_key (string (codes "w")) (member serial_key (list []) (member tasks_key (list (half ∷ unknown ∷ worded ∷ number (unsigned 5) ∷ [])) no_members)))) ∷ number (unsigned 7)
+    list (object (member handlers_key (list (restart ∷ restart ∷ [])) (member hosts_key (string (codes "w")) (member serial_key (list []) (member tasks_key (list (half ∷ unknown ∷ guarded ∷ worded ∷ number (unsigned 5) ∷ [])) no_members)))) ∷ number (unsigned 7)
     ∷ object (member tasks_key (list (unknown ∷ [])) no_members) ∷ [])
 
 abbrev pub kept_sample : Data
 kept_sample =
-    list (object (member handlers_key (list (restart ∷ [])) (member hosts_key (string (codes "w")) (member tasks_key (list (kept_half ∷ kept_unknown ∷ kept_worded ∷ idle ∷ [])) no_members)))
+    list (object (member handlers_key (list (restart ∷ [])) (member hosts_key (string (codes "w")) (member tasks_key (list (kept_half ∷ kept_unknown ∷ kept_guarded ∷ kept_worded ∷ idle ∷ [])) no_members)))
     ∷ object (member hosts_key (string (codes "all")) (member tasks_key (list (idle ∷ [])) no_members))
-    ∷ object (member hosts_key (string (codes "all")) (member tasks_key (list (kept_unknown ∷ [])) no_members)) ∷ [])
+    ∷ object (member hosts_key (string (codes "all")) (member tasks_key (list (resting_unknown ∷ [])) no_members)) ∷ [])

@@ -8,6 +8,7 @@ mod document;
 mod fleet_names;
 mod handlers;
 mod idle;
+mod judged;
 mod keep;
 mod knowing;
 mod notify;
@@ -21,5 +22,6 @@ mod texts;
 mod worked;
 
 pub use aimed::aim_playbook;
+pub use judged::knows_conditions;
 pub use keep::keep_playbook;
 pub use knowing::knows_hosts;

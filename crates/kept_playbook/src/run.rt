@@ -3,11 +3,10 @@ ghost use Rattle.std.specs.Prelude.{◌≡◌, ◌++◌, OnOk};
 ghost use Rattle.serde_json.specs.View.{view, members_view};
 ghost use Rattle.play_rules.specs.Keys.{command_key, long_command_key};
 ghost use Rattle.playbook_faults.specs.Names.{has_name};
-ghost use Rattle.kept_playbook.specs.Conditions as conditions;
 ghost use Rattle.kept_playbook.specs.Objects as objects;
 ghost use Rattle.kept_playbook.specs.Steps as spec;
 
-use crate::conditions::{is_when_kept, kept_parts};
+use crate::conditions::{has_guard, unguarded_parts};
 use crate::idle::put_idle;
 use crate::object::{Object, put_given, put_if_any};
 use crate::rules::has_good_words;
@@ -24,7 +23,7 @@ fn put_command(alloc: Global, object: &mut Object, step: &Value) -> Result<(), A
     put_given(alloc, object, "ansible.builtin.command", step)
 }
 
-/// Puts the parts under the key that can be read, if there are any.
+/// Puts the parts under the key that can be read and nothing guards, if there are any.
 #[tactic(auto, using(crate::proofs::ObjectLaws::put_in_turn))]
 fn put_parts(
     alloc: Global,
@@ -34,9 +33,9 @@ fn put_parts(
     step: &Value,
 ) -> Result<(), AllocError>
     ensures { OnOk result (members_view object.new.entries
-        ≡ objects.put_all (objects.list_if_any key.now (conditions.kept_parts (has_name bad.now) key.now (view step.now))) (members_view object.old.entries)) }
+        ≡ objects.put_all (spec.kept_condition (has_name bad.now) key.now (view step.now)) (members_view object.old.entries)) }
 {
-    put_if_any(alloc, object, key, kept_parts(alloc, bad, key, step)?)
+    put_if_any(alloc, object, key, unguarded_parts(alloc, bad, key, step)?)
 }
 
 /// Puts the command, or idle words where its words aren't good.
@@ -61,7 +60,7 @@ fn put_conditions(
     ensures { OnOk result (members_view object.new.entries
         ≡ objects.put_all (spec.kept_conditions (has_name bad.now) (view step.now)) (members_view object.old.entries)) }
 {
-    put_given(alloc, object, "when", step)?;
+    put_parts(alloc, object, bad, "when", step)?;
     put_parts(alloc, object, bad, "changed_when", step)?;
     put_parts(alloc, object, bad, "failed_when", step)
 }
@@ -91,9 +90,9 @@ pub(crate) fn put_run(
     ensures { OnOk result (members_view object.new.entries
         ≡ objects.put_all (spec.kept_run (has_name bad.now) (view step.now)) (members_view object.old.entries)) }
 {
-    if is_when_kept(bad, step) {
-        put_known(alloc, object, bad, step)
-    } else {
+    if has_guard(bad, "when", step) {
         put_idle(alloc, object)
+    } else {
+        put_known(alloc, object, bad, step)
     }
 }

@@ -9,6 +9,6 @@ ghost use Rattle.kept_playbook.specs.Worked.{bad, sample, kept_sample};
 
 /// What breaks a rule goes; a step that can't be read has idle words, and of a play that can't be only what is registered is there.
 pub fn each_part_is_kept_or_goes()
-    ensures texts { condition_texts sample ≡ codes "v == 1" ∷ codes "v =" ∷ codes "v ==" ∷ codes "w" ∷ codes "v ==" ∷ [] }
+    ensures texts { condition_texts sample ≡ codes "v == 1" ∷ codes "v =" ∷ codes "v ==" ∷ codes "v is defined =" ∷ codes "w" ∷ codes "v ==" ∷ [] }
     ensures kept { kept_document (λ text. is_among text bad) sample ≡ kept_sample }
 {}

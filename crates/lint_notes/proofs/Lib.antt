@@ -11,4 +11,5 @@ pub mod BatchLemmas
 pub mod AskedLemmas
 pub mod LacksLemmas
 pub mod GivenLemmas
+pub mod HostKeyLemmas
 pub mod AdviceLemmas

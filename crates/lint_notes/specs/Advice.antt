@@ -9,10 +9,10 @@ use Rattle.lint_notes.specs.declared.kind.Kind.TheVariants.{ZeroLimit, EmptyLimi
 use Rattle.lint_notes.specs.declared.kind.Kind.TheVariants.{UnknownName, MissingName, ConstantCondition, ShellWord, LocalStep, LongWord, DashName, IdleHandler}
 
 abbrev pub advice : Kind → List ℕ
-advice ZeroLimit = codes "write a max_down of 1 or more: as it is, a play that names a host of the group is blocked, or sets the host aside"
+advice ZeroLimit = codes "write a max_down of 1 or more; of few hosts a percentage may be 0, since it is rounded down: as it is, a play that names a host of the group is blocked, or sets the host aside"
 advice EmptyLimit = codes "list the group's hosts under it, or take its max_down out; look whether they stand in a group of another name"
 advice GroupDown = codes "write \"down\": true at each host that is down: of a group it is a variable like any other, and takes no host down"
-advice NearKey = codes "write max_down where it is to limit the group, and down where a host is down"
+advice NearKey = codes "write max_down in the vars of the group that it is to limit, and \"down\": true at a host that is down: elsewhere either is a variable like any other"
 advice CaseHosts = codes "write one machine by one name, as it answers to it: names that differ in capital letters are two hosts"
 advice NoHosts = codes "name other groups or hosts in `hosts`; where hosts are up again, take their \"down\": true out"
 advice DownHosts = codes "they are left as they are: where they are up again, take their \"down\": true out, or name them by --mended"

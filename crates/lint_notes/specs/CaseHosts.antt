@@ -7,6 +7,7 @@ use Rattle.group_tree.specs.Places.{Inventory}
 use Rattle.domains.specs.FleetViews.{FleetView}
 use Rattle.lint_notes.specs.Notes.{Note, case_hosts, noted}
 use Rattle.lint_notes.specs.Groups.{groups_notes}
+use Rattle.lint_notes.specs.HostKeys.{rows_notes}
 
 abbrev pub small_letters : Name → Name
 small_letters name = str_to_ascii_lowercase name
@@ -24,6 +25,6 @@ alike_note name (Some first) = if same_name first name then None else Some (case
 abbrev pub hosts_notes : List Name → List Note
 hosts_notes hosts = flat_map (λ name. noted (alike_note name (find (is_alike name) hosts))) hosts
 
--- the notes on the groups, and behind them those on the names of hosts
+-- the notes on the groups, and behind them those on the variables of hosts and on their names
 abbrev pub fleet_notes : Inventory → FleetView → List Note
-fleet_notes inventory fleet = groups_notes inventory fleet ++ hosts_notes fleet.hosts
+fleet_notes inventory fleet = groups_notes inventory fleet ++ (rows_notes inventory.rows ++ hosts_notes fleet.hosts)

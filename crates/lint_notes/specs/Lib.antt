@@ -4,6 +4,7 @@ pub mod Advice
 pub mod NotesText
 pub mod NearKeys
 pub mod Groups
+pub mod HostKeys
 pub mod CaseHosts
 pub mod Hosts
 pub mod Batches

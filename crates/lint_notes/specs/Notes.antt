@@ -18,6 +18,8 @@ pub data Note : Type 0 where
   group_down : Name → Note
   -- a group with a variable of this name, which is nearly that of a key
   near_key : Name → Name → Note
+  -- a host to which the group gives a variable of this name, which is `max_down` or nearly a key
+  near_host_key : Name → Name → Name → Note
   -- two hosts whose names differ in case alone
   case_hosts : Name → Name → Note
   -- a play for which nobody waits
@@ -50,6 +52,7 @@ kind_of (zero_limit group members) = kinds.ZeroLimit
 kind_of (empty_limit group) = kinds.EmptyLimit
 kind_of (group_down group) = kinds.GroupDown
 kind_of (near_key group name) = kinds.NearKey
+kind_of (near_host_key group host name) = kinds.NearKey
 kind_of (case_hosts host other) = kinds.CaseHosts
 kind_of (no_hosts play) = kinds.NoHosts
 kind_of (down_hosts play hosts host) = kinds.DownHosts
@@ -79,6 +82,7 @@ seen (notes.ZeroLimit group members) = zero_limit group.now members
 seen (notes.EmptyLimit group) = empty_limit group.now
 seen (notes.GroupDown group) = group_down group.now
 seen (notes.NearKey group name) = near_key group.now name.now
+seen (notes.NearHostKey group host name) = near_host_key group.now host.now name.now
 seen (notes.CaseHosts host other) = case_hosts host.now other.now
 seen (notes.NoHosts play) = no_hosts play
 seen (notes.DownHosts play hosts host) = down_hosts play hosts host.now

@@ -4,7 +4,7 @@ use Rattle.group_tree.specs.Names.{Name}
 use Rattle.recap.specs.LimitsText.{field_text}
 use Rattle.lint_notes.specs.Advice.{helps}
 use Rattle.lint_notes.specs.Kinds.{kind_name}
-use Rattle.lint_notes.specs.Notes.{Note, kind_of, told, zero_limit, empty_limit, group_down, near_key, case_hosts, no_hosts, down_hosts, idle_serial, one_failure}
+use Rattle.lint_notes.specs.Notes.{Note, kind_of, told, zero_limit, empty_limit, group_down, near_key, near_host_key, case_hosts, no_hosts, down_hosts, idle_serial, one_failure}
 use Rattle.lint_notes.specs.Notes.{unknown_name, missing_name, constant_condition, shell_word, local_step, long_word, dash_name, idle_handler}
 use Rattle.lint_notes.specs.declared.step_path.StepPath.{StepPath}
 use Rattle.lint_notes.specs.declared.end.LintEnd.{LintEnd}
@@ -37,6 +37,7 @@ details (zero_limit group members) = named_text (codes " group=") group ++ field
 details (empty_limit group) = named_text (codes " group=") group
 details (group_down group) = named_text (codes " group=") group
 details (near_key group name) = named_text (codes " group=") group ++ named_text (codes " name=") name
+details (near_host_key group host name) = named_text (codes " group=") group ++ (named_text (codes " host=") host ++ named_text (codes " name=") name)
 details (case_hosts host other) = named_text (codes " host=") host ++ named_text (codes " other=") other
 details (no_hosts play) = field_text (codes " play=") play
 details (down_hosts play hosts host) = field_text (codes " play=") play ++ (field_text (codes " hosts=") hosts ++ named_text (codes " host=") host)

@@ -17,13 +17,13 @@ fn advice(kind: Kind) -> &'static str
 {
     match kind {
         Kind::ZeroLimit =>
-            "write a max_down of 1 or more: as it is, a play that names a host of the group is blocked, or sets the host aside",
+            "write a max_down of 1 or more; of few hosts a percentage may be 0, since it is rounded down: as it is, a play that names a host of the group is blocked, or sets the host aside",
         Kind::EmptyLimit =>
             "list the group's hosts under it, or take its max_down out; look whether they stand in a group of another name",
         Kind::GroupDown =>
             "write \"down\": true at each host that is down: of a group it is a variable like any other, and takes no host down",
         Kind::NearKey =>
-            "write max_down where it is to limit the group, and down where a host is down",
+            "write max_down in the vars of the group that it is to limit, and \"down\": true at a host that is down: elsewhere either is a variable like any other",
         Kind::CaseHosts =>
             "write one machine by one name, as it answers to it: names that differ in capital letters are two hosts",
         Kind::NoHosts =>

@@ -7,6 +7,7 @@ ghost use Rattle.lint_notes.specs.Inside.{first_kept, kept_with};
 ghost use Rattle.lint_notes.specs.Notes.{noted, seen};
 
 use crate::groups::note_groups;
+use crate::host_keys::note_host_keys;
 use crate::note::Note;
 use crate::notes::Notes;
 use domains::Fleet;
@@ -76,7 +77,7 @@ fn note_hosts<'a>(alloc: Global, notes: &mut Notes<'a>, fleet: &'a Fleet) -> Res
     Ok(())
 }
 
-/// The notes on the groups of a tree and on the hosts of its fleet. It fails for want of memory alone.
+/// The notes on the groups of a tree, on its hosts' variables, and on the names of the hosts of its fleet. It fails for want of memory alone.
 pub(crate) fn list_fleet_notes<'a, A: Allocator>(
     alloc: Global,
     tree: &'a Tree<A>,
@@ -86,6 +87,7 @@ pub(crate) fn list_fleet_notes<'a, A: Allocator>(
 {
     let mut notes = Notes::new(alloc);
     note_groups(&mut notes, tree, fleet)?;
+    note_host_keys(alloc, &mut notes, tree)?;
     note_hosts(alloc, &mut notes, fleet)?;
     Ok(notes)
 }

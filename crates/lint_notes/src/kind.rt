@@ -11,7 +11,7 @@ pub enum Kind {
     EmptyLimit,
     /// A group has a variable `down`, which says of no host that it is down.
     GroupDown,
-    /// A group has a variable whose name is nearly that of a key with a meaning.
+    /// A group or a host has a variable whose name is nearly that of a key with a meaning, or a host has one that is a group's.
     NearKey,
     /// Two hosts have names that differ in case alone.
     CaseHosts,

@@ -13,6 +13,7 @@ mod crowd;
 mod end;
 mod given;
 mod groups;
+mod host_keys;
 mod kind;
 mod lack;
 mod lacks;

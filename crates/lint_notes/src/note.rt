@@ -22,6 +22,11 @@ pub(crate) enum Note<'a> {
         group: &'a str,
         name: &'a str,
     },
+    NearHostKey {
+        group: &'a str,
+        host: &'a str,
+        name: &'a str,
+    },
     CaseHosts {
         host: &'a str,
         other: &'a str,
@@ -94,6 +99,7 @@ impl Note<'_> {
             Note::EmptyLimit { .. } => Kind::EmptyLimit,
             Note::GroupDown { .. } => Kind::GroupDown,
             Note::NearKey { .. } => Kind::NearKey,
+            Note::NearHostKey { .. } => Kind::NearKey,
             Note::CaseHosts { .. } => Kind::CaseHosts,
             Note::NoHosts { .. } => Kind::NoHosts,
             Note::DownHosts { .. } => Kind::DownHosts,

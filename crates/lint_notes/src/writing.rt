@@ -93,6 +93,10 @@ fn write_details<W: Write>(text: &mut TextWriter<'_, W>, note: &Note<'_>)
         Note::EmptyLimit { group } => write_named(text, " group=", group),
         Note::GroupDown { group } => write_named(text, " group=", group),
         Note::NearKey { group, name } => write_pair(text, (" group=", group), (" name=", name)),
+        Note::NearHostKey { group, host, name } => {
+            write_named(text, " group=", group);
+            write_pair(text, (" host=", host), (" name=", name));
+        }
         Note::CaseHosts { host, other } => write_pair(text, (" host=", host), (" other=", other)),
         Note::NoHosts { play } => write_field(text, " play=", play as u64),
         Note::DownHosts { play, hosts, host } => {

@@ -6,6 +6,8 @@ pub returns-in-Ok-aim_if : goal.returns-in-Ok-aim_if
 returns-in-Ok-aim_if c = record {
   told = c.in-Ok.told;
   tells = c.in-Ok.ensures;
+  is_whole = c.is_silent-is_whole.result;
+  is_left_out = c.in-Ok-what_is_left_out.ensures;
   whole = rw c.as_slice.ensures.value at c.is_silent-is_whole.ensures;
   known = c.in-Ok-knows_hosts.known;
   knows = c.in-Ok-knows_hosts.ensures;

@@ -7,5 +7,5 @@ returns-in-Some c =
 
 pub returns : goal.returns
 returns c =
-    let noted = rw (c.among-hidden.ensures, c.as_str.ensures.value, c.in-Ok.ensures, c.kinds_hidden.ensures, c.as_slice-in-None.ensures.value) at c.notes_on_one.ensures in
+    let noted = rw (c.among-hidden.ensures, c.as_str.ensures.value, c.in-Ok.ensures, c.kinds_hidden.ensures, c.as_slice-in-None.ensures.value) at c.noted_alone.ensures in
     rw (c.in-None.is) noted
