@@ -95,7 +95,7 @@ whose='if .* fails'
 cp $forty/plan.txt "$work"
 asks $forty/fleet.json $forty/roll-here.json "$work/all" >"$work/asked" 2>&1 && pass || fail 'every host: something is lost'
 holds 'every host is asked for, once' test "$(grep -c '^if .* fails, ' "$work/asked")" -eq 38 -a "$(grep '^if .* fails, ' "$work/asked" | sort -u | wc -l)" -eq 38
-printf '[{"hosts": "eu-a", "tasks": [{"command": "true"}]}, {"hosts": "us", "serial": 1, "max_fail_percentage": 0, "tasks": [{"command": "true"}]}]' >"$work/plays.json"
+printf '[{"hosts": "eu-a", "tasks": [{"command": "true {{ inventory_hostname }}"}]}, {"hosts": "us", "serial": 1, "max_fail_percentage": 0, "tasks": [{"command": "true {{ inventory_hostname }}"}]}]' >"$work/plays.json"
 whose='LOST|if .* fails|not asked'
 printf '# two plays\n\nfailing=all\none_failure=4' >"$work/few"
 told 'two plays, and nothing but the failures' 0 'not asked: limits

@@ -257,9 +257,9 @@ listed() {
     echo 'rollout lint i>inv.json'
     echo 'rollout lint --allow a inv.json p>play.json'
     echo 'rollout lint inv.json play.json i>'
-    echo 'rollout lint --allow >zero-limit/empty-limit/group-down/near-key/case-hosts/no-hosts/down-hosts/idle-serial/one-failure/unknown-name/missing-name/constant-condition/shell-word/local-step/long-word/dash-name/idle-handler'
+    echo 'rollout lint --allow >repeated-key/zero-limit/empty-limit/loose-limit/empty-group/group-down/near-key/value-hole/case-hosts/group-host/no-hosts/down-hosts/unlimited-hosts/idle-serial/one-failure/local-play/unknown-name/missing-name/missing-result/unknown-group/idle-step/constant-condition/unlike-values/shell-word/blank-program/lost-quotes/local-step/fixed-target/long-word/dash-name/idle-notify/idle-handler'
     echo 'rollout lint inv.json --allow n>near-key/no-hosts'
-    echo 'rollout explain q>'
+    echo 'rollout explain qx>'
     echo 'rollout explain d>down-hosts/dash-name'
     echo 'rollout explain 82>822'
     echo 'rollout run -- ->'
@@ -384,7 +384,7 @@ ASK
         timeout 30 zsh -f -c 'zmodload zsh/zpty; zpty asked "zsh -d -i"; while zpty -r asked line; do :; done'
     ) </dev/null >/dev/null 2>&1
     # Behind the last file it offers options, which may stand there too.
-    grep -v '^rollout \(run inv.json play.json i\|limits inv.json p\|check inv.json play.json notes.txt i\|lint inv.json play.json i\|explain q\)>-' "$work/answers.zsh" >"$work/answers"
+    grep -v '^rollout \(run inv.json play.json i\|limits inv.json p\|check inv.json play.json notes.txt i\|lint inv.json play.json i\|explain qx\)>-' "$work/answers.zsh" >"$work/answers"
     offered zsh
 fi
 

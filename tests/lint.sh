@@ -23,8 +23,8 @@ said() {
     check "$1" "$((count > 0))" "${2:+$2$newline}notes=$((count))$newline" ''
 }
 
-# noted WHAT INVENTORY PLAYBOOK NOTES [WORD..]: the notes on the two texts.
-noted() {
+# all_noted WHAT INVENTORY PLAYBOOK NOTES [WORD..]: the notes on the two texts.
+all_noted() {
     what=$1
     texts "$2" "$3"
     notes=$4
@@ -33,10 +33,15 @@ noted() {
     said "$what" "$notes"
 }
 
+# noted: the same without what most of these short files have: plays that run here, groups that are empty or aren't there, and hosts without a limit.
+noted() {
+    all_noted "$@" --allow local-play,empty-group,unknown-group,unlimited-hosts
+}
+
 # noted_alone WHAT INVENTORY NOTES: the notes on the inventory alone.
 noted_alone() {
     texts "$2" ''
-    run lint "$inventory"
+    run lint "$inventory" --allow empty-group
     said "$1" "$3"
 }
 
@@ -108,7 +113,8 @@ idle-handler at=0/handlers/0'
 noted 'a field is one of the name before the dot; the first word has holes too' "$one" "[$(play '{"command":{"argv":["{{p}}","{{ q . stdout }}"]},"when":"not (s.rc == 0 and \"t\" != u.failed)"}')]" 'unknown-name at=0/tasks/0 name=s
 unknown-name at=0/tasks/0 name=u
 unknown-name at=0/tasks/0 name=p
-unknown-name at=0/tasks/0 name=q'
+unknown-name at=0/tasks/0 name=q
+unlike-values at=0/tasks/0 key=when'
 # Guards: a name is told where a step may come to look it up, and on whom.
 noted 'a name under `is defined` is asked for by nobody' "$three" "[$(play "$(task '"when":"y is defined"'),$(task '"when":"y is not defined"'),$(task '"when":"not (y is defined)"'),$(task '"when":["w is defined","not (x is not defined) or true"]')")]" ''
 noted 'what it guards is not looked up where there is none' "$three" "[$(play "$(task '"when":"x is defined and x == 0"'),$(task '"when":["x is defined","x == 0"]'),$(task '"when":"not (x is not defined or x == 1)"'),$(task '"when":"x is not defined or x == 1"')")]" ''
@@ -128,7 +134,8 @@ noted 'and so is what judges the end' "$three" "[$(play "$(task '"when":"x is de
 missing-name at=0/tasks/2 name=w hosts=1 of=3 host=a'
 noted 'behind what is known to decide nothing is looked up: truth values, values, groups, the name of the host' "$three" "[$(play "$(task '"when":"true or y"'),$(task '"when":"false and y"'),$(task '"when":["v == 2","y"]'),$(task '"when":"v == 1 or y"'),$(task '"when":"\"g\" in group_names and y"'),$(task '"when":"inventory_hostname != \"b\" or y"'),$(task '"when":"\"1\" == 1 or v and y"')")]" 'missing-name at=0/tasks/4 name=y hosts=1 of=3 host=c
 missing-name at=0/tasks/5 name=y hosts=1 of=3 host=b
-unknown-name at=0/tasks/6 name=y'
+unknown-name at=0/tasks/6 name=y
+unlike-values at=0/tasks/6 key=when'
 noted 'a value that only some have decides for these alone' "$three" "[$(play "$(task '"when":"w == \"\" or y"'),$(task '"when":"w is defined and (w or y)"'),$(task '"when":"w is defined and (w == false or y)"')")]" 'missing-name at=0/tasks/0 name=w hosts=1 of=3 host=a
 missing-name at=0/tasks/0 name=y hosts=2 of=3 host=a
 missing-name at=0/tasks/1 name=y hosts=2 of=3 host=b
@@ -142,7 +149,7 @@ noted 'a guard asks for the step'"'"'s own result where that is there' "$one" "[
 noted 'where a name is looked up several times, once is enough' "$three" "[$(play '{"command":"echo {{ x }}","when":"x is defined or true"},{"command":"echo {{ x }}","when":"x is defined","failed_when":"x"},{"command":"true","when":"(x is defined and x) or x == 1"}')]" 'missing-name at=0/tasks/0 name=x hosts=2 of=3 host=a
 missing-name at=0/tasks/2 name=x hosts=2 of=3 host=a'
 noted 'texts, groups, numbers, truth values and the name of the host are no names' "$one" "[$(play '{"command":"echo {{ inventory_hostname }}","when":["\"u\" in group_names","inventory_hostname == \"u\"","inventory_hostname is defined","1 == 1 or True"]}')]" ''
-noted 'braces that close nothing, and what a variable holds, have no names' '{"all":{"vars":{"v":"{{ u }}"},"hosts":{"a":null}}}' "[$(play '{"command":"echo {{ v }} }} u {u}"}')]" ''
+noted 'braces that close nothing, and what a variable holds, have no names' '{"all":{"vars":{"v":"{{ u }}"},"hosts":{"a":null}}}' "[$(play '{"command":"echo {{ v }} }} u {u}"}')]" 'value-hole group=all name=v'
 
 # Registers.
 noted 'what an earlier step registers is there for those behind it, and not before' "$one" "[$(play "$(task '"when":"r"'),$(task '"register":"r"'),$(task '"when":"r is changed"')")]" 'unknown-name at=0/tasks/0 name=r'
@@ -153,10 +160,83 @@ noted 'a step that registers registers also where it may be skipped' "$three" "[
 noted 'a name is asked of variables where a step registers it later' "$three" "[$(play "$(task '"when":"w"'),$(task '"register":"w"'),$(task '"when":"w"')")]" 'missing-name at=0/tasks/0 name=w hosts=1 of=3 host=a'
 noted 'handlers have what all tasks register, and the handlers before them' "$one" "[$(play "$(task '"notify":["G","H"],"when":"s"'),$(task '"register":"r"')" "$(task '"name":"G","when":["r","s","t"],"register":"s"'),$(task '"name":"H","when":"s","register":"t"')")]" 'unknown-name at=0/tasks/0 name=s
 unknown-name at=0/handlers/0 name=s
-unknown-name at=0/handlers/0 name=t'
-noted 'results of tasks and handlers of all earlier plays are there, and none of later ones' "$one" "[$(play "$(task '"register":"r","notify":"H","when":"q"')" "$(task '"name":"H","register":"s"')"),$(play "$(task '"when":"r and s and q"')"),$(play "$(task '"when":"r and s","register":"q"')")]" 'unknown-name at=0/tasks/0 name=q
-unknown-name at=1/tasks/0 name=q'
-noted 'an earlier play may be for other hosts' "$three" "[$(play "$(task '"register":"r"')" '' a),$(play "$(task '"when":"r.rc == 0"')" '' b)]" ''
+unknown-name at=0/handlers/0 name=t
+missing-result at=0/handlers/1 name=s hosts=1 of=1 host=a'
+noted 'names of tasks and handlers of all earlier plays are no unknown ones, and none of later ones are; a handler may not have run' "$one" "[$(play "$(task '"register":"r","notify":"H","when":"q"')" "$(task '"name":"H","register":"s"')"),$(play "$(task '"when":"r and s and q"')"),$(play "$(task '"when":"r and s","register":"q"')")]" 'unknown-name at=0/tasks/0 name=q
+unknown-name at=1/tasks/0 name=q
+missing-result at=1/tasks/0 name=s hosts=1 of=1 host=a
+missing-result at=2/tasks/0 name=s hosts=1 of=1 host=a'
+noted 'an earlier play may be for other hosts' "$three" "[$(play "$(task '"register":"r"')" '' a),$(play "$(task '"when":"r.rc == 0"')" '' b)]" 'missing-result at=1/tasks/0 name=r hosts=1 of=1 host=b'
+
+# The name that was probably meant.
+near_tasks="[$(play '{"command":"echo {{ version }}"}')]"
+# near WHAT INVENTORY [NAME]: of the name `version`, which no host has, this one is near; none where none is given.
+near() {
+    noted "$1" "$2" "$near_tasks" "unknown-name at=0/tasks/0 name=version${3:+ near=$3}"
+}
+near 'a variable of a group' '{"g":{"vars":{"verison":1},"hosts":{"a":null}}}' verison
+near 'or of a host' '{"g":{"hosts":{"a":null,"b":{"verison":1}}}}' verison
+near 'also of a group of other hosts, or without any' '{"g":{"vars":{"verison":1}},"h":{"hosts":{"a":null}}}' verison
+near 'a value that is no variable is none' '{"g":{"vars":{"verison":null},"hosts":{"a":{"versions":[1]}}}}'
+near 'capitals go before an edit' '{"g":{"vars":{"versio":1},"hosts":{"a":null}},"h":{"vars":{"VERSION":1}}}' VERSION
+near 'and one edit before two' '{"g":{"vars":{"vercion1":1},"hosts":{"a":null}},"h":{"vars":{"versio":1}}}' versio
+near 'of two that are as near the first, of a group by name' '{"g":{"vars":{"versiox":1,"versioa":1},"hosts":{"a":null}}}' versioa
+near 'groups in preorder' '{"h":{"vars":{"versioa":1},"hosts":{"a":null}},"g":{"vars":{"versiox":1}}}' versiox
+near 'the variables of a group before those of its hosts' '{"all":{"vars":{"versiox":1},"hosts":{"a":{"versioa":1}}}}' versiox
+near 'and these before those of the groups below it' '{"all":{"hosts":{"a":{"versiox":1}},"children":{"g":{"vars":{"versioa":1}}}}}' versiox
+near 'host by host' '{"g":{"hosts":{"b":{"versioa":1},"a":{"versiox":1}}}}' versiox
+near 'its bytes, as those of all names' '{"g":{"vars":{"versi\u00f6n":1},"hosts":{"a":null}}}' 'versi??n'
+near 'three edits are too many' '{"g":{"vars":{"vercian1":1},"hosts":{"a":null}}}'
+noted 'two of six letters are not, nor is one of three; two of five are, and one of two' '{"g":{"vars":{"abxyef":1,"klxyo":1,"rsx":1,"tx":1},"hosts":{"a":null}}}' "[$(play '{"command":"echo {{ abcdef }} {{ klmno }} {{ rst }} {{ tu }}"}')]" 'unknown-name at=0/tasks/0 name=abcdef near=abxyef
+unknown-name at=0/tasks/0 name=klmno
+unknown-name at=0/tasks/0 name=rst near=rsx
+unknown-name at=0/tasks/0 name=tu'
+noted 'what a step registers, before it or behind; tasks first' '{"g":{"hosts":{"a":null}}}' "[$(play '{"command":"echo {{ version }}","notify":"H"},{"command":"true","register":"versionx"},{"command":"echo {{ version }}"}' '{"name":"H","command":"true","register":"versiona"}')]" 'unknown-name at=0/tasks/0 name=version near=versionx
+unknown-name at=0/tasks/2 name=version near=versionx'
+noted 'play by play, and behind all variables' '{"g":{"hosts":{"a":{"released":1}}}}' "[$(play '{"command":"echo {{ version }} {{ release }}"}'),$(play '{"command":"true","register":"versionx"},{"command":"true","register":"releases"}'),$(play '{"command":"true","register":"versiona"}')]" 'unknown-name at=0/tasks/0 name=version near=versionx
+unknown-name at=0/tasks/0 name=release near=released'
+noted 'the same name, which other hosts have' '{"g":{"hosts":{"a":null,"b":{"version":1}}}}' "[$(play '{"command":"echo {{ version }}"}' '' a)]" 'unknown-name at=0/tasks/0 name=version'
+noted 'a name that only some lack has none' '{"g":{"hosts":{"a":null,"b":{"version":1,"versions":1}}}}' "[$(play '{"command":"echo {{ version }}"}')]" 'missing-name at=0/tasks/0 name=version hosts=1 of=2 host=a'
+refused 'beside faults too' '{"g":{"vars":{"verison":1},"hosts":{"a":{"down":1}}}}' "$near_tasks" 'rollout: 205 BadDown at=g/hosts/a/down' 'unknown-name at=0/tasks/0 name=version near=verison'
+for count in 998 999; do
+    python3 -c 'import json, sys; print(json.dumps({"g": {"vars": {**{f"a{place:04}": 1 for place in range(int(sys.argv[1]))}, "verison": 1}, "hosts": {"a": None}}}))' "$count" >"$work/near.json"
+    [ "$count" -eq 998 ] && found=verison || found=
+    near "behind $count others" "$(cat "$work/near.json")" "$found"
+done
+python3 -c 'import json; print(json.dumps({"g": {"vars": {f"a{place:04}": 1 for place in range(996)}, "hosts": {"a": None}}}))' >"$work/near.json"
+result='{"command":"true","register":"r"}'
+noted 'results count each time they are registered' "$(cat "$work/near.json")" "[$(play "{\"command\":\"echo {{ version }}\"},$result,$result,{\"command\":\"true\",\"register\":\"verison\"}")]" 'unknown-name at=0/tasks/0 name=version near=verison'
+noted 'up to a thousand with the variables' "$(cat "$work/near.json")" "[$(play "{\"command\":\"echo {{ version }}\"},$result,$result,$result,{\"command\":\"true\",\"register\":\"verison\"}")]" 'unknown-name at=0/tasks/0 name=version'
+
+# Results that may not be there.
+pair='{"all":{"vars":{"v":1},"hosts":{"a":null,"b":null,"c":null}}}'
+noted 'of a play for other hosts' "$pair" "[$(play "$(task '"register":"r"')" '' b),$(play '{"command":"echo {{ r.stdout }}"}'),$(play "$(task '"when":"r.rc == 0"')" '' b)]" 'missing-result at=1/tasks/0 name=r hosts=2 of=3 host=a'
+noted 'of several plays for some hosts each' "$pair" "[$(play "$(task '"register":"r"')" '' b),$(play "$(task '"register":"r"')" '' a),$(play '{"command":"echo {{ r.stdout }}"}')]" 'missing-result at=2/tasks/0 name=r hosts=1 of=3 host=c'
+noted 'only hosts that wait count' '{"all":{"hosts":{"a":{"down":true},"b":null,"c":null}}}' "[$(play "$(task '"register":"r"')" '' b),$(play '{"command":"echo {{ r.rc }}"}'),$(play '{"command":"echo {{ r.rc }}"}' '' a)]" 'down-hosts play=2 hosts=1 host=a
+missing-result at=1/tasks/0 name=r hosts=1 of=2 host=c
+no-hosts play=3'
+noted 'a task of the same play, also where it may be skipped, is enough for a field; a word without one is told all the same' "$pair" "[$(play '{"command":"true","register":"r","when":"v == 1"},{"command":"echo {{ r.rc }}","when":"r"},{"command":"echo {{ r }}"}')]" 'missing-result at=0/tasks/2 name=r hosts=3 of=3 host=a'
+noted 'a handler may not have run, neither for one behind it nor for a later play' "$pair" "[$(play '{"command":"true","notify":["H","I"]}' "$(task '"name":"H","register":"h"'),{\"name\":\"I\",\"command\":\"echo {{ h.rc }}\"}"),$(play "$(task '"when":"h is changed"')" '' c)]" 'missing-result at=0/handlers/1 name=h hosts=3 of=3 host=a
+missing-result at=1/tasks/0 name=h hosts=1 of=1 host=c'
+noted 'a task that registers the same is enough' "$pair" "[$(play "$(task '"notify":"H","register":"h"')" "$(task '"name":"H","register":"h"')"),$(play "$(task '"when":"h is changed"')")]" ''
+noted 'its own result a handler has where it is judged' "$pair" "[$(play "$(task '"notify":"H"')" "$(task '"name":"H","register":"h","changed_when":"h.rc == 0","failed_when":"h"')")]" ''
+noted 'who asks first is not told' "$pair" "[$(play "$(task '"register":"r"')" '' b),$(play "$(task '"when":"r is defined and r.rc == 0"'),$(task '"when":["r is defined","r is changed"]'),{\"command\":\"echo {{ r.rc }}\",\"when\":\"r.stdout is defined\"},$(task '"when":"r is not defined and r.rc == 0"'),{\"command\":\"echo {{ r }}\",\"when\":\"r is defined\"}")]" 'missing-result at=1/tasks/4 name=r hosts=1 of=3 host=b'
+noted 'nor who asks for that of a handler' "$pair" "[$(play "$(task '"notify":"H"')" "$(task '"name":"H","register":"h"')"),$(play "$(task '"when":"h is defined and h.rc == 0"'),{\"command\":\"echo {{ h.stdout }}\",\"when\":[\"h.stdout is defined\"]},$(task '"changed_when":"h is defined and h.rc == 0"')")]" 'missing-result at=1/tasks/2 name=h hosts=3 of=3 host=a'
+noted 'nor is one that a host is known not to look up' "$pair" "[$(play "$(task '"register":"r"')" '' b),$(play '{"command":"echo {{ r.rc }}","when":"inventory_hostname == \"b\""},{"command":"echo {{ r.rc }}","when":"inventory_hostname != \"a\""}')]" 'missing-result at=1/tasks/1 name=r hosts=1 of=3 host=c'
+noted 'a variable of that name is there in its place, but perhaps not in a word' "$pair" "[$(play "$(task '"notify":"H"')" "$(task '"name":"H","register":"v"')"),$(play "$(task '"when":"v == 1"'),{\"command\":\"echo {{ v }}\"},$(task '"when":"v.rc == 1"')")]" 'missing-result at=1/tasks/1 name=v hosts=3 of=3 host=a
+missing-result at=1/tasks/2 name=v hosts=3 of=3 host=a'
+noted 'each once, as they are read: when, words, changed_when, failed_when' "$pair" "[$(play "$(task '"register":"p"'),$(task '"register":"q"'),$(task '"register":"s"'),$(task '"register":"t"')" '' b),$(play '{"failed_when":"s.rc == 0 or p.rc == 0","changed_when":"t.rc == 0","command":"echo {{ q.rc }} {{ p.rc }}","when":"p.rc == 0"}')]" 'missing-result at=1/tasks/0 name=p hosts=2 of=3 host=a
+missing-result at=1/tasks/0 name=q hosts=2 of=3 host=a
+missing-result at=1/tasks/0 name=t hosts=2 of=3 host=a
+missing-result at=1/tasks/0 name=s hosts=2 of=3 host=a'
+noted 'behind all other names, and before who runs it' "$pair" "[$(play "$(task '"register":"r"')" '' b),$(play "$(task '"when":["r.rc == 0","u == 5","v == 2"]')")]" 'unknown-name at=1/tasks/0 name=u
+missing-result at=1/tasks/0 name=r hosts=2 of=3 host=a
+idle-step at=1/tasks/0'
+missing_plays="$(play "$(task '"register":"r"')" '' b),$(play '{"command":"echo {{ r.rc }}"}')"
+refused 'beside another fault of the playbook it is told' "$pair" "[$missing_plays,$(play '{"command":"true","x":1}')]" 'rollout: 703 UnknownKey at=2/tasks/0/x' 'missing-result at=1/tasks/0 name=r hosts=2 of=3 host=a'
+refused 'but not beside a condition that is none' "$pair" "[$missing_plays,$(play "$(task '"when":"x >"')")]" 'rollout: 501 BadToken play=3 step=1 key=when at=2' ''
+refused 'nor beside a fault of the inventory' '{"all":{"hosts":{"a":null,"b":null},"x":1}}' "[$missing_plays]" 'rollout: 203 UnknownKey at=all/x' ''
+refused 'nor where a name of a play names nothing' "$pair" "[$missing_plays,$(play '{"command":"true"}' '' b:nobody)]" 'rollout: 304 NoSuchName name=nobody' ''
 
 # Hosts.
 some='{"all":{"hosts":{"a":{"down":true},"b":{"w":1},"c":{"down":true,"w":1}},"children":{"up":{"hosts":{"d":null}},"off":{"hosts":{"a":null,"e":{"down":true}}},"none":null}}}'
@@ -181,7 +261,7 @@ noted 'the first of a step alone' "$one" "[$(play '{"command":{"cmd":"ps | grep 
 shell-word at=0/tasks/1 word=;
 shell-word at=0/handlers/0 word=&
 idle-handler at=0/handlers/0'
-noted 'whole words alone' "$one" "[$(play '{"command":"echo a;b; 2> >/dev/null <in >| 1>&2 |& $HOME *.rpm `id` x|y &&& >>> ;;"}')]" ''
+noted 'whole words alone' "$one" "[$(play '{"command":"echo a;b; 2> >/dev/null <in >| 1>&2 |& *.rpm `id` x|y &&& >>> ;;"}')]" ''
 noted 'what a hole may say is no word yet' '{"all":{"vars":{"v":"|"},"hosts":{"a":null}}}' "[$(play '{"command":"echo {{ v }}"}')]" ''
 noted 'words of a shell that is called are in one word' "$one" "[$(play '{"command":{"argv":["sh","-c","ps | grep x; true"]}}')]" ''
 noted 'and a number is none' "$one" "[$(play '{"command":{"argv":["echo",2]}}')]" ''
@@ -194,7 +274,8 @@ noted 'tasks of other plays do not' "$one" "[$(play "$(task '"notify":"A"')" "$(
 
 # Groups.
 limits='{"all":{"vars":{"max_down":9},"children":{"z":{"vars":{"max_down":0},"hosts":{"a":null},"children":{"y":{"hosts":{"a":null,"b":null}}}},"x":{"vars":{"max_down":"33%"},"hosts":{"c":null,"d":null,"e":null}},"w":{"vars":{"max_down":"49%"},"hosts":{"f":null,"g":null}},"u":{"vars":{"max_down":0}},"t":{"vars":{"max_down":5},"children":{"s":{"vars":{"max_down":"100%"}}}},"r":{"vars":{"max_down":1},"hosts":{"h":null}}}}}'
-limit_notes='empty-limit group=t
+limit_notes='loose-limit group=all limit=9 members=8
+empty-limit group=t
 empty-limit group=s
 empty-limit group=u
 zero-limit group=w members=2
@@ -210,6 +291,22 @@ noted_alone 'all hosts' '{"all":{"vars":{"max_down":"0%"},"hosts":{"a":null}}}' 
 noted_alone 'hosts of an inventory alone are not told' "$some" ''
 noted_alone 'nor is a limit that is none, at a group or a host' '{"g":{"vars":{"most_down":0},"hosts":{"a":{"max_down":0}}}}' 'near-key group=g host=a name=max_down'
 
+# Limits above the number of hosts.
+noted_alone 'a limit above the number of its hosts' '{"g":{"vars":{"max_down":2},"hosts":{"a":null}}}' 'loose-limit group=g limit=2 members=1'
+noted_alone 'one of just so many, or a percentage' '{"g":{"vars":{"max_down":2},"hosts":{"a":null,"b":null}},"h":{"vars":{"max_down":"100%"},"hosts":{"c":null}}}' ''
+noted_alone 'hosts of groups below count, each once, and those that are down' '{"all":{"vars":{"max_down":65535},"hosts":{"a":{"down":true}},"children":{"g":{"vars":{"max_down":3},"hosts":{"a":null,"b":null}},"h":{"vars":{"max_down":1}}}}}' 'loose-limit group=all limit=65535 members=2
+loose-limit group=g limit=3 members=2
+empty-limit group=h'
+noted_alone 'in the place of the limit, before the variables' '{"g":{"vars":{"max_down":2,"Max_Down":1,"down":1},"hosts":{"a":null,"A":null,"b":null}},"f":{"vars":{"max_down":9,"down":0,"Down":0},"hosts":{"c":null}}}' 'loose-limit group=f limit=9 members=1
+near-key group=f name=Down
+group-down group=f
+near-key group=g name=Max_Down
+group-down group=g
+case-hosts host=A other=a'
+refused_alone 'beside a fault of the inventory there may be more hosts' '{"g":{"vars":{"max_down":2},"hosts":{"a":{"down":1}}}}' 'rollout: 205 BadDown at=g/hosts/a/down' ''
+refused 'beside one of the playbook not' '{"g":{"vars":{"max_down":2},"hosts":{"a":null}}}' "[$(play '{"command":"true","x":1}')]" 'rollout: 703 UnknownKey at=0/tasks/0/x' 'loose-limit group=g limit=2 members=1'
+refused 'but where a name of a play names nothing it is none of those' '{"g":{"vars":{"max_down":2},"hosts":{"a":null}}}' "[$(play '{"command":"true"}' '' g:nobody)]" 'rollout: 304 NoSuchName name=nobody' ''
+
 # Variables of groups, and names of hosts.
 
 for name in MAX_DOWN Max_Down maxdown max-down max.down 'max down' MAXDOWN ma__xdo-wn _max_down_ max_dwn max_dow ax_down max_downs mmax_down xmax_down max_doan max_doun mux_down amx_down max_donw maxd_own \
@@ -219,7 +316,19 @@ done
 for name in town dawn own downs dwon donw down_at max_up min_down max_dow_s max_d max_downed xmax_downx amx_donw maxdowns max_dwonn max count; do
     noted_alone "a variable $name" "{\"g\":{\"vars\":{\"$name\":1},\"hosts\":{\"a\":null}}}" ''
 done
+# Of a variable that is true or false more names are near.
+for name in dwon donw odwn downs xdown down1 own dwn don dow dovn town is_down IS-DOWN isdown 'i.s do_wn'; do
+    noted_alone "a variable $name that is true" "{\"g\":{\"vars\":{\"$name\":true},\"hosts\":{\"a\":null}}}" "near-key group=g name=$name"
+    noted_alone "a variable $name that is false, of a host" "{\"g\":{\"hosts\":{\"a\":{\"$name\":false}}}}" "near-key group=g host=a name=$name"
+    noted_alone "and one of another value" "{\"g\":{\"vars\":{\"$name\":\"true\"},\"hosts\":{\"a\":{\"$name\":0}}}}" ''
+done
+for name in dwno was_down is_dwon downed DWON Own dw up nodwon is_up; do
+    noted_alone "a variable $name that is true" "{\"g\":{\"vars\":{\"$name\":true},\"hosts\":{\"a\":{\"$name\":false}}}}" ''
+done
 noted_alone 'by the bytes of its name' '{"g":{"vars":{"\u006dax_dow\u006e ":1,"max_d\u00f6wn":1,"max_dow\u00e9":1},"hosts":{"a":null}}}' 'near-key group=g name=max_down '
+noted_alone 'which are shown as question marks where they are none that is printed' '{"g":{"vars":{"max\tdown":1,"max_dow\u007f":1},"hosts":{"a":{"\nDown":1}}}}' 'near-key group=g name=max?down
+near-key group=g name=max_dow?
+near-key group=g host=a name=?Down'
 noted_alone 'a variable `down` of a group, whatever it says' '{"all":{"vars":{"down":true},"children":{"g":{"vars":{"down":0},"hosts":{"a":{"down":true}}},"f":{"vars":{"down":""}}}}}' 'group-down group=all
 group-down group=f
 group-down group=g'
@@ -268,7 +377,8 @@ failing 'one of seven is more than 14 of a hundred' '"max_fail_percentage":14' '
 failing 'and no more than 15' '"max_fail_percentage":15' ''
 failing 'the smallest of two batches counts' '"max_fail_percentage":30,"serial":4' 'one-failure play=1 percent=30 size=3'
 failing 'a third of its three hosts is borne' '"max_fail_percentage":34,"serial":4' ''
-failing 'batches of one and two: of one host any failure is all' '"max_fail_percentage":49,"serial":2' ''
+failing 'batches of one and two: of one host any failure is all, and the other counts' '"max_fail_percentage":49,"serial":2' 'one-failure play=1 percent=49 size=2'
+failing 'and where all are of one host there is none' '"max_fail_percentage":49,"serial":1' ''
 failing 'a percentage of 0 bears none' '"max_fail_percentage":0' ''
 failing 'percentages of 50 and more bear one of two' '"max_fail_percentage":50,"serial":3' ''
 failing 'four batches of two hosts at most' '"max_fail_percentage":1,"serial":[3,1]' 'one-failure play=1 percent=1 size=2'
@@ -289,9 +399,13 @@ constant() {
 for when in true false '"true"' '"1 == 1"' "\"'v' == 'v'\"" '"not (true and (false or 0))"' "\"'a'\"" '[true,"1"]' '"-7"' "\"'inventory_hostname' == 'a'\"" "\"'group_names' != ''\""; do
     constant "$when"
 done
-for when in '[]' null "\"'g' in group_names\"" "\"'all' not in group_names\"" '"inventory_hostname"' "\"inventory_hostname == 'a'\"" "\"1 == inventory_hostname\"" '"true or inventory_hostname is defined"' "[true,\"false and 'g' in group_names\"]" '"not (1 == 1 and not inventory_hostname)"'; do
+for when in '[]' null "\"'g' not in group_names\"" "\"'all' not in group_names\"" '"inventory_hostname"' "\"inventory_hostname == 'a'\"" '"true or inventory_hostname is defined"' "[true,\"true or 'g' in group_names\"]" '"not (1 == 1 and not inventory_hostname)"'; do
     noted "the condition $when" "$one" "[$(play "$(task "\"when\":$when")")]" ''
 done
+noted 'nor are those that nobody meets' "$one" "[$(play "$(task "\"when\":\"'g' in group_names\""),$(task '"when":"1 == inventory_hostname"'),$(task "\"when\":[true,\"false and 'g' in group_names\"]")")]" 'idle-step at=0/tasks/0
+idle-step at=0/tasks/1
+unlike-values at=0/tasks/1 key=when
+idle-step at=0/tasks/2'
 noted 'what only mentions a name asks' "$three" "[$(play "$(task '"when":"true or v"'),$(task '"when":"v is not defined"'),$(task '"register":"r","when":"v.rc == 1"'),$(task '"when":"r is failed"')")]" ''
 noted 'changed_when and failed_when may ask nothing' "$one" "[$(play '{"command":"true","changed_when":false,"failed_when":["1 == 2",true]}')]" ''
 noted 'before the word of a shell, behind the names' "$one" "[$(play '{"command":"echo {{ u }} ;","when":true}' '{"name":"H","command":"true","when":"0"}')]" 'unknown-name at=0/tasks/0 name=u
@@ -303,13 +417,18 @@ idle-handler at=0/handlers/0'
 # Programs here and elsewhere.
 noted 'a program here where others go elsewhere' "$one" "[$(play '{"command":"systemctl stop x"},{"command":"ssh {{ inventory_hostname }} true"},{"command":"sleep 9"}' '{"name":"H","command":{"argv":["./ssh x",""]}}')]" 'local-step at=0/tasks/0 word=systemctl
 local-step at=0/tasks/2 word=sleep
+blank-program at=0/handlers/0 word=./ssh x
 local-step at=0/handlers/0 word=./ssh x
 idle-handler at=0/handlers/0'
 noted 'where none goes elsewhere' "$one" "[$(play '{"command":"systemctl stop x"},{"command":"rsync ssh"},{"command":"ssh/x y"},{"command":"sssh y"},{"command":"SSH y"},{"command":"{{ inventory_hostname }}ssh"}'),$(play '{"command":"ssh x"}')]" ''
 noted 'a path, also behind a hole, and a handler' "$one" "[$(play '{"command":"uptime"},{"command":"/usr/bin/ssh x"}'),$(play '{"command":"uptime"},{"command":"{{ inventory_hostname }}/ssh x"}'),$(play '{"command":"uptime","notify":"H"}' '{"name":"H","command":"/ssh x"}')]" 'local-step at=0/tasks/0 word=uptime
 local-step at=1/tasks/0 word=uptime
 local-step at=2/tasks/0 word=uptime'
-noted 'a word with a hole is for a host' "$three" "[$(play '{"command":"ssh x"},{"command":"curl http://{{ inventory_hostname }}/"},{"command":"{{ v }} x"},{"command":"echo }} { {x"},{"command":{"argv":["echo","{{v}}","{{ v }} "]}}')]" 'local-step at=0/tasks/3 word=echo'
+noted 'a word with a hole is for a host' "$three" "[$(play '{"command":"ssh x"},{"command":"curl http://{{ inventory_hostname }}/"},{"command":"{{ v }} x"},{"command":"echo }} { {x"},{"command":{"argv":["echo","{{v}}","{{ v }} "]}}')]" 'fixed-target at=0/tasks/0 hosts=3
+local-step at=0/tasks/3 word=echo'
+noted 'its bytes, as those of all names' "$one" "[$(play '{"command":"caf\u00e9 x"},{"command":{"argv":["a\u001b\t\u007f b~"]}},{"command":"ssh {{ inventory_hostname }}"}')]" 'local-step at=0/tasks/0 word=caf??
+blank-program at=0/tasks/1 word=a??? b~
+local-step at=0/tasks/1 word=a??? b~'
 
 # Words that are too long: they are made by Python.
 long() {
@@ -320,6 +439,8 @@ noted 'one byte more' "$one" "$(long '"echo"' '"x" * 65537')" 'long-word at=0/ta
 noted 'the program too; bytes count, and the first such word' "$one" "$(long '"\u00e9" * 40000' '"x" * 70000')" 'long-word at=0/tasks/0 bytes=80000'
 noted 'a hole may be of no length' "$three" "$(long '"echo"' '"x" * 70000 + "{{ v }}"')" ''
 noted 'behind one with a hole' "$three" "$(long '"echo"' '"{{ v }}" * 9000' '"}}" * 40000')" 'long-word at=0/tasks/0 bytes=80000'
+noted 'behind a target that is the same for all' "$three" "$(long '"ssh"' '"x" * 65537')" 'fixed-target at=0/tasks/0 hosts=3
+long-word at=0/tasks/0 bytes=65537'
 
 # Hosts whose names begin with a dash.
 dashed='{"all":{"hosts":{"a":null,"-b":null,"-c":null,"--":{"down":true},"_":null}}}'
@@ -340,18 +461,226 @@ dash 'a program by that name ends none' '"--","{{ inventory_hostname }}"' 'dash-
 noted 'only hosts that wait for the play' "$dashed" "[$(play '{"command":"ping {{ inventory_hostname }}"}' '' a,_),$(play '{"command":"ping {{ inventory_hostname }}"}' '' -c)]" 'dash-name at=1/tasks/0 host=-c'
 noted 'another hole' '{"all":{"hosts":{"-a":{"v":1,"inventory_hostname_":1,"inventory":1}}}}' "[$(play '{"command":"ping {{ v }} {{ inventory_hostname_ }} {{ inventory }} {{ v }}{{ inventory_hostname }}"}')]" ''
 
+# Keys that stand more than once.
+noted_alone 'a key that stands twice' '{"g":{"hosts":{"a":null}},"g":{"hosts":{"b":null}}}' 'repeated-key inventory=g'
+noted_alone 'one that stands three times, once; an object'"'"'s own in the order in which they first stand, then those within its members, the lost ones too' '{"g":{"hosts":{"a":{"v":1,"v":2},"b":null,"a":null}},"f":null,"g":{"vars":{"w":1,"w":2}},"f":null,"g":null}' 'repeated-key inventory=g
+repeated-key inventory=f
+repeated-key inventory=g/hosts/a
+repeated-key inventory=g/hosts/a/v
+repeated-key inventory=g/vars/w'
+noted_alone 'a key is what its letters say, escaped or not; capitals are others' '{"g":{"hosts":{"a":null,"\u0061":null,"A":null}}}' 'repeated-key inventory=g/hosts/a
+case-hosts host=A other=a'
+noted_alone 'places in lists count from 0' '{"g":{"hosts":{"a":{"v":[1,[{"x":1,"x":2}],{"y":[],"y":{}}]}}}}' 'repeated-key inventory=g/hosts/a/v/1/0/x
+repeated-key inventory=g/hosts/a/v/2/y'
+noted_alone 'as its bytes are shown, and an empty one' '{"all":{"vars":{"caf\u00e9":1,"café":2,"\t":1,"\u0009":1,"":1,"":2,"a/b":1,"a/b":2,"a~":1,"a\u007f":1,"a\u007f":1}}}' 'repeated-key inventory=all/vars/caf??
+repeated-key inventory=all/vars/?
+repeated-key inventory=all/vars/
+repeated-key inventory=all/vars/a/b
+repeated-key inventory=all/vars/a?'
+noted_alone 'the same key in two objects' '{"g":{"hosts":{"a":{"v":1}}},"f":{"hosts":{"a":{"v":1}},"children":{"e":{"hosts":{"a":{"v":1}}}}}}' ''
+noted 'of both files, the inventory first, and all before the groups' '{"g":{"vars":{"max_down":0,"max_down":0},"hosts":{"a":null}}}' '[{"hosts":"none","hosts":"g","tasks":[{"command":"true"},{"when":"x","command":"true","when":true}]}]' 'repeated-key inventory=g/vars/max_down
+repeated-key playbook=0/hosts
+repeated-key playbook=0/tasks/1/when
+zero-limit group=g members=1
+constant-condition at=0/tasks/1'
+noted 'also below what has no meaning, and in a lost value' "$one" '[{"hosts":"all","name":{"n":[{},{"m":1,"m":2}]},"tasks":[{"shell":{"x":1,"x":2}}],"tasks":[{"command":"true"}]}]' 'repeated-key playbook=0/tasks
+repeated-key playbook=0/name/n/1/m
+repeated-key playbook=0/tasks/0/shell/x'
+refused 'beside faults, of the files as they were given' '{"g":{"hosts":{"a":null},"x":{"y":1,"y":2}},"g":{"x":1}}' '[{"hosts":"all","roles":[{"r":1,"r":2}],"tasks":[{"command":"true","command":"echo ;"}]}]' "rollout: 203 UnknownKey at=g/x${newline}rollout: 703 UnknownKey at=0/roles" 'repeated-key inventory=g
+repeated-key inventory=g/x/y
+repeated-key playbook=0/roles/0/r
+repeated-key playbook=0/tasks/0/command
+shell-word at=0/tasks/0 word=;'
+refused 'where no plays can be read too' "$one" '{"a":1,"a":[{"b":1,"b":2}]}' 'rollout: 702 BadShape at=' "repeated-key playbook=a${newline}repeated-key playbook=a/0/b"
+refused 'none of a playbook that is no JSON' '{"all":{"hosts":{"a":null},"hosts":{"a":null}}}' '[{"hosts":"all","hosts":"all"}' 'rollout: 701 NotJson' 'repeated-key inventory=all/hosts'
+refused 'none where nothing is kept' '{"g":null,"g":null' '[{"hosts":"all","hosts":"all","tasks":[{"command":"true"}]}]' 'rollout: 201 NotJson'
+refused_alone 'of an inventory alone, beside its faults' '{"g":{"down":1,"down":2},"h":{"hosts":{"a":null,"A":null}}}' 'rollout: 203 UnknownKey at=g/down' "repeated-key inventory=g/down${newline}case-hosts host=A other=a"
+texts '{"g":{"x":1,"x":2}}' "[$(play '{"command":"true","x":1,"x":2}')]"
+run lint "$inventory" "$playbook" --allow repeated-key
+told 'nor where they are switched off' "rollout: 203 UnknownKey at=g/x${newline}rollout: 703 UnknownKey at=0/tasks/0/x" ''
+
+# Plays that run here for several hosts.
+two='{"all":{"vars":{"v":1},"hosts":{"a":null,"b":null}}}'
+all_noted 'a play that says nothing of its hosts' "$two" "[$(play '{"command":"true"}')]" 'local-play play=1 hosts=2'
+all_noted 'each play by itself, with its handlers; one host alone has nothing to say' "$two" "[$(play '{"command":"true"},{"command":{"argv":["ssh-x","sh","ssh",7]}}' "$(task '"name":"H"')"),$(play '{"command":"true"}' '' a),$(play '{"command":"true"}')]" 'local-play play=1 hosts=2
+idle-handler at=0/handlers/0
+local-play play=3 hosts=2'
+all_noted 'those who wait are counted' '{"all":{"hosts":{"a":null,"b":null,"c":{"down":true}}}}' "[$(play '{"command":"true"}')]" 'down-hosts play=1 hosts=1 host=c
+local-play play=1 hosts=2'
+all_noted 'where one of two waits it is done once' '{"all":{"hosts":{"a":null,"c":{"down":true}}}}' "[$(play '{"command":"true"}')]" 'down-hosts play=1 hosts=1 host=c'
+all_noted 'and where nobody does not at all' '{"all":{"hosts":{"a":{"down":true},"c":{"down":true}}}}' "[$(play '{"command":"true"}')]" 'no-hosts play=1'
+all_noted 'a hole in one word says for whom' "$two" "[$(play '{"command":"true"},{"command":"sleep 1{{ v }}"}'),$(play '{"command":"{{ inventory_hostname }}"}')]" ''
+all_noted 'also in a handler' "$two" "[$(play "$(task '"notify":"H"')" '{"name":"H","command":"echo {{ v }}"}')]" ''
+all_noted 'other braces say it not, nor what judges the end' "$two" "[$(play '{"command":"echo }} {x}","when":true,"changed_when":"v == 1","failed_when":"inventory_hostname == \"b\""}')]" 'local-play play=1 hosts=2
+constant-condition at=0/tasks/0'
+all_noted 'a condition that asks says it' "$two" "[$(play '{"command":"true","when":"inventory_hostname == \"a\""}'),$(play '{"command":"true"},{"command":"true","when":"v == 1"}')]" ''
+all_noted 'ssh says it of its play, by a path too, and by a handler; then its steps are looked at' "$two" "[$(play '{"command":"true"},{"command":"/usr/bin/ssh x"}'),$(play "$(task '"notify":"H"')" '{"name":"H","command":"ssh -- x y"}')]" 'local-step at=0/tasks/0 word=true
+fixed-target at=0/tasks/1 hosts=2
+local-step at=1/tasks/0 word=true
+fixed-target at=1/handlers/0 hosts=2'
+all_noted 'behind the percentage, and before the steps' "$two" '[{"hosts":"all","serial":9,"max_fail_percentage":9,"tasks":[{"command":"echo ;"}]}]' 'idle-serial play=1 size=9 waiting=2
+one-failure play=1 percent=9 size=2
+local-play play=1 hosts=2
+shell-word at=0/tasks/0 word=;'
+
+# Steps that call ssh with the same words for several hosts.
+noted 'a target for two hosts' "$two" "[$(play '{"command":"ssh -- web1 systemctl restart web"}')]" 'fixed-target at=0/tasks/0 hosts=2'
+noted 'for one, of whom another is down, or for nobody' '{"all":{"hosts":{"a":null,"b":{"down":true}}}}' "[$(play '{"command":"ssh x"}'),$(play '{"command":"ssh x"}' '' b)]" 'down-hosts play=1 hosts=1 host=b
+no-hosts play=2'
+noted 'a hole in any word is enough' "$two" "[$(play '{"command":"ssh {{ inventory_hostname }} x"},{"command":"ssh web1 restart x{{ v }}"},{"command":{"argv":["{{ v }}/ssh","x"]}}')]" ''
+noted 'a program that only has it in its name' "$two" "[$(play '{"command":"sssh x"},{"command":"ssh/x y"},{"command":"SSH x"}')]" ''
+noted 'by a path, and a handler; each of them, though others have a hole' "$two" "[$(play '{"command":"./ssh x","notify":"H"},{"command":"ssh {{ inventory_hostname }}"},{"command":"ssh }} { x"}' '{"name":"H","command":"ssh"}')]" 'fixed-target at=0/tasks/0 hosts=2
+fixed-target at=0/tasks/2 hosts=2
+fixed-target at=0/handlers/0 hosts=2'
+noted 'not where one host alone may run it' "$two" "[$(play '{"command":"ssh x","when":"inventory_hostname == \"a\""},{"command":"ssh x","when":false},{"command":"true","when":"inventory_hostname == \"a\""}')]" 'constant-condition at=0/tasks/1'
+noted 'but where several may' "$three" "[$(play '{"command":"ssh x","when":"inventory_hostname != \"a\""},{"command":"true","register":"r"},{"command":"ssh x","when":"r is changed"},{"command":"ssh {{ inventory_hostname }}"},{"command":"true","when":"inventory_hostname != \"c\""}')]" 'fixed-target at=0/tasks/0 hosts=2
+local-step at=0/tasks/1 word=true
+fixed-target at=0/tasks/2 hosts=3
+local-step at=0/tasks/4 word=true'
+noted 'a host alone runs what it runs here' "$one" "[$(play '{"command":"ssh {{ inventory_hostname }}"},{"command":"true","when":"inventory_hostname == \"a\""},{"command":"true","when":"inventory_hostname != \"a\""}')]" 'local-step at=0/tasks/1 word=true
+idle-step at=0/tasks/2
+local-step at=0/tasks/2 word=true'
+
+# Steps that nobody runs.
+many='{"all":{"vars":{"n":15,"t":"15","b":true},"hosts":{"a":{"x":0},"b":{"x":1},"c":{"x":1,"y":"p"}},"children":{"g":{"hosts":{"a":null,"b":null,"c":null}},"h":{"hosts":{"a":null}},"e":null}}}'
+for when in "\"n == '15'\"" '"n == 16"' '"15 != n"' '"t == 15"' "\"t != '15'\"" '"b == 1"' '"n == t"' '"n != n"' '"not (n == 15 or false)"' "\"'e' in group_names\"" "\"'nobody' in group_names\"" "\"'all' in group_names\"" "\"'g' not in group_names\"" \
+    "\"inventory_hostname == 'd'\"" '"x == 2"' '["x == 0","x == 1"]' "\"x == 0 and 'h' not in group_names\"" '[false,"n == 15"]' '"false and n == 15"'; do
+    noted "a step that nobody runs: $when" "$many" "[$(play "$(task "\"when\":$when")")]" 'idle-step at=0/tasks/0'
+done
+for when in '"n == 15"' '"x == 0"' "\"'h' in group_names\"" "\"'e' not in group_names\"" "\"'all' not in group_names\"" '"x == 2 or b"' "\"y is defined and y == 'p'\"" "\"inventory_hostname == 'c'\"" '"not b"' '["b","not b"]' '"x is not defined"' '"b and n is not defined"' '"z is defined"' '"b != true"' '"y is defined and x == 0"' '"b and not b or n == 16"' "\"not b and 'g' in group_names\"" '"b == false and n == 16"'; do
+    noted "a step that somebody may run, or that only asks what is true or there: $when" "$many" "[$(play "$(task "\"when\":$when")")]" ''
+done
+noted 'nor is one of literals alone, which is the same on each host' "$many" "[$(play "$(task '"when":"1 == 2"'),$(task '"when":["1 != 1","b"]'),$(task '"when":false')")]" 'constant-condition at=0/tasks/0
+constant-condition at=0/tasks/2'
+noted 'what a program will have said is not known, nor a result that may not be there' "$many" "[$(play "$(task '"register":"r","notify":["H","I"]'),$(task '"when":"r.rc == 99"'),$(task '"when":"r.stdout == \"x\" and n == 15"')" "$(task '"name":"H","register":"h"'),$(task '"name":"I","when":"h == 1"')")]" 'missing-result at=0/handlers/1 name=h hosts=3 of=3 host=a'
+noted 'but what stands beside it may decide' "$many" "[$(play "$(task '"register":"r"'),$(task '"when":["r.rc == 0","n == 16"]'),$(task '"when":"r.rc == 0 or n == 16"')")]" 'idle-step at=0/tasks/1'
+noted 'of a host that has no such variable it is not known' "$many" "[$(play "$(task '"when":"y == \"q\""'),$(task '"when":"z == 1"')"),$(play "$(task '"when":"y == \"q\""')" '' c)]" 'missing-name at=0/tasks/0 name=y hosts=2 of=3 host=a
+unknown-name at=0/tasks/1 name=z
+idle-step at=1/tasks/0'
+noted 'only hosts of the play count' "$many" "[$(play "$(task '"when":"x == 0"'),$(task "\"when\":\"'h' in group_names\"")" '' b:c),$(play "$(task '"when":"x == 1"')" '' h)]" 'idle-step at=0/tasks/0
+idle-step at=0/tasks/1
+idle-step at=1/tasks/0'
+noted 'of these those who wait' '{"all":{"hosts":{"a":{"down":true,"v":1},"b":{"v":2}}}}' "[$(play "$(task '"when":"v == 1"')"),$(play "$(task '"when":"v == 2"')" '' a)]" 'down-hosts play=1 hosts=1 host=a
+idle-step at=0/tasks/0
+no-hosts play=2'
+noted 'a handler too, before what is said of who notifies it' "$many" "[$(play '{"command":"true"}' "$(task '"name":"H","when":"n == 16"')")]" 'idle-step at=0/handlers/0
+idle-handler at=0/handlers/0'
+noted 'other conditions keep nobody from running it' "$many" "[$(play "$(task '"changed_when":"n == 16","failed_when":"n == 16"')")]" ''
+
+# Values of two kinds.
+noted 'behind the names, and who runs it; each condition once, and then the words' "$one" "[$(play '{"command":"echo {{ w }} ;","register":"r","when":["u == 1","inventory_hostname == 3","inventory_hostname == 4"],"changed_when":["true","r.rc == \"0\""],"failed_when":"not (r.failed != 1)"}')]" 'unknown-name at=0/tasks/0 name=u
+idle-step at=0/tasks/0
+unlike-values at=0/tasks/0 key=when
+unlike-values at=0/tasks/0 key=changed_when
+unlike-values at=0/tasks/0 key=failed_when
+shell-word at=0/tasks/0 word=;'
+noted 'of literals behind that they are' "$one" "[$(play "$(task "\"when\":\"1 != '1'\""),$(task '"changed_when":"true == 1"')")]" 'constant-condition at=0/tasks/0
+unlike-values at=0/tasks/0 key=when
+unlike-values at=0/tasks/1 key=changed_when'
+noted 'also behind what decides, in brackets, and in a handler' "$one" "[$(play "$(task '"register":"r","notify":"H"'),$(task "\"when\":\"true or not (r.rc == 0 and ('a' == r.stdout or r.skipped != ''))\"")" "$(task "\"name\":\"H\",\"when\":\"r.stderr == 0 or r.failed\"")")]" 'unlike-values at=0/tasks/1 key=when
+unlike-values at=0/handlers/0 key=when'
+noted 'an operand alone is compared with nothing' "$one" "[$(play "$(task "\"register\":\"r\",\"failed_when\":\"r.rc or 'a' and r is changed and r.stdout\"")")]" ''
+
+# Each operand beside each other one, in a step of its own: these compare two kinds.
+python3 - "$work" <<'PAIRS'
+import json
+import sys
+
+kinds = {"number": ["7", "-1", "r.rc"], "text": ["'a'", '"7"', "r.stdout", "r.stderr", "inventory_hostname"], "truth": ["true", "False", "r.changed", "r.failed", "r.skipped"], "any": ["r", "v"]}
+operands = [(kind, operand) for kind, those in kinds.items() for operand in those]
+steps, lines = [], []
+for kind, one in operands:
+    for other_kind, other in operands:
+        if "any" not in (kind, other_kind) and kind != other_kind:
+            lines.append(f"unlike-values at=0/tasks/{len(steps)} key=failed_when\n")
+        sign = ["==", "!="][len(steps) % 2]
+        steps.append({"command": "true", "register": "r", "failed_when": f"{one} {sign} {other}"})
+with open(f"{sys.argv[1]}/pairs.json", "w") as playbook, open(f"{sys.argv[1]}/pairs", "w") as expected:
+    json.dump([{"hosts": "all", "tasks": steps}], playbook)
+    expected.writelines(lines)
+PAIRS
+noted 'numbers, texts, truth values, and what may be of any kind' '{"all":{"vars":{"v":1},"hosts":{"a":null}}}' "$(cat "$work/pairs.json")" "$(cat "$work/pairs")"
+
+# Beside faults these are told where they can't be so by what is left out.
+refused 'a condition of which a part can be read' "$two" "[$(play '{"command":"ssh x","when":["x >","1 == inventory_hostname"]}')]" 'rollout: 501 BadToken step=1 key=when at=2' 'idle-step at=0/tasks/0
+unlike-values at=0/tasks/0 key=when'
+refused 'beside a fault of the playbook no play is told that runs here' "$two" "[$(play '{"command":"true","x":1}'),$(play '{"command":"ssh x","when":"v == 2"}')]" 'rollout: 703 UnknownKey at=0/tasks/0/x' 'idle-step at=1/tasks/0'
+refused 'beside one of the inventory no count of hosts' '{"all":{"vars":{"v":1},"hosts":{"a":null,"b":null},"x":1}}' "[$(play '{"command":"true"}'),$(play '{"command":"ssh x","register":"r","when":"v == 2","failed_when":"r.rc == true"}')]" 'rollout: 203 UnknownKey at=all/x' 'unlike-values at=1/tasks/0 key=failed_when'
+refused 'nor beside a name that nothing has, in any play' "$two" "[$(play '{"command":"true"}'),$(play '{"command":"ssh x","when":"v == 2"}'),$(play '{"command":"true"}' '' all,nobody)]" 'rollout: 304 NoSuchName name=nobody' ''
+
+# Groups without hosts, values with holes, and hosts with the names of groups.
+alone() {
+    texts "$2" ''
+    run lint "$inventory"
+    said "$1" "$3"
+}
+alone 'a group without hosts, and one of such alone' '{"a":{"children":{"b":null,"c":{"hosts":{}}}},"d":{"hosts":{"h":null}}}' 'empty-group group=a
+empty-group group=b
+empty-group group=c'
+alone 'not one that has some below it, nor one with a limit' '{"a":{"children":{"b":{"hosts":{"h":null}}}},"c":{"vars":{"max_down":1}}}' 'empty-limit group=c'
+alone 'not `ungrouped`, in small letters' '{"ungrouped":null,"Ungrouped":null,"a":{"hosts":{"h":null}}}' 'empty-group group=Ungrouped'
+alone 'of no hosts at all' '{}' 'empty-group group=all'
+alone 'a hole in a value, of groups and hosts, behind what its name is nearly' '{"a":{"vars":{"max-down":"{{ x }}","u":"a{% b","v":"{ { }}","w":5},"hosts":{"h":{"x":"{#"}}}}' 'near-key group=a name=max-down
+value-hole group=a name=max-down
+value-hole group=a name=u
+value-hole group=a host=h name=x'
+alone 'what other tools call a limit, at hosts too' '{"a":{"vars":{"max_unavailable":1,"maxOffline":1,"max_unavailable_hosts":1},"hosts":{"h":{"max-hosts-down":1,"max_down_hosts":1}}}}' 'near-key group=a name=maxOffline
+near-key group=a name=max_unavailable
+near-key group=a host=h name=max-hosts-down
+near-key group=a host=h name=max_down_hosts'
+alone 'hosts with the names of groups, by name, behind those that are alike' '{"b":{"hosts":{"B":null,"b":null,"a":null,"c":null}},"a":{"hosts":{"d":null}}}' 'case-hosts host=B other=b
+group-host name=a
+group-host name=b'
+
+# Hosts that no limit holds.
+limits='{"web":{"children":{"r":{"vars":{"max_down":1},"children":{"t":{"hosts":{"a":null,"b":null}}}},"s":{"hosts":{"c":null,"d":{"down":true}}}}}}'
+each='{"command":"echo {{ inventory_hostname }}"}'
+all_noted 'some are held, one by a group above its own, and one is not' "$limits" "[$(play "$each")]" 'down-hosts play=1 hosts=1 host=d
+unlimited-hosts play=1 hosts=1 of=3 host=c'
+all_noted 'where all are held, or none, it is not told' "$limits" "[$(play "$each" '' t),$(play "$each" '' s)]" 'down-hosts play=2 hosts=1 host=d'
+all_noted 'before the sizes' "$limits" "[$(play "$each" '' a:c | sed 's/^{/{"serial":9,/')]" 'unlimited-hosts play=1 hosts=1 of=2 host=c
+idle-serial play=1 size=9 waiting=2'
+
+# What a shell would put in place, programs of several words, and scripts for ssh.
+noted 'a variable of the shell, in braces, and a command; a home' "$one" "[$(play '{"command":"echo $HOME"},{"command":"echo a${B}c"},{"command":"echo $(x)"},{"command":"echo ~/x"},{"command":"echo $_"}')]" 'shell-word at=0/tasks/0 word=$HOME
+shell-word at=0/tasks/1 word=a${B}c
+shell-word at=0/tasks/2 word=$(x)
+shell-word at=0/tasks/3 word=~/x
+shell-word at=0/tasks/4 word=$_'
+noted 'not a number, other signs, nor a text with blanks, nor behind ssh' "$one" "[$(play '{"command":"echo $1 $ a$ $$ ${1} ~ ~x a~/b $-"},{"command":{"argv":["sh","-c","echo $HOME"]}}'),$(play '{"command":"ssh x $HOME"}')]" ''
+noted 'a program of several words' "$one" "[$(play '{"command":{"argv":["a b"]}},{"command":{"argv":["a\tb {{ inventory_hostname }}"]}},{"command":{"argv":["{{ inventory_hostname }} a"]}},{"command":{"argv":["a{b c"]}}')]" 'blank-program at=0/tasks/0 word=a b
+blank-program at=0/tasks/1 word=a?b {{ inventory_hostname }}'
+noted 'a script of several words for ssh, the first of each step' "$one" "[$(play '{"command":{"argv":["ssh","h","sh","-c","a b"]}},{"command":{"argv":["/usr/bin/ssh","h","psql","-c","a {{ inventory_hostname }}"]}},{"command":{"argv":["ssh","h","sh","-lc","a","-ec","b c","-xc","d e"]}}')]" 'lost-quotes at=0/tasks/0 word=a b
+lost-quotes at=0/tasks/1 word=a {{ inventory_hostname }}
+lost-quotes at=0/tasks/2 word=b c'
+noted 'not in quotes, of one word, behind another option, with a blank in a hole alone, or for another program' "$one" "[$(play '{"command":{"argv":["ssh","h","sh","-c","\"a b\""]}},{"command":{"argv":["ssh","h","sh","-c","a"]}},{"command":{"argv":["ssh","h","sh","-x","a b"]}},{"command":{"argv":["ssh","h","sh","-c","{{ inventory_hostname }} b"]}},{"command":{"argv":["ssh","h","-c"]}}'),$(play '{"command":{"argv":["sh","-c","a b"]}}')]" ''
+
+# Groups that aren't there, and steps that never change.
+all_noted 'in each condition the first that is not there' '{"g":{"hosts":{"a":null}}}' "[$(play '{"command":"echo {{ inventory_hostname }}","when":"inventory_hostname is not defined or \"x\" in group_names or \"y\" in group_names","changed_when":"not (\"all\" in group_names and \"y\" not in group_names)","failed_when":["\"g\" in group_names","\"z\" in group_names"]}')]" 'unknown-group at=0/tasks/0 key=when group=x
+unknown-group at=0/tasks/0 key=changed_when group=y
+unknown-group at=0/tasks/0 key=failed_when group=z'
+noted 'it notifies, and a part of what says that it changed never holds' "$one" "[$(play '{"command":"true","changed_when":false,"notify":"H"},{"command":"true","changed_when":["not True","r.rc == 0"],"register":"r","notify":"H"},{"command":"true","changed_when":false},{"command":"true","changed_when":"not false","notify":"H"},{"command":"true","changed_when":"0","notify":"H"}' '{"name":"H","command":"true"}')]" 'idle-notify at=0/tasks/0
+idle-notify at=0/tasks/1'
+
 # All kinds at once, in their order; and then each of them switched off.
-full='{"all":{"children":{"full":{"vars":{"max_down":0},"hosts":{"a":null,"b":{"w":1}}},"empty":{"vars":{"max_down":3,"down":1}},"off":{"hosts":{"c":{"down":true}}},"free":{"vars":{"maxdown":1},"hosts":{"-d":null,"-D":null}}}}}'
-first='{"hosts":"full:off","serial":9,"tasks":[{"command":"echo {{ w }} {{ u }} | x","register":"r"},{"command":"true","when":"r.rc == 0 and q"}],"handlers":[{"name":"H","command":"echo > {{ u }}"}]}'
-last="{\"hosts\":\"free\",\"max_fail_percentage\":5,\"tasks\":[{\"command\":\"uptime\",\"when\":true},{\"command\":\"ssh {{ inventory_hostname }} $(printf %065537d 0)\"}]}"
-plays="[$first,$(play '{"command":"echo {{ r.rc }} ;"}' '' off),$last]"
+full='{"all":{"children":{"full":{"vars":{"max_down":0},"hosts":{"a":null,"b":{"w":1}}},"empty":{"vars":{"max_down":3,"down":1}},"none":null,"off":{"vars":{"max_down":2},"hosts":{"none":{"down":true}}},"free":{"vars":{"maxdown":1,"url":"{{ x }}"},"hosts":{"-d":null,"-D":null,"-d":null}}}}}'
+first='{"hosts":"full:off","serial":8,"serial":9,"tasks":[{"command":"echo {{ w }} {{ u }} | x","register":"r"},{"command":"true","when":"r.rc == 0 and q"}],"handlers":[{"name":"H","command":"echo > {{ u }}"}]}'
+last="{\"hosts\":\"free\",\"max_fail_percentage\":5,\"tasks\":[{\"command\":\"uptime\",\"when\":true},{\"command\":\"ssh {{ inventory_hostname }} $(printf %065537d 0)\"},{\"command\":\"ssh -- x\",\"when\":\"inventory_hostname == 1\"}]}"
+mixed='{"command":"echo x{{ inventory_hostname }}","when":"\"nobody\" not in group_names"},{"command":{"argv":["a b","x{{ inventory_hostname }}"]}},{"command":{"argv":["ssh","x{{ inventory_hostname }}","sh","-c","c d"]},"changed_when":false,"notify":"N"},{"command":"ssh -- x"}'
+plays="[$first,$(play '{"command":"echo {{ r.rc }} ;"}' '' off),$last,$(play "$(task '"changed_when":"r.rc == 0"')" '' free),$(play "$mixed" '{"name":"N","command":"echo x{{ inventory_hostname }}"}' full:free)]"
 cat >"$work/all" <<'NOTES'
+repeated-key inventory=all/children/free/hosts/-d
+repeated-key playbook=0/serial
 empty-limit group=empty
 group-down group=empty
 near-key group=free name=maxdown
+value-hole group=free name=url
 zero-limit group=full members=2
+empty-group group=none
+loose-limit group=off limit=2 members=1
 case-hosts host=-D other=-d
-down-hosts play=1 hosts=1 host=c
+group-host name=none
+down-hosts play=1 hosts=1 host=none
 idle-serial play=1 size=9 waiting=2
 missing-name at=0/tasks/0 name=w hosts=1 of=2 host=a
 unknown-name at=0/tasks/0 name=u
@@ -367,10 +696,23 @@ constant-condition at=2/tasks/0
 local-step at=2/tasks/0 word=uptime
 long-word at=2/tasks/1 bytes=65537
 dash-name at=2/tasks/1 host=-D
+idle-step at=2/tasks/2
+unlike-values at=2/tasks/2 key=when
+local-play play=4 hosts=2
+missing-result at=3/tasks/0 name=r hosts=2 of=2 host=-D
+unlimited-hosts play=5 hosts=2 of=4 host=-D
+unknown-group at=4/tasks/0 key=when group=nobody
+blank-program at=4/tasks/1 word=a b
+idle-notify at=4/tasks/2
+lost-quotes at=4/tasks/2 word=c d
+fixed-target at=4/tasks/3 hosts=4
 NOTES
-noted 'all kinds, in their order' "$full" "$plays" "$(cat "$work/all")"
+all_noted 'all kinds, in their order' "$full" "$plays" "$(cat "$work/all")"
+kinds='repeated-key zero-limit empty-limit loose-limit empty-group group-down near-key value-hole case-hosts group-host no-hosts down-hosts unlimited-hosts idle-serial one-failure local-play unknown-name missing-name missing-result unknown-group idle-step constant-condition unlike-values shell-word blank-program lost-quotes local-step fixed-target long-word dash-name idle-notify idle-handler'
+run lint "$inventory" "$playbook"
+[ "$(sed -n 's/^  \([a-z-]*\): .*/\1/p' "$work/out" | tr '\n' ' ')" = "$kinds " ] && pass || fail 'what to do about all kinds stands in their order'
 run lint "$inventory"
-said 'of the inventory alone' "$(head -n 5 "$work/all")"
+said 'of the inventory alone' "$(head -n 11 "$work/all" | grep -v playbook=)"
 
 # allowed WHAT KINDS WORD..: these kinds, as a pattern of their names, are left out of all notes.
 allowed() {
@@ -380,7 +722,6 @@ allowed() {
     run lint "$inventory" "$playbook" "$@"
     said "$what" "$left"
 }
-kinds='zero-limit empty-limit group-down near-key case-hosts no-hosts down-hosts idle-serial one-failure unknown-name missing-name constant-condition shell-word local-step long-word dash-name idle-handler'
 for kind in $kinds; do
     allowed "$kind is switched off" "$kind" --allow "$kind"
     for other in $kinds; do
@@ -398,8 +739,8 @@ said 'all kinds are switched off, by an option between the files' ''
 run lint --allow=zero-limit,empty-limit,down-hosts,shell-word -- "$inventory" "$playbook"
 said 'files behind the word that ends options' "$(grep -v -E '^(zero-limit|empty-limit|down-hosts|shell-word) ' "$work/all")"
 run lint --allow zero-limit "$inventory"
-said 'of an inventory alone, by an option before the file' "$(grep -v '^zero-limit' "$work/all" | head -n 4)"
-run lint "$inventory" --allow zero-limit,empty-limit,near-key:group-down,case-hosts
+said 'of an inventory alone, by an option before the file' "$(head -n 11 "$work/all" | grep -v -e '^zero-limit' -e playbook=)"
+run lint "$inventory" --allow zero-limit,empty-limit,loose-limit,near-key:group-down,case-hosts,repeated-key,empty-group,value-hole:group-host
 said 'kinds that are switched off make no status' ''
 
 # unlisted WHAT LIST WORD..: the list that these words give is none, which is told before any file is read.
@@ -520,7 +861,8 @@ refused 'a task that is no object keeps its place' "$one" "[$(play '"true",{"com
 refused 'and so does a play' "$one" "[null,{\"hosts\":\"all\",\"tasks\":[]},$(echo_play '{{ y }}')]" "rollout: 702 BadShape at=0${newline}rollout: 702 BadShape at=1/tasks" 'unknown-name at=2/tasks/0 name=y'
 refused 'handlers stay up to one of a name that stood before' "$one" "[$(play "$(task '"notify":["H","I"]')" "{\"name\":\"H\",\"command\":\"echo {{ y }}\",\"register\":\"s\"},$(task '"name":"I","when":"s or q"'),{\"name\":\"H\",\"command\":\"echo {{ p }}\"},{\"name\":\"J\",\"command\":\"echo {{ p }}\"}")]" \
     'rollout: 705 TwiceHandler name=H' "unknown-name at=0/handlers/0 name=y
-unknown-name at=0/handlers/1 name=q"
+unknown-name at=0/handlers/1 name=q
+missing-result at=0/handlers/1 name=s hosts=1 of=1 host=a"
 refused 'or up to one without a name' "$one" "[$(play "$(task '"notify":["J","H"]'),{\"command\":\"true\",\"notify\":\"I\",\"when\":\"z\"}" '{"name":"H","command":"echo {{ y }}","notify":"H"},{"command":"echo {{ p }}"},{"name":"J","command":"echo {{ p }}"}')]" \
     "rollout: 703 UnknownKey at=0/handlers/0/notify${newline}rollout: 702 BadShape at=0/handlers/1${newline}rollout: 704 NoSuchHandler name=I" "unknown-name at=0/tasks/1 name=z
 unknown-name at=0/handlers/0 name=y"
@@ -531,7 +873,8 @@ unknown-name at=0/tasks/1 name=q"
 refused 'settings of a play that are none' "$one" '[{"hosts":"all","serial":[1,"x"],"max_fail_percentage":101,"on_blocked":"wait","tasks":[{"command":"echo {{ y }}"}]}]' \
     "rollout: 706 BadSerial at=0/serial/1${newline}rollout: 707 BadPercent at=0/max_fail_percentage${newline}rollout: 702 BadShape at=0/on_blocked" 'unknown-name at=0/tasks/0 name=y'
 refused 'results of earlier plays with faults are there' "$one" "[{\"hosts\":\"all\",\"vars\":{},\"tasks\":[$(task '"register":"r"')],\"handlers\":[$(task '"name":"H","register":"s","x":1')]},$(play "$(task '"when":"r and s and t"')")]" \
-    "rollout: 703 UnknownKey at=0/vars${newline}rollout: 703 UnknownKey at=0/handlers/0/x" 'unknown-name at=1/tasks/0 name=t'
+    "rollout: 703 UnknownKey at=0/vars${newline}rollout: 703 UnknownKey at=0/handlers/0/x" 'unknown-name at=1/tasks/0 name=t
+missing-result at=1/tasks/0 name=s hosts=1 of=1 host=a'
 
 # Patterns of which a part names nothing.
 refused 'the other names of a pattern stay' "$three" "[$(echo_play '{{ x }} {{ y }}' 'nobody:a,c:x')]" "rollout: 304 NoSuchName name=nobody${newline}rollout: 304 NoSuchName name=x" "missing-name at=0/tasks/0 name=x hosts=1 of=2 host=a
@@ -553,7 +896,7 @@ idle-handler at=0/handlers/0"
 refused 'the other variables of a host stay' '{"all":{"hosts":{"a":{"down":1,"v":1},"b":null,"c":[]}}}' "[$(echo_play '{{ v }}')]" "rollout: 205 BadDown at=all/hosts/a/down${newline}rollout: 202 BadShape at=all/hosts/c" 'missing-name at=0/tasks/0 name=v hosts=2 of=3 host=b'
 refused 'a host whose name is none is none of those who wait' '{"all":{"hosts":{"a b":{"v":1},"b":null,"c":{"v":1}}}}' "[$(echo_play '{{ v }}')]" 'rollout: 101 BadName name=a b' 'missing-name at=0/tasks/0 name=v hosts=1 of=2 host=b'
 refused 'the other variables of a group stay' '{"g":{"vars":{"max_down":-1,"v":1,"maxdown":1},"hosts":{"a":null}}}' "[$(echo_play '{{ v }} {{ max_down }}')]" 'rollout: 204 BadLimit at=g/vars/max_down' "near-key group=g name=maxdown
-unknown-name at=0/tasks/0 name=max_down"
+unknown-name at=0/tasks/0 name=max_down near=maxdown"
 refused 'variables that are no object are none' '{"g":{"vars":["v"],"hosts":{"a":null}}}' "[$(echo_play '{{ v }}')]" 'rollout: 202 BadShape at=g/vars' 'unknown-name at=0/tasks/0 name=v'
 refused_alone 'notes on groups and hosts beside faults of an inventory alone' '{"g":{"vars":{"down":1,"max_down":"49%"},"hosts":{"a":null,"A":null,"b c":null}},"h":{"vars":{"max_down":0},"children":7}}' \
     "rollout: 101 BadName name=b c${newline}rollout: 202 BadShape at=h/children" "zero-limit group=g members=2
@@ -567,6 +910,7 @@ down-hosts play=1 hosts=1 host=d
 idle-serial play=1 size=9 waiting=3
 one-failure play=1 percent=5 size=3
 local-step at=0/tasks/0 word=uptime
+fixed-target at=0/handlers/0 hosts=3
 idle-handler at=0/handlers/0
 no-hosts play=2'
 sed -i 's/"serial":9/"become":1,&/' "$playbook"
@@ -575,6 +919,7 @@ told 'of which two are not told beside a fault of the playbook' 'rollout: 703 Un
 down-hosts play=1 hosts=1 host=d
 idle-serial play=1 size=9 waiting=3
 local-step at=0/tasks/0 word=uptime
+fixed-target at=0/handlers/0 hosts=3
 no-hosts play=2'
 sed -i 's/"hosts":"e"/"hosts":["e","nobody"]/' "$playbook"
 run lint "$inventory" "$playbook"
@@ -607,12 +952,12 @@ without_advice
 
 # What to do stands behind the notes, once a kind that is told, in the order of the kinds.
 texts "$racks" "[$(play "$(task '"when":"p == 1"'),{\"command\":\"true ;\"},$(task '"when":"q == 1"')" '{"name":"h","command":"true"}')]"
-run lint "$inventory" "$playbook" --allow idle-handler
+run lint "$inventory" "$playbook" --allow idle-handler,local-play
 check 'what to do about notes' 1 'unknown-name at=0/tasks/0 name=p
 shell-word at=0/tasks/1 word=;
 unknown-name at=0/tasks/2 name=q
 notes=3
-'"  unknown-name: spell it as the variable or the \`register\`, give it to the hosts, or let an earlier step register it; or ask in \`when\` first whether it is defined: as it is, the step fails where it looks it up; \`explain unknown-name\` says more, \`--allow unknown-name\` switches it off
+'"  unknown-name: spell it as the variable or the \`register\`, give it to the hosts, or let an earlier step register it; a text stands in quotes, 'prod', and a number with a fraction, a list or an object is no value; or ask in \`when\` first whether it is defined; \`explain unknown-name\` says more, \`--allow unknown-name\` switches it off
   shell-word: no shell reads it here: write {\"argv\": [\"sh\", \"-c\", \"ps | grep x\"]}, or two steps in place of && and ;; \`explain shell-word\` says more, \`--allow shell-word\` switches it off
 " ''
 
@@ -626,27 +971,27 @@ unsought() {
 
 bad_down='{"all":{"hosts":{"a":{"down":1}}}}'
 ok_play=$(play '{"command":"true"}')
-unsought 'beside faults of the inventory' "$bad_down" "$ok" 'empty-limit, no-hosts, down-hosts, idle-serial, one-failure'
-unsought 'beside limits that cross' "$crossing" "$ok" 'zero-limit, empty-limit, no-hosts, down-hosts, idle-serial, one-failure'
-unsought 'and faults of the playbook' "$crossing" "[$(play '{"command":"true","x":1}')]" 'zero-limit, empty-limit, no-hosts, down-hosts, idle-serial, one-failure, idle-handler'
-unsought 'and a when that is none' "$crossing" "[$(play "$(task '"when":"x >"')")]" 'zero-limit, empty-limit, no-hosts, down-hosts, idle-serial, one-failure, missing-name, constant-condition, idle-handler'
-unsought 'beside a group that starts over its limit' '{"g":{"vars":{"max_down":0},"hosts":{"a":{"down":true}}}}' "$ok" 'zero-limit, empty-limit, no-hosts, down-hosts, idle-serial, one-failure'
-unsought 'where what is kept has limits' '{"g":{"vars":{"max_down":0},"hosts":{"a":{"down":1}}}}' "$ok" 'empty-limit, no-hosts, down-hosts, idle-serial, one-failure'
-unsought 'beside faults of the playbook' "$one" "[$(play '{"command":"true","x":1}')]" 'one-failure, idle-handler'
-unsought 'beside a when that is none' "$one" "[$(play "$(task '"when":"x >"')")]" 'one-failure, missing-name, constant-condition, idle-handler'
-unsought 'of a handler too, beside faults of the inventory' "$bad_down" "[$(play "$(task '"name":"t"')" "$(task '"name":"h","when":[1]')")]" 'empty-limit, no-hosts, down-hosts, idle-serial, one-failure, missing-name, constant-condition, idle-handler'
-unsought 'beside another condition that is none' "$one" "[$(play "$(task '"failed_when":"x >"')")]" 'one-failure, missing-name, constant-condition, idle-handler'
-unsought 'beside faults of both' "$bad_down" "[$(play '{"command":"true","x":1}')]" 'empty-limit, no-hosts, down-hosts, idle-serial, one-failure, idle-handler'
+unsought 'beside faults of the inventory' "$bad_down" "$ok" 'empty-limit, loose-limit, empty-group, no-hosts, down-hosts, unlimited-hosts, idle-serial, one-failure, local-play, missing-result, unknown-group, idle-step, fixed-target'
+unsought 'beside limits that cross' "$crossing" "$ok" 'zero-limit, empty-limit, loose-limit, empty-group, no-hosts, down-hosts, unlimited-hosts, idle-serial, one-failure, local-play, missing-result, unknown-group, idle-step, fixed-target'
+unsought 'and faults of the playbook' "$crossing" "[$(play '{"command":"true","x":1}')]" 'zero-limit, empty-limit, loose-limit, empty-group, no-hosts, down-hosts, unlimited-hosts, idle-serial, one-failure, local-play, missing-result, unknown-group, idle-step, fixed-target, idle-handler'
+unsought 'and a when that is none' "$crossing" "[$(play "$(task '"when":"x >"')")]" 'zero-limit, empty-limit, loose-limit, empty-group, no-hosts, down-hosts, unlimited-hosts, idle-serial, one-failure, local-play, missing-name, missing-result, unknown-group, idle-step, constant-condition, fixed-target, idle-handler'
+unsought 'beside a group that starts over its limit' '{"g":{"vars":{"max_down":0},"hosts":{"a":{"down":true}}}}' "$ok" 'zero-limit, empty-limit, loose-limit, empty-group, no-hosts, down-hosts, unlimited-hosts, idle-serial, one-failure, local-play, missing-result, unknown-group, idle-step, fixed-target'
+unsought 'where what is kept has limits' '{"g":{"vars":{"max_down":0},"hosts":{"a":{"down":1}}}}' "$ok" 'empty-limit, loose-limit, empty-group, no-hosts, down-hosts, unlimited-hosts, idle-serial, one-failure, local-play, missing-result, unknown-group, idle-step, fixed-target'
+unsought 'beside faults of the playbook' "$one" "[$(play '{"command":"true","x":1}')]" 'one-failure, local-play, idle-handler'
+unsought 'beside a when that is none' "$one" "[$(play "$(task '"when":"x >"')")]" 'one-failure, local-play, missing-name, missing-result, constant-condition, idle-handler'
+unsought 'of a handler too, beside faults of the inventory' "$bad_down" "[$(play "$(task '"name":"t"')" "$(task '"name":"h","when":[1]')")]" 'empty-limit, loose-limit, empty-group, no-hosts, down-hosts, unlimited-hosts, idle-serial, one-failure, local-play, missing-name, missing-result, unknown-group, idle-step, constant-condition, fixed-target, idle-handler'
+unsought 'beside another condition that is none' "$one" "[$(play "$(task '"failed_when":"x >"')")]" 'one-failure, local-play, missing-name, missing-result, constant-condition, idle-handler'
+unsought 'beside faults of both' "$bad_down" "[$(play '{"command":"true","x":1}')]" 'empty-limit, loose-limit, empty-group, no-hosts, down-hosts, unlimited-hosts, idle-serial, one-failure, local-play, missing-result, unknown-group, idle-step, fixed-target, idle-handler'
 unsought 'beside a playbook of too many plays' "$one" "[$(for i in 1 2 3 4 5 6 7 8 9 10 11 12 13 14 15 16; do echo "$ok_play,"; done)$ok_play]" 'anything of plays and steps'
 unsought 'beside one that is no list' "$one" '{}' 'anything of plays and steps'
-unsought 'beside one that is no JSON, and faults of the inventory' "$bad_down" '{' 'empty-limit, anything of plays and steps'
-unsought 'and limits that cross' "$crossing" '[]' 'zero-limit, empty-limit, anything of plays and steps'
+unsought 'beside one that is no JSON, and faults of the inventory' "$bad_down" '{' 'empty-limit, loose-limit, empty-group, anything of plays and steps'
+unsought 'and limits that cross' "$crossing" '[]' 'zero-limit, empty-limit, loose-limit, empty-group, anything of plays and steps'
 texts "$bad_down" ''
 run lint "$inventory"
-[ "$(tail -n 1 "$work/out")" = '  not looked for beside these faults: empty-limit' ] && pass || fail "of an inventory alone: $(tail -n 1 "$work/out")"
+[ "$(tail -n 1 "$work/out")" = '  not looked for beside these faults: empty-limit, loose-limit, empty-group' ] && pass || fail "of an inventory alone: $(tail -n 1 "$work/out")"
 texts "$crossing" ''
 run lint "$inventory"
-[ "$(tail -n 1 "$work/out")" = '  not looked for beside these faults: zero-limit, empty-limit' ] && pass || fail "of an inventory alone whose limits cross: $(tail -n 1 "$work/out")"
+[ "$(tail -n 1 "$work/out")" = '  not looked for beside these faults: zero-limit, empty-limit, loose-limit, empty-group' ] && pass || fail "of an inventory alone whose limits cross: $(tail -n 1 "$work/out")"
 unsought 'where nothing is kept' '{' "$ok" 'anything else'
 unsought 'without faults' "$one" "$ok" ''
 

@@ -35,6 +35,20 @@ def _codings():
         yield Row("an inventory in UTF-16", inventory='\ufeff{"web": null}'.encode(order), faults=[("201 NotJson", wide)])
 
 
+def _breaks():
+    """Texts whose lines end as those of Windows do, or go wrong far from their line's ends."""
+    texts = (
+        (b'{"web": null,\r\n}\r\n', "it goes wrong at <here>, line 2, column 1: <here>}; no comma stands behind the last one"),
+        (b'{"web": {\r\n\r\n', 'it ends too early, at line 1, column 10: {"web": {<here>'),
+        (b'["' + b"a" * 97 + b'", b' + b"c" * 97 + b"]", "it goes wrong at <here>, line 1, column 103: " + "a" * 37 + '", <here>b' + "c" * 39),
+        (b'\n\n["' + b"a" * 97 + b'" "' + b"b" * 97 + b'"]', "line 3, column 102: " + "a" * 38 + '" <here>"' + "b" * 39 + "; a comma or a colon is missing before it"),
+        (b'{"web": "M\xfcller"}', 'it goes wrong at <here>, line 1, column 11: {"web": "M<here>?ller"}'),
+    )
+    for text, told in texts:
+        yield Row("an inventory that goes wrong", inventory=text, faults=[("201 NotJson", [told])])
+        yield Row("a playbook that goes wrong", playbook=text, faults=[("701 NotJson", [told])])
+
+
 def _inventories():
     yield _row("groups on 33 levels", [DEEP], _chain(33))
     yield _row("a name that stood before, 33 levels deep", [("102 TwicePlaced group=33", "g2"), DEEP], _chain(33, lambda level: "g2" if level == 33 else f"g{level}"))
@@ -88,4 +102,4 @@ def _playbooks():
 
 
 def bounds():
-    return [*_codings(), *_inventories(), *_playbooks()]
+    return [*_codings(), *_breaks(), *_inventories(), *_playbooks()]

@@ -144,7 +144,7 @@ def compare_crates(count, crates):
             text = tree.read(path)
             words.update(re.findall(r"\w+", text))
             used.update(re.findall(r"^\s*(?:pub )?use (\w+)::|\bRattle\.(?=(\w+)\.)", text, re.M))
-        used = {library for each in used for library in each if library in libraries and not stands(f"crates/{name}/src/{library}.rt")}
+        used = {library for each in used for library in each if library in libraries and not tree.found(f"crates/{name}/src/**/{library}.rt")}
         for below in crates[name]:
             count.row(below in words, f"crates.txt: {name} stands on {below}, which no file of it names")
         for below in used - {name}:

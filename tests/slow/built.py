@@ -28,7 +28,7 @@ def call(program, case, folder, before=None):
 
 def unexplained(out):
     """What `lint` says, without what to do about notes: a line for each kind that is told, in their order, behind their number. Where these aren't the kinds, the whole text stays as it is."""
-    advice = re.compile(r"^  ([a-z-]+): [!-~][ -~]{0,220}; `explain \1` says more, `--allow \1` switches it off\n", re.M)
+    advice = re.compile(r"^  ([a-z-]+): [!-~][ -~]{0,299}; `explain \1` says more, `--allow \1` switches it off\n", re.M)
     front, counted, behind = out.partition("\nnotes=") if "\nnotes=" in out else ("", "", out)
     told = set(re.findall(r"^([a-z-]+) ", front, re.M))
     shown = [match[1] for match in advice.finditer(behind)]

@@ -21,6 +21,7 @@ from planning import start
 from plays import recaps, status_of
 from rehearsal import Rehearsal
 from rehearsal import rehearse as answers
+from repeated import key_notes
 from rules import turned
 from said import Said
 from sizes import cap
@@ -123,10 +124,11 @@ def lint(inventory, playbook=None, allowed=()):
     faults = every_fault(inventory, playbook)
     if faults:
         of_playbook = (True, True, is_fleet(inventory)) if playbook is None else (is_accepted(playbook), has_all_conditions(playbook), has_all_hosts(inventory, playbook))
-        beside = [] if turned("notes-beside-faults") else lines_beside_faults(looked_at(inventory, playbook), allowed, *of_playbook, has_limits(inventory), has_plays(inventory, playbook))
+        found = key_notes(inventory, playbook), looked_at(inventory, playbook)
+        beside = [] if turned("notes-beside-faults") else lines_beside_faults(*found, allowed, *of_playbook, has_limits(inventory), has_plays(inventory, playbook))
         return Said("".join(fault_lines(faults)) + as_text(beside), "", 0 if turned("faults-make-status-one") else 1)
     fleet, plays, targets = (Fleet(read_inventory(inventory)), [], []) if playbook is None else accepted(inventory, playbook)
-    lines, count = lint_lines(fleet, plays, targets, allowed)
+    lines, count = lint_lines(key_notes(inventory, playbook), fleet, plays, targets, allowed)
     return Said(as_text([*lines, f"notes={count}"]), "", 1 if count and not turned("lint-notes-make-status-one") else 0)
 
 

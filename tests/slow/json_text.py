@@ -1,6 +1,6 @@
 """The reading of JSON, written anew: what is JSON, what a number is, and what a repeated key means.
 
-A value is None, a bool, a str, an int (a whole number that fits 64 signed bits), a float (any other number), a list or a dict.
+A value is None, a bool, a str, an int (a whole number that fits 64 signed bits), a float (any other number), a list or a dict; an object whose keys are asked for is Pairs.
 """
 
 import re
@@ -18,9 +18,21 @@ class NotJson(Exception):
     """The bytes are no JSON text."""
 
 
+class Pairs(list):
+    """An object as its keys and values in their order, so that a key may stand twice."""
+
+
 def read_json(text):
     """The value of a whole text; NotJson where it isn't one."""
-    reader = _Reader(text)
+    return _read(_Reader(text), text)
+
+
+def read_pairs(text):
+    """The same with each object as all of its members."""
+    return _read(_PairsReader(text), text)
+
+
+def _read(reader, text):
     value = reader.value(0)
     reader.blanks()
     if reader.at < len(text) and not turned("json-nothing-behind"):
@@ -74,22 +86,28 @@ class _Reader:
                 raise NotJson
 
     def members(self, depth):
-        found = {}
+        pairs = Pairs()
         if self.sign(b"}"):
-            return found
+            return self.object(pairs)
         while True:
             if not self.sign(b'"'):
                 raise NotJson
             key = self.string()
             if not self.sign(b":"):
                 raise NotJson
-            value = self.value(depth)
-            if not (turned("json-last-key-stays") and key in found):
-                found[key] = value
+            pairs.append((key, self.value(depth)))
             if self.sign(b"}"):
-                return found
+                return self.object(pairs)
             if not self.sign(b","):
                 raise NotJson
+
+    def object(self, pairs):
+        """Of a key that stands twice the last value counts."""
+        found = {}
+        for key, value in pairs:
+            if not (turned("json-last-key-stays") and key in found):
+                found[key] = value
+        return found
 
     def number(self):
         found = NUMBER.match(self.text, self.at)
@@ -98,11 +116,14 @@ class _Reader:
         self.at = found.end()
         written = found[0].decode()
         if found["rest"]:
-            return _real(written)
+            return self.real(written)
         whole = int(written)
         if written == "-0" and not turned("json-minus-nought"):
             return -0.0
-        return whole if -(2**63) <= whole < 2**63 else _real(written)
+        return whole if -(2**63) <= whole < 2**63 else self.real(written)
+
+    def real(self, written):
+        return _real(written)
 
     def string(self):
         """The text up to the closing quote; the opening one has been passed over."""
@@ -149,6 +170,16 @@ class _Reader:
         if not re.fullmatch(rb"[0-9a-fA-F]{4}", digits):
             raise NotJson
         return int(digits, 16)
+
+
+class _PairsReader(_Reader):
+    """Where only keys are asked for a number may be of any size."""
+
+    def object(self, pairs):
+        return pairs
+
+    def real(self, written):
+        return float(written)
 
 
 def _real(written):

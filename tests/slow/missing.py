@@ -66,6 +66,12 @@ def missed_by(step, outset):
     return [*missed, *words, *_all_hold(step.changed_when, judging)[1], *_all_hold(step.failed_when, judging)[1]]
 
 
+def is_known_not_to_hold(conditions, outset):
+    """Whether conditions are known not to hold before anything runs; where it isn't known, they may."""
+    holds = _all_hold(conditions, outset)[0]
+    return holds is not True if turned("lint-idle-steps-are-known") else holds is False
+
+
 def _missed_in_hole(ref, outset):
     """A whole result has no text, so only a variable is sure to have one."""
     if ref.name == "inventory_hostname":

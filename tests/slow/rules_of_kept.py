@@ -31,10 +31,11 @@ KEPT = {
     "kept-steps-register-without-words": "A step whose words can't be read registers all the same.",
     "kept-steps-are-looked-for": "Where no plays can be read, nothing of plays and steps is looked for.",
     "kept-tasks-at-their-places": "A task that is no object keeps its place.",
-    "kept-conditions-may-be-more": "Where a part of a condition can't be read, it isn't noted what some hosts lack, nor that a condition asks nothing.",
+    "kept-conditions-may-be-more": "Where a part of a condition can't be read, it isn't noted what some hosts lack, of variables and results, nor that a condition asks nothing.",
     "kept-words-without-guards": "A part of `when` that can't be read and is a text without `def` hides nothing.",
     "patterns-of-all-groups": "No name of a pattern is told where groups were left out.",
     "single-groups-say-something": "Of groups with one name the first one counts that lists hosts or groups, or gives variables.",
     "single-groups-without-percentages": "Where groups are left out limits in percent go.",
+    "kept-keys-as-they-were-given": "Where files have faults their keys are noted as they were given.",
     "notes-beside-faults": "Where files have faults, what is kept of them is noted.",
 }

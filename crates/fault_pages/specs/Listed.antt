@@ -24,9 +24,12 @@ is_of_commands word = list_any (bytes_eq word) (
 -- kinds of notes
 unfoldable pub is_of_kinds : List ℕ → Bool
 is_of_kinds word = list_any (bytes_eq word) (
-    codes "zero-limit" ∷ codes "empty-limit" ∷ codes "group-down" ∷ codes "near-key" ∷ codes "case-hosts" ∷ codes "no-hosts" ∷
-    codes "down-hosts" ∷ codes "idle-serial" ∷ codes "one-failure" ∷ codes "unknown-name" ∷ codes "missing-name" ∷
-    codes "constant-condition" ∷ codes "shell-word" ∷ codes "local-step" ∷ codes "long-word" ∷ codes "dash-name" ∷ codes "idle-handler" ∷ [])
+    codes "repeated-key" ∷ codes "zero-limit" ∷ codes "empty-limit" ∷ codes "loose-limit" ∷ codes "empty-group" ∷ codes "group-down" ∷
+    codes "near-key" ∷ codes "value-hole" ∷ codes "case-hosts" ∷ codes "group-host" ∷ codes "no-hosts" ∷ codes "down-hosts" ∷
+    codes "unlimited-hosts" ∷ codes "idle-serial" ∷ codes "one-failure" ∷ codes "local-play" ∷ codes "unknown-name" ∷ codes "missing-name" ∷
+    codes "missing-result" ∷ codes "unknown-group" ∷ codes "idle-step" ∷ codes "constant-condition" ∷ codes "unlike-values" ∷
+    codes "shell-word" ∷ codes "blank-program" ∷ codes "lost-quotes" ∷ codes "local-step" ∷ codes "fixed-target" ∷ codes "long-word" ∷
+    codes "dash-name" ∷ codes "idle-notify" ∷ codes "idle-handler" ∷ [])
 
 -- the word is one of those that have an entry
 abbrev pub has_entry : List ℕ → Bool

@@ -531,7 +531,8 @@ rollout: 915 NoValue step=1 host=web1 name=releese
 
 The host has no such variable, and nothing that certainly runs before the step registers a result of that name; or the step asks for a field of what is only a variable. It is the first such step, in a file of several
 plays of the play `play=`, with the first host that waits for it and the first name that it looks for there. Nothing was started. Give all hosts of the play the variable, register the name in a task before, or say under
-`when` that the name `is defined`. Without `--strict` such a step fails when its turn comes on that host.
+`when` that the name `is defined`. What a handler alone registers is refused behind `is defined` too, where a run without `--strict` would pass it by: let a task register it. That the result of a skipped step has no `rc` isn't looked at.
+Without `--strict` such a step fails when its turn comes on that host.
 ";
 
 pub(crate) const OF_916: &str = "\

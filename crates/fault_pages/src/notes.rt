@@ -1,5 +1,19 @@
 //! What docs/NOTES.md says of each kind of `lint`'s notes. `make pages` makes this file from that page.
 
+pub(crate) const OF_REPEATED_KEY: &str = "\
+repeated-key inventory=PATH, or playbook=PATH: the key at the end of PATH stands more than once in its object
+
+```
+$ echo '{\"web\": {\"hosts\": {\"web1\": null, \"web2\": null}}, \"db\": {\"hosts\": {\"db1\": null}}, \"web\": {\"hosts\": {\"web3\": null}}}' | rollout lint /dev/stdin
+repeated-key inventory=web
+notes=1
+  repeated-key: a key counts once in an object, as it stands last: what stands at it before is lost; put the members of both under one key, or give one of them another name; `explain repeated-key` says more, `--allow repeated-key` switches it off
+```
+
+In JSON a key counts once in an object, as it stands last: the group `web` has the host web3 alone, and web1 and web2 are in no group, so that no play reaches them. Put both lists of hosts under one `web`; or give one group another
+name. PATH is made of the keys and of the places in lists, from 0, that lead to the key, with `/` between them, `playbook=0/tasks/1/when` as an example. It is told beside faults too. There is hardly a reason for `--allow repeated-key`.
+";
+
 pub(crate) const OF_ZERO_LIMIT: &str = "\
 zero-limit group=G members=N: none of G's N hosts may be down: its limit is 0, or a percentage that comes to 0 hosts
 
@@ -28,6 +42,34 @@ The limit protects nobody. Mostly a group is spelled in two ways, and its hosts 
 `--allow empty-limit`.
 ";
 
+pub(crate) const OF_LOOSE_LIMIT: &str = "\
+loose-limit group=G limit=L members=N: L, the limit of G, is above the number N of its hosts
+
+```
+$ echo '{\"web\": {\"vars\": {\"max_down\": 20}, \"hosts\": {\"web1\": null, \"web2\": null, \"web3\": null}}}' | rollout lint /dev/stdin
+loose-limit group=web limit=20 members=3
+notes=1
+  loose-limit: write a max_down below the number of the group's hosts, or a percentage as a text, \"20%\" as an example: as it is, all of its hosts may be down at once; where it waits for more hosts, switch the note off; `explain loose-limit` says more, `--allow loose-limit` switches it off
+```
+
+All three hosts may be down at once: the limit protects nobody. Mostly a percentage is meant, which is a text: `\"max_down\": \"20%\"`; or hosts stand in another group. A limit that is just the number of the hosts says so on purpose, and
+isn't told. Where the group is still to get its hosts: `--allow loose-limit`.
+";
+
+pub(crate) const OF_EMPTY_GROUP: &str = "\
+empty-group group=G: G has no hosts and no limit, and isn't called `ungrouped`
+
+```
+$ echo '{\"site\": {\"children\": {\"web1\": null, \"db\": {\"hosts\": {\"db1\": null}}}}}' | rollout lint /dev/stdin
+empty-group group=web1
+notes=1
+  empty-group: list the group's hosts under it, below `hosts`: what stands below `children` is a group, also where it has a host's name; where it has none yet, take it out, or switch the note off; `explain empty-group` says more, `--allow empty-group` switches it off
+```
+
+What stands below `children` is a group, and `web1` is one without hosts: the machine of that name is in no play, and nothing tells it. List hosts below `hosts`. A group of which all groups are empty is told too. The
+group `ungrouped`, which `ansible-inventory` always writes, isn't. For a group that gets its hosts later: `--allow empty-group`.
+";
+
 pub(crate) const OF_GROUP_DOWN: &str = "\
 group-down group=G: `down` is a variable of G
 
@@ -53,8 +95,22 @@ notes=1
 ```
 
 As it is, it is a variable as others, and limits nothing. A name is nearly a key where small and capital letters, `_`, `-`, `.` and blanks apart it is `max_down` or `down`, or where a byte more, a byte less, another byte or two
-neighbours swapped make `max_down` of it. Write `max_down` in the `vars` of the group that it is to limit, and `down` at the hosts that are down. At hosts
+neighbours swapped make `max_down` of it. So is a name from which that makes `down`, or `is_down`, if its value is true or false: `\"dwon\": true` takes no host down. So are `max_unavailable`, `max_offline`, `max_hosts_down` and `max_down_hosts`, which other tools have. Write `max_down` in the `vars` of the group that it is to limit, and `down` at the hosts that are down. At hosts
 `max_down` limits nothing either: so an inventory looks that `ansible-inventory` wrote without `--export`. Where it is a variable that steps read: `--allow near-key`.
+";
+
+pub(crate) const OF_VALUE_HOLE: &str = "\
+value-hole group=G [host=H] name=NAME: the value of the variable NAME of G, or of H as G lists it, is a text with `{{`, `{%` or `{#`, which nothing fills
+
+```
+$ echo '{\"web\": {\"vars\": {\"url\": \"http://{{ inventory_hostname }}:8080/\"}, \"hosts\": {\"web1\": null}}}' | rollout lint /dev/stdin
+value-hole group=web name=url
+notes=1
+  value-hole: a value is given to programs as it stands, and a hole in it isn't filled: write the words of the step with a hole for each variable, or the value without holes; `explain value-hole` says more, `--allow value-hole` switches it off
+```
+
+In Ansible a variable's value is filled in when it is used; here it is given to programs as it stands: `check {{ url }}` asks `http://{{ inventory_hostname }}:8080/`. Write the holes in the words of the step: `check http://{{ inventory_hostname }}:{{ port }}/`. Where a
+program is to get the braces, as one that fills in templates: `--allow value-hole`.
 ";
 
 pub(crate) const OF_CASE_HOSTS: &str = "\
@@ -69,6 +125,19 @@ notes=1
 
 They are two hosts here, each with its own variables and its own place in a batch. For the network they are mostly one: it would be updated twice, and be down for two groups that don't know of each other. Write one name for one
 machine. Where they are two: `--allow case-hosts`.
+";
+
+pub(crate) const OF_GROUP_HOST: &str = "\
+group-host name=NAME: NAME is a host and a group
+
+```
+$ echo '{\"db\": {\"hosts\": {\"db1\": null}}, \"web\": {\"hosts\": {\"db\": null, \"web1\": null}}}' | rollout lint /dev/stdin
+group-host name=db
+notes=1
+  group-host: give one of them another name: a pattern with the name means the group, and never the host; `explain group-host` says more, `--allow group-host` switches it off
+```
+
+In `hosts` of a play the name is the group's: the host `db` is reached by the pattern `web`, and `db` names `db1` alone. Give one of them another name. Where they are never named: `--allow group-host`.
 ";
 
 pub(crate) const OF_NO_HOSTS: &str = "\
@@ -97,11 +166,26 @@ notes=1
 web4 is updated, and web5 is left as it is, on the old state. Where it is up again, take its `\"down\": true` away, or name it by `--mended`. Where it is down, and the others are to go on without it: `--allow down-hosts`.
 ";
 
+pub(crate) const OF_UNLIMITED_HOSTS: &str = "\
+unlimited-hosts play=P hosts=N of=M host=H: N of the M hosts that wait for the play are in no group with a limit, H the first of them by name; others are
+
+```
+$ echo '{\"web\": {\"hosts\": {\"web1\": null, \"web2\": null, \"web3\": null}}, \"rack1\": {\"vars\": {\"max_down\": 1}, \"hosts\": {\"web1\": null, \"web2\": null}}}' >/tmp/fleet.json
+$ echo '[{\"hosts\": \"web\", \"tasks\": [{\"command\": \"ssh -- {{ inventory_hostname }} uptime\"}]}]' | rollout lint /tmp/fleet.json /dev/stdin
+unlimited-hosts play=1 hosts=1 of=3 host=web3
+notes=1
+  unlimited-hosts: list them in the group whose limit is to hold them too, or give a group that holds them a max_down: as it is, all of them may be down at once; where that is meant, switch the note off; `explain unlimited-hosts` says more, `--allow unlimited-hosts` switches it off
+```
+
+web1 and web2 are held by the limit of rack1, and web3 by none: mostly it was left out of its rack. Hosts without a limit may all be down at once, in one batch with others. List web3 in its rack; or give `web` a `max_down`. Where no host of
+a play is held by a limit, that is told of none. Where these hosts may be down together: `--allow unlimited-hosts`.
+";
+
 pub(crate) const OF_IDLE_SERIAL: &str = "\
 idle-serial play=P size=S waiting=W: S, a number in `serial`, is above the number W of hosts that wait for the play
 
 ```
-$ echo '[{\"hosts\": \"rack1\", \"serial\": 5, \"tasks\": [{\"command\": \"uptime\"}]}]' | rollout lint examples/two-racks.json /dev/stdin
+$ echo '[{\"hosts\": \"rack1\", \"serial\": 5, \"tasks\": [{\"command\": \"ssh -- {{ inventory_hostname }} uptime\"}]}]' | rollout lint examples/two-racks.json /dev/stdin
 idle-serial play=1 size=5 waiting=3
 notes=1
   idle-serial: write a size below the number of hosts that wait, or a percentage, or leave `serial` out; `explain idle-serial` says more, `--allow idle-serial` switches it off
@@ -112,32 +196,50 @@ playbook for fleets of any size: `--allow idle-serial`.
 ";
 
 pub(crate) const OF_ONE_FAILURE: &str = "\
-one-failure play=P percent=N size=S: the smallest batch of the plan with which the play begins has S hosts, and one failure among them is more than the `max_fail_percentage` N
+one-failure play=P percent=N size=S: the smallest batch of several hosts in the plan with which the play begins has S, and one failure among them is more than the `max_fail_percentage` N
 
 ```
 $ echo '{\"web\": {\"hosts\": {\"web1\": null, \"web2\": null, \"web3\": null, \"web4\": null}}}' >/tmp/fleet.json
-$ echo '[{\"hosts\": \"web\", \"serial\": 2, \"max_fail_percentage\": 25, \"tasks\": [{\"command\": \"uptime\"}]}]' | rollout lint /tmp/fleet.json /dev/stdin
+$ echo '[{\"hosts\": \"web\", \"serial\": 2, \"max_fail_percentage\": 25, \"tasks\": [{\"command\": \"ssh -- {{ inventory_hostname }} uptime\"}]}]' | rollout lint /tmp/fleet.json /dev/stdin
 one-failure play=1 percent=25 size=2
 notes=1
   one-failure: where a batch is to bear one failure, write a max_fail_percentage of at least 100 / size, or larger batches; where it is to bear none, write 0; `explain one-failure` says more, `--allow one-failure` switches it off
 ```
 
-One host of a batch of two is 50 % of it: a single failure ends the run, although the number looks as if a quarter may fail. The percentage is one of each batch, not of the play. Write at least 100 / S where a batch is to bear a
+One host of a batch of two is 50 % of it (a batch of a single host isn't looked at: of that any failure is all): a single failure ends the run, although the number looks as if a quarter may fail. The percentage is one of each batch, not of the play. Write at least 100 / S where a batch is to bear a
 failure, here 50; 0 where it isn't to; or make the batches larger. Where it is meant so: `--allow one-failure`.
 ";
 
-pub(crate) const OF_UNKNOWN_NAME: &str = "\
-unknown-name at=PATH name=NAME: no waiting host has a variable NAME, no step before registers it, and on each of them the step may come to look it up
+pub(crate) const OF_LOCAL_PLAY: &str = "\
+local-play play=P hosts=N: no step of the play calls `ssh`, no word of it has a hole, no `when` of it asks anything, and N hosts wait for it, more than one
 
 ```
-$ echo '[{\"hosts\": \"rack1\", \"tasks\": [{\"command\": \"deploy web {{ verison }}\"}]}]' | rollout lint examples/two-racks.json /dev/stdin
-unknown-name at=0/tasks/0 name=verison
+$ echo '[{\"hosts\": \"rack1\", \"tasks\": [{\"command\": \"systemctl restart web\"}]}]' | rollout lint examples/two-racks.json /dev/stdin
+local-play play=1 hosts=3
 notes=1
-  unknown-name: spell it as the variable or the `register`, give it to the hosts, or let an earlier step register it; or ask in `when` first whether it is defined: as it is, the step fails where it looks it up; `explain unknown-name` says more, `--allow unknown-name` switches it off
+  local-play: write \"ssh\", \"--\", \"{{ inventory_hostname }}\" before the words of its steps: as it is, the same is done on this machine once for each host; where that is meant, switch the note off; `explain local-play` says more, `--allow local-play` switches it off
+```
+
+Programs run on the machine where rollout runs. Nothing in this play says for which host: for each of the three it restarts `web` here. Write `ssh` and the host before the words: `ssh -- {{ inventory_hostname }} systemctl restart
+web`; or give the program the host's name, or a variable. Where a step of the play does so, or has a `when` that asks something, or calls `ssh`, the others are looked at one by one ([local-step](#local-step)). Where all is to be done here, once for each host:
+`--allow local-play`.
+";
+
+pub(crate) const OF_UNKNOWN_NAME: &str = "\
+unknown-name at=PATH name=NAME [near=OTHER]: no waiting host has a variable NAME, no step before registers it, and on each of them the step may come to look it up
+
+```
+$ echo '{\"web\": {\"vars\": {\"version\": \"1.2\"}, \"hosts\": {\"web1\": null, \"web2\": null}}}' >/tmp/fleet.json
+$ echo '[{\"hosts\": \"web\", \"tasks\": [{\"command\": \"deploy web {{ verison }}\"}]}]' | rollout lint /tmp/fleet.json /dev/stdin
+unknown-name at=0/tasks/0 name=verison near=version
+notes=1
+  unknown-name: spell it as the variable or the `register`, give it to the hosts, or let an earlier step register it; a text stands in quotes, 'prod', and a number with a fraction, a list or an object is no value; or ask in `when` first whether it is defined; `explain unknown-name` says more, `--allow unknown-name` switches it off
 ```
 
 As it is, the step fails wherever it looks the name up. Spell it as the variable or the `register` that is meant; give the variable to the hosts, or to a group that holds them; register it in a step that comes before; or ask in
-`when` whether it `is defined`. Where another inventory has it: `--allow unknown-name`.
+`when` whether it `is defined`. OTHER is the name that was probably meant, where one is near: of the variables of groups and hosts, and of what steps register, up to 1,000 names, one that differs in small and capital letters alone, or
+else by one edit, or by two, of at most one in three bytes; `inventory_hostname` is one of them, and names of over 64 bytes are none. The first hundred notes have it. It may be one that comes too late, or that other hosts have. A text in
+a condition stands in quotes, `env == 'prod'`; and a variable whose value is a number with a fraction, null, a list or an object is none: write it as a text. Where another inventory has the name: `--allow unknown-name`.
 ";
 
 pub(crate) const OF_MISSING_NAME: &str = "\
@@ -155,11 +257,56 @@ The step fails on web2, and runs on web1, which has the variable: the others hav
 up, whether it `is defined`. Where those hosts are to fail there: `--allow missing-name`.
 ";
 
+pub(crate) const OF_MISSING_RESULT: &str = "\
+missing-result at=PATH name=NAME hosts=N of=M host=H: a step before registers NAME, and N of the M hosts that wait may come to look it up in vain all the same, H the first of them by name; `when` doesn't ask whether it is defined
+
+```
+$ echo '[{\"hosts\": \"web1\", \"tasks\": [{\"command\": \"check-web {{ inventory_hostname }}\", \"register\": \"check\"}]},' \\
+  '{\"hosts\": \"rack1\", \"tasks\": [{\"command\": \"deploy {{ inventory_hostname }} {{ check.stdout }}\"}]}]' | rollout lint examples/two-racks.json /dev/stdin
+missing-result at=1/tasks/0 name=check hosts=2 of=3 host=web2
+notes=1
+  missing-result: write a field, {{ r.stdout }} as an example, where a result stands in a word; let a task of this play register it, or of an earlier play for the same hosts; or ask in `when` first whether it is defined: a handler may not run, and other plays may be for other hosts; `explain missing-result` says more, `--allow missing-result` switches it off
+```
+
+The first play is for web1 alone, so that web2 and web3 have no result `check`: the step fails there. So it is with a result that only a handler registers, which may not have been due, and with `{{ check }}` without a field in a
+word, on any host: a result has no text of its own. Who asks in `when` whether `check is defined` isn't told, but for `{{ check }}` as a whole. Let a task of the same play register it; write `{{ check.stdout }}`; or ask first. Where the step is to fail there:
+`--allow missing-result`.
+";
+
+pub(crate) const OF_UNKNOWN_GROUP: &str = "\
+unknown-group at=PATH key=KEY group=G: the condition under KEY asks for the group G, the first of those that the inventory doesn't have
+
+```
+$ echo '[{\"hosts\": \"rack1\", \"tasks\": [{\"command\": \"ssh -- {{ inventory_hostname }} uptime\", \"when\": \"\\\"rack-2\\\" not in group_names\"}]}]' | rollout lint examples/two-racks.json /dev/stdin
+unknown-group at=0/tasks/0 key=when group=rack-2
+notes=1
+  unknown-group: spell the group as the inventory has it, letter by letter: nobody is in a group that isn't there; where another inventory has it, switch the note off; `explain unknown-group` says more, `--allow unknown-group` switches it off
+```
+
+Nobody is in a group that isn't there, so that `not in` always holds: the group is `rack2`. Of a condition with several such groups the first is told. Where another inventory of the same playbook has it: `--allow unknown-group`.
+";
+
+pub(crate) const OF_IDLE_STEP: &str = "\
+idle-step at=PATH: the step's `when` compares what it looks up or asks for a group, asks for no value just whether it is true or there, and is known not to hold on any of the hosts that wait
+
+```
+$ echo '{\"web\": {\"vars\": {\"release\": 15}, \"hosts\": {\"web1\": null, \"web2\": null}}}' >/tmp/fleet.json
+$ echo '[{\"hosts\": \"web\", \"tasks\": [{\"command\": \"migrate {{ inventory_hostname }}\", \"when\": \"release == \\\"15\\\"\"}]}]' | rollout lint /tmp/fleet.json /dev/stdin
+idle-step at=0/tasks/0
+notes=1
+  idle-step: spell groups and values as the inventory has them, letter by letter: 15 is a number and '15' a text, which are never the same; where the step waits for another value, switch the note off; `explain idle-step` says more, `--allow idle-step` switches it off
+```
+
+The step runs nowhere: `release` is the number 15 on each host, and `'15'` is a text. So it is with a value or a group that no host has, `env == 'prodution'` and `'wbe' in group_names` as examples. What is known before anything runs
+decides: variables, groups and names, and that a result as a whole equals nothing; what a program will have printed isn't known. A `when` that asks anywhere just whether a value is true, or defined, isn't told: `reboot`, `reboot == true` and `x is defined and x == 'a'` are
+how a step is switched on. Where a step waits for another value: `--allow idle-step`.
+";
+
 pub(crate) const OF_CONSTANT_CONDITION: &str = "\
 constant-condition at=PATH: the step's `when` looks up no name and asks for no group: it is the same on each host
 
 ```
-$ echo '[{\"hosts\": \"rack1\", \"tasks\": [{\"command\": \"uptime\", \"when\": \"\\\"role\\\" == \\\"web\\\"\"}]}]' | rollout lint examples/two-racks.json /dev/stdin
+$ echo '[{\"hosts\": \"rack1\", \"tasks\": [{\"command\": \"ssh -- {{ inventory_hostname }} uptime\", \"when\": \"\\\"role\\\" == \\\"web\\\"\"}]}]' | rollout lint examples/two-racks.json /dev/stdin
 constant-condition at=0/tasks/0
 notes=1
   constant-condition: leave `when` out where it holds, and the step where it doesn't; names stand in it without quotes; `explain constant-condition` says more, `--allow constant-condition` switches it off
@@ -169,22 +316,67 @@ In quotes `role` is a text, and it isn't the text `web`: the step runs nowhere. 
 for a time by `\"when\": false`: `--allow constant-condition`.
 ";
 
+pub(crate) const OF_UNLIKE_VALUES: &str = "\
+unlike-values at=PATH key=KEY: the condition under KEY compares a number with a text, or either with `true` or `false`
+
+```
+$ echo '[{\"hosts\": \"rack1\", \"tasks\": [{\"command\": \"check-web {{ inventory_hostname }}\", \"register\": \"web\", \"failed_when\": \"web.rc != \\\"0\\\"\"}]}]' | \\
+  rollout lint examples/two-racks.json /dev/stdin
+unlike-values at=0/tasks/0 key=failed_when
+notes=1
+  unlike-values: write numbers without quotes and texts in them: `rc` is a number, `stdout` and `stderr` are texts, `changed`, `failed` and `skipped` are true or false; values of two kinds are never the same; `explain unlike-values` says more, `--allow unlike-values` switches it off
+```
+
+A number and a text are never the same: `web.rc != '0'` always holds, so the step fails on each host. Of a result `rc` is a number, `stdout` and `stderr` are texts, and `changed`, `failed` and `skipped` are true or false;
+`inventory_hostname` is a text. A variable may be of any kind: [idle-step](#idle-step) tells where its value keeps a step from running. KEY is `when`, `changed_when` or `failed_when`. Write `web.rc != 0`, and `count.stdout == '0'`.
+Where it is meant so: `--allow unlike-values`.
+";
+
 pub(crate) const OF_SHELL_WORD: &str = "\
 shell-word at=PATH word=W: behind the program, which isn't `ssh`, stands the word W, which means something to a shell alone
 
 ```
-$ echo '[{\"hosts\": \"rack1\", \"tasks\": [{\"command\": \"ps ax | grep web\"}]}]' | rollout lint examples/two-racks.json /dev/stdin
+$ echo '[{\"hosts\": \"rack1\", \"tasks\": [{\"command\": \"ps -C {{ inventory_hostname }} | grep web\"}]}]' | rollout lint examples/two-racks.json /dev/stdin
 shell-word at=0/tasks/0 word=|
 notes=1
   shell-word: no shell reads it here: write {\"argv\": [\"sh\", \"-c\", \"ps | grep x\"]}, or two steps in place of && and ;; `explain shell-word` says more, `--allow shell-word` switches it off
 ```
 
-There is no shell: the program `ps` gets the words `ax`, `|`, `grep` and `web`. Told are the words `|`, `||`, `&`, `&&`, `;`, `>`, `>>`, `<` and `2>&1`. Write `{\"argv\": [\"sh\", \"-c\", \"ps ax | grep web\"]}`, or two steps in place of
+There is no shell: the program `ps` gets the words `-C`, the host's name, `|`, `grep` and `web`. Told are the words `|`, `||`, `&`, `&&`, `;`, `>`, `>>`, `<` and `2>&1`, and words without blanks that have `$NAME`, `${NAME` or `$(` in them, or `~/` in front: nothing is put in their place. Write `{\"argv\": [\"sh\", \"-c\", \"ps -C \\\"$1\\\" | grep web\", \"sh\", \"{{ inventory_hostname }}\"]}`, or two steps in place of
 `&&` and `;`. Of a step whose program is `ssh` no word is told, since a shell at the other end reads them. Where another program is to get the word: `--allow shell-word`.
 ";
 
+pub(crate) const OF_BLANK_PROGRAM: &str = "\
+blank-program at=PATH word=W: the name of the program W has a blank before any `{`
+
+```
+$ echo '[{\"hosts\": \"rack1\", \"tasks\": [{\"command\": {\"argv\": [\"check-web {{ inventory_hostname }}\"]}}]}]' | rollout lint examples/two-racks.json /dev/stdin
+blank-program at=0/tasks/0 word=check-web {{ inventory_hostname }}
+notes=1
+  blank-program: write each word alone, {\"argv\": [\"systemctl\", \"restart\", \"web\"]} as an example: as it is, the whole text is taken for the name of the program, and the step fails; `explain blank-program` says more, `--allow blank-program` switches it off
+```
+
+Each text of `argv` is one word: the program's name would be `check-web web1`, there is none, and the step fails. Write `[\"check-web\", \"{{ inventory_hostname }}\"]`, or a text in place of `argv`, which is cut into words. A blank in a hole, or behind one,
+isn't told. For a program whose name has a blank: `--allow blank-program`.
+";
+
+pub(crate) const OF_LOST_QUOTES: &str = "\
+lost-quotes at=PATH word=W: the step calls `ssh`, and behind a word `-c`, `-lc`, `-ec` or `-xc` stands W, which has a blank before any `{`, and no quote in front
+
+```
+$ echo '[{\"hosts\": \"rack1\", \"tasks\": [{\"command\": {\"argv\": [\"ssh\", \"--\", \"{{ inventory_hostname }}\", \"sudo\", \"sh\", \"-c\", \"systemctl restart web\"]}}]}]' | \\
+  rollout lint examples/two-racks.json /dev/stdin
+lost-quotes at=0/tasks/0 word=systemctl restart web
+notes=1
+  lost-quotes: write quotes round the script in the word, \"'systemctl restart web'\" as an example: ssh joins its words by blanks, and as it is, only the script's first word comes behind the option at the other end; `explain lost-quotes` says more, `--allow lost-quotes` switches it off
+```
+
+`ssh` joins its words by blanks, and a shell at the other end cuts them anew: there `sh -c` gets `systemctl` alone, and `restart` and `web` as further words. So it is with any program behind which a script is one word, as `psql -c \"select 1\"`. Write quotes round it, in the
+word: `\"'systemctl restart web'\"`; or leave `sh -c` out: a shell reads the words anyway. Where the script is to be cut: `--allow lost-quotes`.
+";
+
 pub(crate) const OF_LOCAL_STEP: &str = "\
-local-step at=PATH word=W: the step's program W isn't `ssh`, where another step of its play calls that, and no word of it has a hole
+local-step at=PATH word=W: the step's program W isn't `ssh`, where another step of its play calls that, no word of it has a hole, and more than one host may run it, or one alone waits
 
 ```
 $ echo '[{\"hosts\": \"rack1\", \"tasks\": [{\"command\": \"ssh -- {{ inventory_hostname }} apt-get upgrade -y\"}, {\"command\": \"systemctl restart web\"}]}]' | \\
@@ -195,14 +387,28 @@ notes=1
 ```
 
 Programs run on the machine where rollout runs. The other step of the play goes to the host by `ssh`; this one does the same here for each host, and restarts `web` of this machine three times. Write `ssh` and the host before it:
-`ssh -- {{ inventory_hostname }} systemctl restart web`. A path that ends in `/ssh` counts as `ssh`. Where the step is to run here, as a pause: `--allow local-step`.
+`ssh -- {{ inventory_hostname }} systemctl restart web`. A path that ends in `/ssh` counts as `ssh`. Where of several hosts all but one are known to skip the step, as by `\"when\": \"inventory_hostname == 'web1'\"`, it isn't told. Where the step is to run here, as a pause: `--allow local-step`.
+";
+
+pub(crate) const OF_FIXED_TARGET: &str = "\
+fixed-target at=PATH hosts=N: the step calls `ssh`, no word of it has a hole, and N hosts that wait may run it, more than one
+
+```
+$ echo '[{\"hosts\": \"rack1\", \"tasks\": [{\"command\": \"ssh -- web1 systemctl restart web\"}]}]' | rollout lint examples/two-racks.json /dev/stdin
+fixed-target at=0/tasks/0 hosts=3
+notes=1
+  fixed-target: write \"{{ inventory_hostname }}\" as the target: as it is, the same is done on one machine once for each host; where that is meant, switch the note off; `explain fixed-target` says more, `--allow fixed-target` switches it off
+```
+
+Each of the three hosts has its turn, and each time web1 is restarted: the others never are. Write `ssh -- {{ inventory_hostname }} systemctl restart web`. A word that has a hole with a variable or a result is enough for it not to be
+told, or a `when` by which one host alone may run the step. Where one machine, as a load balancer, is to be told once for each host: `--allow fixed-target`.
 ";
 
 pub(crate) const OF_LONG_WORD: &str = "\
 long-word at=PATH bytes=B: a word without holes has B bytes, more than the 65,536 that a word may have
 
 ```
-$ printf '[{\"hosts\": \"rack1\", \"tasks\": [{\"command\": \"install-key %070000d\"}]}]' 0 | rollout lint examples/two-racks.json /dev/stdin
+$ printf '[{\"hosts\": \"rack1\", \"tasks\": [{\"command\": \"install-key {{ inventory_hostname }} %070000d\"}]}]' 0 | rollout lint examples/two-racks.json /dev/stdin
 long-word at=0/tasks/0 bytes=70000
 notes=1
   long-word: give the program a file in place of the word: with more than 65536 bytes the step fails; `explain long-word` says more, `--allow long-word` switches it off
@@ -226,11 +432,26 @@ A word of the step begins with `{{ inventory_hostname }}`, and none before it is
 the host another name. Where the program takes no options: `--allow dash-name`.
 ";
 
+pub(crate) const OF_IDLE_NOTIFY: &str = "\
+idle-notify at=PATH: the step notifies a handler, and its `changed_when`, or a part of it, is `false`
+
+```
+$ echo '[{\"hosts\": \"rack1\", \"tasks\": [{\"command\": \"deploy {{ inventory_hostname }}\", \"changed_when\": false, \"notify\": \"restart web\"}], \"handlers\": [{\"name\": \"restart web\", \"command\": \"restart-web {{ inventory_hostname }}\"}]}]' | \\
+  rollout lint examples/two-racks.json /dev/stdin
+idle-notify at=0/tasks/0
+notes=1
+  idle-notify: take `changed_when` out, or write what tells a change: as it is, the step counts as unchanged on each host, and its handlers don't run for it; `explain idle-notify` says more, `--allow idle-notify` switches it off
+```
+
+With `\"changed_when\": false` the step counts as unchanged, and who changed nothing notifies nobody: the new release is there, and the old one goes on running. Take `changed_when` away, or ask what the program said: `\"changed_when\": \"deploy.stdout != ''\"`.
+Where the handler is to wait for other steps: take `notify` away, or `--allow idle-notify`.
+";
+
 pub(crate) const OF_IDLE_HANDLER: &str = "\
 idle-handler at=PATH: no task of its play notifies the handler
 
 ```
-$ echo '[{\"hosts\": \"rack1\", \"tasks\": [{\"command\": \"deploy web\"}], \"handlers\": [{\"name\": \"restart web\", \"command\": \"restart-web\"}]}]' | \\
+$ echo '[{\"hosts\": \"rack1\", \"tasks\": [{\"command\": \"deploy {{ inventory_hostname }}\"}], \"handlers\": [{\"name\": \"restart web\", \"command\": \"restart-web\"}]}]' | \\
   rollout lint examples/two-racks.json /dev/stdin
 idle-handler at=0/handlers/0
 notes=1

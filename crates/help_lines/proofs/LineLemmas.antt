@@ -1,10 +1,10 @@
 -- Pieces, one behind the other, and what each line is.
 use Rattle.std.proofs.Common.{◌≡◌, ◌≤◌, ℕ, Bool, true, false, ◌&&◌, cond, List, [], ◌∷◌, map, length, take, flat_map, refl, ap, ◌∙◌, arith, String, Result, Ok, Err, subst, sym}
 use Rattle.std.specs.declared.alloc.Global.{Global}
-use Rattle.std.specs.List.{list_all, prefix_len}
+use Rattle.std.specs.List.{list_all, prefix_len, suffix_len}
 use Rattle.std.proofs.lemmas.List.{length-map, length-take}
 use Rattle.std.proofs.lemmas.List.Folds.{flat_map-map}
-use Rattle.std.proofs.lemmas.List.Sums.{prefix_len-le-length}
+use Rattle.std.proofs.lemmas.List.Sums.{prefix_len-le-length, suffix_len-le-length}
 use Rattle.help_lines.specs.Lines.{piece_text, is_printable, printable, line_of, IsHelp, IsLine, IsHelpLine}
 use Rattle.help_lines.specs.Values.{Text}
 use Rattle.help_lines.specs.declared.piece.Piece.{Piece}
@@ -35,3 +35,6 @@ lines_help (Err _) pieces is = tt
 
 pub front_within : (test : ℕ → Bool) (text : Text) (count : ℕ) → count ≡ prefix_len test text → count ≤ length text
 front_within test text count is = omega (arith, is, prefix_len-le-length test text)
+
+pub back_within : (test : ℕ → Bool) (text : Text) (count : ℕ) → count ≡ suffix_len test text → count ≤ length text
+back_within test text count is = omega (arith, is, suffix_len-le-length test text)

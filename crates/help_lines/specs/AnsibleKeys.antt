@@ -38,7 +38,7 @@ advice_on_place key =
     if is_one ports_keys key then Some (codes "let ssh do it: \"ssh\", \"-p\", \"2222\", \"--\", \"{{ inventory_hostname }}\" before the words of the program") else (
     if is_one delegation_keys key then Some (codes "programs run on this machine: write \"ssh\", \"--\", \"lb1\" before the words, or nothing") else (
     if is_one local_keys key then Some (codes "programs run on this machine: write `command`") else (
-    if is_one once_keys key then Some (codes "write a play of its own whose `hosts` names one host; where it stands between other steps, split the play there") else (
+    if is_one once_keys key then Some (codes "first or last in its play, write a play of its own whose `hosts` names one host; between other steps write \"when\": \"inventory_hostname == 'web1'\": in a play that is split there, all hosts are drained before one goes on") else (
     if is_one variables_keys key then Some (codes "variables stand in the inventory, under `vars` of all or of a group, or at a host; values are taken as they are, {{ in them isn't filled in") else (
     if is_one environment_keys key then Some (codes "write \"env\", \"LANG=C\" before the words of the program") else (
     None))))))))
@@ -60,7 +60,7 @@ advice_on_order key =
     if is_one lists_keys key then Some (codes "put its steps into `tasks`, in that order; handlers come behind all of them") else (
     if is_one roles_keys key then Some (codes "write its steps into `tasks`, in order") else (
     if is_one playbooks_keys key then Some (codes "write its plays into the list of plays, in its place") else (
-    if is_one flushes_keys key then Some (codes "for flush_handlers write what comes behind as a play of its own, or the handler as a task with `when`") else (
+    if is_one flushes_keys key then Some (codes "for flush_handlers write the handler as a task in its place, with \"when\": \"install is changed\"; in a play that is split there, all hosts are drained before one goes on") else (
     None))))
 
 abbrev pub blocks_keys : List Text

@@ -1,6 +1,7 @@
 -- What to write where a condition goes wrong.
-use Rattle.std.specs.Prelude.{ℕ, ◌-◌, List, [], ◌∷◌, length, min, take, drop, codes, decimal}
+use Rattle.std.specs.Prelude.{ℕ, List, [], ◌∷◌, take, drop, codes, decimal}
 use Rattle.help_lines.specs.Advice.{first_said}
+use Rattle.help_lines.specs.Aside.{first_shown, last_shown}
 use Rattle.help_lines.specs.Filters.{advice_on_pipe}
 use Rattle.help_lines.specs.Guesses.{meant, with_meant}
 use Rattle.help_lines.specs.Lines.{line_of}
@@ -23,10 +24,10 @@ advice_at at text = advice_by (take at text) (drop at text)
 
 -- the last 40 bytes before the place, and the first 40 from it on
 unfoldable pub shown_before : ℕ → Text → Text
-shown_before at text = drop (length (take at text) - 40) (take at text)
+shown_before at text = last_shown (take at text)
 
 unfoldable pub shown_behind : ℕ → Text → Text
-shown_behind at text = take (min (length (drop at text)) 40) (drop at text)
+shown_behind at text = first_shown (drop at text)
 
 -- the text around the place, and what is told of it
 unfoldable pub shown_help : ℕ → Text → Text → List Text

@@ -5,6 +5,11 @@ pub mod Blanks
 pub mod Words
 pub mod Ini
 pub mod Told
+pub mod Aside
+pub mod BreakPlaces
+pub mod BreakReasons
+pub mod Breaks
+pub mod TextEnds
 pub mod Texts
 pub mod Modules
 pub mod AnsibleKeys

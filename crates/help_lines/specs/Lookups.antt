@@ -42,7 +42,7 @@ unfoldable pub advice_on_dot : Text → Text
 advice_on_dot front = if ends_number front then codes "; numbers are whole" else call_rule
 
 abbrev pub field_rule : Text
-field_rule = codes "; fields of a result are rc, stdout, stderr, changed, failed and skipped; no facts are gathered: write them into the inventory"
+field_rule = codes "; fields of a result are rc (its exit status), stdout, stderr, changed, failed and skipped; no facts are gathered: write them into the inventory"
 
 unfoldable pub advice_on_lookup : Text → Text → Text
 advice_on_lookup front rest =

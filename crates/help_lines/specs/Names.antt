@@ -60,7 +60,7 @@ abbrev pub is_of_ansible : ℕ → Bool
 is_of_ansible byte = (((byte == 38 || byte == 33) || byte == 42) || byte == 91) || byte == 126
 
 unfoldable pub pattern_rule_help : List Text
-pattern_rule_help = codes "there is no '&', '!', '*', '~', index or range in patterns; " ∷ pattern_rule ∷ []
+pattern_rule_help = codes "there is no '&', '!', '*', '~', index or range in patterns, and `when` leaves hosts out of a step; " ∷ pattern_rule ∷ []
 
 unfoldable pub localhost_help : List Text
 localhost_help = said (codes "no localhost is made, and programs run on this machine anyway, once for each host of the play; a play of one has a host that is listed")

@@ -27,7 +27,7 @@ abbrev pub is_equals_sign : ℕ → Bool
 is_equals_sign byte = byte == 61
 
 abbrev pub command_rule : Text
-command_rule = codes "a command is a text, or an object with one key alone: {\"argv\": [\"echo\", \"it's\"]}, of texts and whole numbers, or {\"cmd\": \"echo yes\"}"
+command_rule = codes "a command is a text, or an object with one key alone: {\"argv\": [\"echo\", \"it's\"]}, of texts and whole numbers, or {\"cmd\": \"echo yes\"}; other keys, `when` and `register` as examples, stand beside `command`"
 
 abbrev pub is_other_than_brace : ℕ → Bool
 is_other_than_brace byte = not (byte == 123)

@@ -1,9 +1,10 @@
 -- What is told of a text that is no JSON.
-use Rattle.std.specs.Prelude.{ℕ, ◌==◌, ◌&&◌, ◌||◌, not, Bool, slice_index, if◌then◌else◌, List, [], ◌∷◌, length, nat_lt, nat_eq, codes, decimal}
+use Rattle.std.specs.Prelude.{ℕ, ◌==◌, ◌&&◌, ◌||◌, not, Bool, slice_index, if◌then◌else◌, List, [], ◌∷◌, length, nat_lt, nat_eq, codes}
 use Rattle.std.specs.List.{list_any, starts_with}
 use Rattle.std.specs.Char.{is_ascii_digit}
 use Rattle.help_lines.specs.Ini.{is_like_ini}
 use Rattle.help_lines.specs.Blanks.{without_blanks}
+use Rattle.help_lines.specs.Breaks.{break_help}
 use Rattle.help_lines.specs.Told.{said}
 use Rattle.help_lines.specs.Values.{Text}
 use Rattle.help_lines.specs.Words.{behind_word, first_word}
@@ -55,21 +56,24 @@ yaml_playbook = codes "this looks like YAML; convert it with: python3 -c 'import
 abbrev pub yaml_inventory : Text
 yaml_inventory = codes "this looks like YAML; convert it, with its ranges written out, with: ansible-inventory -i FILE --list --yaml --export | python3 -c 'import sys,yaml,json; json.dump(yaml.safe_load(sys.stdin),sys.stdout,default=str)' > FILE.json"
 
-unfoldable pub break_help : ℕ → ℕ → List Text
-break_help line column = codes "it breaks off at line " ∷ decimal line ∷ codes ", column " ∷ decimal column ∷ []
+-- `//` or `/*`, with which a comment begins in JavaScript
+abbrev pub begins_as_code : Text → Bool
+begins_as_code text = starts_with nat_eq text (codes "//") || starts_with nat_eq text (codes "/*")
 
--- of a text without blanks in front, what is told of YAML, and the line and column at which it breaks off, from 1
+-- by what the text is like, what is told of YAML, and the line and column at which it goes wrong, from 1: one that begins
+-- with a comment of JavaScript is like JSON
 unfoldable pub form_help : Text → Text → ℕ → ℕ → List Text
 form_help text yaml line column =
-    if is_like_ini text then ini_help else (
-    if is_like_yaml text then said yaml else break_help line column)
+    if begins_as_code (without_blanks text) then break_help line column text else (
+    if is_like_ini (without_blanks text) then ini_help else (
+    if is_like_yaml (without_blanks text) then said yaml else break_help line column text))
 
--- what is told, by the text, what is told of YAML, and the line and column at which it breaks off, from 1
+-- what is told, by the text, what is told of YAML, and the line and column at which it goes wrong, from 1
 unfoldable pub no_json_help : Text → Text → ℕ → ℕ → List Text
 no_json_help text yaml line column =
     if begins_with_mark text then mark_help else (
     if begins_as_wide text then wide_help else (
-    if length (without_blanks text) == 0 then empty_help else form_help (without_blanks text) yaml line column))
+    if length (without_blanks text) == 0 then empty_help else form_help text yaml line column))
 
 unfoldable pub no_playbook_help : Text → ℕ → ℕ → List Text
 no_playbook_help text line column = no_json_help text yaml_playbook line column

@@ -64,7 +64,7 @@ fn advice_on_place(key: &str) -> Option<&'static str>
     }
     if is_of_once(key) {
         return Some(
-            "write a play of its own whose `hosts` names one host; where it stands between other steps, split the play there",
+            "first or last in its play, write a play of its own whose `hosts` names one host; between other steps write \"when\": \"inventory_hostname == 'web1'\": in a play that is split there, all hosts are drained before one goes on",
         );
     }
     if is_of_variables(key) {

@@ -19,7 +19,7 @@ pub(crate) fn advice_on_order(key: &str) -> Option<&'static str>
     }
     if is_of_flushes(key) {
         return Some(
-            "for flush_handlers write what comes behind as a play of its own, or the handler as a task with `when`",
+            "for flush_handlers write the handler as a task in its place, with \"when\": \"install is changed\"; in a play that is split there, all hosts are drained before one goes on",
         );
     }
     None

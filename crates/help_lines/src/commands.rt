@@ -9,7 +9,7 @@ use crate::blanks::is_empty;
 use serde_json::Value;
 
 const COMMAND_RULE: &str =
-    "a command is a text, or an object with one key alone: {\"argv\": [\"echo\", \"it's\"]}, of texts and whole numbers, or {\"cmd\": \"echo yes\"}";
+    "a command is a text, or an object with one key alone: {\"argv\": [\"echo\", \"it's\"]}, of texts and whole numbers, or {\"cmd\": \"echo yes\"}; other keys, `when` and `register` as examples, stand beside `command`";
 
 const PARAMETER_RULE: &str =
     "creates, removes, chdir and stdin are not taken; let the program do it, as {\"argv\": [\"ssh\", \"--\", \"{{ inventory_hostname }}\", \"cd /srv && ./migrate\"]}, on this machine by \"sh\", \"-c\"";

@@ -4,6 +4,7 @@ ghost use Rattle.help_lines.specs.Conditions as spec;
 ghost use Rattle.help_lines.specs.Lines.{IsHelpLine, IsLine};
 
 use crate::advice::first_said;
+use crate::aside::{first_shown, last_shown};
 use crate::filters::advise_on_pipe;
 use crate::guesses::{meant, tell_meant};
 use crate::line::line_of;
@@ -12,9 +13,6 @@ use crate::piece::Piece;
 use crate::questions::advise_on_words;
 use crate::signs::advise_on_signs;
 use std::alloc::{AllocError, Global};
-
-// How much of a text is shown on each side of a place in it, in bytes.
-const ASIDE: usize = 40;
 
 /// A line that shows the text of a condition around the byte at which it goes wrong, and says what to write in the place
 /// of what Ansible's conditions have there, or which word was meant. A place behind the end is the end. It fails for want
@@ -111,16 +109,14 @@ fn cut_at(text: &[u8], at: usize) -> (&[u8], &[u8])
 fn shown_before(text: &[u8], at: usize) -> &[u8]
     ensures { result.now ≡ spec.shown_before at text.now }
 {
-    let before = cut_at(text, at).0;
-    before.split_at(before.len().saturating_sub(ASIDE)).1
+    last_shown(cut_at(text, at).0)
 }
 
 #[tactic(auto, unfolding(crate::specs::Conditions::shown_behind))]
 fn shown_behind(text: &[u8], at: usize) -> &[u8]
     ensures { result.now ≡ spec.shown_behind at text.now }
 {
-    let behind = cut_at(text, at).1;
-    behind.split_at(behind.len().min(ASIDE)).0
+    first_shown(cut_at(text, at).1)
 }
 
 fn advice_at(alloc: Global, text: &[u8], at: usize) -> Result<String, AllocError>

@@ -25,7 +25,7 @@ fn first_line(text: &[u8]) -> Option<&[u8]>
         .find(|line| says_something(*line))
 }
 
-fn is_feed(byte: u8) -> bool
+pub(crate) fn is_feed(byte: u8) -> bool
     ensures { result ≡ spec.is_feed byte }
 {
     byte == b'\n'

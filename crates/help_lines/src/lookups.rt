@@ -6,7 +6,7 @@ pub(crate) const SEARCH_RULE: &str =
     "; texts aren't searched: let a program do it, as grep -q, with register: r and failed_when: false, and write r.rc == 0";
 
 pub(crate) const FIELD_RULE: &str =
-    "; fields of a result are rc, stdout, stderr, changed, failed and skipped; no facts are gathered: write them into the inventory";
+    "; fields of a result are rc (its exit status), stdout, stderr, changed, failed and skipped; no facts are gathered: write them into the inventory";
 
 const CALL_RULE: &str =
     "; nothing is called: let a program do it, with register: r and failed_when: false, and write r.rc == 0";

@@ -37,7 +37,9 @@ fn tell_rule(alloc: Global) -> Result<String, AllocError>
     line_of(
         alloc,
         &[
-            Piece::Said("there is no '&', '!', '*', '~', index or range in patterns; "),
+            Piece::Said(
+                "there is no '&', '!', '*', '~', index or range in patterns, and `when` leaves hosts out of a step; ",
+            ),
             Piece::Said(PATTERN_RULE),
         ],
     )

@@ -4,11 +4,10 @@ ghost use Rattle.help_lines.specs.Lines.{IsLine};
 ghost use Rattle.help_lines.specs.Texts as spec;
 
 use crate::blanks::without_blanks;
+use crate::breaks::tell_break;
 use crate::ini::is_like_ini;
-use crate::line::line_of;
-use crate::piece::Piece;
 use crate::told::tell;
-use crate::yaml::is_like_yaml;
+use crate::yaml::{begins_as_code, is_like_yaml};
 use std::alloc::{AllocError, Global};
 
 const YAML_PLAYBOOK: &str =
@@ -18,8 +17,8 @@ const YAML_INVENTORY: &str =
     "this looks like YAML; convert it, with its ranges written out, with: ansible-inventory -i FILE --list --yaml --export | python3 -c 'import sys,yaml,json; json.dump(yaml.safe_load(sys.stdin),sys.stdout,default=str)' > FILE.json";
 
 /// A line on the text of a playbook that is no JSON: that it begins with a byte order mark, is UTF-16 or empty, that it
-/// looks like an inventory in INI or like YAML, and how each is converted, or the line and the column, each from 1, at
-/// which it breaks off. It fails for want of memory alone.
+/// looks like an inventory in INI or like YAML, and how each is converted, or what stands at the line and the column, each
+/// from 1, at which it goes wrong. It fails for want of memory alone.
 #[tactic(auto, unfolding(crate::specs::Texts::no_playbook_help))]
 pub fn help_on_text(
     alloc: Global,
@@ -61,11 +60,10 @@ fn help_on_any(
     if begins_as_wide(text) {
         return tell_wide(alloc);
     }
-    let front = without_blanks(text);
-    if front.is_empty() {
+    if without_blanks(text).is_empty() {
         return tell_empty(alloc);
     }
-    help_on_form(alloc, front, yaml, line, column)
+    help_on_form(alloc, text, yaml, line, column)
 }
 
 #[tactic(auto, unfolding(crate::specs::Texts::form_help))]
@@ -78,13 +76,17 @@ fn help_on_form(
 ) -> Result<String, AllocError>
     ensures { IsLine result (spec.form_help text.now yaml.now line column) }
 {
-    if is_like_ini(text) {
+    let front = without_blanks(text);
+    if begins_as_code(front) {
+        return tell_break(alloc, text, line, column);
+    }
+    if is_like_ini(front) {
         return tell_ini(alloc);
     }
-    if is_like_yaml(text) {
+    if is_like_yaml(front) {
         return tell(alloc, yaml);
     }
-    tell_break(alloc, line, column)
+    tell_break(alloc, text, line, column)
 }
 
 fn begins_with_mark(text: &[u8]) -> bool
@@ -133,20 +135,5 @@ fn tell_ini(alloc: Global) -> Result<String, AllocError>
     tell(
         alloc,
         "this looks like an inventory in INI; convert it with: ansible-inventory -i FILE --list --yaml --export | python3 -c 'import sys,yaml,json; json.dump(yaml.safe_load(sys.stdin),sys.stdout,default=str)' > FILE.json",
-    )
-}
-
-#[tactic(auto, unfolding(crate::specs::Texts::break_help))]
-fn tell_break(alloc: Global, line: usize, column: usize) -> Result<String, AllocError>
-    ensures { IsLine result (spec.break_help line column) }
-{
-    line_of(
-        alloc,
-        &[
-            Piece::Said("it breaks off at line "),
-            Piece::Number(line as u64),
-            Piece::Said(", column "),
-            Piece::Number(column as u64),
-        ],
     )
 }

@@ -11,6 +11,13 @@ pub(crate) fn is_like_yaml(text: &[u8]) -> bool
     starts_otherwise(text) || begins_a_list(text) || begins_with_key(text)
 }
 
+/// Whether the text begins with a comment of JavaScript.
+pub(crate) fn begins_as_code(text: &[u8]) -> bool
+    ensures { result ≡ spec.begins_as_code text.now }
+{
+    text.starts_with(b"//") || text.starts_with(b"/*")
+}
+
 fn begins_a_list(text: &[u8]) -> bool
     ensures { result ≡ spec.begins_a_list text.now }
 {

@@ -5,49 +5,52 @@ use Rattle.domains.specs.declared.pattern_fault.PatternFault.TheVariants.{NoSuch
 use Rattle.planning.specs.declared.fault.PlanFault.{PlanFault}
 use Rattle.planning.specs.declared.fault.PlanFault.TheVariants.{Read, Fleet, Playbook, Pattern, Write}
 use Rattle.lint_notes.specs.LintTexts.{IsTextOf}
+use Rattle.lint_notes.specs.Notes.{Note}
+use Rattle.lint_notes.specs.Repeats.{repeat_notes}
 use Rattle.lint_notes.specs.declared.end.LintEnd.{LintEnd}
 use Rattle.every_fault.specs.KeptTexts.{AreKeptTexts, playbook_of}
 use Rattle.every_fault.specs.declared.choosing.KeptTexts.{KeptTexts}
-use Rattle.kept_notes.specs.Beside.{AreNotesOn, AreRefused, IsBeside, IsNotedOf, IsNotedOfOne, IsTextOn, IsToldOf, IsTrueOn, RefusesOn, WritesOn, hidden_kinds, tells_rule, unsought_if}
+use Rattle.kept_notes.specs.Beside.{AreNotesOn, AreRefused, IsBeside, IsNotedOf, IsTextOn, IsToldOf, IsTrueOn, RefusesOn, WritesOn, hidden_kinds, tells_rule, unsought_if}
 
 -- what went out to an empty list is all that it holds
-pub written_is : (kinds inventory : List ℕ) (playbook : Option (List ℕ)) (text : List ℕ) (end : LintEnd) → WritesOn kinds inventory playbook (Some []) (Some text) end → IsTextOn kinds inventory playbook text
-written_is kinds inventory playbook text end writes =
-    record { end = end; is = subst (λ (bytes : List ℕ). IsTextOf (AreNotesOn inventory playbook) kinds bytes end) (sym writes.written) writes.is }
+pub written_is : (kinds : List ℕ) (first : List Note) (inventory : List ℕ) (playbook : Option (List ℕ)) (text : List ℕ) (end : LintEnd) → WritesOn kinds first inventory playbook (Some []) (Some text) end → IsTextOn kinds first inventory playbook text
+written_is kinds first inventory playbook text end writes =
+    record { end = end; is = subst (λ (bytes : List ℕ). IsTextOf (AreNotesOn first inventory playbook) kinds bytes end) (sym writes.written) writes.is }
 
 -- a rule that refuses the notes refuses the texts
-refuses_on : (kinds inventory : List ℕ) (playbook : Option (List ℕ)) (old new : Option (List ℕ)) (fault : PlanFault) → tells_rule fault ≡ true → IsTrueOn kinds inventory playbook old new fault
+refuses_on : (kinds : List ℕ) (first : List Note) (inventory : List ℕ) (playbook : Option (List ℕ)) (old new : Option (List ℕ)) (fault : PlanFault) → tells_rule fault ≡ true → IsTrueOn kinds first inventory playbook old new fault
     → RefusesOn inventory playbook fault
-refuses_on kinds inventory None old new (Read fault) rule fails = fails.0
-refuses_on kinds inventory None old new (Fleet fault) rule fails = fails.0
-refuses_on kinds inventory None old new (Playbook fault) rule fails = absurd fails
-refuses_on kinds inventory None old new (Pattern (NoSuchName name)) rule fails = absurd fails
-refuses_on kinds inventory None old new (Pattern Memory) rule fails = absurd (cc)
-refuses_on kinds inventory None old new (Write fault) rule fails = absurd (cc)
-refuses_on kinds inventory (Some playbook) old new (Read fault) rule fails = inl fails.0
-refuses_on kinds inventory (Some playbook) old new (Fleet fault) rule fails = inl fails.0
-refuses_on kinds inventory (Some playbook) old new (Playbook fault) rule fails = inr fails.0
-refuses_on kinds inventory (Some playbook) old new (Pattern fault) rule fails = inr fails.0
-refuses_on kinds inventory (Some playbook) old new (Write fault) rule fails = absurd (cc)
+refuses_on kinds first inventory None old new (Read fault) rule fails = fails.0
+refuses_on kinds first inventory None old new (Fleet fault) rule fails = fails.0
+refuses_on kinds first inventory None old new (Playbook fault) rule fails = absurd fails
+refuses_on kinds first inventory None old new (Pattern (NoSuchName name)) rule fails = absurd fails
+refuses_on kinds first inventory None old new (Pattern Memory) rule fails = absurd (cc)
+refuses_on kinds first inventory None old new (Write fault) rule fails = absurd (cc)
+refuses_on kinds first inventory (Some playbook) old new (Read fault) rule fails = inl fails.0
+refuses_on kinds first inventory (Some playbook) old new (Fleet fault) rule fails = inl fails.0
+refuses_on kinds first inventory (Some playbook) old new (Playbook fault) rule fails = inr fails.0
+refuses_on kinds first inventory (Some playbook) old new (Pattern fault) rule fails = inr fails.0
+refuses_on kinds first inventory (Some playbook) old new (Write fault) rule fails = absurd (cc)
 
-pub are_refused : (kinds inventory : List ℕ) (playbook : Option (List ℕ)) (old new : Option (List ℕ)) (fault : PlanFault) → tells_rule fault ≡ true → IsTrueOn kinds inventory playbook old new fault
+pub are_refused : (kinds : List ℕ) (first : List Note) (inventory : List ℕ) (playbook : Option (List ℕ)) (old new : Option (List ℕ)) (fault : PlanFault) → tells_rule fault ≡ true → IsTrueOn kinds first inventory playbook old new fault
     → AreRefused inventory playbook
-are_refused kinds inventory playbook old new fault rule fails =
-    record { fault = fault; is_rule = rule; refuses = refuses_on kinds inventory playbook old new fault rule fails }
+are_refused kinds first inventory playbook old new fault rule fails =
+    record { fault = fault; is_rule = rule; refuses = refuses_on kinds first inventory playbook old new fault rule fails }
 
-module _ {T E : Type 0} (bytes : T → List ℕ) (has_plays : T → Bool) (kinds inventory : List ℕ) where
-  pub noted_in : (playbook : List ℕ) (result : Result T E) → AreRefused inventory (Some playbook) → IfOk result (λ noted. IsNotedOf kinds inventory None (bytes noted) (has_plays noted))
-      → IfOk result (λ noted. IsNotedOf kinds inventory (Some playbook) (bytes noted) (has_plays noted))
+module _ {T E : Type 0} (bytes : T → List ℕ) (has_plays : T → Bool) (kinds : List ℕ) (first : List Note) (inventory : List ℕ) where
+  pub noted_in : (playbook : List ℕ) (result : Result T E) → AreRefused inventory (Some playbook) → IfOk result (λ noted. IsNotedOf kinds first inventory None (bytes noted) (has_plays noted))
+      → IfOk result (λ noted. IsNotedOf kinds first inventory (Some playbook) (bytes noted) (has_plays noted))
   noted_in playbook (Ok text) refused noted = inr (refused, noted)
   noted_in playbook (Err failed) refused noted = tt
 
-module _ {T E : Type 0} (bytes : T → List ℕ) (allowed : List ℕ) (kept : KeptTexts) where
-  pub ended_so : (notes : List ℕ) (has_plays : Bool) (result : Result T E) → IsNotedOf (hidden_kinds kept.hosts kept.left_out ++ allowed) kept.inventory.items (playbook_of kept) notes has_plays
-      → IfOk result (λ text. bytes text ≡ notes ++ unsought_if has_plays kept.hosts kept.left_out) → IfOk result (λ text. IsToldOf allowed kept (bytes text))
+module _ {T E : Type 0} (bytes : T → List ℕ) (allowed : List ℕ) (first : List Note) (kept : KeptTexts) where
+  pub ended_so : (notes : List ℕ) (has_plays : Bool) (result : Result T E) → IsNotedOf (hidden_kinds kept.hosts kept.left_out ++ allowed) first kept.inventory.items (playbook_of kept) notes has_plays
+      → IfOk result (λ text. bytes text ≡ notes ++ unsought_if has_plays kept.hosts kept.left_out) → IfOk result (λ text. IsToldOf allowed first kept (bytes text))
   ended_so notes has_plays (Ok text) noted is = record { notes = notes; has_plays = has_plays; noted = noted; text_is = is }
   ended_so notes has_plays (Err failed) noted is = tt
 
+module _ {T E : Type 0} (bytes : T → List ℕ) (allowed : List ℕ) (kept : KeptTexts) where
   pub beside_in : (inventory : List ℕ) (playbook : Option (List ℕ)) (result : Result T E) → AreKeptTexts inventory playbook (Some kept)
-      → IfOk result (λ text. IsToldOf allowed kept (bytes text)) → IfOk result (λ text. IsBeside allowed inventory playbook (bytes text))
+      → IfOk result (λ text. IsToldOf allowed (repeat_notes inventory playbook) kept (bytes text)) → IfOk result (λ text. IsBeside allowed inventory playbook (bytes text))
   beside_in inventory playbook (Ok text) are told = record { kept = Some kept; are_kept = are; told = told }
   beside_in inventory playbook (Err failed) are told = tt

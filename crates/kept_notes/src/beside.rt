@@ -3,15 +3,16 @@ ghost use Rattle.std.specs.Prelude.{◌≡◌, ◌++◌, IfOk, None, Some};
 ghost use Rattle.std.specs.Option.{option_map};
 ghost use Rattle.std.specs.String.{string_bytes};
 ghost use Rattle.every_fault.specs.KeptTexts.{playbook_of};
+ghost use Rattle.lint_notes.specs.Repeats.{repeats_given};
 ghost use Rattle.kept_notes.specs.Beside as spec;
 ghost use Rattle.kept_notes.specs.Beside.{IsBeside, IsNotedOf, IsNotedOfOne, IsToldOf, hidden_kinds, unsought};
 
 use crate::rule::tells_rule;
 use every_fault::{KeptTexts, KnownHosts, LeftOut, kept_texts};
-use lint_notes::{Allowed, lint_fleet_text, lint_text};
+use lint_notes::{Allowed, Texts, lint_fleet_text, lint_text};
 use std::alloc::{AllocError, Global};
 
-/// The notes on what is kept of an inventory, and of a playbook where there is one, that are refused, and how many they are, each as `lint` writes it; but for those of kinds that may be there
+/// The notes on keys that stand more than once in an inventory, and in a playbook where there is one, that are refused, on what is kept of these, and how many they are, each as `lint` writes it; but for those of kinds that may be there
 /// only for what was left out, and of those that are allowed; and behind them what isn't looked for. Where what is kept of the playbook is refused too, they are those on the inventory alone;
 /// where nothing is kept of that, that line stands alone. It fails for want of memory alone.
 pub fn notes_beside_faults(
@@ -23,7 +24,15 @@ pub fn notes_beside_faults(
     ensures { IfOk result (λ text. IsBeside allowed.now inventory.now (option_map (λ text. text.now) playbook.entry) text.items) }
 {
     match kept_texts(alloc, inventory, playbook) {
-        Ok(Some(kept)) => tell_kept(alloc, &kept, allowed),
+        Ok(Some(kept)) => tell_kept(
+            alloc,
+            Texts {
+                inventory,
+                playbook,
+            },
+            &kept,
+            allowed,
+        ),
         Ok(None) => ended(
             Vec::new(alloc),
             "  not looked for beside these faults: anything else\n",
@@ -33,10 +42,15 @@ pub fn notes_beside_faults(
 }
 
 /// The notes on texts that are kept, and what isn't looked for beside their faults.
-fn tell_kept(alloc: Global, kept: &KeptTexts, allowed: &Allowed<'_>) -> Result<Vec<u8>, AllocError>
-    ensures { IfOk result (λ text. IsToldOf allowed.now kept.now text.items) }
+fn tell_kept(
+    alloc: Global,
+    given: Texts<'_>,
+    kept: &KeptTexts,
+    allowed: &Allowed<'_>,
+) -> Result<Vec<u8>, AllocError>
+    ensures { IfOk result (λ text. IsToldOf allowed.now (repeats_given given.entry) kept.now text.items) }
 {
-    match notes_on(alloc, kept, allowed) {
+    match notes_on(alloc, given, kept, allowed) {
         Ok(noted) => ended(
             noted.text,
             line_behind(noted.has_plays, kept.hosts, kept.left_out),
@@ -71,8 +85,10 @@ fn unsought_alone(hosts: KnownHosts) -> &'static str
 {
     match hosts {
         KnownHosts::All => "",
-        KnownHosts::Some => "  not looked for beside these faults: empty-limit\n",
-        KnownHosts::Unlimited => "  not looked for beside these faults: zero-limit, empty-limit\n",
+        KnownHosts::Some =>
+            "  not looked for beside these faults: empty-limit, loose-limit, empty-group\n",
+        KnownHosts::Unlimited =>
+            "  not looked for beside these faults: zero-limit, empty-limit, loose-limit, empty-group\n",
     }
 }
 
@@ -82,9 +98,9 @@ fn unsought_with_plays(hosts: KnownHosts) -> &'static str
     match hosts {
         KnownHosts::All => "  not looked for beside these faults: anything of plays and steps\n",
         KnownHosts::Some =>
-            "  not looked for beside these faults: empty-limit, anything of plays and steps\n",
+            "  not looked for beside these faults: empty-limit, loose-limit, empty-group, anything of plays and steps\n",
         KnownHosts::Unlimited =>
-            "  not looked for beside these faults: zero-limit, empty-limit, anything of plays and steps\n",
+            "  not looked for beside these faults: zero-limit, empty-limit, loose-limit, empty-group, anything of plays and steps\n",
     }
 }
 
@@ -94,21 +110,21 @@ fn kinds_unsought(hosts: KnownHosts, left_out: LeftOut) -> &'static str
     match (hosts, left_out) {
         (KnownHosts::All, LeftOut::Nothing) => "",
         (KnownHosts::All, LeftOut::Parts) =>
-            "  not looked for beside these faults: one-failure, idle-handler\n",
+            "  not looked for beside these faults: one-failure, local-play, idle-handler\n",
         (KnownHosts::All, LeftOut::Conditions) =>
-            "  not looked for beside these faults: one-failure, missing-name, constant-condition, idle-handler\n",
+            "  not looked for beside these faults: one-failure, local-play, missing-name, missing-result, constant-condition, idle-handler\n",
         (KnownHosts::Some, LeftOut::Nothing) =>
-            "  not looked for beside these faults: empty-limit, no-hosts, down-hosts, idle-serial, one-failure\n",
+            "  not looked for beside these faults: empty-limit, loose-limit, empty-group, no-hosts, down-hosts, unlimited-hosts, idle-serial, one-failure, local-play, missing-result, unknown-group, idle-step, fixed-target\n",
         (KnownHosts::Some, LeftOut::Parts) =>
-            "  not looked for beside these faults: empty-limit, no-hosts, down-hosts, idle-serial, one-failure, idle-handler\n",
+            "  not looked for beside these faults: empty-limit, loose-limit, empty-group, no-hosts, down-hosts, unlimited-hosts, idle-serial, one-failure, local-play, missing-result, unknown-group, idle-step, fixed-target, idle-handler\n",
         (KnownHosts::Some, LeftOut::Conditions) =>
-            "  not looked for beside these faults: empty-limit, no-hosts, down-hosts, idle-serial, one-failure, missing-name, constant-condition, idle-handler\n",
+            "  not looked for beside these faults: empty-limit, loose-limit, empty-group, no-hosts, down-hosts, unlimited-hosts, idle-serial, one-failure, local-play, missing-name, missing-result, unknown-group, idle-step, constant-condition, fixed-target, idle-handler\n",
         (KnownHosts::Unlimited, LeftOut::Nothing) =>
-            "  not looked for beside these faults: zero-limit, empty-limit, no-hosts, down-hosts, idle-serial, one-failure\n",
+            "  not looked for beside these faults: zero-limit, empty-limit, loose-limit, empty-group, no-hosts, down-hosts, unlimited-hosts, idle-serial, one-failure, local-play, missing-result, unknown-group, idle-step, fixed-target\n",
         (KnownHosts::Unlimited, LeftOut::Parts) =>
-            "  not looked for beside these faults: zero-limit, empty-limit, no-hosts, down-hosts, idle-serial, one-failure, idle-handler\n",
+            "  not looked for beside these faults: zero-limit, empty-limit, loose-limit, empty-group, no-hosts, down-hosts, unlimited-hosts, idle-serial, one-failure, local-play, missing-result, unknown-group, idle-step, fixed-target, idle-handler\n",
         (KnownHosts::Unlimited, LeftOut::Conditions) =>
-            "  not looked for beside these faults: zero-limit, empty-limit, no-hosts, down-hosts, idle-serial, one-failure, missing-name, constant-condition, idle-handler\n",
+            "  not looked for beside these faults: zero-limit, empty-limit, loose-limit, empty-group, no-hosts, down-hosts, unlimited-hosts, idle-serial, one-failure, local-play, missing-name, missing-result, unknown-group, idle-step, constant-condition, fixed-target, idle-handler\n",
     }
 }
 
@@ -120,8 +136,13 @@ struct Noted {
 }
 
 /// The notes on texts that are kept.
-fn notes_on(alloc: Global, kept: &KeptTexts, allowed: &Allowed<'_>) -> Result<Noted, AllocError>
-    ensures { IfOk result (λ noted. IsNotedOf (hidden_kinds kept.now.hosts kept.now.left_out ++ allowed.now) kept.now.inventory.items (playbook_of kept.now) noted.text.items noted.has_plays) }
+fn notes_on(
+    alloc: Global,
+    given: Texts<'_>,
+    kept: &KeptTexts,
+    allowed: &Allowed<'_>,
+) -> Result<Noted, AllocError>
+    ensures { IfOk result (λ noted. IsNotedOf (hidden_kinds kept.now.hosts kept.now.left_out ++ allowed.now) (repeats_given given.entry) kept.now.inventory.items (playbook_of kept.now) noted.text.items noted.has_plays) }
 {
     let kinds = match hidden_with(alloc, kinds_hidden(kept.hosts, kept.left_out), allowed) {
         Ok(kinds) => kinds,
@@ -131,11 +152,12 @@ fn notes_on(alloc: Global, kept: &KeptTexts, allowed: &Allowed<'_>) -> Result<No
     match &kept.playbook {
         Some(playbook) => notes_on_both(
             alloc,
+            given,
             kept.inventory.as_slice(),
             playbook.as_slice(),
             &hidden,
         ),
-        None => noted_alone(alloc, kept.inventory.as_slice(), &hidden),
+        None => noted_alone(alloc, given, kept.inventory.as_slice(), &hidden),
     }
 }
 
@@ -154,8 +176,9 @@ fn all_hidden(left_out: LeftOut) -> &'static str
 {
     match left_out {
         LeftOut::Nothing => "",
-        LeftOut::Parts => "one-failure,idle-handler,",
-        LeftOut::Conditions => "one-failure,missing-name,constant-condition,idle-handler,",
+        LeftOut::Parts => "one-failure,local-play,idle-handler,",
+        LeftOut::Conditions =>
+            "one-failure,local-play,missing-name,missing-result,constant-condition,idle-handler,",
     }
 }
 
@@ -163,10 +186,12 @@ fn some_hidden(left_out: LeftOut) -> &'static str
     ensures { result.now ≡ spec.some_hidden left_out }
 {
     match left_out {
-        LeftOut::Nothing => "empty-limit,no-hosts,down-hosts,idle-serial,one-failure,",
-        LeftOut::Parts => "empty-limit,no-hosts,down-hosts,idle-serial,one-failure,idle-handler,",
+        LeftOut::Nothing =>
+            "empty-limit,loose-limit,empty-group,no-hosts,down-hosts,unlimited-hosts,idle-serial,one-failure,local-play,missing-result,unknown-group,idle-step,fixed-target,",
+        LeftOut::Parts =>
+            "empty-limit,loose-limit,empty-group,no-hosts,down-hosts,unlimited-hosts,idle-serial,one-failure,local-play,missing-result,unknown-group,idle-step,fixed-target,idle-handler,",
         LeftOut::Conditions =>
-            "empty-limit,no-hosts,down-hosts,idle-serial,one-failure,missing-name,constant-condition,idle-handler,",
+            "empty-limit,loose-limit,empty-group,no-hosts,down-hosts,unlimited-hosts,idle-serial,one-failure,local-play,missing-name,missing-result,unknown-group,idle-step,constant-condition,fixed-target,idle-handler,",
     }
 }
 
@@ -178,10 +203,15 @@ fn hidden_with(alloc: Global, hidden: &str, allowed: &Allowed<'_>) -> Result<Str
     Ok(kinds)
 }
 
-fn noted_alone(alloc: Global, inventory: &[u8], hidden: &Allowed<'_>) -> Result<Noted, AllocError>
-    ensures { IfOk result (λ noted. IsNotedOf hidden.now inventory.now None noted.text.items noted.has_plays) }
+fn noted_alone(
+    alloc: Global,
+    given: Texts<'_>,
+    inventory: &[u8],
+    hidden: &Allowed<'_>,
+) -> Result<Noted, AllocError>
+    ensures { IfOk result (λ noted. IsNotedOf hidden.now (repeats_given given.entry) inventory.now None noted.text.items noted.has_plays) }
 {
-    match notes_on_one(alloc, inventory, hidden) {
+    match notes_on_one(alloc, given, inventory, hidden) {
         Ok(text) => Ok(Noted {
             text,
             has_plays: false,
@@ -192,32 +222,34 @@ fn noted_alone(alloc: Global, inventory: &[u8], hidden: &Allowed<'_>) -> Result<
 
 fn notes_on_both(
     alloc: Global,
+    given: Texts<'_>,
     inventory: &[u8],
     playbook: &[u8],
     hidden: &Allowed<'_>,
 ) -> Result<Noted, AllocError>
-    ensures { IfOk result (λ noted. IsNotedOf hidden.now inventory.now (Some playbook.now) noted.text.items noted.has_plays) }
+    ensures { IfOk result (λ noted. IsNotedOf hidden.now (repeats_given given.entry) inventory.now (Some playbook.now) noted.text.items noted.has_plays) }
 {
     let mut text = Vec::new(alloc);
-    match lint_text(alloc, inventory, playbook, hidden, &mut text) {
+    match lint_text(alloc, given, inventory, playbook, hidden, &mut text) {
         Ok(_) => Ok(Noted {
             text,
             has_plays: true,
         }),
-        Err(fault) if tells_rule(&fault) => noted_alone(alloc, inventory, hidden),
+        Err(fault) if tells_rule(&fault) => noted_alone(alloc, given, inventory, hidden),
         Err(_) => Err(AllocError),
     }
 }
 
 fn notes_on_one(
     alloc: Global,
+    given: Texts<'_>,
     inventory: &[u8],
     hidden: &Allowed<'_>,
 ) -> Result<Vec<u8>, AllocError>
-    ensures { IfOk result (λ text. IsNotedOfOne hidden.now inventory.now text.items) }
+    ensures { IfOk result (λ text. IsNotedOfOne hidden.now (repeats_given given.entry) inventory.now text.items) }
 {
     let mut text = Vec::new(alloc);
-    match lint_fleet_text(alloc, inventory, hidden, &mut text) {
+    match lint_fleet_text(alloc, given, inventory, hidden, &mut text) {
         Ok(_) => Ok(text),
         Err(fault) if tells_rule(&fault) => Ok(Vec::new(alloc)),
         Err(_) => Err(AllocError),

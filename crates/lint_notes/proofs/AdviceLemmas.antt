@@ -1,5 +1,5 @@
 -- Whether notes of a kind are told.
-use Rattle.std.proofs.Common.{◌≡◌, Bool, not, ◌&&◌, List, map, sym, ap, ◌∙◌}
+use Rattle.std.proofs.Common.{◌≡◌, Bool, List, map, sym, ◌∙◌}
 use Rattle.std.specs.List.{list_any}
 use Rattle.group_tree.proofs.MemberLemmas.{list_any-map}
 use Rattle.lint_notes.specs.Advice.{is_of}

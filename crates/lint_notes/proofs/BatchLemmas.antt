@@ -1,5 +1,5 @@
 -- Sizes of plays, one behind the other, and the smallest of batches.
-use Rattle.std.proofs.Common.{◌≡◌, ℕ, ◌+◌, ◌<◌, ◌≤◌, Option, None, Some, List, [], ◌∷◌, ◌++◌, map, drop, drop-cons, add-one, min, length, length-append, arith, refl, sym, ap, ◌∙◌, subst, inl, inr, ◌⊎◌}
+use Rattle.std.proofs.Common.{◌≡◌, ℕ, ◌+◌, ◌<◌, ◌≤◌, Option, None, List, [], ◌∷◌, ◌++◌, map, drop, drop-cons, add-one, length, length-append, arith, sym, ap, ◌∙◌, subst, inl, inr, ◌⊎◌}
 use Rattle.std.specs.Prelude.{IfOk, Ok, Err, Result, is_some, slice_index_or}
 use Rattle.std.proofs.lemmas.List.{get_or_append_left, get_or_default}
 use Rattle.std.proofs.lemmas.Bool.{cases_lt}
@@ -7,7 +7,7 @@ use Rattle.std.proofs.Math.Seq.{get_or-append_seam}
 use Rattle.domains.specs.FleetViews.{FleetView}
 use Rattle.play_model.specs.declared.play.Play.{Play}
 use Rattle.fleet_numbers.specs.NumberLists.{list_at}
-use Rattle.lint_notes.specs.Batches.{IsSmallestIn, IsSmallestOf, least_of, smallest}
+use Rattle.lint_notes.specs.Batches.{IsSmallestIn, IsSmallestOf, least_of, lesser}
 
 -- the first so many plays have their sizes
 pub record AreSmallestSoFar (fleet : FleetView) (plays : List Play) (sizes : List (Option ℕ)) (count : ℕ) : Type 0 where
@@ -37,17 +37,9 @@ smallest_more fleet plays sizes more count play size within is pushed now before
         sym (ap (λ (l : List (Option ℕ)). slice_index_or l number None) pushed ∙ ap (λ n. slice_index_or (sizes ++ size ∷ []) n None) place ∙ get_or-append_seam sizes size [] None) in
         subst (λ (p : Play). IsSmallestOf fleet p (slice_index_or more number None)) one (subst (IsSmallestOf fleet play) other now)
 
-pub smallest_of_some : (batches : List (List ℕ)) → 0 < length batches → smallest batches ≡ Some (least_of (length (list_at batches 0)) (map length (drop 1 batches)))
-smallest_of_some [] some = absurd (omega (arith, some))
-smallest_of_some (batch ∷ batches) some = refl
-
-pub smallest_of_none : (batches : List (List ℕ)) → length batches ≡ 0 → smallest batches ≡ None
-smallest_of_none [] none = refl
-smallest_of_none (batch ∷ batches) none = absurd (omega (arith, none))
-
 -- one batch more
-pub least_more : (batches : List (List ℕ)) (place least : ℕ) → place < length batches
-    → least_of least (map length (drop place batches)) ≡ least_of (min least (length (list_at batches place))) (map length (drop (place + 1) batches))
+pub least_more : (batches : List (List ℕ)) (place : ℕ) (least : Option ℕ) → place < length batches
+    → least_of least (map length (drop place batches)) ≡ least_of (lesser least (length (list_at batches place))) (map length (drop (place + 1) batches))
 least_more batches place least within =
     ap (λ (l : List (List ℕ)). least_of least (map length l)) (drop-cons batches place [] within ∙ ap (λ n. list_at batches place ∷ drop n batches) (sym (add-one place)))
 

@@ -16,7 +16,8 @@ use Rattle.cond.specs.declared.tree.Tree.TheOpen.{Tree-F}
 use Rattle.cond.specs.declared.tree.Tree.TheViews.{roll-Tree}
 use Rattle.cond.specs.declared.tree.Tree.TheOpen as tree
 use Rattle.cond.specs.declared.tree.Tree.TheFolds.{map-Tree, fold-roll-Tree, ind-Tree}
-use Rattle.lint_notes.specs.Conditions.{any_of, asks, asks_in_part, asks_in_tree, asks_step, looks_up}
+use Rattle.lint_notes.specs.Conditions.{any_of, answers_in_part, answers_in_tree, answers_step, asks, looks_up}
+use Rattle.lint_notes.specs.declared.questions.Question.TheVariants.{AsksHost}
 use Rattle.lint_notes.specs.Laws.{ConstantsAreAlike}
 
 neither_left : (a b : Bool) → (a || b) ≡ false → a ≡ false
@@ -31,18 +32,18 @@ not_so : (b : Bool) → not b ≡ true → b ≡ false
 not_so true is = absurd (cc)
 not_so false is = refl
 
-none_in_front : (trees : List Tree) (count : ℕ) → any_of (map asks_in_tree trees) ≡ false → any_of (map asks_in_tree (take count trees)) ≡ false
+none_in_front : (trees : List Tree) (count : ℕ) → any_of (map (answers_in_tree AsksHost) trees) ≡ false → any_of (map (answers_in_tree AsksHost) (take count trees)) ≡ false
 none_in_front trees zero none = refl
 none_in_front [] (suc count) none = refl
 none_in_front (of ∷ trees) (suc count) none =
-    let later = none_in_front trees count (neither_right (asks_in_tree of) (any_of (map asks_in_tree trees)) none) in
-    ap (λ b. b || any_of (map asks_in_tree (take count trees))) (neither_left (asks_in_tree of) (any_of (map asks_in_tree trees)) none) ∙ later
+    let later = none_in_front trees count (neither_right (answers_in_tree AsksHost of) (any_of (map (answers_in_tree AsksHost) trees)) none) in
+    ap (λ b. b || any_of (map (answers_in_tree AsksHost) (take count trees))) (neither_left (answers_in_tree AsksHost of) (any_of (map (answers_in_tree AsksHost) trees)) none) ∙ later
 
-none_behind : (trees : List Tree) (count : ℕ) → any_of (map asks_in_tree trees) ≡ false → any_of (map asks_in_tree (drop count trees)) ≡ false
+none_behind : (trees : List Tree) (count : ℕ) → any_of (map (answers_in_tree AsksHost) trees) ≡ false → any_of (map (answers_in_tree AsksHost) (drop count trees)) ≡ false
 none_behind trees zero none = none
 none_behind [] (suc count) none = refl
 none_behind (of ∷ trees) (suc count) none =
-    none_behind trees count (neither_right (asks_in_tree of) (any_of (map asks_in_tree trees)) none)
+    none_behind trees count (neither_right (answers_in_tree AsksHost of) (any_of (map (answers_in_tree AsksHost) trees)) none)
 
 module _ (e other : Environment) where
   operand_same : (text : List ℕ) (of : Operand) → looks_up of ≡ false → operand_value e (written_operand text of) ≡ operand_value other (written_operand text of)
@@ -64,7 +65,7 @@ module _ (e other : Environment) where
 
   module _ (text : List ℕ) where
     abbrev IsSame : Tree → Type 0
-    IsSame of = asks_in_tree of ≡ false → tree_verdict text e of ≡ tree_verdict text other of
+    IsSame of = answers_in_tree AsksHost of ≡ false → tree_verdict text e of ≡ tree_verdict text other of
 
     abbrev Row : Type 0
     Row = (of : Tree) × IsSame of
@@ -72,17 +73,17 @@ module _ (e other : Environment) where
     abbrev tree_of : Row → Tree
     tree_of row = row.0
 
-    rows_same : (rows : List Row) → any_of (map asks_in_tree (map tree_of rows)) ≡ false
+    rows_same : (rows : List Row) → any_of (map (answers_in_tree AsksHost) (map tree_of rows)) ≡ false
         → map (tree_verdict text e) (map tree_of rows) ≡ map (tree_verdict text other) (map tree_of rows)
     rows_same [] none = refl
     rows_same (row ∷ rows) none =
-        let first = asks_in_tree row.0 in
-        let others = any_of (map asks_in_tree (map tree_of rows)) in
+        let first = answers_in_tree AsksHost row.0 in
+        let others = any_of (map (answers_in_tree AsksHost) (map tree_of rows)) in
         let here : tree_verdict text e row.0 ≡ tree_verdict text other row.0 = row.1 (neither_left first others none) in
         let later = rows_same rows (neither_right first others none) in
         cc
 
-    level_same : (level : Tree-F Row) → asks_step (map-Tree Tree Bool asks_in_tree (map-Tree Row Tree tree_of level)) ≡ false
+    level_same : (level : Tree-F Row) → (answers_step AsksHost) (map-Tree Tree Bool (answers_in_tree AsksHost) (map-Tree Row Tree tree_of level)) ≡ false
         → verdict_step text e (map-Tree Tree Verdict (tree_verdict text e) (map-Tree Row Tree tree_of level))
         ≡ verdict_step text other (map-Tree Tree Verdict (tree_verdict text other) (map-Tree Row Tree tree_of level))
     level_same (tree.Either parts) none = ap said.any_of (rows_same parts.items none)
@@ -95,40 +96,40 @@ module _ (e other : Environment) where
     rolled_same level none =
         let trees = map-Tree Row Tree tree_of level in
         fold-roll-Tree Verdict (verdict_step text e) trees
-        ∙ level_same level (subst (λ b. b ≡ false) (fold-roll-Tree Bool asks_step trees) none)
+        ∙ level_same level (subst (λ b. b ≡ false) (fold-roll-Tree Bool (answers_step AsksHost) trees) none)
         ∙ sym (fold-roll-Tree Verdict (verdict_step text other) trees)
 
     tree_same : (of : Tree) → IsSame of
     tree_same =
         ind-Tree IsSame (λ x y is. subst (λ (level : Tree-F Tree). IsSame (roll-Tree level)) is (rolled_same y))
 
-    trees_same : (trees : List Tree) → any_of (map asks_in_tree trees) ≡ false → map (tree_verdict text e) trees ≡ map (tree_verdict text other) trees
+    trees_same : (trees : List Tree) → any_of (map (answers_in_tree AsksHost) trees) ≡ false → map (tree_verdict text e) trees ≡ map (tree_verdict text other) trees
     trees_same [] none = refl
     trees_same (of ∷ trees) none =
-        let first = asks_in_tree of in
-        let others = any_of (map asks_in_tree trees) in
+        let first = answers_in_tree AsksHost of in
+        let others = any_of (map (answers_in_tree AsksHost) trees) in
         let here = tree_same of (neither_left first others none) in
         let later = trees_same trees (neither_right first others none) in
         cc
 
-    part_same : (trees : List Tree) (of : Part) → asks_in_part of ≡ false → any_of (map asks_in_tree trees) ≡ false
+    part_same : (trees : List Tree) (of : Part) → answers_in_part AsksHost of ≡ false → any_of (map (answers_in_tree AsksHost) trees) ≡ false
         → part_verdict e text trees of ≡ part_verdict other text trees of
     part_same trees (part.Test denied bytes test) none bare = ap (turned denied) (test_same text test none)
     part_same trees (part.Trees bytes count) none bare = ap all_of (trees_same trees bare)
 
-  parts_same : (text : List ℕ) (trees : List Tree) (parts : List Part) → list_any asks_in_part parts ≡ false → any_of (map asks_in_tree trees) ≡ false
+  parts_same : (text : List ℕ) (trees : List Tree) (parts : List Part) → list_any (answers_in_part AsksHost) parts ≡ false → any_of (map (answers_in_tree AsksHost) trees) ≡ false
       → verdicts e text trees parts ≡ verdicts other text trees parts
   parts_same text trees [] none bare = refl
   parts_same text trees (of ∷ parts) none bare =
-      let first = asks_in_part of in
-      let others = list_any asks_in_part parts in
+      let first = answers_in_part AsksHost of in
+      let others = list_any (answers_in_part AsksHost) parts in
       let here = part_same (take (bytes_of of) text) (take (trees_of of) trees) of (neither_left first others none) (none_in_front trees (trees_of of) bare) in
       let later = parts_same (drop (bytes_of of) text) (drop (trees_of of) trees) parts (neither_right first others none) (none_behind trees (trees_of of) bare) in
       cc
 
 pub constants_alike : ConstantsAreAlike
 constants_alike condition constant e other =
-    let none = not_so (list_any asks_in_part condition.parts.items || any_of (map asks_in_tree condition.trees.items)) constant in
-    let parts = list_any asks_in_part condition.parts.items in
-    let trees = any_of (map asks_in_tree condition.trees.items) in
+    let none = not_so (list_any (answers_in_part AsksHost) condition.parts.items || any_of (map (answers_in_tree AsksHost) condition.trees.items)) constant in
+    let parts = list_any (answers_in_part AsksHost) condition.parts.items in
+    let trees = any_of (map (answers_in_tree AsksHost) condition.trees.items) in
     ap all_of (parts_same e other (string_bytes condition.text) condition.trees.items condition.parts.items (neither_left parts trees none) (neither_right parts trees none))

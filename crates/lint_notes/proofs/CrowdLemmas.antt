@@ -13,12 +13,11 @@ use Rattle.host_vars.specs.Conditions.{result_or_variable}
 use Rattle.host_track.specs.Hosts.{Known}
 use Rattle.host_vars.specs.HostVars.{HasNoResult, variables_of}
 use Rattle.host_vars.specs.declared.vars.Vars.{Vars}
-use Rattle.missing_names.specs.Spots.{missed_at}
 use Rattle.play_model.specs.Results.{Row}
 use Rattle.play_model.specs.declared.play.Play.{Play}
 use Rattle.step_words.proofs.Waiting.{fresh_without}
-use Rattle.lint_notes.specs.Hosts.{has_none, lacks_of, missed_of, missed_with}
-use Rattle.lint_notes.specs.Inside.{finds_none, lacks_in, missed_by, missed_in}
+use Rattle.lint_notes.specs.Hosts.{foreseen_at, foreseen_of, foreseen_with, has_none, lacks_of}
+use Rattle.lint_notes.specs.Inside.{finds_none, foreseen_by, foreseen_in, lacks_in}
 
 none_plain : (variable : Option Scalar) → is_none (option_map Plain variable) ≡ is_none variable
 none_plain None = refl
@@ -35,14 +34,14 @@ lacks_same [] name host bare = refl
 lacks_same (one ∷ vars) name zero bare = none_found one name (All-head HasNoResult one vars bare)
 lacks_same (one ∷ vars) name (suc host) bare = lacks_same vars name host (All-tail HasNoResult one vars bare)
 
-pub missed_same : (fleet : FleetView) (plays : List Play) (number place host : ℕ) (vars : List Vars) → All HasNoResult vars
-    → missed_in fleet plays vars number place host ≡ missed_of fleet plays (map variables_of vars) number place host
-missed_same fleet plays number place host vars bare = at vars host bare
+pub foreseen_same : (fleet : FleetView) (plays : List Play) (number place host : ℕ) (vars : List Vars) → All HasNoResult vars
+    → foreseen_in fleet plays vars number place host ≡ foreseen_of fleet plays (map variables_of vars) number place host
+foreseen_same fleet plays number place host vars bare = at vars host bare
   where
     -- the list from a host on
-    at : (left : List Vars) (i : ℕ) → All HasNoResult left → missed_by fleet plays number place host (slice_get left i) ≡ missed_with fleet plays number place host (slice_get (map variables_of left) i)
+    at : (left : List Vars) (i : ℕ) → All HasNoResult left → foreseen_by fleet plays number place host (slice_get left i) ≡ foreseen_with fleet plays number place host (slice_get (map variables_of left) i)
     at [] i none = refl
-    at (one ∷ left) zero none = ap (λ (known : Known). missed_at fleet plays number place host known) (fresh_without one (All-head HasNoResult one left none))
+    at (one ∷ left) zero none = ap (λ (known : Known). foreseen_at fleet plays number place host known) (fresh_without one (All-head HasNoResult one left none))
     at (one ∷ left) (suc i) none = at left i (All-tail HasNoResult one left none)
 
 -- the waiting hosts among one more

@@ -6,10 +6,16 @@ pub mod SameLemmas
 pub mod LintLemmas
 pub mod OnceLaws
 pub mod ConstantLaws
+pub mod HoleLemmas
 pub mod ProgramLemmas
+pub mod QuotingLemmas
+pub mod UnlimitedLemmas
+pub mod GroupLemmas
 pub mod BatchLemmas
 pub mod AskedLemmas
 pub mod LacksLemmas
 pub mod GivenLemmas
 pub mod HostKeyLemmas
 pub mod AdviceLemmas
+pub mod ResultLemmas
+pub mod RepeatLemmas

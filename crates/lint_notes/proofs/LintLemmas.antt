@@ -12,13 +12,13 @@ use Rattle.lint_notes.specs.Notes.{Note, told}
 use Rattle.lint_notes.specs.NotesText.{end_of, notes_text}
 use Rattle.lint_notes.specs.declared.end.LintEnd.{LintEnd}
 
-pub refused_lint : (inventory playbook allowed : List ℕ) (old new : Option (List ℕ)) (fleet : FleetView) → IsFleetIn inventory fleet → (fault : PlanFault) → Keeps old new
-    → IsPlaybookFault fleet playbook fault → IsTrueFault inventory playbook allowed old new fault
-refused_lint inventory playbook allowed old new fleet built (Playbook fault) keeps refused = refused_is_true inventory playbook old new fleet built (Playbook fault) keeps refused
-refused_lint inventory playbook allowed old new fleet built (Pattern fault) keeps refused = refused_is_true inventory playbook old new fleet built (Pattern fault) keeps refused
-refused_lint inventory playbook allowed old new fleet built (Read fault) keeps refused = absurd refused
-refused_lint inventory playbook allowed old new fleet built (Fleet fault) keeps refused = absurd refused
-refused_lint inventory playbook allowed old new fleet built (Write fault) keeps refused = absurd refused
+pub refused_lint : (first : List Note) (inventory playbook allowed : List ℕ) (old new : Option (List ℕ)) (fleet : FleetView) → IsFleetIn inventory fleet → (fault : PlanFault) → Keeps old new
+    → IsPlaybookFault fleet playbook fault → IsTrueFault first inventory playbook allowed old new fault
+refused_lint first inventory playbook allowed old new fleet built (Playbook fault) keeps refused = refused_is_true inventory playbook old new fleet built (Playbook fault) keeps refused
+refused_lint first inventory playbook allowed old new fleet built (Pattern fault) keeps refused = refused_is_true inventory playbook old new fleet built (Pattern fault) keeps refused
+refused_lint first inventory playbook allowed old new fleet built (Read fault) keeps refused = absurd refused
+refused_lint first inventory playbook allowed old new fleet built (Fleet fault) keeps refused = absurd refused
+refused_lint first inventory playbook allowed old new fleet built (Write fault) keeps refused = absurd refused
 
 pub writes_notes : (AreNotes : List Note → Type 0) (allowed : List ℕ) (notes : List Note) (old new : Option (List ℕ)) (end : LintEnd) → AreNotes notes
     → Appends old new (notes_text allowed notes) → end ≡ end_of (told allowed notes) → WritesNotes AreNotes allowed old new end

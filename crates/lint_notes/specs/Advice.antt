@@ -5,26 +5,42 @@ use Rattle.std.specs.Str.{bytes_eq}
 use Rattle.lint_notes.specs.Kinds.{allows, kind_name}
 use Rattle.lint_notes.specs.Notes.{Note, kind_of}
 use Rattle.lint_notes.specs.declared.kind.Kind.{Kind}
-use Rattle.lint_notes.specs.declared.kind.Kind.TheVariants.{ZeroLimit, EmptyLimit, GroupDown, NearKey, CaseHosts, NoHosts, DownHosts, IdleSerial, OneFailure}
-use Rattle.lint_notes.specs.declared.kind.Kind.TheVariants.{UnknownName, MissingName, ConstantCondition, ShellWord, LocalStep, LongWord, DashName, IdleHandler}
+use Rattle.lint_notes.specs.declared.kind.Kind.TheVariants.{RepeatedKey, ZeroLimit, EmptyLimit, LooseLimit, EmptyGroup, GroupDown, NearKey, ValueHole, CaseHosts, GroupHost, NoHosts, DownHosts, UnlimitedHosts, IdleSerial, OneFailure, LocalPlay}
+use Rattle.lint_notes.specs.declared.kind.Kind.TheVariants.{UnknownName, MissingName, MissingResult, UnknownGroup, IdleStep, ConstantCondition, UnlikeValues}
+use Rattle.lint_notes.specs.declared.kind.Kind.TheVariants.{ShellWord, BlankProgram, LostQuotes, LocalStep, FixedTarget, LongWord, DashName, IdleNotify, IdleHandler}
 
 abbrev pub advice : Kind → List ℕ
+advice RepeatedKey = codes "a key counts once in an object, as it stands last: what stands at it before is lost; put the members of both under one key, or give one of them another name"
 advice ZeroLimit = codes "write a max_down of 1 or more; of few hosts a percentage may be 0, since it is rounded down: as it is, a play that names a host of the group is blocked, or sets the host aside"
 advice EmptyLimit = codes "list the group's hosts under it, or take its max_down out; look whether they stand in a group of another name"
+advice LooseLimit = codes "write a max_down below the number of the group's hosts, or a percentage as a text, \"20%\" as an example: as it is, all of its hosts may be down at once; where it waits for more hosts, switch the note off"
+advice EmptyGroup = codes "list the group's hosts under it, below `hosts`: what stands below `children` is a group, also where it has a host's name; where it has none yet, take it out, or switch the note off"
 advice GroupDown = codes "write \"down\": true at each host that is down: of a group it is a variable like any other, and takes no host down"
 advice NearKey = codes "write max_down in the vars of the group that it is to limit, and \"down\": true at a host that is down: elsewhere either is a variable like any other"
+advice ValueHole = codes "a value is given to programs as it stands, and a hole in it isn't filled: write the words of the step with a hole for each variable, or the value without holes"
 advice CaseHosts = codes "write one machine by one name, as it answers to it: names that differ in capital letters are two hosts"
+advice GroupHost = codes "give one of them another name: a pattern with the name means the group, and never the host"
 advice NoHosts = codes "name other groups or hosts in `hosts`; where hosts are up again, take their \"down\": true out"
 advice DownHosts = codes "they are left as they are: where they are up again, take their \"down\": true out, or name them by --mended"
+advice UnlimitedHosts = codes "list them in the group whose limit is to hold them too, or give a group that holds them a max_down: as it is, all of them may be down at once; where that is meant, switch the note off"
 advice IdleSerial = codes "write a size below the number of hosts that wait, or a percentage, or leave `serial` out"
 advice OneFailure = codes "where a batch is to bear one failure, write a max_fail_percentage of at least 100 / size, or larger batches; where it is to bear none, write 0"
-advice UnknownName = codes "spell it as the variable or the `register`, give it to the hosts, or let an earlier step register it; or ask in `when` first whether it is defined: as it is, the step fails where it looks it up"
+advice LocalPlay = codes "write \"ssh\", \"--\", \"{{ inventory_hostname }}\" before the words of its steps: as it is, the same is done on this machine once for each host; where that is meant, switch the note off"
+advice UnknownName = codes "spell it as the variable or the `register`, give it to the hosts, or let an earlier step register it; a text stands in quotes, 'prod', and a number with a fraction, a list or an object is no value; or ask in `when` first whether it is defined"
 advice MissingName = codes "give it to these hosts too, or to a group that holds them all; or ask in `when` first whether it is defined"
+advice MissingResult = codes "write a field, {{ r.stdout }} as an example, where a result stands in a word; let a task of this play register it, or of an earlier play for the same hosts; or ask in `when` first whether it is defined: a handler may not run, and other plays may be for other hosts"
+advice UnknownGroup = codes "spell the group as the inventory has it, letter by letter: nobody is in a group that isn't there; where another inventory has it, switch the note off"
+advice IdleStep = codes "spell groups and values as the inventory has them, letter by letter: 15 is a number and '15' a text, which are never the same; where the step waits for another value, switch the note off"
 advice ConstantCondition = codes "leave `when` out where it holds, and the step where it doesn't; names stand in it without quotes"
+advice UnlikeValues = codes "write numbers without quotes and texts in them: `rc` is a number, `stdout` and `stderr` are texts, `changed`, `failed` and `skipped` are true or false; values of two kinds are never the same"
 advice ShellWord = codes "no shell reads it here: write {\"argv\": [\"sh\", \"-c\", \"ps | grep x\"]}, or two steps in place of && and ;"
+advice BlankProgram = codes "write each word alone, {\"argv\": [\"systemctl\", \"restart\", \"web\"]} as an example: as it is, the whole text is taken for the name of the program, and the step fails"
+advice LostQuotes = codes "write quotes round the script in the word, \"'systemctl restart web'\" as an example: ssh joins its words by blanks, and as it is, only the script's first word comes behind the option at the other end"
 advice LocalStep = codes "write \"ssh\", \"--\", \"{{ inventory_hostname }}\" before the words; where it is meant for this machine, once for each host, switch the note off"
+advice FixedTarget = codes "write \"{{ inventory_hostname }}\" as the target: as it is, the same is done on one machine once for each host; where that is meant, switch the note off"
 advice LongWord = codes "give the program a file in place of the word: with more than 65536 bytes the step fails"
 advice DashName = codes "write \"--\" before the word, where the program knows it, or give the host another name: it is taken for an option"
+advice IdleNotify = codes "take `changed_when` out, or write what tells a change: as it is, the step counts as unchanged on each host, and its handlers don't run for it"
 advice IdleHandler = codes "let a task of its play notify it by its name, letter by letter, or take it out"
 
 -- `  KIND: ADVICE`
@@ -52,21 +68,41 @@ tells allowed notes kind = not (allows allowed kind) && list_any (is_of kind) no
 abbrev pub help_of : List ℕ → List Note → Kind → List ℕ
 help_of allowed notes kind = if tells allowed notes kind then help_line kind else []
 
--- Of each kind of which a note is told a line, in the order of the kinds: those of groups and hosts, of plays, of names, and of what else stands in a step.
-abbrev pub fleet_helps : List ℕ → List Note → List ℕ
-fleet_helps allowed notes =
-    help_of allowed notes ZeroLimit ++ (help_of allowed notes EmptyLimit ++ (help_of allowed notes GroupDown ++ (help_of allowed notes NearKey ++ help_of allowed notes CaseHosts)))
+-- Of each kind of which a note is told a line, in the order of the kinds: those of keys and limits, of variables and the names of hosts, of plays, of names and conditions, of programs, and of what else stands in a step.
+abbrev pub limit_helps : List ℕ → List Note → List ℕ
+limit_helps allowed notes =
+    help_of allowed notes RepeatedKey
+    ++ (help_of allowed notes ZeroLimit ++ (help_of allowed notes EmptyLimit ++ (help_of allowed notes LooseLimit ++ help_of allowed notes EmptyGroup)))
+
+abbrev pub host_helps : List ℕ → List Note → List ℕ
+host_helps allowed notes =
+    help_of allowed notes GroupDown
+    ++ (help_of allowed notes NearKey ++ (help_of allowed notes ValueHole ++ (help_of allowed notes CaseHosts ++ help_of allowed notes GroupHost)))
 
 abbrev pub play_helps : List ℕ → List Note → List ℕ
 play_helps allowed notes =
-    help_of allowed notes NoHosts ++ (help_of allowed notes DownHosts ++ (help_of allowed notes IdleSerial ++ help_of allowed notes OneFailure))
+    help_of allowed notes NoHosts
+    ++ (help_of allowed notes DownHosts ++ (help_of allowed notes UnlimitedHosts
+    ++ (help_of allowed notes IdleSerial ++ (help_of allowed notes OneFailure ++ help_of allowed notes LocalPlay))))
 
 abbrev pub name_helps : List ℕ → List Note → List ℕ
-name_helps allowed notes = help_of allowed notes UnknownName ++ (help_of allowed notes MissingName ++ help_of allowed notes ConstantCondition)
+name_helps allowed notes =
+    help_of allowed notes UnknownName
+    ++ (help_of allowed notes MissingName
+    ++ (help_of allowed notes MissingResult ++ (help_of allowed notes UnknownGroup
+    ++ (help_of allowed notes IdleStep ++ (help_of allowed notes ConstantCondition ++ help_of allowed notes UnlikeValues)))))
 
-abbrev pub step_helps : List ℕ → List Note → List ℕ
-step_helps allowed notes =
-    help_of allowed notes ShellWord ++ (help_of allowed notes LocalStep ++ (help_of allowed notes LongWord ++ (help_of allowed notes DashName ++ help_of allowed notes IdleHandler)))
+abbrev pub program_helps : List ℕ → List Note → List ℕ
+program_helps allowed notes =
+    help_of allowed notes ShellWord
+    ++ (help_of allowed notes BlankProgram ++ (help_of allowed notes LostQuotes ++ (help_of allowed notes LocalStep ++ help_of allowed notes FixedTarget)))
+
+abbrev pub word_helps : List ℕ → List Note → List ℕ
+word_helps allowed notes =
+    help_of allowed notes LongWord ++ (help_of allowed notes DashName ++ (help_of allowed notes IdleNotify ++ help_of allowed notes IdleHandler))
 
 abbrev pub helps : List ℕ → List Note → List ℕ
-helps allowed notes = fleet_helps allowed notes ++ (play_helps allowed notes ++ (name_helps allowed notes ++ step_helps allowed notes))
+helps allowed notes =
+    limit_helps allowed notes
+    ++ (host_helps allowed notes
+    ++ (play_helps allowed notes ++ (name_helps allowed notes ++ (program_helps allowed notes ++ word_helps allowed notes))))

@@ -25,16 +25,20 @@ abbrev pub size_note : ℕ → List Size → ℕ → Option Note
 size_note number sizes waiting =
     if nat_lt 0 waiting then option_map (λ size. idle_serial number (counted_hosts size) waiting) (find (is_idle waiting) sizes) else None
 
--- the least of a number and others
-abbrev pub least_of : ℕ → List ℕ → ℕ
-least_of number [] = number
-least_of number (other ∷ others) = least_of (min number other) others
+-- the less of a number of hosts and another; a batch of a single host is passed over
+abbrev pub lesser : Option ℕ → ℕ → Option ℕ
+lesser None hosts = if nat_lt 1 hosts then Some hosts else None
+lesser (Some least) hosts = if nat_lt 1 hosts then Some (min least hosts) else Some least
+
+-- the least of one and others
+abbrev pub least_of : Option ℕ → List ℕ → Option ℕ
+least_of least [] = least
+least_of least (hosts ∷ others) = least_of (lesser least hosts) others
 
 abbrev pub smallest : List (List ℕ) → Option ℕ
-smallest [] = None
-smallest (batch ∷ batches) = Some (least_of (length batch) (map length batches))
+smallest batches = least_of None (map length batches)
 
--- how many hosts the smallest batch of a plan has, if there is a plan and somebody waits
+-- how many hosts the smallest batch of a plan has, of those of several hosts, if there is a plan with one
 abbrev pub smallest_batch : Answer → Option ℕ
 smallest_batch (Planned plan) = smallest plan.batches
 smallest_batch (Blocked group waiting) = None

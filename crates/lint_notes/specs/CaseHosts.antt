@@ -8,6 +8,7 @@ use Rattle.domains.specs.FleetViews.{FleetView}
 use Rattle.lint_notes.specs.Notes.{Note, case_hosts, noted}
 use Rattle.lint_notes.specs.Groups.{groups_notes}
 use Rattle.lint_notes.specs.HostKeys.{rows_notes}
+use Rattle.lint_notes.specs.Namesakes.{namesakes_notes}
 
 abbrev pub small_letters : Name → Name
 small_letters name = str_to_ascii_lowercase name
@@ -27,4 +28,4 @@ hosts_notes hosts = flat_map (λ name. noted (alike_note name (find (is_alike na
 
 -- the notes on the groups, and behind them those on the variables of hosts and on their names
 abbrev pub fleet_notes : Inventory → FleetView → List Note
-fleet_notes inventory fleet = groups_notes inventory fleet ++ (rows_notes inventory.rows ++ hosts_notes fleet.hosts)
+fleet_notes inventory fleet = groups_notes inventory fleet ++ (rows_notes inventory.rows ++ (hosts_notes fleet.hosts ++ namesakes_notes fleet))

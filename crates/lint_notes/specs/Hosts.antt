@@ -1,16 +1,17 @@
 -- The hosts that a play is for, and the variables that they have.
-use Rattle.std.specs.Prelude.{ℕ, ◌==◌, Bool, true, false, not, ◌&&◌, ◌||◌, is_none, is_some, if◌then◌else◌, Option, None, Some, option_map, List, [], ◌∷◌, count_by, filter, length, slice_get, slice_index_or}
-use Rattle.std.specs.List.{find, list_any}
+use Rattle.std.specs.Prelude.{ℕ, ◌==◌, Bool, true, false, not, ◌&&◌, ◌||◌, is_none, is_some, if◌then◌else◌, Option, None, Some, option_map, List, [], ◌∷◌, count_by, filter, length, nat_lt, slice_get, slice_index_or}
+use Rattle.std.specs.List.{find, list_all, list_any}
 use Rattle.group_tree.specs.Names.{Name, is_among}
 use Rattle.domains.specs.FleetViews.{FleetView}
 use Rattle.domains.specs.Numbered.{host_at}
+use Rattle.host_track.specs.Hosts.{Known}
 use Rattle.host_vars.specs.Layers.{HostView}
 use Rattle.play_model.specs.declared.play.Play.{Play}
 use Rattle.play_model.specs.declared.step.Step.{Step}
 use Rattle.play_course.specs.PlayPlans.{targets}
 use Rattle.step_words.specs.Lines.{fresh}
-use Rattle.missing_names.specs.Spots.{missed_at}
-use Rattle.lint_notes.specs.Notes.{Note, no_hosts, down_hosts, unknown_name, missing_name}
+use Rattle.missing_names.specs.Spots.{missed_at, skipped_at}
+use Rattle.lint_notes.specs.Notes.{Note, down_hosts, missing_name, missing_result, no_hosts, unknown_name}
 use Rattle.lint_notes.specs.declared.step_path.StepPath.{StepPath}
 
 abbrev pub is_off : FleetView → ℕ → Bool
@@ -40,13 +41,28 @@ has_none (Some host) name = is_none (host.variable name)
 abbrev pub lacks_of : List HostView → Name → ℕ → Bool
 lacks_of hosts name host = has_none (slice_get hosts host) name
 
--- what the step at this place of the play with this number, both from 0, may look up in vain on a host before anything has run; nothing where there is no such host
-abbrev pub missed_with : FleetView → List Play → ℕ → ℕ → ℕ → Option HostView → List Name
-missed_with fleet plays number place host None = []
-missed_with fleet plays number place host (Some view) = missed_at fleet plays number place host (fresh view)
+-- what is known of a step on a host before anything has run: which names it may look up in vain, and whether its `when` is known not to hold
+pub record Foreseen : Type 0 where
+  pub missed : List Name
+  pub is_skipped : Bool
 
-abbrev pub missed_of : FleetView → List Play → List HostView → ℕ → ℕ → ℕ → List Name
-missed_of fleet plays hosts number place host = missed_with fleet plays number place host (slice_get hosts host)
+-- of the step at this place of the play with this number, both from 0, on a host of which this is known
+abbrev pub foreseen_at : FleetView → List Play → ℕ → ℕ → ℕ → Known → Foreseen
+foreseen_at fleet plays number place host known = record {
+  missed = missed_at fleet plays number place host known;
+  is_skipped = skipped_at fleet plays number place host known;
+}
+
+-- nothing where there is no such host
+abbrev pub foreseen_with : FleetView → List Play → ℕ → ℕ → ℕ → Option HostView → Foreseen
+foreseen_with fleet plays number place host None = record { missed = []; is_skipped = false }
+foreseen_with fleet plays number place host (Some view) = foreseen_at fleet plays number place host (fresh view)
+
+abbrev pub foreseen_of : FleetView → List Play → List HostView → ℕ → ℕ → ℕ → Foreseen
+foreseen_of fleet plays hosts number place host = foreseen_with fleet plays number place host (slice_get hosts host)
+
+abbrev pub missed_on : (ℕ → Foreseen) → ℕ → List Name
+missed_on foreseen host = (foreseen host).missed
 
 -- the hosts that wait for a play, and which names each host lacks
 pub record Crowd : Type 0 where
@@ -68,6 +84,18 @@ asking crowd missed = record {
   waiting = crowd.waiting;
 }
 
+-- the same hosts before a step that may look up these names in vain on them, whatever variables they have
+abbrev pub wanting : Crowd → (ℕ → List Name) → Crowd
+wanting crowd missed = record {
+  fleet = crowd.fleet;
+  lacks = λ name host. is_among name (missed host);
+  waiting = crowd.waiting;
+}
+
+-- each waiting host is known to skip the step, and there is one
+abbrev pub skip_all : Crowd → (ℕ → Foreseen) → Bool
+skip_all crowd foreseen = nat_lt 0 (length crowd.waiting) && list_all (λ host. (foreseen host).is_skipped) crowd.waiting
+
 -- a step without conditions comes to all that it reads
 abbrev pub asking_by : Crowd → (ℕ → List Name) → Step → Crowd
 asking_by crowd missed step = if has_conditions step then asking crowd missed else crowd
@@ -86,8 +114,16 @@ first_lacking crowd name = find (crowd.lacks name) crowd.waiting
 -- none has the name, or so many don't, of whom this one is the first
 abbrev pub noted_lack : Crowd → StepPath → Name → ℕ → ℕ → Note
 noted_lack crowd at name hosts first =
-    if hosts == length crowd.waiting then unknown_name at name else missing_name at name hosts (length crowd.waiting) (host_at crowd.fleet.hosts first)
+    if hosts == length crowd.waiting then unknown_name at name None else missing_name at name hosts (length crowd.waiting) (host_at crowd.fleet.hosts first)
 
 -- what is noted of a name that a step reads: nothing where each waiting host has it
 abbrev pub name_note : Crowd → StepPath → Name → Option Note
 name_note crowd at name = option_map (noted_lack crowd at name (lack_count crowd name)) (first_lacking crowd name)
+
+-- on so many of them it may be looked up in vain, of whom this one is the first
+abbrev pub noted_want : Crowd → StepPath → Name → ℕ → ℕ → Note
+noted_want crowd at name hosts first = missing_result at name hosts (length crowd.waiting) (host_at crowd.fleet.hosts first)
+
+-- what is noted of a name that a step reads and that a step before registers
+abbrev pub result_note : Crowd → StepPath → Name → Option Note
+result_note crowd at name = option_map (noted_want crowd at name (lack_count crowd name)) (first_lacking crowd name)

@@ -1,36 +1,47 @@
 -- Words of the passes.
-use Rattle.std.specs.Prelude.{◌≡◌, ℕ, Bool, if◌then◌else◌, Option, None, Some, option_map, List, [], ◌++◌, filter, map, slice_get}
+use Rattle.std.specs.Prelude.{◌≡◌, ℕ, Bool, false, if◌then◌else◌, Option, None, Some, option_map, List, [], ◌++◌, filter, map, slice_get}
 use Rattle.std.specs.Borrow.{Bor}
 use Rattle.std.specs.List.{list_any}
 use Rattle.std.specs.Option.{option_or}
 use Rattle.std.specs.HashMap.{HashMap, get_by_text}
-use Rattle.std.specs.Prelude.{String}
+use Rattle.std.specs.Prelude.{String, string_bytes}
 use Rattle.lint_notes.specs.CaseHosts.{small_letters}
 use Rattle.group_tree.specs.Names.{Name, is_among, same_name}
 use Rattle.domains.specs.FleetViews.{FleetView}
 use Rattle.play_model.specs.declared.play.Play.{Play}
-use Rattle.missing_names.specs.Spots.{missed_at}
 use Rattle.host_vars.specs.HostVars.{known_of}
 use Rattle.host_vars.specs.declared.vars.Vars.{Vars}
-use Rattle.lint_notes.specs.Hosts.{Crowd, asking}
+use Rattle.lint_notes.specs.Hosts.{Crowd, Foreseen, asking, foreseen_at, missed_on, wanting}
 use Rattle.lint_notes.specs.NamesRead.{once_after}
 pub use Rattle.lint_notes.specs.Given.{has_missed}
 pub use Rattle.lint_notes.specs.Lacks.{finds_none, lacks_in}
+use Rattle.cond.specs.Grammar.{Test}
+use Rattle.cond.specs.Trees.{written}
+use Rattle.lint_notes.specs.declared.tests.Said.{Said}
+use Rattle.lint_notes.specs.declared.asking.Want.{Want}
+use Rattle.lint_notes.specs.declared.asking.Want.TheVariants.{Variable, Result}
 use Rattle.lint_notes.specs.declared.missed.Missed.{Missed}
 use Rattle.lint_notes.specs.declared.crowd.Crowd as code
+use Rattle.lint_notes.specs.Notes.{Note, repeated_key}
+use Rattle.lint_notes.specs.declared.document.Document.{Document}
+use Rattle.lint_notes.specs.declared.document.Document.TheVariants.{Inventory, Playbook}
+use Rattle.lint_notes.specs.declared.repeats.Repeats.{Repeats}
 use Rattle.lint_notes.specs.declared.stand.Stand.{Stand}
 use Rattle.lint_notes.specs.declared.registered.Registered.{Registered}
 
--- what the step there misses on a host that has these variables
-abbrev pub missed_by : FleetView → List Play → ℕ → ℕ → ℕ → Option Vars → List Name
-missed_by fleet plays number place host None = []
-missed_by fleet plays number place host (Some vars) = missed_at fleet plays number place host (known_of vars)
+-- what is foreseen of the step there on a host that has these variables
+abbrev pub foreseen_by : FleetView → List Play → ℕ → ℕ → ℕ → Option Vars → Foreseen
+foreseen_by fleet plays number place host None = record { missed = []; is_skipped = false }
+foreseen_by fleet plays number place host (Some vars) = foreseen_at fleet plays number place host (known_of vars)
 
-abbrev pub missed_in : FleetView → List Play → List Vars → ℕ → ℕ → ℕ → List Name
-missed_in fleet plays vars number place host = missed_by fleet plays number place host (slice_get vars host)
+abbrev pub foreseen_in : FleetView → List Play → List Vars → ℕ → ℕ → ℕ → Foreseen
+foreseen_in fleet plays vars number place host = foreseen_by fleet plays number place host (slice_get vars host)
+
+abbrev pub foreseen_from : Stand → List Vars → ℕ → Foreseen
+foreseen_from stand vars = foreseen_in stand.registry.now.fleet.now stand.registry.now.plays.now vars stand.number stand.place
 
 abbrev pub missed_from : Stand → List Vars → ℕ → List Name
-missed_from stand vars = missed_in stand.registry.now.fleet.now stand.registry.now.plays.now vars stand.number stand.place
+missed_from stand vars = missed_on (foreseen_from stand vars)
 
 -- the set has the names of the list
 abbrev pub AreListed : Missed → List Name → Type 0
@@ -51,6 +62,21 @@ crowd_of crowd = record { fleet = crowd.fleet.now; lacks = lacks_in crowd.lacks.
 abbrev pub asking_of : code.Crowd → Stand → Crowd
 asking_of crowd stand = asking (crowd_of crowd) (missed_from stand crowd.lacks.now.vars.now)
 
+-- what is noted of keys that stand more than once, by their paths
+abbrev pub noted_paths : {A : Type 0} → Document → List (String A) → List Note
+noted_paths document paths = map (λ path. repeated_key document (string_bytes path)) paths
+
+abbrev pub noted_repeats : Repeats → List Note
+noted_repeats repeats = noted_paths Inventory repeats.inventory.items ++ noted_paths Playbook repeats.playbook.items
+
+abbrev pub wanting_of : code.Crowd → Stand → Crowd
+wanting_of crowd stand = wanting (crowd_of crowd) (missed_from stand crowd.lacks.now.vars.now)
+
+-- by what is looked up in vain
+abbrev pub asked_of : Want → code.Crowd → Stand → Crowd
+asked_of Variable = asking_of
+asked_of Result = wanting_of
+
 -- the names that were gathered
 abbrev pub has_name : Registered → Name → Bool
 has_name registered name = list_any (λ key. same_name name key.now) registered.names.keys
@@ -64,3 +90,10 @@ first_kept firsts letters = option_map (λ (name : Bor Name). name.now) (get_by_
 
 abbrev pub kept_with : (Name → Option Name) → Name → Name → Option Name
 kept_with kept name letters = option_or (kept letters) (if same_name (small_letters name) letters then Some name else None)
+
+-- a test, as its words stand in its text
+abbrev pub said : Said → Test
+said one = written one.text.now one.test
+
+abbrev pub said_all : List Said → List Test
+said_all tests = map said tests

@@ -4,33 +4,50 @@ use Rattle.std.specs.List.{list_all}
 use Rattle.group_tree.specs.Names.{Name, is_among}
 use Rattle.text_parts.specs.Patterns.{parts_of}
 use Rattle.lint_notes.specs.declared.kind.Kind.{Kind}
-use Rattle.lint_notes.specs.declared.kind.Kind.TheVariants.{ZeroLimit, EmptyLimit, GroupDown, NearKey, CaseHosts, NoHosts, DownHosts, IdleSerial, OneFailure}
-use Rattle.lint_notes.specs.declared.kind.Kind.TheVariants.{UnknownName, MissingName, ConstantCondition, ShellWord, LocalStep, LongWord, DashName, IdleHandler}
+use Rattle.lint_notes.specs.declared.kind.Kind.TheVariants.{RepeatedKey, ZeroLimit, EmptyLimit, LooseLimit, EmptyGroup, GroupDown, NearKey, ValueHole, CaseHosts, GroupHost, NoHosts, DownHosts, UnlimitedHosts, IdleSerial, OneFailure, LocalPlay}
+use Rattle.lint_notes.specs.declared.kind.Kind.TheVariants.{UnknownName, MissingName, MissingResult, UnknownGroup, IdleStep, ConstantCondition, UnlikeValues}
+use Rattle.lint_notes.specs.declared.kind.Kind.TheVariants.{ShellWord, BlankProgram, LostQuotes, LocalStep, FixedTarget, LongWord, DashName, IdleNotify, IdleHandler}
 
 -- the word with which the line of such a note begins, and by which it is switched off
 abbrev pub kind_name : Kind → Name
+kind_name RepeatedKey = codes "repeated-key"
 kind_name ZeroLimit = codes "zero-limit"
 kind_name EmptyLimit = codes "empty-limit"
+kind_name LooseLimit = codes "loose-limit"
+kind_name EmptyGroup = codes "empty-group"
 kind_name GroupDown = codes "group-down"
 kind_name NearKey = codes "near-key"
+kind_name ValueHole = codes "value-hole"
 kind_name CaseHosts = codes "case-hosts"
+kind_name GroupHost = codes "group-host"
 kind_name NoHosts = codes "no-hosts"
 kind_name DownHosts = codes "down-hosts"
+kind_name UnlimitedHosts = codes "unlimited-hosts"
 kind_name IdleSerial = codes "idle-serial"
 kind_name OneFailure = codes "one-failure"
+kind_name LocalPlay = codes "local-play"
 kind_name UnknownName = codes "unknown-name"
 kind_name MissingName = codes "missing-name"
+kind_name MissingResult = codes "missing-result"
+kind_name UnknownGroup = codes "unknown-group"
+kind_name IdleStep = codes "idle-step"
 kind_name ConstantCondition = codes "constant-condition"
+kind_name UnlikeValues = codes "unlike-values"
 kind_name ShellWord = codes "shell-word"
+kind_name BlankProgram = codes "blank-program"
+kind_name LostQuotes = codes "lost-quotes"
 kind_name LocalStep = codes "local-step"
+kind_name FixedTarget = codes "fixed-target"
 kind_name LongWord = codes "long-word"
 kind_name DashName = codes "dash-name"
+kind_name IdleNotify = codes "idle-notify"
 kind_name IdleHandler = codes "idle-handler"
 
 abbrev pub all_kinds : List Kind
 all_kinds =
-    ZeroLimit ∷ EmptyLimit ∷ GroupDown ∷ NearKey ∷ CaseHosts ∷ NoHosts ∷ DownHosts ∷ IdleSerial ∷ OneFailure ∷ UnknownName ∷ MissingName ∷ ConstantCondition
-    ∷ ShellWord ∷ LocalStep ∷ LongWord ∷ DashName ∷ IdleHandler ∷ []
+    RepeatedKey ∷ ZeroLimit ∷ EmptyLimit ∷ LooseLimit ∷ EmptyGroup ∷ GroupDown ∷ NearKey ∷ ValueHole ∷ CaseHosts ∷ GroupHost ∷ NoHosts ∷ DownHosts ∷ UnlimitedHosts ∷ IdleSerial ∷ OneFailure ∷ LocalPlay
+    ∷ UnknownName ∷ MissingName ∷ MissingResult ∷ UnknownGroup ∷ IdleStep ∷ ConstantCondition ∷ UnlikeValues
+    ∷ ShellWord ∷ BlankProgram ∷ LostQuotes ∷ LocalStep ∷ FixedTarget ∷ LongWord ∷ DashName ∷ IdleNotify ∷ IdleHandler ∷ []
 
 -- a kind has this name
 unfoldable pub is_kind_name : Name → Bool

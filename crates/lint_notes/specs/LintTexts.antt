@@ -1,5 +1,5 @@
 -- What `lint` writes of the texts of an inventory and a playbook.
-use Rattle.std.specs.Prelude.{◌≡◌, ℕ, Option, List}
+use Rattle.std.specs.Prelude.{◌≡◌, ℕ, Option, List, ◌++◌}
 use Rattle.std.specs.Io.KnownBytes.{Appends, Keeps}
 use Rattle.bounded_io.specs.Sending.{SendsFirst}
 use Rattle.group_tree.specs.Places.{Inventory}
@@ -18,23 +18,23 @@ use Rattle.lint_notes.specs.CaseHosts.{fleet_notes}
 use Rattle.lint_notes.specs.AllNotes.{AreNotesOf}
 use Rattle.lint_notes.specs.declared.end.LintEnd.{LintEnd}
 
--- the notes on the inventory and the playbook that the texts say
-pub record AreNotesIn (inventory playbook : List ℕ) (notes : List Note) : Type 0 where
+-- the notes on the inventory and the playbook that the texts say, behind the first ones
+pub record AreNotesIn (first : List Note) (inventory playbook : List ℕ) (notes : List Note) : Type 0 where
   pub says : Inventory
   pub fleet : FleetView
   pub plays : List Play
   pub reads : inventories.IsReadAs inventory says
   pub built : IsFleetOf says fleet
   pub are : ArePlaysIn fleet playbook plays
-  pub notes_are : AreNotesOf says fleet plays notes
+  pub notes_are : AreNotesOf first says fleet plays notes
 
 -- the notes on the inventory alone
-pub record AreFleetNotesIn (inventory : List ℕ) (notes : List Note) : Type 0 where
+pub record AreFleetNotesIn (first : List Note) (inventory : List ℕ) (notes : List Note) : Type 0 where
   pub says : Inventory
   pub fleet : FleetView
   pub reads : inventories.IsReadAs inventory says
   pub built : IsFleetOf says fleet
-  pub notes_are : notes ≡ fleet_notes says fleet
+  pub notes_are : notes ≡ first ++ fleet_notes says fleet
 
 -- the text of those of these notes that the text of kinds doesn't switch off, and the end with them
 pub record IsTextOf (AreNotes : List Note → Type 0) (allowed text : List ℕ) (end : LintEnd) : Type 0 where
@@ -57,12 +57,12 @@ pub record BreaksNotes (AreNotes : List Note → Type 0) (allowed : List ℕ) (o
   pub written : SendsFirst old new text count
 
 -- what the fault says is true: the texts are refused as a plan refuses them, and nothing went out; or the text broke off where the fault says
-abbrev pub IsTrueFault : List ℕ → List ℕ → List ℕ → Option (List ℕ) → Option (List ℕ) → PlanFault → Type 0
-IsTrueFault inventory playbook allowed old new (Write fault) = BreaksNotes (AreNotesIn inventory playbook) allowed old new fault.written
-IsTrueFault inventory playbook allowed old new (Read fault) = plans.IsTrueFault inventory playbook old new (Read fault)
-IsTrueFault inventory playbook allowed old new (Fleet fault) = plans.IsTrueFault inventory playbook old new (Fleet fault)
-IsTrueFault inventory playbook allowed old new (Playbook fault) = plans.IsTrueFault inventory playbook old new (Playbook fault)
-IsTrueFault inventory playbook allowed old new (Pattern fault) = plans.IsTrueFault inventory playbook old new (Pattern fault)
+abbrev pub IsTrueFault : List Note → List ℕ → List ℕ → List ℕ → Option (List ℕ) → Option (List ℕ) → PlanFault → Type 0
+IsTrueFault first inventory playbook allowed old new (Write fault) = BreaksNotes (AreNotesIn first inventory playbook) allowed old new fault.written
+IsTrueFault first inventory playbook allowed old new (Read fault) = plans.IsTrueFault inventory playbook old new (Read fault)
+IsTrueFault first inventory playbook allowed old new (Fleet fault) = plans.IsTrueFault inventory playbook old new (Fleet fault)
+IsTrueFault first inventory playbook allowed old new (Playbook fault) = plans.IsTrueFault inventory playbook old new (Playbook fault)
+IsTrueFault first inventory playbook allowed old new (Pattern fault) = plans.IsTrueFault inventory playbook old new (Pattern fault)
 
 -- the inventory is accepted
 pub record IsAccepted (inventory : List ℕ) : Type 0 where
@@ -70,10 +70,10 @@ pub record IsAccepted (inventory : List ℕ) : Type 0 where
   pub built : IsFleetIn inventory fleet
 
 -- The same of an inventory alone. Want of memory for its notes is told as that for a pattern.
-abbrev pub IsTrueFleetFault : List ℕ → List ℕ → Option (List ℕ) → Option (List ℕ) → PlanFault → Type 0
-IsTrueFleetFault inventory allowed old new (Write fault) = BreaksNotes (AreFleetNotesIn inventory) allowed old new fault.written
-IsTrueFleetFault inventory allowed old new (Read fault) = IsUnread inventory (Read fault) × Keeps old new
-IsTrueFleetFault inventory allowed old new (Fleet fault) = IsUnread inventory (Fleet fault) × Keeps old new
-IsTrueFleetFault inventory allowed old new (Playbook fault) = ⊥
-IsTrueFleetFault inventory allowed old new (Pattern (NoSuchName name)) = ⊥
-IsTrueFleetFault inventory allowed old new (Pattern Memory) = IsAccepted inventory × Keeps old new
+abbrev pub IsTrueFleetFault : List Note → List ℕ → List ℕ → Option (List ℕ) → Option (List ℕ) → PlanFault → Type 0
+IsTrueFleetFault first inventory allowed old new (Write fault) = BreaksNotes (AreFleetNotesIn first inventory) allowed old new fault.written
+IsTrueFleetFault first inventory allowed old new (Read fault) = IsUnread inventory (Read fault) × Keeps old new
+IsTrueFleetFault first inventory allowed old new (Fleet fault) = IsUnread inventory (Fleet fault) × Keeps old new
+IsTrueFleetFault first inventory allowed old new (Playbook fault) = ⊥
+IsTrueFleetFault first inventory allowed old new (Pattern (NoSuchName name)) = ⊥
+IsTrueFleetFault first inventory allowed old new (Pattern Memory) = IsAccepted inventory × Keeps old new

@@ -1,11 +1,16 @@
 -- The text of notes.
-use Rattle.std.specs.Prelude.{ℕ, Bool, true, false, List, [], ◌∷◌, ◌++◌, codes, decimal, flat_map, length}
+use Rattle.std.specs.Prelude.{ℕ, Bool, true, false, Option, None, Some, List, [], ◌∷◌, ◌++◌, codes, decimal, flat_map, length}
 use Rattle.group_tree.specs.Names.{Name}
 use Rattle.recap.specs.LimitsText.{field_text}
 use Rattle.lint_notes.specs.Advice.{helps}
 use Rattle.lint_notes.specs.Kinds.{kind_name}
-use Rattle.lint_notes.specs.Notes.{Note, kind_of, told, zero_limit, empty_limit, group_down, near_key, near_host_key, case_hosts, no_hosts, down_hosts, idle_serial, one_failure}
-use Rattle.lint_notes.specs.Notes.{unknown_name, missing_name, constant_condition, shell_word, local_step, long_word, dash_name, idle_handler}
+use Rattle.recap.specs.Printable.{printed}
+use Rattle.lint_notes.specs.Notes.{Note, kind_of, told}
+use Rattle.lint_notes.specs.Notes.{repeated_key, zero_limit, empty_limit, loose_limit, empty_group, group_down, near_key, near_host_key, value_hole, host_value_hole, case_hosts, group_host}
+use Rattle.lint_notes.specs.Notes.{no_hosts, down_hosts, unlimited_hosts, idle_serial, one_failure, local_play, unknown_name, missing_name, missing_result, unknown_group, idle_step, constant_condition, unlike_values}
+use Rattle.lint_notes.specs.Notes.{shell_word, blank_program, lost_quotes, local_step, fixed_target, long_word, dash_name, idle_notify, idle_handler}
+use Rattle.lint_notes.specs.declared.document.Document.{Document}
+use Rattle.lint_notes.specs.declared.document.Document.TheVariants.{Inventory, Playbook}
 use Rattle.lint_notes.specs.declared.step_path.StepPath.{StepPath}
 use Rattle.lint_notes.specs.declared.end.LintEnd.{LintEnd}
 use Rattle.lint_notes.specs.declared.end.LintEnd.TheVariants.{Clean, Noted}
@@ -19,9 +24,14 @@ list_word false = codes "/tasks/"
 abbrev pub at_text : StepPath → List ℕ
 at_text at = field_text (codes " at=") at.play ++ (list_word at.is_handler ++ decimal at.place)
 
--- a word that ends in `=`, and a name
+-- a word that ends in `=`, and a name, which stays on its line
 abbrev pub named_text : List ℕ → Name → List ℕ
-named_text word name = word ++ name
+named_text word name = word ++ printed name
+
+-- which text a path leads through
+abbrev pub document_word : Document → List ℕ
+document_word Inventory = codes " inventory="
+document_word Playbook = codes " playbook="
 
 -- ` at=PATH WORD=NAME`
 abbrev pub step_text : StepPath → List ℕ → Name → List ℕ
@@ -31,25 +41,46 @@ step_text at word name = at_text at ++ named_text word name
 abbrev pub missing_text : ℕ → ℕ → Name → List ℕ
 missing_text hosts waiting host = field_text (codes " hosts=") hosts ++ (field_text (codes " of=") waiting ++ named_text (codes " host=") host)
 
+-- ` near=NAME`, where one is near
+abbrev pub near_text : Option Name → List ℕ
+near_text None = []
+near_text (Some name) = named_text (codes " near=") name
+
 -- what stands behind the name of its kind
 abbrev pub details : Note → List ℕ
+details (repeated_key document path) = named_text (document_word document) path
 details (zero_limit group members) = named_text (codes " group=") group ++ field_text (codes " members=") members
 details (empty_limit group) = named_text (codes " group=") group
+details (loose_limit group limit members) = named_text (codes " group=") group ++ (field_text (codes " limit=") limit ++ field_text (codes " members=") members)
+details (empty_group group) = named_text (codes " group=") group
 details (group_down group) = named_text (codes " group=") group
 details (near_key group name) = named_text (codes " group=") group ++ named_text (codes " name=") name
 details (near_host_key group host name) = named_text (codes " group=") group ++ (named_text (codes " host=") host ++ named_text (codes " name=") name)
+details (value_hole group name) = named_text (codes " group=") group ++ named_text (codes " name=") name
+details (host_value_hole group host name) = named_text (codes " group=") group ++ (named_text (codes " host=") host ++ named_text (codes " name=") name)
 details (case_hosts host other) = named_text (codes " host=") host ++ named_text (codes " other=") other
+details (group_host name) = named_text (codes " name=") name
 details (no_hosts play) = field_text (codes " play=") play
 details (down_hosts play hosts host) = field_text (codes " play=") play ++ (field_text (codes " hosts=") hosts ++ named_text (codes " host=") host)
+details (unlimited_hosts play hosts waiting host) = field_text (codes " play=") play ++ missing_text hosts waiting host
 details (idle_serial play size waiting) = field_text (codes " play=") play ++ (field_text (codes " size=") size ++ field_text (codes " waiting=") waiting)
 details (one_failure play percent size) = field_text (codes " play=") play ++ (field_text (codes " percent=") percent ++ field_text (codes " size=") size)
-details (unknown_name at name) = step_text at (codes " name=") name
+details (local_play play hosts) = field_text (codes " play=") play ++ field_text (codes " hosts=") hosts
+details (unknown_name at name near) = step_text at (codes " name=") name ++ near_text near
 details (missing_name at name hosts waiting host) = step_text at (codes " name=") name ++ missing_text hosts waiting host
+details (missing_result at name hosts waiting host) = step_text at (codes " name=") name ++ missing_text hosts waiting host
+details (unknown_group at key group) = step_text at (codes " key=") key ++ named_text (codes " group=") group
+details (idle_step at) = at_text at
 details (constant_condition at) = at_text at
+details (unlike_values at key) = step_text at (codes " key=") key
 details (shell_word at word) = step_text at (codes " word=") word
+details (blank_program at word) = step_text at (codes " word=") word
+details (lost_quotes at word) = step_text at (codes " word=") word
 details (local_step at word) = step_text at (codes " word=") word
+details (fixed_target at hosts) = at_text at ++ field_text (codes " hosts=") hosts
 details (long_word at bytes) = at_text at ++ field_text (codes " bytes=") bytes
 details (dash_name at host) = step_text at (codes " host=") host
+details (idle_notify at) = at_text at
 details (idle_handler at) = at_text at
 
 -- `KIND ..`

@@ -4,21 +4,14 @@ use Rattle.std.specs.List.{find, list_all, list_any}
 use Rattle.group_tree.specs.Names.{Name, same_name}
 use Rattle.domains.specs.Numbered.{host_at}
 use Rattle.text_parts.specs.Faults.{max_rendered}
-use Rattle.text_parts.specs.Words.{is_opening, starts, without_blanks}
+use Rattle.text_parts.specs.Words.{starts, without_blanks}
 use Rattle.play_model.specs.declared.play.Play.{Play}
 use Rattle.play_model.specs.declared.step.Step.{Step}
-use Rattle.lint_notes.specs.Notes.{Note, local_step, long_word, dash_name}
+use Rattle.lint_notes.specs.Notes.{Note, dash_name, local_play, long_word}
+use Rattle.lint_notes.specs.Conditions.{asks_host}
+use Rattle.lint_notes.specs.Holes.{is_literal}
 use Rattle.lint_notes.specs.Hosts.{Crowd}
 use Rattle.lint_notes.specs.declared.step_path.StepPath.{StepPath}
-
--- a hole begins somewhere in the word
-abbrev pub has_opening : Name → Bool
-has_opening [] = false
-has_opening (byte ∷ word) = is_opening (byte ∷ word) || has_opening word
-
--- the word is given to the program as it stands
-abbrev pub is_literal : Name → Bool
-is_literal word = not (has_opening word)
 
 -- `ssh`, or a path that ends in it
 abbrev pub is_ssh : Name → Bool
@@ -41,8 +34,17 @@ abbrev pub local_program : List Name → Option Name
 local_program [] = None
 local_program (program ∷ words) = if are_local (program ∷ words) then Some program else None
 
-abbrev pub local_note : Play → StepPath → Step → Option Note
-local_note play at step = if goes_elsewhere play then option_map (local_step at) (local_program step.words) else None
+-- the step does the same here for each host, and whether it is done doesn't depend on the host
+abbrev pub is_local : Step → Bool
+is_local step = are_local step.words && not (asks_host step.when)
+
+-- a play of at least one step, each of which does so
+abbrev pub is_local_play : Play → Bool
+is_local_play play = nat_lt 0 (length play.steps.items) && list_all is_local play.steps.items
+
+-- of a play with this number, counted from 1, for which so many hosts wait: for one alone there is no other to be done alike
+abbrev pub local_play_note : ℕ → ℕ → Play → Option Note
+local_play_note number waiting play = if nat_lt 1 waiting && is_local_play play then Some (local_play number waiting) else None
 
 -- a literal word that is longer than a program may be given
 abbrev pub is_long : Name → Bool

@@ -141,7 +141,7 @@ fn add_in_words<'s, N: Names>(
 
 /// Adds those of the names that the step reads before its program is run, each once.
 #[tactic(auto, using(crate::proofs::OnceLemmas::fresh_append))]
-fn add_before<'s, N: Names>(
+pub(crate) fn add_before<'s, N: Names>(
     alloc: Global,
     step: &'s Step,
     names: &N,
@@ -159,7 +159,7 @@ fn add_before<'s, N: Names>(
 
 /// Adds those that it reads behind that.
 #[tactic(auto, using(crate::proofs::OnceLemmas::fresh_append))]
-fn add_behind<'s, N: Names>(
+pub(crate) fn add_behind<'s, N: Names>(
     alloc: Global,
     step: &'s Step,
     names: &N,

@@ -1,13 +1,22 @@
-//! The hosts on which a step may ask for a name in vain.
+//! The hosts on which a step may look a name up in vain.
 ghost use Rattle.std.specs.Prelude.{◌≡◌};
 ghost use Rattle.lint_notes.specs.Inside.{AreMissed, missed_from};
 
-use crate::crowd::{Crowd, lack_note};
+use crate::crowd::{Crowd, lack_note, want_note};
 use crate::missed::{Missed, missed_on};
 use crate::note::Note;
 use crate::stand::Stand;
 use crate::step_path::StepPath;
 use std::alloc::{AllocError, Global};
+
+/// What is looked up in vain.
+#[derive(Clone, Copy, Debug)]
+pub(crate) enum Want {
+    /// A name of which the host has no variable.
+    Variable,
+    /// Any name: a step before registers a result under it.
+    Result,
+}
 
 /// The hosts that wait for a play, and what a step of it misses on each.
 #[derive(Drop)]
@@ -20,8 +29,9 @@ pub(crate) struct Askers<'a, 's> {
 
 impl<'a, 's> Askers<'a, 's> {
     ghost use Rattle.std.specs.Prelude.{◌≡◌, ◌<◌, IfOk, length, option_map, slice_index_or};
+    ghost use Rattle.group_tree.specs.Names.{is_among};
     ghost use Rattle.lint_notes.specs.Hosts as model;
-    ghost use Rattle.lint_notes.specs.Inside.{asking_of, crowd_of};
+    ghost use Rattle.lint_notes.specs.Inside.{asked_of, asking_of, crowd_of, missed_from, wanting_of};
     ghost use Rattle.lint_notes.specs.Notes.{seen};
 
     /// It fails for want of memory alone.
@@ -40,22 +50,33 @@ impl<'a, 's> Askers<'a, 's> {
         Ok(Askers { crowd, stand, sets })
     }
 
-    /// Whether the step may ask the waiting host at this place for the name in vain.
-    fn is_asked(&self, place: usize, name: &str) -> bool
+    /// Whether the step may look the name up in vain on the waiting host at this place.
+    fn is_missed(&self, place: usize, name: &str) -> bool
         requires { place < length self.now.crowd.lacks.now.waiting.now }
-        ensures { result ≡ (asking_of self.now.crowd self.now.stand).lacks name.now (slice_index_or self.now.crowd.lacks.now.waiting.now place 0) }
+        ensures { result ≡ is_among name.now (missed_from self.now.stand self.now.crowd.lacks.now.vars.now (slice_index_or self.now.crowd.lacks.now.waiting.now place 0)) }
     {
-        let host = self.crowd.lacks.waiting[place];
-        self.sets[place].has(name) && self.crowd.host_lacks(name, host)
+        self.sets[place].has(name)
     }
 
-    /// How many of them it may.
-    fn count_asked(&self, name: &str) -> usize
-        ensures { result ≡ model.lack_count (asking_of self.now.crowd self.now.stand) name.now }
+    /// Whether it may look up there in vain what is asked for.
+    fn is_asked(&self, want: Want, place: usize, name: &str) -> bool
+        requires { place < length self.now.crowd.lacks.now.waiting.now }
+        ensures { result ≡ (asked_of want self.now.crowd self.now.stand).lacks name.now (slice_index_or self.now.crowd.lacks.now.waiting.now place 0) }
+    {
+        let host = self.crowd.lacks.waiting[place];
+        match want {
+            Want::Variable => self.is_missed(place, name) && self.crowd.host_lacks(name, host),
+            Want::Result => self.is_missed(place, name),
+        }
+    }
+
+    /// On how many of them it may.
+    fn count_asked(&self, want: Want, name: &str) -> usize
+        ensures { result ≡ model.lack_count (asked_of want self.now.crowd self.now.stand) name.now }
     {
         let mut count = 0;
         for place in 0..self.crowd.lacks.waiting.len() {
-            if self.is_asked(place, name) {
+            if self.is_asked(want, place, name) {
                 count += 1;
             }
         }
@@ -63,23 +84,39 @@ impl<'a, 's> Askers<'a, 's> {
     }
 
     /// The first of these.
-    fn first_asked(&self, name: &str) -> Option<usize>
-        ensures { result ≡ model.first_lacking (asking_of self.now.crowd self.now.stand) name.now }
+    fn first_asked(&self, want: Want, name: &str) -> Option<usize>
+        ensures { result ≡ model.first_lacking (asked_of want self.now.crowd self.now.stand) name.now }
     {
         for place in 0..self.crowd.lacks.waiting.len() {
-            if self.is_asked(place, name) {
+            if self.is_asked(want, place, name) {
                 return Some(self.crowd.lacks.waiting[place]);
             }
         }
         None
     }
 
-    /// What is noted of a name that the step reads.
+    /// What is noted of a name that the step reads and that no step before registers.
     pub(crate) fn name_note(&self, at: StepPath, name: &'a str) -> Option<Note<'a>>
         ensures { option_map seen result ≡ model.name_note (asking_of self.now.crowd self.now.stand) at name.now }
     {
-        match self.first_asked(name) {
-            Some(first) => Some(lack_note(&self.crowd, at, name, self.count_asked(name), first)),
+        match self.first_asked(Want::Variable, name) {
+            Some(first) => {
+                let count = self.count_asked(Want::Variable, name);
+                Some(lack_note(&self.crowd, at, name, count, first))
+            }
+            None => None,
+        }
+    }
+
+    /// What is noted of one that a step before registers.
+    pub(crate) fn result_note(&self, at: StepPath, name: &'a str) -> Option<Note<'a>>
+        ensures { option_map seen result ≡ model.result_note (wanting_of self.now.crowd self.now.stand) at name.now }
+    {
+        match self.first_asked(Want::Result, name) {
+            Some(first) => {
+                let count = self.count_asked(Want::Result, name);
+                Some(want_note(&self.crowd, at, name, count, first))
+            }
             None => None,
         }
     }

@@ -57,7 +57,7 @@ fn bears_none(percent: u8, size: usize) -> bool
     percent > 0 && size > 1 && usize::from(percent).saturating_mul(size) < 100
 }
 
-/// What is noted of the failures that the smallest batch of the play with this number bears.
+/// What is noted of the failures that the smallest batch of several hosts of the play with this number bears.
 pub(crate) fn failure_note(
     number: usize,
     max_fail: Option<Percentage>,
@@ -85,19 +85,29 @@ fn hosts_in(batches: &Batches, place: usize) -> usize
     batches.at(place).len()
 }
 
-/// How many hosts the smallest of the batches has.
-#[tactic(auto, using(crate::proofs::BatchLemmas::smallest_of_some, crate::proofs::BatchLemmas::smallest_of_none, crate::proofs::BatchLemmas::least_more))]
+/// The less of this and a batch of so many hosts. One of a single host is passed over: of that any failure is all.
+fn lesser(least: Option<usize>, hosts: usize) -> Option<usize>
+    ensures { result ≡ model.lesser least hosts }
+{
+    if hosts <= 1 {
+        return least;
+    }
+    match least {
+        Some(least) => Some(least.min(hosts)),
+        None => Some(hosts),
+    }
+}
+
+/// How many hosts the smallest of the batches of several hosts has.
+#[tactic(auto, using(crate::proofs::BatchLemmas::least_more))]
 fn smallest(batches: &Batches) -> Option<usize>
     ensures { result ≡ model.smallest batches.now }
 {
-    if batches.is_empty() {
-        return None;
+    let mut least = None;
+    for place in 0..batches.len() {
+        least = lesser(least, hosts_in(batches, place));
     }
-    let mut least = hosts_in(batches, 0);
-    for place in 1..batches.len() {
-        least = least.min(hosts_in(batches, place));
-    }
-    Some(least)
+    least
 }
 
 fn smallest_batch(answer: &Answer) -> Option<usize>
@@ -109,7 +119,7 @@ fn smallest_batch(answer: &Answer) -> Option<usize>
     }
 }
 
-/// How many hosts the smallest batch of a play has whose pattern was looked up. It fails for want of memory alone.
+/// How many hosts the smallest batch of several hosts has of a play whose pattern was looked up. It fails for want of memory alone.
 fn smallest_in_plan(alloc: Global, fleet: &Fleet, play: &Play) -> Result<Option<usize>, AllocError>
     ensures { IfOk result (IsSmallestIn fleet.now play.now) }
 {

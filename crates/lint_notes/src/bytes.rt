@@ -1,6 +1,7 @@
 //! Parts of texts by their places.
 ghost use Rattle.std.specs.Prelude.{◌≡◌, ◌-◌, drop, length, slice_index, take};
 ghost use Rattle.std.specs.List.{prefix_len};
+ghost use Rattle.lint_notes.specs.Quoting.{has_blank};
 ghost use Rattle.text_parts.specs.Words as spec;
 
 use text_parts::is_blank;
@@ -34,6 +35,13 @@ pub(crate) fn byte_at(bytes: &[u8], place: usize) -> u8
         Some(byte) => *byte,
         None => 0,
     }
+}
+
+/// Whether a blank is among the bytes.
+pub(crate) fn has_blank(bytes: &[u8]) -> bool
+    ensures { result ≡ has_blank bytes.now }
+{
+    bytes.iter().any(|byte| is_blank(*byte))
 }
 
 fn count_blanks(bytes: &[u8]) -> usize

@@ -3,13 +3,15 @@ ghost use Rattle.std.specs.Prelude.{◌≡◌, ◌++◌, OnOk, IfOk, Some, cond,
 ghost use Rattle.group_tree.specs.Names.{Name, same_name};
 ghost use Rattle.lint_notes.specs.CaseHosts as model;
 ghost use Rattle.lint_notes.specs.CaseHosts.{fleet_notes, hosts_notes, small_letters};
-ghost use Rattle.lint_notes.specs.Inside.{first_kept, kept_with};
+ghost use Rattle.lint_notes.specs.Inside.{first_kept, kept_with, noted_repeats};
 ghost use Rattle.lint_notes.specs.Notes.{noted, seen};
 
 use crate::groups::note_groups;
 use crate::host_keys::note_host_keys;
+use crate::namesakes::note_namesakes;
 use crate::note::Note;
 use crate::notes::Notes;
+use crate::repeats::{Repeats, note_repeats};
 use domains::Fleet;
 use group_tree::{HostId, Tree};
 use indexmap::IndexMap;
@@ -77,17 +79,20 @@ fn note_hosts<'a>(alloc: Global, notes: &mut Notes<'a>, fleet: &'a Fleet) -> Res
     Ok(())
 }
 
-/// The notes on the groups of a tree, on its hosts' variables, and on the names of the hosts of its fleet. It fails for want of memory alone.
+/// Behind the notes on these keys those on the groups of a tree, on its hosts' variables, and on the names of the hosts of its fleet. It fails for want of memory alone.
 pub(crate) fn list_fleet_notes<'a, A: Allocator>(
     alloc: Global,
+    repeats: &'a Repeats,
     tree: &'a Tree<A>,
     fleet: &'a Fleet,
 ) -> Result<Notes<'a>, AllocError>
-    ensures { IfOk result (λ notes. notes ≡ fleet_notes tree.now fleet.now) }
+    ensures { IfOk result (λ notes. notes ≡ noted_repeats repeats.now ++ fleet_notes tree.now fleet.now) }
 {
     let mut notes = Notes::new(alloc);
+    note_repeats(&mut notes, repeats)?;
     note_groups(&mut notes, tree, fleet)?;
     note_host_keys(alloc, &mut notes, tree)?;
     note_hosts(alloc, &mut notes, fleet)?;
+    note_namesakes(&mut notes, fleet)?;
     Ok(notes)
 }

@@ -1,8 +1,8 @@
 //! The hosts that wait for a play, and the names that they lack.
-ghost use Rattle.std.specs.Prelude.{◌≡◌, option_map};
+ghost use Rattle.std.specs.Prelude.{◌≡◌, length, option_map};
 ghost use Rattle.std.specs.List.{find};
 ghost use Rattle.lint_notes.specs.Hosts as model;
-ghost use Rattle.lint_notes.specs.Hosts.{noted_lack};
+ghost use Rattle.lint_notes.specs.Hosts.{noted_lack, noted_want};
 ghost use Rattle.lint_notes.specs.Inside.{crowd_of};
 ghost use Rattle.lint_notes.specs.Notes.{seen};
 ghost use Rattle.lint_notes.specs.Programs as programs;
@@ -77,6 +77,35 @@ impl<'a> Crowd<'a, '_> {
     }
 }
 
+/// What is noted of a name that a step reads and that one before registers, where it may be looked up in vain on so many of the waiting hosts, first this one.
+pub(crate) fn want_note<'a>(
+    crowd: &Crowd<'a, '_>,
+    at: StepPath,
+    name: &'a str,
+    hosts: usize,
+    first: usize,
+) -> Note<'a>
+    ensures { seen result ≡ noted_want (crowd_of crowd.now) at name.now hosts first }
+{
+    Note::MissingResult {
+        at,
+        name,
+        missing: missing_from(crowd, hosts, first),
+    }
+}
+
+fn missing_from<'a>(crowd: &Crowd<'a, '_>, hosts: usize, first: usize) -> Missing<'a>
+    ensures hosts { result.hosts ≡ hosts }
+    ensures waiting { result.waiting ≡ length crowd.now.lacks.now.waiting.now }
+    ensures host { result.host.now ≡ host_at crowd.now.fleet.now.hosts first }
+{
+    Missing {
+        hosts,
+        waiting: crowd.lacks.waiting.len(),
+        host: host_name(crowd.fleet, HostId { index: first }),
+    }
+}
+
 /// What is noted of a name that a step reads and that so many of the waiting hosts lack, first this one.
 pub(crate) fn lack_note<'a>(
     crowd: &Crowd<'a, '_>,
@@ -87,18 +116,16 @@ pub(crate) fn lack_note<'a>(
 ) -> Note<'a>
     ensures { seen result ≡ noted_lack (crowd_of crowd.now) at name.now hosts first }
 {
-    let waiting = crowd.lacks.waiting.len();
-    if hosts == waiting {
-        return Note::UnknownName { at, name };
+    if hosts == crowd.lacks.waiting.len() {
+        return Note::UnknownName {
+            at,
+            name,
+            near: None,
+        };
     }
-    let host = host_name(crowd.fleet, HostId { index: first });
     Note::MissingName {
         at,
         name,
-        missing: Missing {
-            hosts,
-            waiting,
-            host,
-        },
+        missing: missing_from(crowd, hosts, first),
     }
 }

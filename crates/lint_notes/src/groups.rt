@@ -2,30 +2,37 @@
 ghost use Rattle.std.specs.Prelude.{◌≡◌, ◌<◌, ◌++◌, OnOk, length, option_map};
 ghost use Rattle.domains.specs.Starts.{place_at};
 ghost use Rattle.lint_notes.specs.Groups as model;
-ghost use Rattle.lint_notes.specs.Groups.{groups_notes, variables_notes};
+ghost use Rattle.lint_notes.specs.Groups.{groups_notes, variable_notes, variables_notes};
 ghost use Rattle.lint_notes.specs.Notes.{seen};
 
-use crate::near_keys::{DOWN_KEY, is_near_key};
+use crate::holes::has_hole;
+use crate::near_keys::{DOWN_KEY, is_near_key, is_near_mark};
 use crate::note::Note;
 use crate::notes::Notes;
 use domains::Fleet;
 use group_tree::{GroupId, Tree, Variable};
 use std::alloc::{AllocError, Allocator};
 
-/// What is noted of a group's limit.
-fn limit_note(fleet: &Fleet, group: GroupId) -> Option<Note<'_>>
-    requires { group.index < length fleet.now.groups }
-    ensures { option_map seen result ≡ model.limit_note_of fleet.now group.index }
+/// The group that is there in each inventory that Ansible exports, also where it has no hosts.
+const REST: &str = "ungrouped";
+
+/// What is noted of a group with a limit.
+fn limited_note(name: &str, limit: u16, members: usize) -> Option<Note<'_>>
+    ensures { option_map seen result ≡ model.limited_note name.now limit members }
 {
-    let limit = fleet.limit(group)?;
-    let members = fleet.members(group).len();
-    let name = fleet.group_name(group);
     if members == 0 {
         return Some(Note::EmptyLimit { group: name });
     }
     if limit == 0 {
-        Some(Note::ZeroLimit {
+        return Some(Note::ZeroLimit {
             group: name,
+            members,
+        });
+    }
+    if members < limit as usize {
+        Some(Note::LooseLimit {
+            group: name,
+            limit,
             members,
         })
     } else {
@@ -33,21 +40,73 @@ fn limit_note(fleet: &Fleet, group: GroupId) -> Option<Note<'_>>
     }
 }
 
-/// What is noted of the name of a group's variable.
-fn name_note<'a>(group: &'a str, name: &'a str) -> Option<Note<'a>>
-    ensures { option_map seen result ≡ model.name_note group.now name.now }
+/// What is noted of a group without one.
+fn unlimited_note(name: &str, members: usize) -> Option<Note<'_>>
+    ensures { option_map seen result ≡ model.unlimited_note name.now members }
 {
+    if members == 0 && name != REST {
+        Some(Note::EmptyGroup { group: name })
+    } else {
+        None
+    }
+}
+
+/// What is noted of a group's limit and of how many hosts it has.
+fn limit_note(fleet: &Fleet, group: GroupId) -> Option<Note<'_>>
+    requires { group.index < length fleet.now.groups }
+    ensures { option_map seen result ≡ model.limit_note_of fleet.now group.index }
+{
+    let members = fleet.members(group).len();
+    let name = fleet.group_name(group);
+    match fleet.limit(group) {
+        Some(limit) => limited_note(name, limit, members),
+        None => unlimited_note(name, members),
+    }
+}
+
+/// What is noted of the name of a group's variable.
+fn variable_note<'a, A: Allocator>(group: &'a str, variable: &'a Variable<A>) -> Option<Note<'a>>
+    ensures { option_map seen result ≡ model.variable_note group.now variable.now }
+{
+    let name = variable.name();
     if name == DOWN_KEY {
         return Some(Note::GroupDown { group });
     }
-    if is_near_key(name) {
+    if is_near_key(name) || is_near_mark(variable) {
         Some(Note::NearKey { group, name })
     } else {
         None
     }
 }
 
-/// Adds what is noted of a group's variables.
+/// What is noted of its value.
+fn value_note<'a, A: Allocator>(group: &'a str, variable: &'a Variable<A>) -> Option<Note<'a>>
+    ensures { option_map seen result ≡ model.value_note group.now variable.now }
+{
+    if has_hole(variable.value()) {
+        Some(Note::ValueHole {
+            group,
+            name: variable.name(),
+        })
+    } else {
+        None
+    }
+}
+
+/// Adds what is noted of a group's variable.
+fn note_variable<'a, A: Allocator>(
+    notes: &mut Notes<'a>,
+    group: &'a str,
+    variable: &'a Variable<A>,
+) -> Result<(), AllocError>
+    ensures { OnOk result (notes.new ≡ notes.old ++ variable_notes group.now variable.now) }
+{
+    notes.add(variable_note(group, variable))?;
+    notes.add(value_note(group, variable))?;
+    Ok(())
+}
+
+/// Adds what is noted of all of them.
 fn note_variables<'a, A: Allocator>(
     notes: &mut Notes<'a>,
     group: &'a str,
@@ -56,7 +115,7 @@ fn note_variables<'a, A: Allocator>(
     ensures { OnOk result (notes.new ≡ notes.old ++ variables_notes group.now variables.now) }
 {
     for variable in variables {
-        notes.add(name_note(group, variable.name()))?;
+        note_variable(notes, group, variable)?;
     }
     Ok(())
 }

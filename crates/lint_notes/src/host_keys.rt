@@ -1,25 +1,64 @@
 //! The notes on the variables of hosts.
 ghost use Rattle.std.specs.Prelude.{◌≡◌, ◌++◌, OnOk, flat_map, option_map};
 ghost use Rattle.lint_notes.specs.HostKeys as model;
-ghost use Rattle.lint_notes.specs.HostKeys.{group_own_notes, hosts_own_notes, own_notes, rows_notes};
+ghost use Rattle.lint_notes.specs.HostKeys.{group_own_notes, hosts_own_notes, own_notes, own_variable_notes, rows_notes};
 ghost use Rattle.lint_notes.specs.Notes.{seen};
 
-use crate::near_keys::{LIMIT_KEY, is_near_key};
+use crate::holes::has_hole;
+use crate::near_keys::{LIMIT_KEY, is_near_key, is_near_mark};
 use crate::note::Note;
 use crate::notes::Notes;
 use domains::{WalkedGroup, list_walk};
 use group_tree::{Host, Tree, Variable};
 use std::alloc::{AllocError, Allocator, Global};
 
-/// What is noted of the name of a variable that the group gives the host.
-fn own_note<'a>(group: &'a str, host: &'a str, name: &'a str) -> Option<Note<'a>>
-    ensures { option_map seen result ≡ model.own_note group.now host.now name.now }
+/// What is noted of a variable that the group gives the host.
+fn own_note<'a, A: Allocator>(
+    group: &'a str,
+    host: &'a str,
+    variable: &'a Variable<A>,
+) -> Option<Note<'a>>
+    ensures { option_map seen result ≡ model.own_note group.now host.now variable.now }
 {
-    if name == LIMIT_KEY || is_near_key(name) {
+    let name = variable.name();
+    if name == LIMIT_KEY || is_near_key(name) || is_near_mark(variable) {
         Some(Note::NearHostKey { group, host, name })
     } else {
         None
     }
+}
+
+/// What is noted of its value.
+fn own_value_note<'a, A: Allocator>(
+    group: &'a str,
+    host: &'a str,
+    variable: &'a Variable<A>,
+) -> Option<Note<'a>>
+    ensures { option_map seen result ≡ model.own_value_note group.now host.now variable.now }
+{
+    if has_hole(variable.value()) {
+        Some(Note::HostValueHole {
+            group,
+            host,
+            name: variable.name(),
+        })
+    } else {
+        None
+    }
+}
+
+/// Adds what is noted of such a variable.
+fn note_own_variable<'a, A: Allocator>(
+    notes: &mut Notes<'a>,
+    group: &'a str,
+    host: &'a str,
+    variable: &'a Variable<A>,
+) -> Result<(), AllocError>
+    ensures { OnOk result (notes.new ≡ notes.old ++ own_variable_notes group.now host.now variable.now) }
+{
+    notes.add(own_note(group, host, variable))?;
+    notes.add(own_value_note(group, host, variable))?;
+    Ok(())
 }
 
 /// Adds what is noted of a host's variables.
@@ -32,7 +71,7 @@ fn note_own<'a, A: Allocator>(
     ensures { OnOk result (notes.new ≡ notes.old ++ own_notes group.now host.now variables.now) }
 {
     for variable in variables {
-        notes.add(own_note(group, host, variable.name()))?;
+        note_own_variable(notes, group, host, variable)?;
     }
     Ok(())
 }

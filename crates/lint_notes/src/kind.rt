@@ -5,38 +5,68 @@ ghost use Rattle.lint_notes.specs.Kinds as model;
 /// What a note is about.
 #[derive(Clone, Copy, Debug, PartialEq, Eq)]
 pub enum Kind {
+    /// A key stands more than once in one object.
+    RepeatedKey,
     /// A limited group has hosts, of which none may be down.
     ZeroLimit,
     /// A limited group has no hosts.
     EmptyLimit,
+    /// A limit is above the number of the group's hosts.
+    LooseLimit,
+    /// A group has no hosts.
+    EmptyGroup,
     /// A group has a variable `down`, which says of no host that it is down.
     GroupDown,
     /// A group or a host has a variable whose name is nearly that of a key with a meaning, or a host has one that is a group's.
     NearKey,
+    /// A variable's value has a hole, which nothing fills.
+    ValueHole,
     /// Two hosts have names that differ in case alone.
     CaseHosts,
+    /// A host has the name of a group.
+    GroupHost,
     /// Nobody waits for a play.
     NoHosts,
     /// A play names hosts that are down at the start.
     DownHosts,
+    /// Some hosts of a play are held by a limit, and others by none.
+    UnlimitedHosts,
     /// A size of a play's batches is above the number of hosts that wait for it.
     IdleSerial,
     /// One failure in a batch of several hosts passes a percentage above 0.
     OneFailure,
+    /// All steps of a play do the same for each of several hosts, on this machine.
+    LocalPlay,
     /// A step reads a name that no waiting host has.
     UnknownName,
     /// A step reads a name that some waiting hosts don't have.
     MissingName,
+    /// Nothing may be there of a result that a step reads.
+    MissingResult,
+    /// A condition of a step asks for a group that isn't there.
+    UnknownGroup,
+    /// A step's condition holds on no waiting host.
+    IdleStep,
     /// A condition of a step asks nothing about the host.
     ConstantCondition,
+    /// A condition of a step compares values of kinds that differ.
+    UnlikeValues,
     /// A word of a step means something to a shell alone.
     ShellWord,
+    /// The name of a step's program has a blank.
+    BlankProgram,
+    /// A step gives `ssh` a script in one word, which is several at the other end.
+    LostQuotes,
     /// A step does the same for each host on this machine, where others of its play call `ssh`.
     LocalStep,
+    /// A step calls `ssh` with the same words for each of several hosts.
+    FixedTarget,
     /// A word of a step is longer than a program may be given.
     LongWord,
     /// A word of a step may be a host's name that a program takes for an option.
     DashName,
+    /// A step that never changed anything is to notify handlers.
+    IdleNotify,
     /// No task notifies a handler.
     IdleHandler,
 }
@@ -47,22 +77,37 @@ impl Kind {
         ensures { result.now ≡ model.kind_name self }
     {
         match self {
+            Kind::RepeatedKey => "repeated-key",
             Kind::ZeroLimit => "zero-limit",
             Kind::EmptyLimit => "empty-limit",
+            Kind::LooseLimit => "loose-limit",
+            Kind::EmptyGroup => "empty-group",
             Kind::GroupDown => "group-down",
             Kind::NearKey => "near-key",
+            Kind::ValueHole => "value-hole",
             Kind::CaseHosts => "case-hosts",
+            Kind::GroupHost => "group-host",
             Kind::NoHosts => "no-hosts",
             Kind::DownHosts => "down-hosts",
+            Kind::UnlimitedHosts => "unlimited-hosts",
             Kind::IdleSerial => "idle-serial",
             Kind::OneFailure => "one-failure",
+            Kind::LocalPlay => "local-play",
             Kind::UnknownName => "unknown-name",
             Kind::MissingName => "missing-name",
+            Kind::MissingResult => "missing-result",
+            Kind::UnknownGroup => "unknown-group",
+            Kind::IdleStep => "idle-step",
             Kind::ConstantCondition => "constant-condition",
+            Kind::UnlikeValues => "unlike-values",
             Kind::ShellWord => "shell-word",
+            Kind::BlankProgram => "blank-program",
+            Kind::LostQuotes => "lost-quotes",
             Kind::LocalStep => "local-step",
+            Kind::FixedTarget => "fixed-target",
             Kind::LongWord => "long-word",
             Kind::DashName => "dash-name",
+            Kind::IdleNotify => "idle-notify",
             Kind::IdleHandler => "idle-handler",
         }
     }
@@ -74,10 +119,17 @@ pub(crate) fn is_kind_name(word: &str) -> bool
     ensures { result ≡ model.is_kind_name word.now }
 {
     match word {
-        "zero-limit" | "empty-limit" | "group-down" | "near-key" | "case-hosts" => true,
-        "no-hosts" | "down-hosts" | "idle-serial" | "one-failure" => true,
-        "unknown-name" | "missing-name" | "constant-condition" => true,
-        "shell-word" | "local-step" | "long-word" | "dash-name" | "idle-handler" => true,
+        "repeated-key" | "zero-limit" | "empty-limit" | "loose-limit" => true,
+        "empty-group" | "group-down" | "near-key" | "value-hole" => true,
+        "case-hosts" | "group-host" => true,
+        "no-hosts" | "down-hosts" | "unlimited-hosts" => true,
+        "idle-serial" | "one-failure" | "local-play" => true,
+        "unknown-name" | "missing-name" | "missing-result" => true,
+        "unknown-group" | "idle-step" => true,
+        "constant-condition" | "unlike-values" => true,
+        "shell-word" | "blank-program" | "lost-quotes" => true,
+        "local-step" | "fixed-target" | "long-word" => true,
+        "dash-name" | "idle-notify" | "idle-handler" => true,
         _ => false,
     }
 }

@@ -1,11 +1,13 @@
 //! From the bytes of an inventory and a playbook to the notes on them.
 ghost use Rattle.std.specs.Prelude.{IfErr, IfOk};
+ghost use Rattle.lint_notes.specs.Repeats.{repeats_given};
 ghost use Rattle.lint_notes.specs.LintTexts.{AreFleetNotesIn, AreNotesIn, IsTrueFault, IsTrueFleetFault, WritesNotes};
 
 use crate::allowed::Allowed;
 use crate::case_hosts::list_fleet_notes;
 use crate::end::LintEnd;
 use crate::playbook::list_notes;
+use crate::repeats::{Repeats, Texts};
 use crate::told::send_notes;
 use bumpalo::Bump;
 use domains::{Fleet, PatternFault};
@@ -15,16 +17,17 @@ use std::alloc::{AllocError, Global};
 use std::io::Write;
 
 /// Writes what is accepted of an inventory and probably not meant, given as the bytes of its text: a line a note on a group or its hosts, but for those of the kinds that are allowed, and
-/// how many they are. An inventory that is refused is refused as for a plan, and nothing goes out then. Where a write fails, exactly the first bytes of the text went out, as many as the fault
+/// how many they are. First come those on the keys that stand more than once in one object of the texts as they were given. An inventory that is refused is refused as for a plan, and nothing goes out then. Where a write fails, exactly the first bytes of the text went out, as many as the fault
 /// says.
 pub fn lint_fleet_text<W: Write>(
     alloc: Global,
+    given: Texts<'_>,
     inventory: &[u8],
     allowed: &Allowed<'_>,
     out: &mut W,
 ) -> Result<LintEnd, PlanFault>
-    ensures ok { IfOk result (WritesNotes (AreFleetNotesIn inventory.now) allowed.now (W.contents out.old) (W.contents out.new)) }
-    ensures err { IfErr result (IsTrueFleetFault inventory.now allowed.now (W.contents out.old) (W.contents out.new)) }
+    ensures ok { IfOk result (WritesNotes (AreFleetNotesIn (repeats_given given.entry) inventory.now) allowed.now (W.contents out.old) (W.contents out.new)) }
+    ensures err { IfErr result (IsTrueFleetFault (repeats_given given.entry) inventory.now allowed.now (W.contents out.old) (W.contents out.new)) }
 {
     let arena = Bump::new(alloc);
     let tree = match read_inventory(&arena, alloc, inventory) {
@@ -35,7 +38,11 @@ pub fn lint_fleet_text<W: Write>(
         Ok(fleet) => fleet,
         Err(fault) => return Err(PlanFault::Fleet(fault)),
     };
-    let notes = match list_fleet_notes(alloc, &tree, &fleet) {
+    let repeats = match Repeats::of(alloc, given) {
+        Ok(repeats) => repeats,
+        Err(AllocError) => return Err(PlanFault::Pattern(PatternFault::Memory)),
+    };
+    let notes = match list_fleet_notes(alloc, &repeats, &tree, &fleet) {
         Ok(notes) => notes,
         Err(AllocError) => return Err(PlanFault::Pattern(PatternFault::Memory)),
     };
@@ -49,13 +56,14 @@ pub fn lint_fleet_text<W: Write>(
 /// first the inventory's faults are told, then the playbook's, then the first part of a pattern, of any play, that names nothing. Want of memory for the notes is told as that for a pattern.
 pub fn lint_text<W: Write>(
     alloc: Global,
+    given: Texts<'_>,
     inventory: &[u8],
     playbook: &[u8],
     allowed: &Allowed<'_>,
     out: &mut W,
 ) -> Result<LintEnd, PlanFault>
-    ensures ok { IfOk result (WritesNotes (AreNotesIn inventory.now playbook.now) allowed.now (W.contents out.old) (W.contents out.new)) }
-    ensures err { IfErr result (IsTrueFault inventory.now playbook.now allowed.now (W.contents out.old) (W.contents out.new)) }
+    ensures ok { IfOk result (WritesNotes (AreNotesIn (repeats_given given.entry) inventory.now playbook.now) allowed.now (W.contents out.old) (W.contents out.new)) }
+    ensures err { IfErr result (IsTrueFault (repeats_given given.entry) inventory.now playbook.now allowed.now (W.contents out.old) (W.contents out.new)) }
 {
     let arena = Bump::new(alloc);
     let tree = match read_inventory(&arena, alloc, inventory) {
@@ -70,7 +78,11 @@ pub fn lint_text<W: Write>(
         Ok(plays) => plays,
         Err(fault) => return Err(fault),
     };
-    let notes = match list_notes(alloc, &tree, &fleet, plays.as_slice()) {
+    let repeats = match Repeats::of(alloc, given) {
+        Ok(repeats) => repeats,
+        Err(AllocError) => return Err(PlanFault::Pattern(PatternFault::Memory)),
+    };
+    let notes = match list_notes(alloc, &repeats, &tree, &fleet, plays.as_slice()) {
         Ok(notes) => notes,
         Err(AllocError) => return Err(PlanFault::Pattern(PatternFault::Memory)),
     };

@@ -4,10 +4,8 @@ ghost use Rattle.group_tree.specs.Names.{Name, is_among, same_name};
 ghost use Rattle.lint_notes.specs.Inside.{has_missed, missed_from, names_of};
 
 use crate::stand::Stand;
-use group_tree::HostId;
 use host_vars::Vars;
 use indexmap::IndexSet;
-use missing_names::Spot;
 use std::alloc::{AllocError, Global};
 
 /// Names, each once. They are lent by the plays.
@@ -62,11 +60,6 @@ pub(crate) fn missed_on<'a>(
     let Some(vars) = vars.get(host) else {
         return Ok(Missed::new(alloc));
     };
-    let spot = Spot {
-        play: stand.number,
-        place: stand.place,
-        host: HostId { index: host },
-    };
-    let names = stand.registry.missed_names(alloc, spot, vars)?;
+    let names = stand.registry.missed_names(alloc, stand.spot(host), vars)?;
     Missed::of(alloc, names.as_slice())
 }

@@ -4,7 +4,7 @@ ghost use Rattle.group_tree.specs.Names.{Name};
 ghost use Rattle.domains.specs.Fleets.{IsFleetOf};
 ghost use Rattle.needed_results.specs.Registers.{is_registered_by};
 ghost use Rattle.lint_notes.specs.Given.{AreAllGiven};
-ghost use Rattle.lint_notes.specs.Inside.{crowd_of, has_missed, has_name, lacks_in, missed_in};
+ghost use Rattle.lint_notes.specs.Inside.{crowd_of, foreseen_in, has_missed, has_name, lacks_in, noted_repeats};
 ghost use Rattle.lint_notes.specs.AllNotes.{AreNotesOf};
 ghost use Rattle.lint_notes.specs.Hosts.{down_for, waiting_for};
 ghost use Rattle.lint_notes.specs.Playbooks.{batch_notes, play_notes, plays_notes, steps_notes};
@@ -15,12 +15,16 @@ use crate::case_hosts::list_fleet_notes;
 use crate::crowd::Crowd;
 use crate::given::list_given;
 use crate::lacks::Lacks;
+use crate::near::with_near;
 use crate::notes::Notes;
+use crate::programs::local_play_note;
 use crate::registered::Registered;
+use crate::repeats::Repeats;
 use crate::stand::{Scene, Stand};
 use crate::step_path::{Numbered, StepPath};
 use crate::steps::note_step;
 use crate::targets::{Targets, note_of};
+use crate::unlimited::unlimited_note;
 use domains::Fleet;
 use group_tree::Tree;
 use host_vars::layered_all;
@@ -38,7 +42,7 @@ fn note_steps<'a>(
     numbered: Numbered<'a>,
 ) -> Result<(), AllocError>
     ensures notes { OnOk result (notes.new ≡ notes.old ++ steps_notes (has_name registered.old) (crowd_of crowd.now)
-        (missed_in registry.now.fleet.now registry.now.plays.now crowd.now.lacks.now.vars.now numbered.entry.number) numbered.entry.number numbered.entry.play.now) }
+        (foreseen_in registry.now.fleet.now registry.now.plays.now crowd.now.lacks.now.vars.now numbered.entry.number) numbered.entry.number numbered.entry.play.now) }
     ensures registered { OnOk result ((name : Name) → has_name registered.new name
         ≡ (has_name registered.old name || is_registered_by numbered.entry.play.now.steps.items name)) }
 {
@@ -77,8 +81,10 @@ fn note_batches<'a>(
     let play = numbered.play;
     let number = numbered.number;
     notes.add(note_of(fleet, number, targets))?;
+    notes.add(unlimited_note(fleet, number, targets.waiting.as_slice()))?;
     notes.add(size_note(number, play.sizes(), targets.waiting.len()))?;
     notes.add(failure_note(number, play.max_fail(), smallest))?;
+    notes.add(local_play_note(number, targets.waiting.len(), play))?;
     Ok(())
 }
 
@@ -95,7 +101,7 @@ fn note_play<'a>(
     requires given { AreAllGiven (has_missed scene.given.now) scene.vars.now }
     ensures notes { OnOk result (notes.new ≡ notes.old
         ++ play_notes scene.entry.fleet.now (lacks_in scene.entry.vars.now)
-        (missed_in scene.entry.registry.now.fleet.now scene.entry.registry.now.plays.now scene.entry.vars.now numbered.entry.number)
+        (foreseen_in scene.entry.registry.now.fleet.now scene.entry.registry.now.plays.now scene.entry.vars.now numbered.entry.number)
         (has_name registered.old) smallest numbered.entry.number numbered.entry.play.now) }
     ensures registered { OnOk result ((name : Name) → has_name registered.new name
         ≡ (has_name registered.old name || is_registered_by numbered.entry.play.now.steps.items name)) }
@@ -133,7 +139,7 @@ fn note_plays<'a>(
     requires sizes { length sizes.now ≡ length plays.now }
     requires given { AreAllGiven (has_missed scene.given.now) scene.vars.now }
     ensures { OnOk result (notes.new ≡ notes.old ++ plays_notes scene.entry.fleet.now (lacks_in scene.entry.vars.now)
-        (missed_in scene.entry.registry.now.fleet.now scene.entry.registry.now.plays.now scene.entry.vars.now) sizes.now plays.now) }
+        (foreseen_in scene.entry.registry.now.fleet.now scene.entry.registry.now.plays.now scene.entry.vars.now) sizes.now plays.now) }
 {
     let mut registered = Registered::new(alloc);
     for number in 0..plays.len() {
@@ -147,19 +153,20 @@ fn note_plays<'a>(
     Ok(())
 }
 
-/// All notes on a fleet and on these plays. They are gathered by the variables of the tree of which the fleet was built. It fails for want of memory alone.
+/// Behind the notes on these keys all those on a fleet and on these plays. They are gathered by the variables of the tree of which the fleet was built. It fails for want of memory alone.
 pub(crate) fn list_notes<'a, A: Allocator>(
     alloc: Global,
+    repeats: &'a Repeats,
     tree: &'a Tree<A>,
     fleet: &'a Fleet,
     plays: &'a [Play],
 ) -> Result<Notes<'a>, AllocError>
     requires { IsFleetOf tree.now fleet.now }
-    ensures { IfOk result (AreNotesOf tree.now fleet.now plays.now) }
+    ensures { IfOk result (AreNotesOf (noted_repeats repeats.now) tree.now fleet.now plays.now) }
 {
     let vars = layered_all(alloc, tree, fleet)?;
     let sizes = list_smallest(alloc, fleet, plays)?;
-    let mut notes = list_fleet_notes(alloc, tree, fleet)?;
+    let mut notes = list_fleet_notes(alloc, repeats, tree, fleet)?;
     let registry = Registry::of(alloc, fleet, plays)?;
     let given = list_given(alloc, tree)?;
     let scene = Scene {
@@ -169,5 +176,5 @@ pub(crate) fn list_notes<'a, A: Allocator>(
         registry: &registry,
     };
     note_plays(alloc, &mut notes, scene, sizes.as_slice(), plays)?;
-    Ok(notes)
+    with_near(alloc, &notes, &given, plays)
 }

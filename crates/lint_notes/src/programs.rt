@@ -1,13 +1,15 @@
 //! The notes on the programs that steps run, and on the words that these get.
 ghost use Rattle.std.specs.Prelude.{◌≡◌, drop, option_map};
 ghost use Rattle.std.specs.List.{list_all};
+ghost use Rattle.lint_notes.specs.Holes as holes;
 ghost use Rattle.lint_notes.specs.Inside.{crowd_of};
 ghost use Rattle.lint_notes.specs.Notes.{seen};
 ghost use Rattle.lint_notes.specs.Programs as model;
-ghost use Rattle.text_parts.specs.Words as words;
 
 use crate::bytes::{behind_blanks, bytes_behind, first_bytes, last_bytes};
+use crate::conditions::asks_host;
 use crate::crowd::Crowd;
+use crate::holes::is_literal;
 use crate::note::Note;
 use crate::step_path::StepPath;
 use play_model::{Play, Step, Words};
@@ -15,33 +17,6 @@ use text_parts::{MAX_RENDERED, starts_with_pair};
 
 /// What stands for the host's own name in a hole.
 const HOST_WORD: &str = "inventory_hostname";
-
-/// Whether `{{`, `{%` or `{#` is in front.
-fn is_opening(bytes: &[u8]) -> bool
-    ensures { result ≡ words.is_opening bytes.now }
-{
-    starts_with_pair(bytes, b'{', b'{')
-        || starts_with_pair(bytes, b'{', b'%')
-        || starts_with_pair(bytes, b'{', b'#')
-}
-
-/// Whether a hole begins somewhere in the bytes.
-fn has_opening(bytes: &[u8]) -> bool
-    ensures { result ≡ model.has_opening bytes.now }
-{
-    for place in 0..bytes.len() {
-        if is_opening(bytes_behind(bytes, place)) {
-            return true;
-        }
-    }
-    false
-}
-
-fn is_literal(word: &str) -> bool
-    ensures { result ≡ model.is_literal word.now }
-{
-    !has_opening(word.as_bytes())
-}
 
 fn is_ssh(word: &str) -> bool
     ensures { result ≡ model.is_ssh word.now }
@@ -56,14 +31,14 @@ pub(crate) fn calls_ssh(words: &Words) -> bool
     !words.is_empty() && is_ssh(words.at(0))
 }
 
-fn goes_elsewhere(play: &Play) -> bool
+pub(crate) fn goes_elsewhere(play: &Play) -> bool
     ensures { result ≡ model.goes_elsewhere play.now }
 {
     play.steps().iter().any(|step| calls_ssh(&step.words))
 }
 
-fn are_literal(words: &Words) -> bool
-    ensures { result ≡ list_all model.is_literal words.now }
+pub(crate) fn are_literal(words: &Words) -> bool
+    ensures { result ≡ list_all holes.is_literal words.now }
 {
     for place in 0..words.len() {
         if !is_literal(words.at(place)) {
@@ -84,7 +59,7 @@ fn are_local(words: &Words) -> bool
 
 /// The program, where it is another one than `ssh` and is called alike for each host.
 #[tactic(auto, using(crate::proofs::ProgramLemmas::local_first))]
-fn local_program(words: &Words) -> Option<&str>
+pub(crate) fn local_program(words: &Words) -> Option<&str>
     ensures { option_map (λ word. word.now) result ≡ model.local_program words.now }
 {
     if words.is_empty() {
@@ -97,16 +72,37 @@ fn local_program(words: &Words) -> Option<&str>
     }
 }
 
-/// What is noted of the place where a step of the play runs.
-pub(crate) fn local_note<'a>(play: &Play, at: StepPath, step: &'a Step) -> Option<Note<'a>>
-    ensures { option_map seen result ≡ model.local_note play.now at step.now }
+/// Whether the step does the same here for each host, also by its `when`.
+fn is_local(step: &Step) -> bool
+    ensures { result ≡ model.is_local step.now }
 {
-    if !goes_elsewhere(play) {
-        return None;
-    }
-    match local_program(&step.words) {
-        Some(word) => Some(Note::LocalStep { at, word }),
-        None => None,
+    are_local(&step.words) && !asks_host(&step.when)
+}
+
+fn run_here(steps: &[Step]) -> bool
+    ensures { result ≡ list_all model.is_local steps.now }
+{
+    steps.iter().all(is_local)
+}
+
+fn is_local_play(play: &Play) -> bool
+    ensures { result ≡ model.is_local_play play.now }
+{
+    let steps = play.steps();
+    !steps.is_empty() && run_here(steps)
+}
+
+/// What is noted of the place where the play of this number, counted from 1, runs; so many hosts wait for it.
+pub(crate) fn local_play_note(number: usize, waiting: usize, play: &Play) -> Option<Note<'static>>
+    ensures { option_map seen result ≡ model.local_play_note number waiting play.now }
+{
+    if waiting > 1 && is_local_play(play) {
+        Some(Note::LocalPlay {
+            play: number,
+            hosts: waiting,
+        })
+    } else {
+        None
     }
 }
 

@@ -1,59 +1,30 @@
 //! The notes on a step.
 ghost use Rattle.std.specs.Prelude.{◌≡◌, ◌++◌, OnOk, flat_map, option_map};
 ghost use Rattle.lint_notes.specs.Hosts as hosts;
-ghost use Rattle.lint_notes.specs.Hosts.{asking_by, name_note};
-ghost use Rattle.lint_notes.specs.Inside.{asking_of, crowd_of, has_name, missed_from, names_of};
+ghost use Rattle.needed_results.specs.Needs.{tasks_before};
+ghost use Rattle.lint_notes.specs.Hosts.{asking_by, name_note, result_note};
+ghost use Rattle.lint_notes.specs.Inside.{asking_of, crowd_of, foreseen_from, has_name, missed_from, names_of, wanting_of};
 ghost use Rattle.lint_notes.specs.NamesRead.{names_asked};
 ghost use Rattle.lint_notes.specs.Notes.{noted, seen};
 ghost use Rattle.lint_notes.specs.Steps as model;
-ghost use Rattle.lint_notes.specs.Steps.{first_shell_word, notes_at, words_notes};
+ghost use Rattle.lint_notes.specs.Steps.{condition_notes, notes_at, result_notes, words_notes};
 
 use crate::asked::{Asked, list_asked};
+use crate::asked_groups::note_asked_groups;
 use crate::asking::Askers;
-use crate::conditions::condition_note;
+use crate::conditions::{condition_note, notify_note, unlike_note};
 use crate::crowd::Crowd;
+use crate::idle::idle_step_note;
 use crate::note::Note;
 use crate::notes::Notes;
-use crate::programs::{calls_ssh, dash_note, local_note, long_note};
+use crate::places::{local_note, target_note};
+use crate::programs::{dash_note, long_note};
+use crate::quoting::{blank_note, quotes_note};
+use crate::results::list_unsure;
+use crate::shell_words::shell_note;
 use crate::step_path::StepPath;
-use play_model::{Play, Step, Words};
+use play_model::{Play, Step};
 use std::alloc::{AllocError, Global};
-
-/// Whether the word means something to a shell alone.
-#[tactic(auto, unfolding(crate::specs::Steps::is_shell_word))]
-fn is_shell_word(word: &str) -> bool
-    ensures { result ≡ model.is_shell_word word.now }
-{
-    match word {
-        "|" | "||" | "&" | "&&" | ";" => true,
-        ">" | ">>" | "<" | "2>&1" => true,
-        _ => false,
-    }
-}
-
-/// The first such word behind the program.
-fn find_shell_word(words: &Words) -> Option<&str>
-    ensures { option_map (λ word. word.now) result ≡ first_shell_word words.now }
-{
-    for place in 1..words.len() {
-        if is_shell_word(words.at(place)) {
-            return Some(words.at(place));
-        }
-    }
-    None
-}
-
-fn shell_note<'a>(at: StepPath, step: &'a Step) -> Option<Note<'a>>
-    ensures { option_map seen result ≡ model.shell_note at step.now }
-{
-    if calls_ssh(&step.words) {
-        return None;
-    }
-    match find_shell_word(&step.words) {
-        Some(word) => Some(Note::ShellWord { at, word }),
-        None => None,
-    }
-}
 
 fn notifies(task: &Step, handler: usize) -> bool
     ensures { result ≡ model.notifies handler task.now }
@@ -139,21 +110,73 @@ fn note_asked<'a>(
     note_missed(notes, &askers, at, names.as_slice())
 }
 
-/// Adds what is noted of a step's condition, its words and its program.
-fn note_words<'a>(
+/// Adds what is noted of these names, under which steps before register results.
+fn note_wanted<'a>(
     notes: &mut Notes<'a>,
-    crowd: &Crowd<'a, '_>,
+    askers: &Askers<'a, '_>,
+    at: StepPath,
+    names: &[&'a str],
+) -> Result<(), AllocError>
+    ensures { OnOk result (notes.new ≡ notes.old
+        ++ flat_map (λ name. noted (result_note (wanting_of askers.now.crowd askers.now.stand) at name)) (names_of names.now)) }
+{
+    for name in names {
+        notes.add(askers.result_note(at, *name))?;
+    }
+    Ok(())
+}
+
+/// Adds what is noted of the results that the step reads and that may not be there. The hosts are looked at one by one where it reads any.
+fn note_results<'a>(
+    alloc: Global,
+    notes: &mut Notes<'a>,
+    asked: &Asked<'a, '_>,
     play: &Play,
     at: StepPath,
     step: &'a Step,
 ) -> Result<(), AllocError>
-    ensures { OnOk result (notes.new ≡ notes.old ++ words_notes (crowd_of crowd.now) play.now at step.now) }
+    ensures { OnOk result (notes.new ≡ notes.old ++ result_notes (has_name asked.now.registered.now) (crowd_of asked.now.crowd)
+        (foreseen_from asked.now.stand asked.now.crowd.lacks.now.vars.now) (tasks_before play.now asked.now.stand.place) at step.now) }
+{
+    let names = list_unsure(alloc, asked, play, step)?;
+    if names.is_empty() {
+        return Ok(());
+    }
+    let askers = Askers::of(alloc, asked.crowd, asked.stand)?;
+    note_wanted(notes, &askers, at, names.as_slice())
+}
+
+/// Adds what is noted of a step's conditions.
+fn note_conditions(notes: &mut Notes<'_>, at: StepPath, step: &Step) -> Result<(), AllocError>
+    ensures { OnOk result (notes.new ≡ notes.old ++ condition_notes at step.now) }
 {
     notes.add(condition_note(at, &step.when))?;
+    notes.add(unlike_note(at, "when", &step.when))?;
+    notes.add(unlike_note(at, "changed_when", &step.changed_when))?;
+    notes.add(unlike_note(at, "failed_when", &step.failed_when))?;
+    notes.add(notify_note(at, step))?;
+    Ok(())
+}
+
+/// Adds what is noted of its words and its program.
+fn note_words<'a>(
+    alloc: Global,
+    notes: &mut Notes<'a>,
+    asked: &Asked<'a, '_>,
+    play: &Play,
+    at: StepPath,
+    step: &'a Step,
+) -> Result<(), AllocError>
+    ensures { OnOk result (notes.new ≡ notes.old
+        ++ words_notes (crowd_of asked.now.crowd) (foreseen_from asked.now.stand asked.now.crowd.lacks.now.vars.now) play.now at step.now) }
+{
     notes.add(shell_note(at, step))?;
-    notes.add(local_note(play, at, step))?;
+    notes.add(blank_note(at, step))?;
+    notes.add(quotes_note(at, step))?;
+    notes.add(local_note(alloc, asked, play, at, step)?)?;
+    notes.add(target_note(alloc, asked, at, step)?)?;
     notes.add(long_note(at, step))?;
-    notes.add(dash_note(crowd, at, step))?;
+    notes.add(dash_note(&asked.crowd, at, step))?;
     Ok(())
 }
 
@@ -167,10 +190,14 @@ pub(crate) fn note_step<'a>(
     step: &'a Step,
 ) -> Result<(), AllocError>
     ensures { OnOk result (notes.new ≡ notes.old
-        ++ notes_at (has_name asked.now.registered.now) (crowd_of asked.now.crowd) (missed_from asked.now.stand asked.now.crowd.lacks.now.vars.now) play.now at step.now) }
+        ++ notes_at (has_name asked.now.registered.now) (crowd_of asked.now.crowd) (foreseen_from asked.now.stand asked.now.crowd.lacks.now.vars.now) play.now asked.now.stand.place at step.now) }
 {
     note_asked(alloc, notes, asked, at, step)?;
-    note_words(notes, &asked.crowd, play, at, step)?;
+    note_results(alloc, notes, asked, play, at, step)?;
+    note_asked_groups(alloc, notes, asked.crowd.fleet, at, step)?;
+    notes.add(idle_step_note(alloc, &asked.crowd, asked.stand, at, step)?)?;
+    note_conditions(notes, at, step)?;
+    note_words(alloc, notes, asked, play, at, step)?;
     notes.add(idle_note(play, at))?;
     Ok(())
 }

@@ -5,9 +5,9 @@ ghost use Rattle.bounded_io.specs.Writing.{Writes};
 ghost use Rattle.lint_notes.specs.Notes.{seen, told};
 ghost use Rattle.lint_notes.specs.NotesText.{count_line, end_of, note_line, notes_text};
 
-use crate::advice::write_helps;
 use crate::allowed::Allowed;
 use crate::end::LintEnd;
+use crate::helps::write_helps;
 use crate::note::Note;
 use crate::notes::Notes;
 use crate::writing::write_note;

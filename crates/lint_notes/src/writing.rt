@@ -1,16 +1,26 @@
 //! A note as it is written.
-ghost use Rattle.std.specs.Prelude.{◌≡◌, ◌++◌, codes};
+ghost use Rattle.std.specs.Prelude.{◌≡◌, ◌++◌, codes, option_map};
 ghost use Rattle.bounded_io.specs.Writing.{Writes};
 ghost use Rattle.lint_notes.specs.Notes.{seen};
 ghost use Rattle.recap.specs.LimitsText.{field_text};
 ghost use Rattle.lint_notes.specs.NotesText as model;
-ghost use Rattle.lint_notes.specs.NotesText.{at_text, details, list_word, missing_text, named_text, note_line, step_text};
+ghost use Rattle.lint_notes.specs.NotesText.{at_text, details, list_word, missing_text, named_text, near_text, note_line, step_text};
 
+use crate::document::Document;
 use crate::note::{Missing, Note};
 use crate::step_path::StepPath;
 use bounded_io::TextWriter;
-use recap::write_field;
+use recap::{write_field, write_printable};
 use std::io::Write;
+
+fn document_word(document: Document) -> &'static str
+    ensures { result.now ≡ model.document_word document }
+{
+    match document {
+        Document::Inventory => " inventory=",
+        Document::Playbook => " playbook=",
+    }
+}
 
 fn list_of(at: StepPath) -> &'static str
     ensures { result.now ≡ list_word at.is_handler }
@@ -36,7 +46,7 @@ fn write_named<W: Write>(text: &mut TextWriter<'_, W>, word: &str, name: &str)
     ensures { Writes W.contents text.old text.new (named_text word.now name.now) }
 {
     text.write_str(word);
-    text.write_str(name);
+    write_printable(text, name.as_bytes());
 }
 
 #[tactic(auto, using(bounded_io::proofs::Pieces::pieces_of_text))]
@@ -54,6 +64,15 @@ fn write_missing<W: Write>(text: &mut TextWriter<'_, W>, missing: &Missing<'_>)
     write_field(text, " hosts=", missing.hosts as u64);
     write_field(text, " of=", missing.waiting as u64);
     write_named(text, " host=", missing.host);
+}
+
+#[tactic(auto, using(bounded_io::proofs::Pieces::pieces_of_text))]
+fn write_near<W: Write>(text: &mut TextWriter<'_, W>, near: Option<&str>)
+    ensures { Writes W.contents text.old text.new (near_text (option_map (λ name. name.now) near.entry)) }
+{
+    if let Some(name) = near {
+        write_named(text, " near=", name);
+    }
 }
 
 /// Two words, and a name behind each.
@@ -86,23 +105,44 @@ fn write_details<W: Write>(text: &mut TextWriter<'_, W>, note: &Note<'_>)
     ensures { Writes W.contents text.old text.new (details (seen note.now)) }
 {
     match *note {
+        Note::RepeatedKey { document, path } => write_named(text, document_word(document), path),
         Note::ZeroLimit { group, members } => {
             write_named(text, " group=", group);
             write_field(text, " members=", members as u64);
         }
         Note::EmptyLimit { group } => write_named(text, " group=", group),
+        Note::LooseLimit {
+            group,
+            limit,
+            members,
+        } => {
+            write_named(text, " group=", group);
+            write_field(text, " limit=", limit as u64);
+            write_field(text, " members=", members as u64);
+        }
+        Note::EmptyGroup { group } => write_named(text, " group=", group),
         Note::GroupDown { group } => write_named(text, " group=", group),
         Note::NearKey { group, name } => write_pair(text, (" group=", group), (" name=", name)),
         Note::NearHostKey { group, host, name } => {
             write_named(text, " group=", group);
             write_pair(text, (" host=", host), (" name=", name));
         }
+        Note::ValueHole { group, name } => write_pair(text, (" group=", group), (" name=", name)),
+        Note::HostValueHole { group, host, name } => {
+            write_named(text, " group=", group);
+            write_pair(text, (" host=", host), (" name=", name));
+        }
         Note::CaseHosts { host, other } => write_pair(text, (" host=", host), (" other=", other)),
+        Note::GroupHost { name } => write_named(text, " name=", name),
         Note::NoHosts { play } => write_field(text, " play=", play as u64),
         Note::DownHosts { play, hosts, host } => {
             write_field(text, " play=", play as u64);
             write_field(text, " hosts=", hosts as u64);
             write_named(text, " host=", host);
+        }
+        Note::UnlimitedHosts { play, missing } => {
+            write_field(text, " play=", play as u64);
+            write_missing(text, &missing);
         }
         Note::IdleSerial {
             play,
@@ -124,19 +164,43 @@ fn write_details<W: Write>(text: &mut TextWriter<'_, W>, note: &Note<'_>)
             (" percent=", percent as u64),
             (" size=", size as u64),
         ),
-        Note::UnknownName { at, name } => write_step(text, at, " name=", name),
+        Note::LocalPlay { play, hosts } => {
+            write_field(text, " play=", play as u64);
+            write_field(text, " hosts=", hosts as u64);
+        }
+        Note::UnknownName { at, name, near } => {
+            write_step(text, at, " name=", name);
+            write_near(text, near);
+        }
         Note::MissingName { at, name, missing } => {
             write_step(text, at, " name=", name);
             write_missing(text, &missing);
         }
+        Note::MissingResult { at, name, missing } => {
+            write_step(text, at, " name=", name);
+            write_missing(text, &missing);
+        }
+        Note::UnknownGroup { at, key, group } => {
+            write_step(text, at, " key=", key);
+            write_named(text, " group=", group);
+        }
+        Note::IdleStep { at } => write_at(text, at),
         Note::ConstantCondition { at } => write_at(text, at),
+        Note::UnlikeValues { at, key } => write_step(text, at, " key=", key),
         Note::ShellWord { at, word } => write_step(text, at, " word=", word),
+        Note::BlankProgram { at, word } => write_step(text, at, " word=", word),
+        Note::LostQuotes { at, word } => write_step(text, at, " word=", word),
         Note::LocalStep { at, word } => write_step(text, at, " word=", word),
+        Note::FixedTarget { at, hosts } => {
+            write_at(text, at);
+            write_field(text, " hosts=", hosts as u64);
+        }
         Note::LongWord { at, bytes } => {
             write_at(text, at);
             write_field(text, " bytes=", bytes as u64);
         }
         Note::DashName { at, host } => write_step(text, at, " host=", host),
+        Note::IdleNotify { at } => write_at(text, at),
         Note::IdleHandler { at } => write_at(text, at),
     }
 }

@@ -11,11 +11,11 @@ use Rattle.host_track.specs.Summaries.{does_register}
 use Rattle.needed_results.specs.Needs.{tasks_before}
 use Rattle.play_model.specs.declared.play.Play.{Play}
 use Rattle.play_model.specs.declared.step.Step.{Step}
-use Rattle.missing_names.specs.Inside.{AreActsOf, Staged, has_run_task, may_have_run, missed_in_act, past_behind, plays_for, stage_of, staged}
-use Rattle.missing_names.specs.Misses.{missed_by_some, outset_of}
-use Rattle.missing_names.specs.Spots.{missed_at, missed_in_play}
+use Rattle.missing_names.specs.Inside.{AreActsOf, Staged, has_run_task, may_have_run, past_behind, said_in_act, plays_for, stage_of, staged}
+use Rattle.missing_names.specs.Misses.{outset_of}
+use Rattle.missing_names.specs.Outset.{Outset}
 use Rattle.missing_names.specs.Past.{Past, is_registered, steps_of}
-use Rattle.missing_names.specs.Spots.{earlier, past_of, tasks_of, waits_for}
+use Rattle.missing_names.specs.Spots.{earlier, past_of, said_in_play, tasks_of, waits_for}
 use Rattle.missing_names.specs.declared.act.Act.{Act}
 
 module _ (host : ℕ) (name : Name) (steps : Play → List Step) where
@@ -101,21 +101,21 @@ module _ (fleet : FleetView) (plays : List Play) (acts : List Act) (are : AreAct
   same_past number place host play =
       ap (λ (before : List Play). record { sure = flat_map tasks_of before ++ tasks_before play place; may = steps_of before ++ take place play.steps.items }) (same_earlier number host)
 
-  by_both : (number place host : ℕ) (known : Known) (play : Option Play) (act : Option Act) → option_map stage_of act ≡ option_map (staged fleet) play
-      → missed_in_act acts number place host known act ≡ missed_in_play fleet plays number place host known play
-  by_both number place host known None None same = refl
-  by_both number place host known None (Some act) same = absurd (cc)
-  by_both number place host known (Some play) None same = absurd (cc)
-  by_both number place host known (Some play) (Some act) same =
+  by_both : {X : Type 0} (say : Outset → Option Step → X) (none : X) (number place host : ℕ) (known : Known) (play : Option Play) (act : Option Act) → option_map stage_of act ≡ option_map (staged fleet) play
+      → said_in_act say none acts number place host known act ≡ said_in_play say none fleet plays number place host known play
+  by_both say none number place host known None None same = refl
+  by_both say none number place host known None (Some act) same = absurd (cc)
+  by_both say none number place host known (Some play) None same = absurd (cc)
+  by_both say none number place host known (Some play) (Some act) same =
       let one : stage_of act ≡ staged fleet play = cc in
       let of : act.play.now ≡ play = ap play_of one in
-      ap (λ (play : Play). missed_by_some (outset_of (past_behind (take number acts) play place host) known) (slice_get play.steps.items place)) of
-      ∙ ap (λ (past : Past). missed_by_some (outset_of past known) (slice_get play.steps.items place)) (same_past number place host play)
+      ap (λ (play : Play). say (outset_of (past_behind (take number acts) play place host) known) (slice_get play.steps.items place)) of
+      ∙ ap (λ (past : Past). say (outset_of past known) (slice_get play.steps.items place)) (same_past number place host play)
 
-  pub missed_there : (number place host : ℕ) (known : Known) (act : Option Act) → slice_get acts number ≡ act
-      → missed_in_act acts number place host known act ≡ missed_at fleet plays number place host known
-  missed_there number place host known act is =
-      by_both number place host known (slice_get plays number) act
+  pub said_there : {X : Type 0} (say : Outset → Option Step → X) (none : X) (number place host : ℕ) (known : Known) (act : Option Act) → slice_get acts number ≡ act
+      → said_in_act say none acts number place host known act ≡ said_in_play say none fleet plays number place host known (slice_get plays number)
+  said_there say none number place host known act is =
+      by_both say none number place host known (slice_get plays number) act
       (ap (option_map stage_of) (sym is) ∙ sym (slice_get-map stage_of acts number) ∙ ap (λ l. slice_get l number) are ∙ slice_get-map (staged fleet) plays number)
 
 -- a play more

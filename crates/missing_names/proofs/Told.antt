@@ -20,7 +20,7 @@ use Rattle.host_track.specs.Asking.{Request, asked_if, asks, ended, is_to_run, j
 use Rattle.host_track.specs.Undefined.{first_name, undefined_by}
 use Rattle.missing_names.specs.Accords.{Accords, IsForetold}
 use Rattle.missing_names.specs.Accords as accords
-use Rattle.missing_names.specs.Laws.{AsksForToldNames, Follows, IsTold, JudgesByToldNames, LacksCode}
+use Rattle.missing_names.specs.Laws.{AsksForToldNames, Follows, IsTold, JudgesByToldNames, LacksCode, SkippedStepsRunNothing}
 use Rattle.missing_names.specs.Misses.{behind, has_no_text, missed_behind, missed_by, missed_if_run, missed_in_hole, missed_in_part, missed_in_word, missed_in_words, missed_names, outlook_if, outset_of}
 use Rattle.missing_names.specs.Outlook.{decides, missed_if}
 use Rattle.missing_names.specs.Outset.{Outset, Standing, variable, registered, perhaps, nothing}
@@ -219,3 +219,10 @@ judges_by_told past start known step words ending.not_started name follows asked
 judges_by_told past start known step words ending.lost name follows asked is = absurd (cc)
 judges_by_told past start known step words ending.skipped name follows asked is = absurd (cc)
 judges_by_told past start known step words (ending.undefined other) name follows asked is = absurd (cc)
+
+pub skipped_run_nothing : SkippedStepsRunNothing
+skipped_run_nothing past start known step words follows skipped is =
+    let outset = outset_of past start in
+    let runs : is_to_run (environment_in known) step ≡ Ok true = to_run (is_to_run (environment_in known) step) (words_asked (values_in known) step.words) words is in
+    let goes : decides false (outlook_if outset step.when).holds ≡ false = runs_on outset known (name_fits past start known follows) (accords_before past start known follows) step runs in
+    absurd (let both : true ≡ false = sym skipped ∙ goes in cc)

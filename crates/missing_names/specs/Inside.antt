@@ -1,12 +1,13 @@
 -- What is kept of plays and of hosts.
-use Rattle.std.specs.Prelude.{◌≡◌, ℕ, Bool, ◌&&◌, Option, Some, None, List, [], ◌++◌, filter, flat_map, length, map, slice_get, take}
+use Rattle.std.specs.Prelude.{◌≡◌, ℕ, Bool, false, ◌&&◌, Option, Some, None, List, [], ◌++◌, filter, flat_map, length, map, slice_get, take}
 use Rattle.domains.specs.FleetViews.{FleetView}
 use Rattle.group_tree.specs.Names.{Name}
 use Rattle.host_track.specs.Hosts.{Known}
 use Rattle.host_vars.specs.HostVars.{known_of}
 use Rattle.needed_results.specs.Needs.{tasks_before}
 use Rattle.play_model.specs.declared.play.Play.{Play}
-use Rattle.missing_names.specs.Misses.{missed_by_some, outset_of}
+use Rattle.play_model.specs.declared.step.Step.{Step}
+use Rattle.missing_names.specs.Misses.{is_some_skipped, missed_by_some, outset_of}
 use Rattle.missing_names.specs.Outset.{Outset}
 use Rattle.missing_names.specs.Past.{Past, is_registered, steps_of}
 use Rattle.missing_names.specs.Spots.{tasks_of, waits_for}
@@ -55,8 +56,14 @@ stage_of act = staged act.fleet.now act.play.now
 abbrev pub AreActsOf : FleetView → List Play → List Act → Type 0
 AreActsOf fleet plays acts = map stage_of acts ≡ map (staged fleet) plays
 
--- of the step at a place of the play with this number, where there is such a play
+-- what is said of the step at a place of the play with this number, where there is such a play
+abbrev pub said_in_act : {X : Type 0} → (Outset → Option Step → X) → X → List Act → ℕ → ℕ → ℕ → Known → Option Act → X
+said_in_act say none acts number place host known None = none
+said_in_act say none acts number place host known (Some act) =
+    say (outset_of (past_behind (take number acts) act.play.now place host) known) (slice_get act.play.now.steps.items place)
+
 abbrev pub missed_in_act : List Act → ℕ → ℕ → ℕ → Known → Option Act → List Name
-missed_in_act acts number place host known None = []
-missed_in_act acts number place host known (Some act) =
-    missed_by_some (outset_of (past_behind (take number acts) act.play.now place host) known) (slice_get act.play.now.steps.items place)
+missed_in_act = said_in_act missed_by_some []
+
+abbrev pub skipped_in_act : List Act → ℕ → ℕ → ℕ → Known → Option Act → Bool
+skipped_in_act = said_in_act is_some_skipped false

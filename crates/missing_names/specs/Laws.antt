@@ -8,7 +8,7 @@ use Rattle.host_track.specs.Asking.{asks, job, settled}
 use Rattle.host_track.specs.Endings as ending
 use Rattle.host_track.specs.Endings.{Ending}
 use Rattle.host_track.specs.Undefined.{undefined_in}
-use Rattle.missing_names.specs.Misses.{missed_names, outset_of}
+use Rattle.missing_names.specs.Misses.{is_skipped, missed_names, outset_of}
 use Rattle.missing_names.specs.Past.{Past, is_registered}
 
 -- The host behind what has run, by what was known of it at the start: results that stood there stay, those of the sure steps are there, and no others came than those of steps that may have run.
@@ -40,3 +40,8 @@ abbrev pub JudgesByToldNames : Type 0
 JudgesByToldNames =
     (past : Past) (start known : Known) (step : Step) (words : List Name) (given : Ending) (name : Name) → Follows past start known → asks known step ≡ job words
     → undefined_in known step given ≡ Some name → IsTold past start known step name
+
+-- a step that was known to be skipped runs no program
+abbrev pub SkippedStepsRunNothing : Type 0
+SkippedStepsRunNothing =
+    (past : Past) (start known : Known) (step : Step) (words : List Name) → Follows past start known → is_skipped (outset_of past start) step ≡ true → asks known step ≡ job words → ⊥

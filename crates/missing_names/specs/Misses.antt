@@ -95,3 +95,12 @@ missed_names outset step = once_behind [] (missed_by outset step)
 abbrev pub missed_by_some : Outset → Option Step → List Name
 missed_by_some outset None = []
 missed_by_some outset (Some step) = missed_names outset step
+
+-- its `when` is known not to hold: it doesn't run
+abbrev pub is_skipped : Outset → Step → Bool
+is_skipped outset step = decides false (outlook_if outset step.when).holds
+
+-- where there is a step
+abbrev pub is_some_skipped : Outset → Option Step → Bool
+is_some_skipped outset None = false
+is_some_skipped outset (Some step) = is_skipped outset step

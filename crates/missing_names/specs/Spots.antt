@@ -1,5 +1,5 @@
--- What may have run before a step of a file's plays, and what the step misses then.
-use Rattle.std.specs.Prelude.{ℕ, Bool, Option, Some, None, List, [], ◌++◌, flat_map, filter, slice_get, take}
+-- What may have run before a step of a file's plays, what the step misses then, and whether it is skipped.
+use Rattle.std.specs.Prelude.{ℕ, Bool, false, Option, Some, None, List, [], ◌++◌, flat_map, filter, slice_get, take}
 use Rattle.domains.specs.FleetViews.{FleetView}
 use Rattle.fleet_states.specs.Starts.{start_statuses}
 use Rattle.fleet_states.specs.Statuses.{is_waiting, status_at}
@@ -9,7 +9,8 @@ use Rattle.needed_results.specs.Needs.{tasks_before}
 use Rattle.play_course.specs.PlayPlans.{targets}
 use Rattle.play_model.specs.declared.play.Play.{Play}
 use Rattle.play_model.specs.declared.step.Step.{Step}
-use Rattle.missing_names.specs.Misses.{missed_by_some, outset_of}
+use Rattle.missing_names.specs.Misses.{is_some_skipped, missed_by_some, outset_of}
+use Rattle.missing_names.specs.Outset.{Outset}
 use Rattle.missing_names.specs.Past.{Past, steps_of}
 
 -- the play is for the host, which isn't down at the start
@@ -31,13 +32,24 @@ past_of fleet plays number play place host = record {
   may = steps_of (earlier fleet plays number host) ++ take place play.steps.items;
 }
 
--- where there is such a play
+-- what is said of a step behind that, where there is such a play
+abbrev pub said_in_play : {X : Type 0} → (Outset → Option Step → X) → X → FleetView → List Play → ℕ → ℕ → ℕ → Known → Option Play → X
+said_in_play say none fleet plays number place host known None = none
+said_in_play say none fleet plays number place host known (Some play) =
+    say (outset_of (past_of fleet plays number play place host) known) (slice_get play.steps.items place)
+
 abbrev pub missed_in_play : FleetView → List Play → ℕ → ℕ → ℕ → Known → Option Play → List Name
-missed_in_play fleet plays number place host known None = []
-missed_in_play fleet plays number place host known (Some play) =
-    missed_by_some (outset_of (past_of fleet plays number play place host) known) (slice_get play.steps.items place)
+missed_in_play = said_in_play missed_by_some []
 
 -- of the step at this place of the play with this number, both from 0, on a host of which this is known; none where there is no such step
 abbrev pub missed_at : FleetView → List Play → ℕ → ℕ → ℕ → Known → List Name
 missed_at fleet plays number place host known =
     missed_in_play fleet plays number place host known (slice_get plays number)
+
+-- whether it is known that the step there doesn't run; not where there is none
+abbrev pub skipped_in_play : FleetView → List Play → ℕ → ℕ → ℕ → Known → Option Play → Bool
+skipped_in_play = said_in_play is_some_skipped false
+
+abbrev pub skipped_at : FleetView → List Play → ℕ → ℕ → ℕ → Known → Bool
+skipped_at fleet plays number place host known =
+    skipped_in_play fleet plays number place host known (slice_get plays number)

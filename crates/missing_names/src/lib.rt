@@ -21,7 +21,7 @@ mod steps;
 mod values;
 
 pub use first::first_missing;
-pub use laws::no_other_name_is_wanted;
+pub use laws::{a_skipped_step_runs_nothing, no_other_name_is_wanted};
 pub use no_value::NoValue;
 pub use registry::Registry;
 pub use spot::Spot;

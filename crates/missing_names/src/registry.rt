@@ -1,15 +1,15 @@
 //! The plays of a file before anything of them has run.
 ghost use Rattle.std.specs.Prelude.{◌≡◌, IfOk, slice_get};
 ghost use Rattle.host_vars.specs.HostVars.{known_of};
-ghost use Rattle.missing_names.specs.Inside.{AreActsOf, missed_in_act, past_behind};
+ghost use Rattle.missing_names.specs.Inside.{AreActsOf, missed_in_act, past_behind, skipped_in_act};
 ghost use Rattle.missing_names.specs.Lent.{lent_names};
-ghost use Rattle.missing_names.specs.Misses.{missed_by_some, outset_of};
+ghost use Rattle.missing_names.specs.Misses.{is_some_skipped, missed_by_some, outset_of};
 
 use crate::act::Act;
 use crate::before::Before;
 use crate::past::Past;
 use crate::spot::Spot;
-use crate::steps::missed_by_step;
+use crate::steps::{is_skipped, missed_by_step};
 use cond::span::split;
 use domains::Fleet;
 use host_vars::Vars;
@@ -29,7 +29,7 @@ impl<'p> Registry<'p> {
     ghost use Rattle.std.specs.Prelude.{◌≡◌, IfOk};
     ghost use Rattle.host_vars.specs.HostVars.{known_of};
     ghost use Rattle.missing_names.specs.Lent.{lent_names};
-    ghost use Rattle.missing_names.specs.Spots.{missed_at};
+    ghost use Rattle.missing_names.specs.Spots.{missed_at, skipped_at};
 
     /// Those of these plays. It fails for want of memory alone, where the patterns were looked up.
     pub fn of(
@@ -58,6 +58,13 @@ impl<'p> Registry<'p> {
         ensures { IfOk result (λ names. lent_names names.items ≡ missed_at self.now.fleet.now self.now.plays.now spot.play spot.place spot.host.index (known_of vars.now)) }
     {
         missed_in_acts(alloc, self.acts.as_slice(), spot, vars)
+    }
+
+    /// Whether it is known that the step there doesn't run on the host, since its `when` can't hold. Not where no step stands there. It fails for want of memory alone.
+    pub fn skips(&self, alloc: Global, spot: Spot, vars: &Vars) -> Result<bool, AllocError>
+        ensures { IfOk result (λ skipped. skipped ≡ skipped_at self.now.fleet.now self.now.plays.now spot.play spot.place spot.host.index (known_of vars.now)) }
+    {
+        skipped_in_acts(alloc, self.acts.as_slice(), spot, vars)
     }
 }
 
@@ -100,5 +107,44 @@ fn missed_in_play<'p>(
             missed_by_step(alloc, step, &Before { past, vars })
         }
         None => Ok(Vec::new(alloc)),
+    }
+}
+
+/// Whether the step there is skipped.
+fn skipped_in_acts(
+    alloc: Global,
+    acts: &[Act<'_>],
+    spot: Spot,
+    vars: &Vars,
+) -> Result<bool, AllocError>
+    ensures { IfOk result (λ skipped. skipped ≡ skipped_in_act acts.now spot.play spot.place spot.host.index (known_of vars.now) (slice_get acts.now spot.play)) }
+{
+    match acts.get(spot.play) {
+        Some(act) => skipped_in_play(alloc, split(acts, spot.play).0, act, spot, vars),
+        None => Ok(false),
+    }
+}
+
+fn skipped_in_play(
+    alloc: Global,
+    earlier: &[Act<'_>],
+    act: &Act<'_>,
+    spot: Spot,
+    vars: &Vars,
+) -> Result<bool, AllocError>
+    ensures { IfOk result (λ skipped. skipped
+        ≡ is_some_skipped (outset_of (past_behind earlier.now act.now.play.now spot.place spot.host.index) (known_of vars.now)) (slice_get act.now.play.now.steps.items spot.place)) }
+{
+    match act.play.steps().get(spot.place) {
+        Some(step) => {
+            let past = Past {
+                earlier,
+                act,
+                place: spot.place,
+                host: spot.host,
+            };
+            is_skipped(alloc, step, &Before { past, vars })
+        }
+        None => Ok(false),
     }
 }

@@ -69,6 +69,19 @@ fn add_run<'s>(
     add_behind(alloc, step, before, found)
 }
 
+/// Whether it is known that the step doesn't run: its `when` can't hold. It fails for want of memory alone.
+pub(crate) fn is_skipped(
+    alloc: Global,
+    step: &Step,
+    before: &Before<'_>,
+) -> Result<bool, AllocError>
+    ensures { IfOk result (λ skipped. skipped ≡ spec.is_skipped (outset_before before.now) step.now) }
+{
+    let mut found = Found::new(alloc);
+    let holds = add_condition(alloc, &step.when, before, &mut found)?;
+    Ok(decides(false, holds))
+}
+
 /// The names that the step misses, each once, in the order of reading. It fails for want of memory alone.
 #[tactic(auto, using(crate::proofs::Onces::once_append))]
 pub(crate) fn missed_by_step<'s>(

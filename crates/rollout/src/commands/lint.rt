@@ -18,7 +18,7 @@ use crate::system::System;
 use bounded_io::Input;
 use command_line::Source;
 use kept_notes::notes_beside_faults;
-use lint_notes::{Allowed, lint_fleet_text, lint_text, read_allowed};
+use lint_notes::{Allowed, Texts, lint_fleet_text, lint_text, read_allowed};
 use planning::PlanFault;
 use std::alloc::Global;
 use std::io::Write;
@@ -86,7 +86,11 @@ fn print_on_one<W: Write>(
     ensures ok { IfOk result (SaysOf allowed.now inventory.now None (W.contents out.old) (W.contents out.new)) }
     ensures err { IfErr result (FailsOver allowed.now inventory.now None (W.contents out.old) (W.contents out.new)) }
 {
-    match lint_fleet_text(alloc, inventory, allowed, out) {
+    let given = Texts {
+        inventory,
+        playbook: None,
+    };
+    match lint_fleet_text(alloc, given, inventory, allowed, out) {
         Ok(end) => Ok(Status::from(end)),
         Err(refused) => print_instead(alloc, inventory, None, allowed, refused, out),
     }
@@ -127,7 +131,11 @@ fn print_on_both<W: Write>(
     ensures ok { IfOk result (SaysOf allowed.now inventory.now (Some playbook.now) (W.contents out.old) (W.contents out.new)) }
     ensures err { IfErr result (FailsOver allowed.now inventory.now (Some playbook.now) (W.contents out.old) (W.contents out.new)) }
 {
-    match lint_text(alloc, inventory, playbook, allowed, out) {
+    let given = Texts {
+        inventory,
+        playbook: Some(playbook),
+    };
+    match lint_text(alloc, given, inventory, playbook, allowed, out) {
         Ok(end) => Ok(Status::from(end)),
         Err(refused) => print_instead(alloc, inventory, Some(playbook), allowed, refused, out),
     }

@@ -1,5 +1,5 @@
 use Rattle.std.proofs.Common.{List, ℕ, [], ◌∷◌, codes, subst}
-use Rattle.help_lines.specs.Conditions.{shown_before, shown_behind, shown_help}
+use Rattle.help_lines.specs.Conditions.{shown_before, shown_help}
 use Rattle.help_lines.specs.Lines.{IsLine}
 use Rattle.help_lines.specs.Values.{cut}
 use Rattle.help_lines.proofs.conditions.show_at.Goals as goal

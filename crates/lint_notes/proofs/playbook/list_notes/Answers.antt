@@ -1,12 +1,16 @@
 use Rattle.std.proofs.Common.{◌++◌, List, Option, ℕ, map, ap, subst, sym, ◌∙◌}
+use Rattle.std.specs.Borrow.{Bor}
+use Rattle.group_tree.specs.Names.{Name, same_name}
+use Rattle.group_tree.proofs.MemberLemmas.{list_any-map}
+use Rattle.lint_notes.specs.Near.{all_with_near, compared_names}
 use Rattle.host_vars.specs.HostVars.{variables_of}
 use Rattle.host_vars.specs.declared.vars.Vars.{Vars}
 use Rattle.lint_notes.specs.CaseHosts.{fleet_notes}
 use Rattle.lint_notes.specs.Given.{AreAllGiven}
-use Rattle.lint_notes.specs.Inside.{has_missed, lacks_in, missed_in}
+use Rattle.lint_notes.specs.Inside.{foreseen_in, has_missed, lacks_in, names_of, noted_repeats}
 use Rattle.lint_notes.specs.Playbooks.{plays_notes}
 use Rattle.lint_notes.proofs.GivenLemmas.{all_given}
-use Rattle.lint_notes.proofs.SameLemmas.{notes_of_all}
+use Rattle.lint_notes.proofs.SameLemmas.{if_ok_same, notes_of_all}
 use Rattle.lint_notes.proofs.playbook.list_notes.Goals as goal
 
 pub note_plays-requires-clause-given : goal.note_plays-requires-clause-given
@@ -23,13 +27,18 @@ returns g c =
     let sizes = c.in_ok-sizes.sizes.items in
     let before = c.in_ok-notes.notes in
     let of = c.in_ok-registry.registry in
-    record {
+    let keys = c.in_ok-given.given.names.keys in
+    let first = noted_repeats c.args.repeats.now ++ fleet_notes c.args.tree.now fleet in
+    let noted = notes_of_all fleet of.fleet.now sizes plays of.plays.now vars c.as_slice.result.now first before c.note_plays.new.notes c.in_ok-vars.ensures.results
+    c.as_slice.ensures.value c.in_ok-registry.ensures.fleet c.in_ok-registry.ensures.plays c.in_ok-notes.ensures
+    (c.in_ok-note_plays.ensures
+    ∙ ap (λ (l : List (Option ℕ)). before ++ plays_notes fleet (lacks_in c.as_slice.result.now) (foreseen_in of.fleet.now of.plays.now c.as_slice.result.now) l plays) c.as_slice-2.ensures.value) in
+    if_ok_same c.with_near.result _ _ c.with_near.ensures (λ notes is. record {
       hosts = map variables_of vars;
       are = c.in_ok-vars.ensures.variables;
       sizes = sizes;
       sizes_are = c.in_ok-sizes.ensures;
-      notes_are = notes_of_all fleet of.fleet.now sizes plays of.plays.now vars c.as_slice.result.now (fleet_notes c.args.tree.now fleet) before c.note_plays.new.notes c.in_ok-vars.ensures.results
-          c.as_slice.ensures.value c.in_ok-registry.ensures.fleet c.in_ok-registry.ensures.plays c.in_ok-notes.ensures
-          (c.in_ok-note_plays.ensures
-          ∙ ap (λ (l : List (Option ℕ)). before ++ plays_notes fleet (lacks_in c.as_slice.result.now) (missed_in of.fleet.now of.plays.now c.as_slice.result.now) l plays) c.as_slice-2.ensures.value);
-    }
+      given = names_of keys;
+      gives = λ name. list_any-map (same_name name) (λ (key : Bor Name). key.now) keys ∙ c.in_ok-given.ensures name;
+      notes_are = is ∙ ap (all_with_near (compared_names (names_of keys) plays)) noted;
+    })

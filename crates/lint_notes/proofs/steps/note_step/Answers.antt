@@ -1,24 +1,40 @@
-use Rattle.std.proofs.Common.{◌≡◌, ◌++◌, Option, flat_map, ap, ◌∙◌}
-use Rattle.group_tree.specs.Names.{Name}
-use Rattle.lint_notes.specs.Hosts.{asking_by, name_note}
-use Rattle.lint_notes.specs.Inside.{crowd_of, has_name, missed_from}
-use Rattle.lint_notes.specs.NamesRead.{names_asked}
+use Rattle.std.proofs.Common.{◌≡◌, ◌++◌, Option, ap, ◌∙◌}
+use Rattle.needed_results.specs.Needs.{tasks_before}
+use Rattle.lint_notes.specs.AskedGroups.{groups_asked_notes}
+use Rattle.lint_notes.specs.Inside.{crowd_of, foreseen_from, has_name}
 use Rattle.lint_notes.specs.Notes.{Note, noted}
-use Rattle.lint_notes.specs.Steps.{idle_note, words_notes}
+use Rattle.lint_notes.specs.Steps.{condition_notes, idle_note, idle_step_note, name_notes, result_notes, words_notes}
 use Rattle.lint_notes.proofs.NotedLemmas.{two_noted}
 use Rattle.lint_notes.proofs.steps.note_step.Goals as goal
 
 pub returns : goal.returns
 returns c =
+    let is_set = has_name c.args.asked.now.registered.now in
     let crowd = crowd_of c.args.asked.now.crowd in
+    let stand = c.args.asked.now.stand in
+    let foreseen = foreseen_from stand c.args.asked.now.crowd.lacks.now.vars.now in
+    let play = c.args.play.now in
     let at = c.args.at in
+    let step = c.args.step.now in
     let before = c.args.notes.now in
     let named = c.note_asked.new.notes in
+    let wanted = c.note_results.new.notes in
+    let grouped = c.note_asked_groups.new.notes in
+    let run = c.add.new.self in
+    let asked = c.note_conditions.new.notes in
     let worded = c.note_words.new.notes in
-    let all = c.add.new.self in
-    let notes = flat_map (λ (name : Name). noted (name_note (asking_by crowd (missed_from c.args.asked.now.stand c.args.asked.now.crowd.lacks.now.vars.now) c.args.step.now) at name)) in
-    let names = names_asked (has_name c.args.asked.now.registered.now) crowd c.args.step.now in
-    let words = words_notes crowd c.args.play.now at c.args.step.now in
-    let idle = noted (idle_note c.args.play.now at) in
-    let of_handler : all ≡ worded ++ idle = c.in_ok-add.ensures ∙ ap (λ (note : Option Note). worded ++ noted note) c.idle_note.ensures in
-    two_noted before named all (notes names) (words ++ idle) c.in_ok-note_asked.ensures (two_noted named worded all words idle c.in_ok-note_words.ensures of_handler)
+    let all = c.add-2.new.self in
+    let names = name_notes is_set crowd foreseen at step in
+    let results = result_notes is_set crowd foreseen (tasks_before play stand.place) at step in
+    let groups = groups_asked_notes crowd.fleet.groups at step in
+    let skipped = noted (idle_step_note crowd foreseen at step) in
+    let conditions = condition_notes at step in
+    let words = words_notes crowd foreseen play at step in
+    let idle = noted (idle_note play at) in
+    let of_run : run ≡ grouped ++ skipped = c.in_ok-add.ensures ∙ ap (λ (note : Option Note). grouped ++ noted note) c.in_ok-idle_step_note.ensures in
+    let of_handler : all ≡ worded ++ idle = c.in_ok-add-2.ensures ∙ ap (λ (note : Option Note). worded ++ noted note) c.idle_note.ensures in
+    two_noted before named all names (results ++ (groups ++ (skipped ++ (conditions ++ (words ++ idle))))) c.in_ok-note_asked.ensures
+    (two_noted named wanted all results (groups ++ (skipped ++ (conditions ++ (words ++ idle)))) c.in_ok-note_results.ensures
+    (two_noted wanted grouped all groups (skipped ++ (conditions ++ (words ++ idle))) c.in_ok-note_asked_groups.ensures
+    (two_noted grouped run all skipped (conditions ++ (words ++ idle)) of_run
+    (two_noted run asked all conditions (words ++ idle) c.in_ok-note_conditions.ensures (two_noted asked worded all words idle c.in_ok-note_words.ensures of_handler)))))

@@ -1,0 +1,60 @@
+-- Which keys stand more than once in one object of a JSON text.
+use Rattle.std.specs.Prelude.{ℕ, ◌+◌, not, nat_lt, if◌then◌else◌, List, [], ◌∷◌, ◌++◌, length, map, Option, Some, None}
+use Rattle.std.specs.Fmt.{decimal}
+use Rattle.std.specs.List.{filter}
+use Rattle.std.specs.Str.{bytes_eq, is_utf8}
+use Rattle.json.specs.Json.{Json, null, boolean, number, string, array, object, Items, no_items, item, Members, no_members, member, document}
+use Rattle.json.specs.Strict.{keys}
+
+-- a key, as its bytes without escapes
+abbrev pub Name : Type 0
+Name = List ℕ
+
+-- the keys and the places in arrays that lead to a repeated key, and that key last, joined by `/`
+abbrev pub Path : Type 0
+Path = List ℕ
+
+-- how many of the names are this one
+abbrev pub how_often : Name → List Name → ℕ
+how_often name names = length (filter (bytes_eq name) names)
+
+-- each name once, where it first stands
+abbrev pub once_each : List Name → List Name
+once_each [] = []
+once_each (name ∷ names) = name ∷ filter (λ other. not (bytes_eq name other)) (once_each names)
+
+-- the names that stand more than once, each once, in the order in which they first stand
+abbrev pub repeated : List Name → List Name
+repeated names = filter (λ name. nat_lt 1 (how_often name names)) (once_each names)
+
+-- these paths, below a key or a place that leads to them; 47 is `/`
+abbrev pub below : Name → List Path → List Path
+below part paths = map (λ path. part ++ 47 ∷ path) paths
+
+abbrev mutual
+  -- of an object first its own, and then those within its members
+  pub repeated_in_value : Json → List Path
+  repeated_in_value null = []
+  repeated_in_value (boolean b) = []
+  repeated_in_value (number s) = []
+  repeated_in_value (string s) = []
+  repeated_in_value (array items) = repeated_in_items 0 items
+  repeated_in_value (object members) = repeated (keys members) ++ repeated_in_members members
+
+  -- within the elements, which stand from this place on
+  pub repeated_in_items : ℕ → Items → List Path
+  repeated_in_items place no_items = []
+  repeated_in_items place (item value items) = below (decimal place) (repeated_in_value value) ++ repeated_in_items (place + 1) items
+
+  -- within the members, each below its key
+  pub repeated_in_members : Members → List Path
+  repeated_in_members no_members = []
+  repeated_in_members (member key value members) = below key (repeated_in_value value) ++ repeated_in_members members
+
+abbrev pub repeated_in_any : Option Json → List Path
+repeated_in_any None = []
+repeated_in_any (Some value) = repeated_in_value value
+
+-- of the value that the text is, where it is JSON in UTF-8
+abbrev pub repeated_in : List ℕ → List Path
+repeated_in text = if is_utf8 text then repeated_in_any (document text) else []

@@ -1,0 +1,9 @@
+//! The keys that stand more than once in one object of a JSON text.
+#![tactic(auto)]
+
+mod keys;
+mod listing;
+mod path;
+mod walk;
+
+pub use listing::list_repeated;

@@ -1,0 +1,39 @@
+"""Which keys stand more than once in an object of a text, as `lint` notes them: of the texts as they were given, also where they have faults."""
+
+from collections import Counter
+
+from faults import shown
+from json_text import NotJson, Pairs, read_pairs
+from rules import turned
+
+
+def key_notes(inventory, playbook=None):
+    """The notes on the keys of the inventory, and behind them those of the playbook, where there is one."""
+    texts = [("inventory", inventory)] + [("playbook", playbook)] * (playbook is not None)
+    if turned("lint-keys-of-the-inventory-first"):
+        texts.reverse()
+    return [f"repeated-key {file}={shown('/'.join(path))}" for file, text in texts for path in _repeated_in(text)]
+
+
+def _repeated_in(text):
+    """The paths of keys that stand more than once; none in a text that is no JSON."""
+    try:
+        return list(_repeated(read_pairs(text), []))
+    except NotJson:
+        return []
+
+
+def _repeated(value, path):
+    """Those of a value below a path: of an object its own, each once and in the order in which they first stand there, and then those within its members, one after the other."""
+    if not isinstance(value, list):
+        return
+    is_object = isinstance(value, Pairs)
+    members = value if is_object else [(str(place + turned("lint-places-in-paths-from-nought")), below) for place, below in enumerate(value)]
+    keys = [key for key, _ in members] if is_object else []
+    own = [[*path, key] for key, count in Counter(keys).items() if count > 1]
+    if turned("lint-each-repeated-key-once"):
+        own = [[*path, key] for place, key in enumerate(keys) if key in keys[:place]]
+    if turned("lint-all-values-of-a-key-are-looked-into") and is_object:
+        members = list(dict(members).items())
+    within = (found for key, below in members for found in _repeated(below, [*path, key]))
+    yield from [*within, *own] if turned("lint-own-keys-before-those-within") else [*own, *within]
