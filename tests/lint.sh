@@ -119,10 +119,10 @@ unlike-values at=0/tasks/0 key=when'
 noted 'a name under `is defined` is asked for by nobody' "$three" "[$(play "$(task '"when":"y is defined"'),$(task '"when":"y is not defined"'),$(task '"when":"not (y is defined)"'),$(task '"when":["w is defined","not (x is not defined) or true"]')")]" ''
 noted 'what it guards is not looked up where there is none' "$three" "[$(play "$(task '"when":"x is defined and x == 0"'),$(task '"when":["x is defined","x == 0"]'),$(task '"when":"not (x is not defined or x == 1)"'),$(task '"when":"x is not defined or x == 1"')")]" ''
 noted 'nor where nobody has any' "$three" "[$(play "$(task '"when":"y is defined and y == 1 and z"'),$(task '"when":["y is defined","z or y"]'),$(task '"when":"y is not defined or z"')")]" ''
-noted 'but where the guard is the other way round' "$three" "[$(play "$(task '"when":"x is not defined and x == 0"'),$(task '"when":"x is defined or x == 0"'),$(task '"when":["x is not defined","w == 0"]')")]" 'missing-name at=0/tasks/0 name=x hosts=2 of=3 host=a
+noted 'but where the guard is the other way round' "$three" "[$(play "$(task '"when":"x is not defined and x == 0"'),$(task '"when":"x is defined or x == 0"'),$(task '"when":["x is not defined","w == \"\""]')")]" 'missing-name at=0/tasks/0 name=x hosts=2 of=3 host=a
 missing-name at=0/tasks/1 name=x hosts=2 of=3 host=a
 missing-name at=0/tasks/2 name=w hosts=1 of=3 host=a'
-noted 'another name behind `or` is looked up where the first is not there' "$three" "[$(play "$(task '"when":"x is defined or w == 1"'),$(task '"when":"w is defined or y == 1"'),$(task '"when":"y is defined or z == 1"')")]" 'missing-name at=0/tasks/0 name=w hosts=1 of=3 host=a
+noted 'another name behind `or` is looked up where the first is not there' "$three" "[$(play "$(task '"when":"x is defined or w == \"\""'),$(task '"when":"w is defined or y == 1"'),$(task '"when":"y is defined or z == 1"')")]" 'missing-name at=0/tasks/0 name=w hosts=1 of=3 host=a
 missing-name at=0/tasks/1 name=y hosts=1 of=3 host=a
 unknown-name at=0/tasks/2 name=z'
 noted 'a guard behind it does not help' "$three" "[$(play "$(task '"when":"x == 0 and x is defined"'),$(task '"when":["x == 0","x is defined"]'),$(task '"when":"y or y is defined"')")]" 'missing-name at=0/tasks/0 name=x hosts=2 of=3 host=a
@@ -130,7 +130,7 @@ missing-name at=0/tasks/1 name=x hosts=2 of=3 host=a
 unknown-name at=0/tasks/2 name=y'
 noted 'words are rendered where `when` may hold' "$three" "[$(play '{"command":"echo {{ x }} {{ w }} {{ y }}","when":"x is defined"},{"command":"echo {{ x }}","when":"x is not defined"},{"command":"echo {{ w }}","when":["w is defined",false]},{"command":"echo {{ y }}","when":"y is defined"}')]" 'missing-name at=0/tasks/0 name=y hosts=1 of=3 host=c
 missing-name at=0/tasks/1 name=x hosts=2 of=3 host=a'
-noted 'and so is what judges the end' "$three" "[$(play "$(task '"when":"x is defined","changed_when":"x == 0","failed_when":"y"'),$(task '"when":"w is not defined","changed_when":"x is defined and x","failed_when":["x is defined","y"]'),$(task '"changed_when":"x is defined and x == 0","failed_when":"x is not defined and w == 1"')")]" 'missing-name at=0/tasks/0 name=y hosts=1 of=3 host=c
+noted 'and so is what judges the end' "$three" "[$(play "$(task '"when":"x is defined","changed_when":"x == 0","failed_when":"y"'),$(task '"when":"w is not defined","changed_when":"x is defined and x","failed_when":["x is defined","y"]'),$(task '"changed_when":"x is defined and x == 0","failed_when":"x is not defined and w == \"\""')")]" 'missing-name at=0/tasks/0 name=y hosts=1 of=3 host=c
 missing-name at=0/tasks/2 name=w hosts=1 of=3 host=a'
 noted 'behind what is known to decide nothing is looked up: truth values, values, groups, the name of the host' "$three" "[$(play "$(task '"when":"true or y"'),$(task '"when":"false and y"'),$(task '"when":["v == 2","y"]'),$(task '"when":"v == 1 or y"'),$(task '"when":"\"g\" in group_names and y"'),$(task '"when":"inventory_hostname != \"b\" or y"'),$(task '"when":"\"1\" == 1 or v and y"')")]" 'missing-name at=0/tasks/4 name=y hosts=1 of=3 host=c
 missing-name at=0/tasks/5 name=y hosts=1 of=3 host=b
@@ -161,11 +161,15 @@ noted 'a name is asked of variables where a step registers it later' "$three" "[
 noted 'handlers have what all tasks register, and the handlers before them' "$one" "[$(play "$(task '"notify":["G","H"],"when":"s"'),$(task '"register":"r"')" "$(task '"name":"G","when":["r","s","t"],"register":"s"'),$(task '"name":"H","when":"s","register":"t"')")]" 'unknown-name at=0/tasks/0 name=s
 unknown-name at=0/handlers/0 name=s
 unknown-name at=0/handlers/0 name=t
-missing-result at=0/handlers/1 name=s hosts=1 of=1 host=a'
+whole-result at=0/handlers/0 key=when name=r
+missing-result at=0/handlers/1 name=s hosts=1 of=1 host=a
+whole-result at=0/handlers/1 key=when name=s'
 noted 'names of tasks and handlers of all earlier plays are no unknown ones, and none of later ones are; a handler may not have run' "$one" "[$(play "$(task '"register":"r","notify":"H","when":"q"')" "$(task '"name":"H","register":"s"')"),$(play "$(task '"when":"r and s and q"')"),$(play "$(task '"when":"r and s","register":"q"')")]" 'unknown-name at=0/tasks/0 name=q
 unknown-name at=1/tasks/0 name=q
 missing-result at=1/tasks/0 name=s hosts=1 of=1 host=a
-missing-result at=2/tasks/0 name=s hosts=1 of=1 host=a'
+whole-result at=1/tasks/0 key=when name=r
+missing-result at=2/tasks/0 name=s hosts=1 of=1 host=a
+whole-result at=2/tasks/0 key=when name=r'
 noted 'an earlier play may be for other hosts' "$three" "[$(play "$(task '"register":"r"')" '' a),$(play "$(task '"when":"r.rc == 0"')" '' b)]" 'missing-result at=1/tasks/0 name=r hosts=1 of=1 host=b'
 
 # The name that was probably meant.
@@ -215,11 +219,12 @@ noted 'of several plays for some hosts each' "$pair" "[$(play "$(task '"register
 noted 'only hosts that wait count' '{"all":{"hosts":{"a":{"down":true},"b":null,"c":null}}}' "[$(play "$(task '"register":"r"')" '' b),$(play '{"command":"echo {{ r.rc }}"}'),$(play '{"command":"echo {{ r.rc }}"}' '' a)]" 'down-hosts play=2 hosts=1 host=a
 missing-result at=1/tasks/0 name=r hosts=1 of=2 host=c
 no-hosts play=3'
-noted 'a task of the same play, also where it may be skipped, is enough for a field; a word without one is told all the same' "$pair" "[$(play '{"command":"true","register":"r","when":"v == 1"},{"command":"echo {{ r.rc }}","when":"r"},{"command":"echo {{ r }}"}')]" 'missing-result at=0/tasks/2 name=r hosts=3 of=3 host=a'
+noted 'a task of the same play, also where it may be skipped, is enough for a field; a word without one is told all the same' "$pair" "[$(play '{"command":"true","register":"r","when":"v == 1"},{"command":"echo {{ r.rc }}","when":"r"},{"command":"echo {{ r }}"}')]" 'whole-result at=0/tasks/1 key=when name=r
+missing-result at=0/tasks/2 name=r hosts=3 of=3 host=a'
 noted 'a handler may not have run, neither for one behind it nor for a later play' "$pair" "[$(play '{"command":"true","notify":["H","I"]}' "$(task '"name":"H","register":"h"'),{\"name\":\"I\",\"command\":\"echo {{ h.rc }}\"}"),$(play "$(task '"when":"h is changed"')" '' c)]" 'missing-result at=0/handlers/1 name=h hosts=3 of=3 host=a
 missing-result at=1/tasks/0 name=h hosts=1 of=1 host=c'
 noted 'a task that registers the same is enough' "$pair" "[$(play "$(task '"notify":"H","register":"h"')" "$(task '"name":"H","register":"h"')"),$(play "$(task '"when":"h is changed"')")]" ''
-noted 'its own result a handler has where it is judged' "$pair" "[$(play "$(task '"notify":"H"')" "$(task '"name":"H","register":"h","changed_when":"h.rc == 0","failed_when":"h"')")]" ''
+noted 'its own result a handler has where it is judged' "$pair" "[$(play "$(task '"notify":"H"')" "$(task '"name":"H","register":"h","changed_when":"h.rc == 0","failed_when":"h"')")]" 'whole-result at=0/handlers/0 key=failed_when name=h'
 noted 'who asks first is not told' "$pair" "[$(play "$(task '"register":"r"')" '' b),$(play "$(task '"when":"r is defined and r.rc == 0"'),$(task '"when":["r is defined","r is changed"]'),{\"command\":\"echo {{ r.rc }}\",\"when\":\"r.stdout is defined\"},$(task '"when":"r is not defined and r.rc == 0"'),{\"command\":\"echo {{ r }}\",\"when\":\"r is defined\"}")]" 'missing-result at=1/tasks/4 name=r hosts=1 of=3 host=b'
 noted 'nor who asks for that of a handler' "$pair" "[$(play "$(task '"notify":"H"')" "$(task '"name":"H","register":"h"')"),$(play "$(task '"when":"h is defined and h.rc == 0"'),{\"command\":\"echo {{ h.stdout }}\",\"when\":[\"h.stdout is defined\"]},$(task '"changed_when":"h is defined and h.rc == 0"')")]" 'missing-result at=1/tasks/2 name=h hosts=3 of=3 host=a'
 noted 'nor is one that a host is known not to look up' "$pair" "[$(play "$(task '"register":"r"')" '' b),$(play '{"command":"echo {{ r.rc }}","when":"inventory_hostname == \"b\""},{"command":"echo {{ r.rc }}","when":"inventory_hostname != \"a\""}')]" 'missing-result at=1/tasks/1 name=r hosts=1 of=3 host=c'
@@ -477,6 +482,10 @@ repeated-key inventory=all/vars/?
 repeated-key inventory=all/vars/
 repeated-key inventory=all/vars/a/b
 repeated-key inventory=all/vars/a?'
+long=$(printf '%255s' '' | tr ' ' k)
+noted_alone 'keys of 255 bytes are whole, of longer ones these are told' "{\"all\":{\"vars\":{\"$long\":{\"$long\":1,\"$long\":1},\"x$long\":{\"${long}x\":1,\"${long}x\":1}}}}" "repeated-key inventory=all/vars/$long/$long
+repeated-key inventory=all/vars/x${long%k}../$long.."
+noted_alone 'the first hundred' "{\"all\":{\"vars\":{$(seq 101 201 | sed 's/.*/\"v&\":1,\"v&\":2/' | paste -sd ,)}}}" "$(seq -f 'repeated-key inventory=all/vars/v%.0f' 101 200)"
 noted_alone 'the same key in two objects' '{"g":{"hosts":{"a":{"v":1}}},"f":{"hosts":{"a":{"v":1}},"children":{"e":{"hosts":{"a":{"v":1}}}}}}' ''
 noted 'of both files, the inventory first, and all before the groups' '{"g":{"vars":{"max_down":0,"max_down":0},"hosts":{"a":null}}}' '[{"hosts":"none","hosts":"g","tasks":[{"command":"true"},{"when":"x","command":"true","when":true}]}]' 'repeated-key inventory=g/vars/max_down
 repeated-key playbook=0/hosts
@@ -543,16 +552,21 @@ local-step at=0/tasks/2 word=true'
 
 # Steps that nobody runs.
 many='{"all":{"vars":{"n":15,"t":"15","b":true},"hosts":{"a":{"x":0},"b":{"x":1},"c":{"x":1,"y":"p"}},"children":{"g":{"hosts":{"a":null,"b":null,"c":null}},"h":{"hosts":{"a":null}},"e":null}}}'
-for when in "\"n == '15'\"" '"n == 16"' '"15 != n"' '"t == 15"' "\"t != '15'\"" '"b == 1"' '"n == t"' '"n != n"' '"not (n == 15 or false)"' "\"'e' in group_names\"" "\"'nobody' in group_names\"" "\"'all' in group_names\"" "\"'g' not in group_names\"" \
+for when in '"n == 16"' '"15 != n"' "\"t != '15'\"" '"n == t"' '"n != n"' '"not (n == 15 or false)"' "\"'e' in group_names\"" "\"'nobody' in group_names\"" "\"'all' in group_names\"" "\"'g' not in group_names\"" \
     "\"inventory_hostname == 'd'\"" '"x == 2"' '["x == 0","x == 1"]' "\"x == 0 and 'h' not in group_names\"" '[false,"n == 15"]' '"false and n == 15"'; do
     noted "a step that nobody runs: $when" "$many" "[$(play "$(task "\"when\":$when")")]" 'idle-step at=0/tasks/0'
+done
+for when in "\"n == '15'\"" '"t == 15"' '"b == 1"'; do
+    noted "nor where a variable is of another kind: $when" "$many" "[$(play "$(task "\"when\":$when")")]" "unlike-variable at=0/tasks/0 key=when name=$(expr "$when" : '"\(.\)')
+idle-step at=0/tasks/0"
 done
 for when in '"n == 15"' '"x == 0"' "\"'h' in group_names\"" "\"'e' not in group_names\"" "\"'all' not in group_names\"" '"x == 2 or b"' "\"y is defined and y == 'p'\"" "\"inventory_hostname == 'c'\"" '"not b"' '["b","not b"]' '"x is not defined"' '"b and n is not defined"' '"z is defined"' '"b != true"' '"y is defined and x == 0"' '"b and not b or n == 16"' "\"not b and 'g' in group_names\"" '"b == false and n == 16"'; do
     noted "a step that somebody may run, or that only asks what is true or there: $when" "$many" "[$(play "$(task "\"when\":$when")")]" ''
 done
 noted 'nor is one of literals alone, which is the same on each host' "$many" "[$(play "$(task '"when":"1 == 2"'),$(task '"when":["1 != 1","b"]'),$(task '"when":false')")]" 'constant-condition at=0/tasks/0
 constant-condition at=0/tasks/2'
-noted 'what a program will have said is not known, nor a result that may not be there' "$many" "[$(play "$(task '"register":"r","notify":["H","I"]'),$(task '"when":"r.rc == 99"'),$(task '"when":"r.stdout == \"x\" and n == 15"')" "$(task '"name":"H","register":"h"'),$(task '"name":"I","when":"h == 1"')")]" 'missing-result at=0/handlers/1 name=h hosts=3 of=3 host=a'
+noted 'what a program will have said is not known, nor a result that may not be there' "$many" "[$(play "$(task '"register":"r","notify":["H","I"]'),$(task '"when":"r.rc == 99"'),$(task '"when":"r.stdout == \"x\" and n == 15"')" "$(task '"name":"H","register":"h"'),$(task '"name":"I","when":"h == 1"')")]" 'missing-result at=0/handlers/1 name=h hosts=3 of=3 host=a
+whole-result at=0/handlers/1 key=when name=h'
 noted 'but what stands beside it may decide' "$many" "[$(play "$(task '"register":"r"'),$(task '"when":["r.rc == 0","n == 16"]'),$(task '"when":"r.rc == 0 or n == 16"')")]" 'idle-step at=0/tasks/1'
 noted 'of a host that has no such variable it is not known' "$many" "[$(play "$(task '"when":"y == \"q\""'),$(task '"when":"z == 1"')"),$(play "$(task '"when":"y == \"q\""')" '' c)]" 'missing-name at=0/tasks/0 name=y hosts=2 of=3 host=a
 unknown-name at=0/tasks/1 name=z
@@ -593,13 +607,169 @@ for kind, one in operands:
     for other_kind, other in operands:
         if "any" not in (kind, other_kind) and kind != other_kind:
             lines.append(f"unlike-values at=0/tasks/{len(steps)} key=failed_when\n")
+        if "r" in (one, other):
+            lines.append(f"whole-result at=0/tasks/{len(steps)} key=failed_when name=r\n")
         sign = ["==", "!="][len(steps) % 2]
         steps.append({"command": "true", "register": "r", "failed_when": f"{one} {sign} {other}"})
 with open(f"{sys.argv[1]}/pairs.json", "w") as playbook, open(f"{sys.argv[1]}/pairs", "w") as expected:
     json.dump([{"hosts": "all", "tasks": steps}], playbook)
     expected.writelines(lines)
 PAIRS
-noted 'numbers, texts, truth values, and what may be of any kind' '{"all":{"vars":{"v":1},"hosts":{"a":null}}}' "$(cat "$work/pairs.json")" "$(cat "$work/pairs")"
+noted 'numbers, texts, truth values, and what may be of any kind' '{"all":{"vars":{"v":1},"hosts":{"a":{"v":"1"}},"children":{"g":{"vars":{"v":true},"hosts":{"a":null}}}}}' "$(cat "$work/pairs.json")" "$(cat "$work/pairs")"
+
+# Texts that say no, and are true.
+
+# saying VALUE WHEN NOTE: a step with this `when` where `d` is given so, beside `b`, which is true.
+saying() {
+    noted "the condition $2 where d is $1" "{\"all\":{\"vars\":{\"d\":$1,\"b\":true,\"inventory_hostname\":\"no\"},\"hosts\":{\"a\":null}}}" "[$(play "$(task "\"when\":$2")")]" "$3"
+}
+for text in false False FALSE faLse no No NO off Off oFF n N f F 0 none None null NULL; do
+    saying "\"$text\"" '"d"' 'false-text at=0/tasks/0 key=when name=d'
+done
+for value in '""' '"true"' '"fals"' '"falsee"' '"nope"' '"false "' '" no"' '"00"' '"-0"' '"0.0"' '"nil"' '"o"' '"f\u00e4lse"' '"\u0000no"' false 0 true 1; do
+    saying "$value" '"d"' ''
+done
+for when in '"not d"' '"(d)"' '["b","d"]' '"b or d"' '"true or d"' '"d is defined and d"' '"not (b != true or not ((d)))"' "\"d == 'a' or d\"" '"d and d"'; do
+    saying '"no"' "$when" 'false-text at=0/tasks/0 key=when name=d'
+done
+for when in "\"d == 'no'\"" "\"'a' != d\"" '"d == b or b"' '"d is defined"' '"d is not defined or b"' '"d is changed"' '"d.changed"' '"d.rc == 0"' '"inventory_hostname"' '"not inventory_hostname"' "\"'d' in group_names or b\""; do
+    saying '"no"' "$when" ''
+done
+saying '"no"' "\"'no'\"" 'constant-condition at=0/tasks/0'
+noted 'of any variable of the name: of a host that is down, that another play is for, of a group of nobody, or one that another hides' '{"all":{"vars":{"c":"0"},"hosts":{"a":{"d":true,"e":false,"f":"1","c":true},"b":{"d":"off","down":true},"h":{"e":"N"}},"children":{"none":{"vars":{"f":"null"}}}}}' \
+    "[$(play "$(task '"when":"d"'),$(task '"when":"e"'),$(task '"when":"f"'),$(task '"when":"c"')" '' a)]" 'false-text at=0/tasks/0 key=when name=d
+false-text at=0/tasks/1 key=when name=e
+false-text at=0/tasks/2 key=when name=f
+false-text at=0/tasks/3 key=when name=c'
+noted 'also where nobody who waits has it, or nobody waits' '{"all":{"hosts":{"a":{"d":"no"},"b":null,"c":{"down":true}}}}' "[$(play "$(task '"when":"d"')" '' b),$(play "$(task '"when":"d"')" '' c)]" 'unknown-name at=0/tasks/0 name=d
+false-text at=0/tasks/0 key=when name=d
+no-hosts play=2
+false-text at=1/tasks/0 key=when name=d'
+
+# Variables that are compared with what is of another kind. Each variable beside each operand, on either side in turn: these have no value of its kind. Of `r` the step registers the result.
+python3 - "$work" <<'VALUES'
+import json
+import sys
+
+given = {"n": {"number"}, "t": {"text"}, "b": {"truth"}, "nt": {"number", "text"}, "tb": {"text", "truth"}, "ntb": {"number", "text", "truth"}, "r": None}
+values = {"number": 7, "text": "a", "truth": False}
+kinds = {"number": ["7", "-1", "r.rc"], "text": ["'a'", '"7"', "''", "r.stdout", "r.stderr", "inventory_hostname"], "truth": ["true", "False", "r.changed", "r.failed", "r.skipped"], "any": ["t", "r", "ntb"]}
+groups = {kind: {"vars": {name: values[kind] for name, those in given.items() if kind in (those or ["number"])}} for kind in values}
+steps, lines = [], []
+for name, those in given.items():
+    for kind, operand in [(kind, operand) for kind, operands in kinds.items() for operand in operands]:
+        if kind != "any" and those is not None and kind not in those:
+            lines.append(f"unlike-variable at=0/tasks/{len(steps)} key=failed_when name={name}\n")
+        sides = [name, operand] if len(steps) % 3 else [operand, name]
+        steps.append({"command": "true", "register": "r", "failed_when": f" {['==', '!='][len(steps) % 2]} ".join(sides)})
+inventory = {"all": {"hosts": {"a": None}, "children": {**groups, "g": {"vars": {"x": 1}}}}}
+inventory["all"]["children"]["number"]["hosts"] = inventory["all"]["children"]["text"]["hosts"] = inventory["all"]["children"]["truth"]["hosts"] = {"a": None}
+with open(f"{sys.argv[1]}/given.json", "w") as fleet, open(f"{sys.argv[1]}/compared.json", "w") as playbook, open(f"{sys.argv[1]}/compared", "w") as expected:
+    json.dump(inventory, fleet)
+    json.dump([{"hosts": "all", "tasks": steps}], playbook)
+    expected.writelines(lines)
+VALUES
+noted 'values of one kind, of two and of three, beside numbers, texts, truth values and names' "$(cat "$work/given.json")" "$(cat "$work/compared.json")" "$(cat "$work/compared")"
+noted 'also behind what decides, in brackets, in a list, and where a part asks first; a name that nothing gives is of no kind' '{"all":{"vars":{"n":15},"hosts":{"a":null}}}' \
+    "[$(play "$(task '"when":"true or not (n == true)"'),$(task '"when":["n == 15","n is defined and (n != \"15\" or n)"]'),$(task '"when":"n is defined or m == 1"'),$(task '"when":"m != 1"'),$(task '"when":"n"'),$(task '"when":"n is changed or n.stdout == \"\""')")]" 'unlike-variable at=0/tasks/0 key=when name=n
+unlike-variable at=0/tasks/1 key=when name=n
+unknown-name at=0/tasks/3 name=m'
+noted 'of any variable of the name: one of that kind is enough, of whomever; what is no variable is none' '{"all":{"vars":{"p":"x"},"hosts":{"a":{"n":"15","m":"x","o":true,"p":null},"b":{"n":15,"down":true},"c":{"m":1.5}},"children":{"none":{"vars":{"o":1}}}}}' \
+    "[$(play "$(task '"when":"n != 16"'),$(task '"when":"n != true"'),$(task '"when":"m != 1"'),$(task '"when":"o != 1"'),$(task '"when":"o != \"x\""'),$(task '"when":"p != 1"')" '' a)]" 'unlike-variable at=0/tasks/1 key=when name=n
+unlike-variable at=0/tasks/2 key=when name=m
+unlike-variable at=0/tasks/4 key=when name=o
+unlike-variable at=0/tasks/5 key=when name=p'
+noted 'a limit and a `down` are variables too' '{"all":{"vars":{"max_down":1},"hosts":{"a":{"down":false}}}}' "[$(play "$(task '"when":"max_down != \"1\""'),$(task '"when":"\"false\" != down"'),$(task '"when":"max_down == 1 and down == false"')")]" 'unlike-variable at=0/tasks/0 key=when name=max_down
+unlike-variable at=0/tasks/1 key=when name=down'
+
+# Both of a step.
+switches='{"all":{"vars":{"d":"no","e":"off","n":15,"t":"15"},"hosts":{"a":null}}}'
+noted 'of each condition the first of either, first the text, and then the next condition' "$switches" "[$(play "$(task '"failed_when":"n == true and not d or e","changed_when":["t == 15","n == \"15\"","e"],"when":"n == \"15\" or d or e or t == 15"')")]" 'false-text at=0/tasks/0 key=when name=d
+unlike-variable at=0/tasks/0 key=when name=n
+false-text at=0/tasks/0 key=changed_when name=e
+unlike-variable at=0/tasks/0 key=changed_when name=t
+false-text at=0/tasks/0 key=failed_when name=d
+unlike-variable at=0/tasks/0 key=failed_when name=n'
+all_noted 'behind the names and the groups of all conditions, and before who runs it' "$switches" "[$(play '{"command":"echo ;","when":["u == 1","\"x\" in group_names","n == \"15\"","1 == \"1\""],"changed_when":"d","failed_when":"\"y\" in group_names and n == true"}')]" 'unknown-name at=0/tasks/0 name=u
+unknown-group at=0/tasks/0 key=when group=x
+unknown-group at=0/tasks/0 key=failed_when group=y
+unlike-variable at=0/tasks/0 key=when name=n
+false-text at=0/tasks/0 key=changed_when name=d
+unlike-variable at=0/tasks/0 key=failed_when name=n
+idle-step at=0/tasks/0
+unlike-values at=0/tasks/0 key=when
+shell-word at=0/tasks/0 word=;'
+noted 'what a step before registers is no variable, and behind its program what it registers itself' "$switches" "[$(play "$(task '"when":"d and n != \"15\"","changed_when":"t == 15","notify":["H","I"]'),$(task '"when":"d and n != \"15\"","register":"d","changed_when":"d","failed_when":"not d or n == 1 or n == \"1\""'),$(task '"when":"d","register":"n","changed_when":"n == \"15\""'),$(task '"when":"d or n != \"15\""')" "$(task '"name":"H","when":"d and n != \"15\" and e","register":"t"'),$(task '"name":"I","when":"d and t == 15"')"),$(play "$(task '"when":"d and n != \"15\" and t == 15 or e","failed_when":"e"')")]" 'false-text at=0/tasks/0 key=when name=d
+unlike-variable at=0/tasks/0 key=when name=n
+unlike-variable at=0/tasks/0 key=changed_when name=t
+false-text at=0/tasks/1 key=when name=d
+unlike-variable at=0/tasks/1 key=when name=n
+unlike-variable at=0/tasks/1 key=failed_when name=n
+false-text at=0/handlers/0 key=when name=e
+false-text at=1/tasks/0 key=when name=e
+false-text at=1/tasks/0 key=failed_when name=e'
+noted 'a play for other hosts registers it too' '{"all":{"hosts":{"a":{"d":"no","n":15},"b":{"d":"no","n":15}}}}' "[$(play "$(task '"register":"d"')" '' a),$(play "$(task '"when":"d or n != \"15\"","failed_when":"n == \"15\""')" '' b)]" 'unlike-variable at=1/tasks/0 key=when name=n
+unlike-variable at=1/tasks/0 key=failed_when name=n'
+refused 'beside faults of both files too' '{"all":{"vars":{"d":"no","n":15},"hosts":{"a":null},"x":1}}' "[$(play "$(task '"when":["x >","d","n != \"15\""],"x":1'),$(task '"when":["y is defined >","d"],"failed_when":"d"')")]" "rollout: 203 UnknownKey at=all/x
+rollout: 703 UnknownKey at=0/tasks/0/x
+rollout: 501 BadToken step=1 key=when at=2
+rollout: 501 BadToken step=2 key=when at=13" 'false-text at=0/tasks/0 key=when name=d'
+refused 'and where limits cross' '{"f":{"vars":{"max_down":1,"d":"no"},"hosts":{"a":{"n":15}}},"g":{"vars":{"max_down":1},"hosts":{"a":null}}}' "[$(play "$(task '"when":"d and n != \"15\""')")]" 'rollout: 301 NotNested host=a first=f second=g' 'false-text at=0/tasks/0 key=when name=d'
+refused 'variables of other kinds beside faults of the playbook alone' '{"all":{"vars":{"d":"no","n":15},"hosts":{"a":null}}}' "[$(play "$(task '"when":["d","x >","n != \"15\""],"x":1')")]" "rollout: 703 UnknownKey at=0/tasks/0/x
+rollout: 501 BadToken step=1 key=when at=2" 'false-text at=0/tasks/0 key=when name=d
+unlike-variable at=0/tasks/0 key=when name=n'
+
+# Results as a whole.
+
+# asking CONDITION NOTE: a step with this `when`, as JSON, behind such that register `r`, `q` and `v`. The last is a variable too, and `w` one alone.
+asking() {
+    noted "the condition $1, of results" '{"all":{"vars":{"w":7},"hosts":{"a":{"v":1}}}}' "[$(play "$(task '"register":"r"'),$(task '"register":"q"'),$(task '"register":"v"'),$(task "\"when\":$1")")]" "$2"
+}
+for when in '"r"' '"not r"' '"(r)"' '["w == 7","r"]' '"w == 7 or r"' '"true or r"' '"r is defined and r"' '"not (w != 7 or not ((r)))"' '"r != 0"' "\"'up' != r\"" '"true == r"' '"r == false"' '"r != r"' '"r != r.rc"' '"r.stdout != r"' \
+    '"w != r"' '"r != w"' '"v != r"' '"r != v"' '"inventory_hostname != r"' '"r != q or q"' '["r.rc == 0","r != q","q"]' '"v or v != 1 or w != v or r"' '"r and q != 1"'; do
+    asking "$when" 'whole-result at=0/tasks/3 key=when name=r'
+done
+for when in '"q or r"' '"q != r"' '"1 != q and r"' '["v","q is defined","not (r is changed or q)","r"]'; do
+    asking "$when" 'whole-result at=0/tasks/3 key=when name=q'
+done
+for when in '"r is changed"' '"r is not failed"' '"r.rc == 0"' '"r.stdout"' "\"'up' != r.stdout\"" '"r is defined"' '"r is not defined or w"' '"w != r.rc"' '"v"' '"not v"' '"v != 1"' '"7 != v"' '"w"' '"v != w"' '"inventory_hostname"' "\"'r' in group_names or w\""; do
+    asking "$when" ''
+done
+asking "\"'r'\"" 'constant-condition at=0/tasks/3'
+asking '"r == 0"' 'whole-result at=0/tasks/3 key=when name=r
+idle-step at=0/tasks/3'
+noted 'of each condition, behind what is noted of its variables; its own result is there where it is judged' "$switches" "[$(play "$(task '"register":"r"'),$(task '"register":"s","failed_when":"n == true or r == 1 or s","changed_when":["s","r"],"when":"r and d and n != \"15\""')")]" 'false-text at=0/tasks/1 key=when name=d
+unlike-variable at=0/tasks/1 key=when name=n
+whole-result at=0/tasks/1 key=when name=r
+whole-result at=0/tasks/1 key=changed_when name=s
+unlike-variable at=0/tasks/1 key=failed_when name=n
+whole-result at=0/tasks/1 key=failed_when name=r'
+noted 'and not before it runs; what a later step registers is none' "$one" "[$(play "$(task '"when":"s"'),$(task '"register":"r","when":"r != 1","failed_when":"r"'),$(task '"register":"s","when":"r"')")]" 'unknown-name at=0/tasks/0 name=s
+unknown-name at=0/tasks/1 name=r
+whole-result at=0/tasks/1 key=failed_when name=r
+whole-result at=0/tasks/2 key=when name=r'
+noted 'of tasks, of handlers, and of earlier plays, also for other hosts' "$two" "[$(play "$(task '"register":"r","notify":["H","I"]')" "$(task '"name":"H","when":"r","register":"h"'),$(task '"name":"I","changed_when":"h"')" a),$(play "$(task '"when":"r"'),$(task '"failed_when":"h == 1"')" '' b)]" 'whole-result at=0/handlers/0 key=when name=r
+missing-result at=0/handlers/1 name=h hosts=1 of=1 host=a
+whole-result at=0/handlers/1 key=changed_when name=h
+missing-result at=1/tasks/0 name=r hosts=1 of=1 host=b
+whole-result at=1/tasks/0 key=when name=r
+missing-result at=1/tasks/1 name=h hosts=1 of=1 host=b
+whole-result at=1/tasks/1 key=failed_when name=h'
+results=$(for name in n m p q o down max_down; do printf '%s,' "$(task "\"register\":\"$name\",\"failed_when\":\"$name\"")"; done)
+noted 'not of a variable of anybody: of a host that is down, of a group of nobody, of another play; a value that is none makes none' '{"all":{"vars":{"max_down":9},"hosts":{"a":{"n":null,"m":[1]},"b":{"p":1,"down":true},"c":{"o":""}},"children":{"none":{"vars":{"q":"x"}}}}}' "[$(play "${results%,}" '' a)]" 'loose-limit group=all limit=9 members=3
+whole-result at=0/tasks/0 key=failed_when name=n
+whole-result at=0/tasks/1 key=failed_when name=m'
+noted 'where nobody waits too' '{"all":{"hosts":{"a":{"down":true}}}}' "[$(play "$(task '"register":"r","changed_when":"r"')")]" 'no-hosts play=1
+whole-result at=0/tasks/0 key=changed_when name=r'
+refused 'whole results beside faults of both files' '{"all":{"hosts":{"a":null},"x":1}}' "[$(play "$(task '"register":"r","failed_when":"r"'),$(task '"when":["x >","r != 1"],"x":1'),$(task '"when":["r is defined >","r"]')")]" "rollout: 203 UnknownKey at=all/x
+rollout: 703 UnknownKey at=0/tasks/1/x
+rollout: 501 BadToken step=2 key=when at=2
+rollout: 501 BadToken step=3 key=when at=13" 'whole-result at=0/tasks/0 key=failed_when name=r
+whole-result at=0/tasks/1 key=when name=r'
+refused 'and where limits cross' '{"f":{"vars":{"max_down":1},"hosts":{"a":null}},"g":{"vars":{"max_down":1},"hosts":{"a":null}}}' "[$(play "$(task '"register":"r","failed_when":"1 == r"')")]" 'rollout: 301 NotNested host=a first=f second=g' 'whole-result at=0/tasks/0 key=failed_when name=r'
+refused 'what a step that is left out registers is no result, but a variable, or none' '{"all":{"vars":{"d":"no"},"hosts":{"a":null}}}' "[$(play "null,{\"command\":\"true\",\"register\":\"is\"},$(task '"when":"r or d"')")]" "rollout: 702 BadShape at=0/tasks/0
+rollout: 702 BadShape at=0/tasks/1/register" 'unknown-name at=0/tasks/2 name=r
+false-text at=0/tasks/2 key=when name=d'
 
 # Beside faults these are told where they can't be so by what is left out.
 refused 'a condition of which a part can be read' "$two" "[$(play '{"command":"ssh x","when":["x >","1 == inventory_hostname"]}')]" 'rollout: 501 BadToken step=1 key=when at=2' 'idle-step at=0/tasks/0
@@ -663,10 +833,10 @@ noted 'it notifies, and a part of what says that it changed never holds' "$one" 
 idle-notify at=0/tasks/1'
 
 # All kinds at once, in their order; and then each of them switched off.
-full='{"all":{"children":{"full":{"vars":{"max_down":0},"hosts":{"a":null,"b":{"w":1}}},"empty":{"vars":{"max_down":3,"down":1}},"none":null,"off":{"vars":{"max_down":2},"hosts":{"none":{"down":true}}},"free":{"vars":{"maxdown":1,"url":"{{ x }}"},"hosts":{"-d":null,"-D":null,"-d":null}}}}}'
+full='{"all":{"vars":{"debug":"No"},"children":{"full":{"vars":{"max_down":0},"hosts":{"a":null,"b":{"w":1}}},"empty":{"vars":{"max_down":3,"down":1}},"none":null,"off":{"vars":{"max_down":2},"hosts":{"none":{"down":true}}},"free":{"vars":{"maxdown":1,"url":"{{ x }}"},"hosts":{"-d":null,"-D":null,"-d":null}}}}}'
 first='{"hosts":"full:off","serial":8,"serial":9,"tasks":[{"command":"echo {{ w }} {{ u }} | x","register":"r"},{"command":"true","when":"r.rc == 0 and q"}],"handlers":[{"name":"H","command":"echo > {{ u }}"}]}'
 last="{\"hosts\":\"free\",\"max_fail_percentage\":5,\"tasks\":[{\"command\":\"uptime\",\"when\":true},{\"command\":\"ssh {{ inventory_hostname }} $(printf %065537d 0)\"},{\"command\":\"ssh -- x\",\"when\":\"inventory_hostname == 1\"}]}"
-mixed='{"command":"echo x{{ inventory_hostname }}","when":"\"nobody\" not in group_names"},{"command":{"argv":["a b","x{{ inventory_hostname }}"]}},{"command":{"argv":["ssh","x{{ inventory_hostname }}","sh","-c","c d"]},"changed_when":false,"notify":"N"},{"command":"ssh -- x"}'
+mixed='{"command":"echo x{{ inventory_hostname }}","when":"\"nobody\" not in group_names","register":"m","changed_when":"debug","failed_when":"debug == true or m"},{"command":{"argv":["a b","x{{ inventory_hostname }}"]}},{"command":{"argv":["ssh","x{{ inventory_hostname }}","sh","-c","c d"]},"changed_when":false,"notify":"N"},{"command":"ssh -- x"}'
 plays="[$first,$(play '{"command":"echo {{ r.rc }} ;"}' '' off),$last,$(play "$(task '"changed_when":"r.rc == 0"')" '' free),$(play "$mixed" '{"name":"N","command":"echo x{{ inventory_hostname }}"}' full:free)]"
 cat >"$work/all" <<'NOTES'
 repeated-key inventory=all/children/free/hosts/-d
@@ -702,13 +872,16 @@ local-play play=4 hosts=2
 missing-result at=3/tasks/0 name=r hosts=2 of=2 host=-D
 unlimited-hosts play=5 hosts=2 of=4 host=-D
 unknown-group at=4/tasks/0 key=when group=nobody
+false-text at=4/tasks/0 key=changed_when name=debug
+unlike-variable at=4/tasks/0 key=failed_when name=debug
+whole-result at=4/tasks/0 key=failed_when name=m
 blank-program at=4/tasks/1 word=a b
 idle-notify at=4/tasks/2
 lost-quotes at=4/tasks/2 word=c d
 fixed-target at=4/tasks/3 hosts=4
 NOTES
 all_noted 'all kinds, in their order' "$full" "$plays" "$(cat "$work/all")"
-kinds='repeated-key zero-limit empty-limit loose-limit empty-group group-down near-key value-hole case-hosts group-host no-hosts down-hosts unlimited-hosts idle-serial one-failure local-play unknown-name missing-name missing-result unknown-group idle-step constant-condition unlike-values shell-word blank-program lost-quotes local-step fixed-target long-word dash-name idle-notify idle-handler'
+kinds='repeated-key zero-limit empty-limit loose-limit empty-group group-down near-key value-hole case-hosts group-host no-hosts down-hosts unlimited-hosts idle-serial one-failure local-play unknown-name missing-name missing-result unknown-group false-text unlike-variable whole-result idle-step constant-condition unlike-values shell-word blank-program lost-quotes local-step fixed-target long-word dash-name idle-notify idle-handler'
 run lint "$inventory" "$playbook"
 [ "$(sed -n 's/^  \([a-z-]*\): .*/\1/p' "$work/out" | tr '\n' ' ')" = "$kinds " ] && pass || fail 'what to do about all kinds stands in their order'
 run lint "$inventory"
@@ -862,7 +1035,8 @@ refused 'and so does a play' "$one" "[null,{\"hosts\":\"all\",\"tasks\":[]},$(ec
 refused 'handlers stay up to one of a name that stood before' "$one" "[$(play "$(task '"notify":["H","I"]')" "{\"name\":\"H\",\"command\":\"echo {{ y }}\",\"register\":\"s\"},$(task '"name":"I","when":"s or q"'),{\"name\":\"H\",\"command\":\"echo {{ p }}\"},{\"name\":\"J\",\"command\":\"echo {{ p }}\"}")]" \
     'rollout: 705 TwiceHandler name=H' "unknown-name at=0/handlers/0 name=y
 unknown-name at=0/handlers/1 name=q
-missing-result at=0/handlers/1 name=s hosts=1 of=1 host=a"
+missing-result at=0/handlers/1 name=s hosts=1 of=1 host=a
+whole-result at=0/handlers/1 key=when name=s"
 refused 'or up to one without a name' "$one" "[$(play "$(task '"notify":["J","H"]'),{\"command\":\"true\",\"notify\":\"I\",\"when\":\"z\"}" '{"name":"H","command":"echo {{ y }}","notify":"H"},{"command":"echo {{ p }}"},{"name":"J","command":"echo {{ p }}"}')]" \
     "rollout: 703 UnknownKey at=0/handlers/0/notify${newline}rollout: 702 BadShape at=0/handlers/1${newline}rollout: 704 NoSuchHandler name=I" "unknown-name at=0/tasks/1 name=z
 unknown-name at=0/handlers/0 name=y"
@@ -874,7 +1048,8 @@ refused 'settings of a play that are none' "$one" '[{"hosts":"all","serial":[1,"
     "rollout: 706 BadSerial at=0/serial/1${newline}rollout: 707 BadPercent at=0/max_fail_percentage${newline}rollout: 702 BadShape at=0/on_blocked" 'unknown-name at=0/tasks/0 name=y'
 refused 'results of earlier plays with faults are there' "$one" "[{\"hosts\":\"all\",\"vars\":{},\"tasks\":[$(task '"register":"r"')],\"handlers\":[$(task '"name":"H","register":"s","x":1')]},$(play "$(task '"when":"r and s and t"')")]" \
     "rollout: 703 UnknownKey at=0/vars${newline}rollout: 703 UnknownKey at=0/handlers/0/x" 'unknown-name at=1/tasks/0 name=t
-missing-result at=1/tasks/0 name=s hosts=1 of=1 host=a'
+missing-result at=1/tasks/0 name=s hosts=1 of=1 host=a
+whole-result at=1/tasks/0 key=when name=r'
 
 # Patterns of which a part names nothing.
 refused 'the other names of a pattern stay' "$three" "[$(echo_play '{{ x }} {{ y }}' 'nobody:a,c:x')]" "rollout: 304 NoSuchName name=nobody${newline}rollout: 304 NoSuchName name=x" "missing-name at=0/tasks/0 name=x hosts=1 of=2 host=a
@@ -886,9 +1061,11 @@ refused 'a group before a host that is as near, and an edit before two' '{"webs"
     "rollout: 304 NoSuchName name=web2${newline}rollout: 304 NoSuchName name=wob1" "unknown-name at=0/tasks/0 name=v
 unknown-name at=1/tasks/0 name=v"
 refused 'where none is near no step is noted, and what steps register is there' "$one" "[$(play '{"command":"echo {{ y }} ;","register":"r"},{"command":"true","when":true}' '{"name":"H","command":"true","register":"s"}' nobody),$(play "$(task '"when":"r and s and t"')")]" \
-    'rollout: 304 NoSuchName name=nobody' 'unknown-name at=1/tasks/0 name=t'
+    'rollout: 304 NoSuchName name=nobody' 'unknown-name at=1/tasks/0 name=t
+whole-result at=1/tasks/0 key=when name=r'
 refused 'and so it is of a play whose hosts are none' "$one" "[{\"hosts\":{\"a\":1},\"tasks\":[{\"command\":\"echo {{ y }} ;\",\"register\":\"r\"},{\"register\":\"is\"}],\"handlers\":[{\"register\":\"s\"},7]},$(play "$(task '"when":"r and s and t"')")]" \
-    "rollout: 702 BadShape at=0/hosts${newline}rollout: 702 BadShape at=0/handlers/0${newline}rollout: 702 BadShape at=0/handlers/0${newline}rollout: 702 BadShape at=0/handlers/1${newline}rollout: 702 BadShape at=0/tasks/1${newline}rollout: 702 BadShape at=0/tasks/1/register" 'unknown-name at=1/tasks/0 name=t'
+    "rollout: 702 BadShape at=0/hosts${newline}rollout: 702 BadShape at=0/handlers/0${newline}rollout: 702 BadShape at=0/handlers/0${newline}rollout: 702 BadShape at=0/handlers/1${newline}rollout: 702 BadShape at=0/tasks/1${newline}rollout: 702 BadShape at=0/tasks/1/register" 'unknown-name at=1/tasks/0 name=t
+whole-result at=1/tasks/0 key=when name=r'
 refused 'nobody is noted of whom a name may be missing' '{"g":{"hosts":{"a":{"down":true}}},"h":{"hosts":{"b":null}}}' "[$(echo_play '{{ v }}' g:nobody),{\"hosts\":\"h:nobody\",\"serial\":9,\"tasks\":[{\"command\":\"true\"}]}]" "rollout: 304 NoSuchName name=nobody${newline}rollout: 304 NoSuchName name=nobody" ''
 refused 'a handler is noted where the playbook has no fault of its own' '{"g":{"hosts":{"a":null},"x":1}}' "[$(play '{"command":"uptime"},{"command":"ssh x"}' '{"name":"H","command":"ssh x"}' g:nobody)]" "rollout: 203 UnknownKey at=g/x${newline}rollout: 304 NoSuchName name=nobody" "local-step at=0/tasks/0 word=uptime
 idle-handler at=0/handlers/0"
@@ -971,17 +1148,17 @@ unsought() {
 
 bad_down='{"all":{"hosts":{"a":{"down":1}}}}'
 ok_play=$(play '{"command":"true"}')
-unsought 'beside faults of the inventory' "$bad_down" "$ok" 'empty-limit, loose-limit, empty-group, no-hosts, down-hosts, unlimited-hosts, idle-serial, one-failure, local-play, missing-result, unknown-group, idle-step, fixed-target'
-unsought 'beside limits that cross' "$crossing" "$ok" 'zero-limit, empty-limit, loose-limit, empty-group, no-hosts, down-hosts, unlimited-hosts, idle-serial, one-failure, local-play, missing-result, unknown-group, idle-step, fixed-target'
-unsought 'and faults of the playbook' "$crossing" "[$(play '{"command":"true","x":1}')]" 'zero-limit, empty-limit, loose-limit, empty-group, no-hosts, down-hosts, unlimited-hosts, idle-serial, one-failure, local-play, missing-result, unknown-group, idle-step, fixed-target, idle-handler'
-unsought 'and a when that is none' "$crossing" "[$(play "$(task '"when":"x >"')")]" 'zero-limit, empty-limit, loose-limit, empty-group, no-hosts, down-hosts, unlimited-hosts, idle-serial, one-failure, local-play, missing-name, missing-result, unknown-group, idle-step, constant-condition, fixed-target, idle-handler'
-unsought 'beside a group that starts over its limit' '{"g":{"vars":{"max_down":0},"hosts":{"a":{"down":true}}}}' "$ok" 'zero-limit, empty-limit, loose-limit, empty-group, no-hosts, down-hosts, unlimited-hosts, idle-serial, one-failure, local-play, missing-result, unknown-group, idle-step, fixed-target'
-unsought 'where what is kept has limits' '{"g":{"vars":{"max_down":0},"hosts":{"a":{"down":1}}}}' "$ok" 'empty-limit, loose-limit, empty-group, no-hosts, down-hosts, unlimited-hosts, idle-serial, one-failure, local-play, missing-result, unknown-group, idle-step, fixed-target'
+unsought 'beside faults of the inventory' "$bad_down" "$ok" 'empty-limit, loose-limit, empty-group, no-hosts, down-hosts, unlimited-hosts, idle-serial, one-failure, local-play, missing-result, unknown-group, unlike-variable, idle-step, fixed-target'
+unsought 'beside limits that cross' "$crossing" "$ok" 'zero-limit, empty-limit, loose-limit, empty-group, no-hosts, down-hosts, unlimited-hosts, idle-serial, one-failure, local-play, missing-result, unknown-group, unlike-variable, idle-step, fixed-target'
+unsought 'and faults of the playbook' "$crossing" "[$(play '{"command":"true","x":1}')]" 'zero-limit, empty-limit, loose-limit, empty-group, no-hosts, down-hosts, unlimited-hosts, idle-serial, one-failure, local-play, missing-result, unknown-group, unlike-variable, idle-step, fixed-target, idle-handler'
+unsought 'and a when that is none' "$crossing" "[$(play "$(task '"when":"x >"')")]" 'zero-limit, empty-limit, loose-limit, empty-group, no-hosts, down-hosts, unlimited-hosts, idle-serial, one-failure, local-play, missing-name, missing-result, unknown-group, unlike-variable, idle-step, constant-condition, fixed-target, idle-handler'
+unsought 'beside a group that starts over its limit' '{"g":{"vars":{"max_down":0},"hosts":{"a":{"down":true}}}}' "$ok" 'zero-limit, empty-limit, loose-limit, empty-group, no-hosts, down-hosts, unlimited-hosts, idle-serial, one-failure, local-play, missing-result, unknown-group, unlike-variable, idle-step, fixed-target'
+unsought 'where what is kept has limits' '{"g":{"vars":{"max_down":0},"hosts":{"a":{"down":1}}}}' "$ok" 'empty-limit, loose-limit, empty-group, no-hosts, down-hosts, unlimited-hosts, idle-serial, one-failure, local-play, missing-result, unknown-group, unlike-variable, idle-step, fixed-target'
 unsought 'beside faults of the playbook' "$one" "[$(play '{"command":"true","x":1}')]" 'one-failure, local-play, idle-handler'
 unsought 'beside a when that is none' "$one" "[$(play "$(task '"when":"x >"')")]" 'one-failure, local-play, missing-name, missing-result, constant-condition, idle-handler'
-unsought 'of a handler too, beside faults of the inventory' "$bad_down" "[$(play "$(task '"name":"t"')" "$(task '"name":"h","when":[1]')")]" 'empty-limit, loose-limit, empty-group, no-hosts, down-hosts, unlimited-hosts, idle-serial, one-failure, local-play, missing-name, missing-result, unknown-group, idle-step, constant-condition, fixed-target, idle-handler'
+unsought 'of a handler too, beside faults of the inventory' "$bad_down" "[$(play "$(task '"name":"t"')" "$(task '"name":"h","when":[1]')")]" 'empty-limit, loose-limit, empty-group, no-hosts, down-hosts, unlimited-hosts, idle-serial, one-failure, local-play, missing-name, missing-result, unknown-group, unlike-variable, idle-step, constant-condition, fixed-target, idle-handler'
 unsought 'beside another condition that is none' "$one" "[$(play "$(task '"failed_when":"x >"')")]" 'one-failure, local-play, missing-name, missing-result, constant-condition, idle-handler'
-unsought 'beside faults of both' "$bad_down" "[$(play '{"command":"true","x":1}')]" 'empty-limit, loose-limit, empty-group, no-hosts, down-hosts, unlimited-hosts, idle-serial, one-failure, local-play, missing-result, unknown-group, idle-step, fixed-target, idle-handler'
+unsought 'beside faults of both' "$bad_down" "[$(play '{"command":"true","x":1}')]" 'empty-limit, loose-limit, empty-group, no-hosts, down-hosts, unlimited-hosts, idle-serial, one-failure, local-play, missing-result, unknown-group, unlike-variable, idle-step, fixed-target, idle-handler'
 unsought 'beside a playbook of too many plays' "$one" "[$(for i in 1 2 3 4 5 6 7 8 9 10 11 12 13 14 15 16; do echo "$ok_play,"; done)$ok_play]" 'anything of plays and steps'
 unsought 'beside one that is no list' "$one" '{}' 'anything of plays and steps'
 unsought 'beside one that is no JSON, and faults of the inventory' "$bad_down" '{' 'empty-limit, loose-limit, empty-group, anything of plays and steps'

@@ -1,7 +1,8 @@
 """Drawn inventories and plays of which `lint` has something to note: names that some hosts have, all or none, and some ask for behind a guard; results that are read before and behind the step that registers them; handlers that
 nobody notifies; words of a shell; groups of which no host may be down, and variables of groups that are nearly keys; hosts that are alike, or begin with a dash; programs here and elsewhere, words
 that are too long, and conditions that ask nothing, or for values and groups that nobody has; comparisons of values of two kinds; plays that say nothing of their hosts, and keys that stand more than
-once; names that are nearly others, results of other plays and of handlers, and limits above the number of hosts. And files with faults, of which what is kept has such notes."""
+once; names that are nearly others, results of other plays and of handlers, and limits above the number of hosts; texts that say no, and variables that are compared with what is of another kind; results
+that are asked for as a whole. And files with faults, of which what is kept has such notes."""
 
 import re
 from copy import deepcopy
@@ -48,9 +49,26 @@ UNLIKE = [
     "{0}.rc == {0}.stdout", "{0}.skipped == inventory_hostname", "{0} == 1 or not ({1}.rc == 'a' and {0})", "{0}.stdout == inventory_hostname", "{0}.rc == {1}", "'1' == {0}", "{0}.failed != false",
     "{0}.rc == -1", "inventory_hostname == {0}.rc",
 ]
+# Names that conditions ask for alone, or compare; what they may be given, of one kind or of several; and such conditions.
+SWITCHES = ["debug", "reboot", "port", "release", "v", "w"]
+SAID = [
+    ["false", "No", "0", "off", "NULL", "none", "N", "f", "faLse", "n", "FALSE", "oFF"], ["true", "", "nope", "false ", " no", "00", "f\u00e4lse", "o", "False", "yes"], ["15", "80", "1.2", "true", "0"],
+    [0, 1, 15, 80, -1], [True, False], [15, "15", True], ["off", False, 0], [None, [], 1.5, "no"],
+]
+SWITCHED = [
+    "{0}", "not {0}", "({0}) and {1}", "not ({0} or {1})", "{0} is defined and {0}", "'g' in group_names or {0}", "{0} == 1 or {1}", "{0} and {1} != 'a'", "true or {0}", "{0} is changed or not {1}",
+    "{0}.rc or {1}", "{0} == '15'", "15 != {0}", "{0} == true", "false == {0}", "{0} != 'true' or {1} == 15", "{0} == {1}", "{0}.rc == {1}", "{1} != {0}.stdout", "{0}.failed == {1} or {1} == {0}.stderr",
+    "inventory_hostname == {0}", "not ({0} == 1 and {1} == '1')", "{0} and {1} == 15", "{0} == 15 and {1}", "'nogroup' in group_names or {0} or {1} == true", "{0}.skipped != {1}", "inventory_hostname and {0}",
+]
+# Names of results, of which some are variables too, and conditions that take one for one of its fields, or only look so.
+RESULTS = ["done", "done", "said", "said", "debug", "port", "v", "x"]
+WHOLE = [
+    "{0}", "not {0}", "{0} == 'changed'", "0 == {0}", "{0} != {1}", "{1} == {0}", "{0} is changed", "{0}.rc == 0", "{0} is defined and {0}", "({1}.stdout or {0}) and {1}", "inventory_hostname == {0}",
+    "{1}.rc == 1 or {0}.failed", "true or {0} == {1}.stdout", "{0} is defined or {0} is failed", "not ({1}.rc != 0 and {0} != true)", "{0} and {1}", "{1} == 1 or {0}.changed",
+]
 # What a member that is lost may be, and keys that show how keys are printed.
 LOST = [None, 1, "x", [], Members(), Members([("x", 1), ("x", 2)]), [Members([("y", 1), ("y", 2)]), Members([("z", [Members([("", 1), ("", 2)])])])]]
-ODD_KEYS = ["", "a/b", "caf\u00e9", "a\tb", "\x1b[2J", "\x7f", "\u2028", "\U0001f600", "0", "name=x"]
+ODD_KEYS = ["", "a/b", "caf\u00e9", "a\tb", "\x1b[2J", "\x7f", "\u2028", "\U0001f600", "0", "name=x", "k" * 255, "k" * 256, "\u00e9" * 128]
 HOSTNAMES = ["inventory_hostnam", "inventory_hostnames", "Inventory_Hostname", "inventroy_hostname", "inventory_host", "ansible_hostname", "hostname"]
 # Scripts, whole and torn, what stands before them, and what is for a shell.
 SCRIPTS = ["systemctl restart web", "a b", "a c", "'systemctl restart web'", "\"a b\"", "{{ v }}", "{{ v }} x", "a{b c", "a {{ v }}", "uptime", "\ta", " 'a b'", "a\tb", "a\u00a0b"]
@@ -136,6 +154,11 @@ def draw_linted(seed, number):
     if is_like:
         value = _with_like_names(value, own)
         inventory = write(value, own)
+    switching = Random(f"{seed}/switches/{number}")
+    is_switched = switching.random() < 0.35
+    if is_switched:
+        value = _with_switches(value, switching, {name: switching.choice(SAID) for name in SWITCHES})
+        inventory = write(value, switching)
     inventory = _written(Random(f"{seed}/keys/{number}"), value, inventory)
     value = draw_right_playbook(random, names, LintedStyle(), random.choice([1, 1, 2, 3, 4]))
     value = [_with_ends_of_options(Random(f"{seed}/options/{number}/{place}"), play) for place, play in enumerate(value)]
@@ -143,7 +166,9 @@ def draw_linted(seed, number):
     value = [_with_a_long_target(Random(f"{seed}/target/{number}/{place}"), play) for place, play in enumerate(value)]
     value = [_with_scripts(Random(f"{seed}/scripts/{number}/{place}"), play) for place, play in enumerate(value)]
     value = [_with_near_names(Random(f"{seed}/near/{number}/{place}"), play) for place, play in enumerate(value)]
+    value = [_with_whole_results(Random(f"{seed}/whole/{number}/{place}"), play) for place, play in enumerate(value)]
     value = [_with_like_results(own, play) for play in value] if is_like else value
+    value = [_with_switched_steps(switching, play) for play in value] if is_switched else value
     if "playbook" in spoiled:
         value = spoiled_playbook(random, value)
     value = mutate(value, random) if random.random() < 0.03 else value
@@ -173,6 +198,68 @@ def _with_like_names(value, random, key=None):
     if key == "hosts":
         return Members((name, _with_variables(given, random, 0.25)) for name, given in found)
     return found
+
+
+def _with_switches(value, random, said, key=None):
+    """The same inventory, in which groups and hosts have variables that conditions ask for, each mostly of one kind."""
+    if not isinstance(value, Members):
+        return value
+    found = Members((name, _with_switches(below, random, said, name)) for name, below in value)
+    if key == "vars":
+        return _switching(found, random, said, 0.5)
+    if key == "hosts":
+        return Members((name, _switching(given, random, said, 0.2)) for name, given in found)
+    return found
+
+
+def _switching(given, random, said, chance):
+    if random.random() > chance or not (given is None or isinstance(given, Members)):
+        return given
+    held = given or Members([])
+    names = [name for name in random.sample(SWITCHES, random.choice([1, 1, 2, 3])) if name not in held.names()]
+    return Members([*held, *((name, random.choice(said[name])) for name in names)])
+
+
+def _with_switched_steps(random, play):
+    """The same play with a few steps more that ask for such variables; some register their names, a handler too."""
+    steps = [_switched_step(random) for _ in range(random.choice([1, 2, 3, 4]))]
+    handlers = [Members([("name", "switched"), *_switched_step(random)])] if random.random() < 0.3 else []
+    steps = [Members([*step, ("notify", "switched")]) if handlers and random.random() < 0.6 else step for step in steps]
+    is_first = random.random() < 0.5
+    held = Members((key, ([*steps, *part] if is_first else [*part, *steps]) if key == "tasks" else part) for key, part in play if key != "handlers")
+    return Members([*held, ("handlers", [*handlers, *(dict(play).get("handlers") or [])])])
+
+
+def _switched_step(random):
+    words = ("command", random.choice(["true", "ssh {{ inventory_hostname }}", "ssh -- {{ inventory_hostname }} reboot"]))
+    result = [("register", random.choice(SWITCHES))] if random.random() < 0.25 else []
+    keys = random.choice([["when"], ["when"], ["when", "changed_when"], ["failed_when"], ["when", "changed_when", "failed_when"], ["changed_when", "failed_when"]])
+    return Members([words, *result, *((key, _switched(random)) for key in keys)])
+
+
+def _switched(random):
+    """A condition, or a list of several, that asks for these names."""
+    texts = [random.choice(SWITCHED).format(*random.choices(SWITCHES, k=2)) for _ in range(random.choice([1, 1, 1, 2, 3]))]
+    return texts if len(texts) > 1 or random.random() < 0.2 else texts[0]
+
+
+def _with_whole_results(random, play):
+    """The same play, in some of which a few steps more register results and ask for them, also for their own, before they run and behind; a handler too."""
+    if random.random() < 0.85:
+        return play
+    steps = [_whole_step(random) for _ in range(random.choice([1, 2, 3, 4]))]
+    handlers = [Members([("name", "whole"), *_whole_step(random)])] if random.random() < 0.3 else []
+    steps = [Members([*step, ("notify", "whole")]) if handlers and random.random() < 0.6 else step for step in steps]
+    held = Members((key, [*part, *steps] if key == "tasks" else part) for key, part in play if key != "handlers")
+    return Members([*held, ("handlers", [*handlers, *(dict(play).get("handlers") or [])])])
+
+
+def _whole_step(random):
+    own = random.choice(RESULTS)
+    result = [("register", own)] if random.random() < 0.6 else []
+    keys = random.choice([[], ["when"], ["changed_when"], ["failed_when"], ["when", "failed_when"], ["when", "changed_when", "failed_when"]])
+    texts = {key: random.choice(WHOLE).format(*random.choices([own, *RESULTS], k=2)) for key in keys}
+    return Members([("command", random.choice(["true", "ssh -- {{ inventory_hostname }}"])), *result, *((key, [text] if random.random() < 0.2 else text) for key, text in texts.items())])
 
 
 def _with_held_holes(value, random, key=None):
@@ -251,6 +338,8 @@ def _written(random, value, text):
         members = random.choice(objects)
         if random.random() < 0.3:
             members.append((random.choice(ODD_KEYS), random.choice(LOST)))
+        if random.random() < 0.05:
+            members.append(("many", Members((f"n{place}", 0) for place in range(random.choice([98, 99, 100, 101, 120])) for _ in range(2))))
         for key in random.choices(members.names(), k=random.choice([1, 1, 2])) if members else []:
             place = members.names().index(key)
             members.insert(random.randint(0, place) if random.random() < 0.85 else len(members), (key, random.choice([deepcopy(dict(members)[key]), *LOST])))

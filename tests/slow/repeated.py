@@ -6,13 +6,22 @@ from faults import shown
 from json_text import NotJson, Pairs, read_pairs
 from rules import turned
 
+# How many are told of a text, and how many bytes of a key are shown.
+MOST, SHOWN = 100, 255
+
 
 def key_notes(inventory, playbook=None):
     """The notes on the keys of the inventory, and behind them those of the playbook, where there is one."""
     texts = [("inventory", inventory)] + [("playbook", playbook)] * (playbook is not None)
     if turned("lint-keys-of-the-inventory-first"):
         texts.reverse()
-    return [f"repeated-key {file}={shown('/'.join(path))}" for file, text in texts for path in _repeated_in(text)]
+    most = None if turned("lint-a-hundred-repeated-keys") else MOST
+    return [f"repeated-key {file}={shown(b'/'.join(map(_cut, path)))}" for file, text in texts for path in _repeated_in(text)[:most]]
+
+
+def _cut(key):
+    raw = key.encode()
+    return raw if len(raw) <= SHOWN or turned("lint-long-keys-are-cut") else raw[:SHOWN] + b".."
 
 
 def _repeated_in(text):

@@ -11,7 +11,8 @@ notes=1
 ```
 
 In JSON a key counts once in an object, as it stands last: the group `web` has the host web3 alone, and web1 and web2 are in no group, so that no play reaches them. Put both lists of hosts under one `web`; or give one group another
-name. PATH is made of the keys and of the places in lists, from 0, that lead to the key, with `/` between them, `playbook=0/tasks/1/when` as an example. It is told beside faults too. There is hardly a reason for `--allow repeated-key`.
+name. PATH is made of the keys and of the places in lists, from 0, that lead to the key, with `/` between them, `playbook=0/tasks/1/when` as an example; of a key of over 255 bytes `..` stands for the rest, so that two
+long keys may show as the same path. Of each text the first hundred are told, beside faults too; no line says where there were more. There is hardly a reason for `--allow repeated-key`.
 ";
 
 pub(crate) const OF_ZERO_LIMIT: &str = "\
@@ -286,18 +287,69 @@ notes=1
 Nobody is in a group that isn't there, so that `not in` always holds: the group is `rack2`. Of a condition with several such groups the first is told. Where another inventory of the same playbook has it: `--allow unknown-group`.
 ";
 
+pub(crate) const OF_FALSE_TEXT: &str = "\
+false-text at=PATH key=KEY name=N: the condition under KEY asks just whether N is true, no step before registers N, and a variable N of the inventory is `false`, `no`, `0` or the like as a text, which is true
+
+```
+$ echo '{\"web\": {\"hosts\": {\"web1\": {\"debug\": \"true\"}, \"web2\": {\"debug\": \"false\"}}}}' >/tmp/fleet.json
+$ echo '[{\"hosts\": \"web\", \"tasks\": [{\"command\": \"trace-web {{ inventory_hostname }}\", \"when\": \"debug\"}]}]' | rollout lint /tmp/fleet.json /dev/stdin
+false-text at=0/tasks/0 key=when name=debug
+notes=1
+  false-text: a text is true unless it is empty, `false` and `no` in quotes too: write false without quotes in the inventory, or compare the name with the text that is to count, as the inventory has it; `explain false-text` says more, `--allow false-text` switches it off
+```
+
+The step runs on both hosts: `\"false\"` is a text, and a text is true unless it is empty. Told is a name that stands alone, as in `debug`, `not debug` and `(debug or x == 1)`, where a variable of it, of any group or host, is one of the texts `false`, `no`, `off`, `n`, `f`,
+`0`, `none` and `null`, in small or capital letters. Of an inventory in INI `ansible-inventory` writes `debug=false` as such a text. A name that a step before registers isn't told, nor in `changed_when` and `failed_when` what the step itself registers; of several in a
+condition the first is. KEY is `when`, `changed_when` or `failed_when`. Write `\"debug\": false` and `\"debug\": true` in the inventory; or ask for the text, `debug == 'true'`. Who only asks whether there is a text is told too: where `\"country\": \"NO\"` is a country, and where the same condition
+compares the text, as in `proxy != 'none' and proxy`. Where any text is to count: `--allow false-text`.
+";
+
+pub(crate) const OF_UNLIKE_VARIABLE: &str = "\
+unlike-variable at=PATH key=KEY name=N: the condition under KEY compares N with a text, a number, a truth value, `inventory_hostname` or a field of a result, no step before registers N, and all variables N of the inventory are of other kinds
+
+```
+$ echo '{\"web\": {\"hosts\": {\"web1\": {\"release\": 14}, \"web2\": {\"release\": 15}}}}' >/tmp/fleet.json
+$ echo '[{\"hosts\": \"web\", \"tasks\": [{\"command\": \"migrate {{ inventory_hostname }}\", \"when\": \"release != \\\"15\\\"\"}]}]' | rollout lint /tmp/fleet.json /dev/stdin
+unlike-variable at=0/tasks/0 key=when name=release
+notes=1
+  unlike-variable: write the other side as the inventory has the variable, letter by letter, or the variable as the other side is: 15 is a number and '15' a text, true a truth value and 'true' a text, and values of two kinds are never the same; where another inventory has it so, switch the note off; `explain unlike-variable` says more, `--allow unlike-variable` switches it off
+```
+
+`release` is a number wherever the inventory gives it, and `'15'` is a text: they are never the same, so the step runs on web2 too, which has release 15. With `==` it would run nowhere, and [idle-step](#idle-step) would stand behind it. Where one variable of the name, of any group or
+host, is of the kind of the other side, nothing is told, nor where the inventory gives the name no value. On the other side stands a text, a number, `true` or `false`, `inventory_hostname`, or a field of a result, as [unlike-values](#unlike-values) has their kinds. What steps register is
+left out as it is of [false-text](#false-text); of several such comparisons in a condition the first is told. Write `release != 15`; or give the variable as the condition has it, `\"release\": \"15\"`. A condition that takes both is told too, `debug == true or debug == 'true'` where all have
+it as one of them; and so is a variable that says `false`, or is an empty text, where others would have a value of another kind: `\"port\": false`, and `port != 80`. There, and where another inventory of the same playbook has it so: `--allow unlike-variable`.
+";
+
+pub(crate) const OF_WHOLE_RESULT: &str = "\
+whole-result at=PATH key=KEY name=N: the condition under KEY asks just whether N is true, or compares N with something, and N is a result as a whole: a step before registers it, and no group or host of the inventory has a variable N
+
+```
+$ echo '[{\"hosts\": \"rack1\", \"tasks\": [{\"command\": \"needs-restart {{ inventory_hostname }}\", \"register\": \"check\", \"failed_when\": \"check.rc == 2\"},' \\
+  '{\"command\": \"restart-web {{ inventory_hostname }}\", \"when\": \"check\"}]}]' | rollout lint examples/two-racks.json /dev/stdin
+whole-result at=0/tasks/1 key=when name=check
+notes=1
+  whole-result: a result as a whole is always true and equals nothing: ask for a field, N.rc == 0 or N.stdout == 'a' as examples, or for its state, N is changed; `explain whole-result` says more, `--allow whole-result` switches it off
+```
+
+`check` is the result of the first step, and as a whole it is true, whatever its program said: the second step runs on each host. Told is a name that stands alone, as in `check` and `not check`, and one that is compared, on either side, as in `check == 0` and `'up' != check`: a result equals
+nothing, not even itself. A field isn't told, nor `check is changed` or `check is defined`. A step before registers the name; in `changed_when` and `failed_when` the step itself may do so too. Where a variable of any group or host has the name, nothing is told, since it may be that one on some
+host; of several in a condition the first is told. KEY is `when`, `changed_when` or `failed_when`. Write which field is to count, `check.rc == 1`, or `check.stdout == 'yes'`; or ask `check is changed`. Who asks whether there is a result at all writes `check is defined`. Where it is meant so:
+`--allow whole-result`.
+";
+
 pub(crate) const OF_IDLE_STEP: &str = "\
 idle-step at=PATH: the step's `when` compares what it looks up or asks for a group, asks for no value just whether it is true or there, and is known not to hold on any of the hosts that wait
 
 ```
-$ echo '{\"web\": {\"vars\": {\"release\": 15}, \"hosts\": {\"web1\": null, \"web2\": null}}}' >/tmp/fleet.json
-$ echo '[{\"hosts\": \"web\", \"tasks\": [{\"command\": \"migrate {{ inventory_hostname }}\", \"when\": \"release == \\\"15\\\"\"}]}]' | rollout lint /tmp/fleet.json /dev/stdin
+$ echo '{\"web\": {\"vars\": {\"env\": \"production\"}, \"hosts\": {\"web1\": null, \"web2\": null}}}' >/tmp/fleet.json
+$ echo '[{\"hosts\": \"web\", \"tasks\": [{\"command\": \"migrate {{ inventory_hostname }}\", \"when\": \"env == \\\"prodution\\\"\"}]}]' | rollout lint /tmp/fleet.json /dev/stdin
 idle-step at=0/tasks/0
 notes=1
   idle-step: spell groups and values as the inventory has them, letter by letter: 15 is a number and '15' a text, which are never the same; where the step waits for another value, switch the note off; `explain idle-step` says more, `--allow idle-step` switches it off
 ```
 
-The step runs nowhere: `release` is the number 15 on each host, and `'15'` is a text. So it is with a value or a group that no host has, `env == 'prodution'` and `'wbe' in group_names` as examples. What is known before anything runs
+The step runs nowhere: `env` is `production` on each host, and a letter is missing. So it is with `release == '15'` where that is the number 15 ([unlike-variable](#unlike-variable)), and with a group that no host is in, `'wbe' in group_names` as an example. What is known before anything runs
 decides: variables, groups and names, and that a result as a whole equals nothing; what a program will have printed isn't known. A `when` that asks anywhere just whether a value is true, or defined, isn't told: `reboot`, `reboot == true` and `x is defined and x == 'a'` are
 how a step is switched on. Where a step waits for another value: `--allow idle-step`.
 ";
@@ -328,7 +380,7 @@ notes=1
 ```
 
 A number and a text are never the same: `web.rc != '0'` always holds, so the step fails on each host. Of a result `rc` is a number, `stdout` and `stderr` are texts, and `changed`, `failed` and `skipped` are true or false;
-`inventory_hostname` is a text. A variable may be of any kind: [idle-step](#idle-step) tells where its value keeps a step from running. KEY is `when`, `changed_when` or `failed_when`. Write `web.rc != 0`, and `count.stdout == '0'`.
+`inventory_hostname` is a text. A variable may be of any kind: [unlike-variable](#unlike-variable) tells where none of its values is of the one with which it is compared. KEY is `when`, `changed_when` or `failed_when`. Write `web.rc != 0`, and `count.stdout == '0'`.
 Where it is meant so: `--allow unlike-values`.
 ";
 

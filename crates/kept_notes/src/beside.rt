@@ -1,15 +1,18 @@
 //! From texts that are refused to the notes beside their faults.
-ghost use Rattle.std.specs.Prelude.{◌≡◌, ◌++◌, IfOk, None, Some};
+ghost use Rattle.std.specs.Prelude.{◌≡◌, ◌++◌, IfErr, IfOk, None, Some, false};
 ghost use Rattle.std.specs.Option.{option_map};
 ghost use Rattle.std.specs.String.{string_bytes};
 ghost use Rattle.every_fault.specs.KeptTexts.{playbook_of};
 ghost use Rattle.lint_notes.specs.Repeats.{repeats_given};
 ghost use Rattle.kept_notes.specs.Beside as spec;
-ghost use Rattle.kept_notes.specs.Beside.{IsBeside, IsNotedOf, IsNotedOfOne, IsToldOf, hidden_kinds, unsought};
+ghost use Rattle.kept_notes.specs.Beside.{IsBeside, IsNotedOf, IsNotedOfOne, IsToldOf, hidden_kinds};
 
+use crate::hidden::kinds_hidden;
 use crate::rule::tells_rule;
-use every_fault::{KeptTexts, KnownHosts, LeftOut, kept_texts};
+use crate::unsought::line_behind;
+use every_fault::{KeptTexts, kept_texts};
 use lint_notes::{Allowed, Texts, lint_fleet_text, lint_text};
+use planning::PlanFault;
 use std::alloc::{AllocError, Global};
 
 /// The notes on keys that stand more than once in an inventory, and in a playbook where there is one, that are refused, on what is kept of these, and how many they are, each as `lint` writes it; but for those of kinds that may be there
@@ -67,67 +70,6 @@ fn ended(notes: Vec<u8>, line: &str) -> Result<Vec<u8>, AllocError>
     Ok(text)
 }
 
-/// What isn't looked for, where plays are noted or aren't.
-fn line_behind(has_plays: bool, hosts: KnownHosts, left_out: LeftOut) -> &'static str
-    ensures { result.now ≡ spec.unsought_if has_plays hosts left_out }
-{
-    if has_plays {
-        return kinds_unsought(hosts, left_out);
-    }
-    match left_out {
-        LeftOut::Nothing => unsought_alone(hosts),
-        LeftOut::Parts | LeftOut::Conditions => unsought_with_plays(hosts),
-    }
-}
-
-fn unsought_alone(hosts: KnownHosts) -> &'static str
-    ensures { result.now ≡ spec.unsought_alone hosts }
-{
-    match hosts {
-        KnownHosts::All => "",
-        KnownHosts::Some =>
-            "  not looked for beside these faults: empty-limit, loose-limit, empty-group\n",
-        KnownHosts::Unlimited =>
-            "  not looked for beside these faults: zero-limit, empty-limit, loose-limit, empty-group\n",
-    }
-}
-
-fn unsought_with_plays(hosts: KnownHosts) -> &'static str
-    ensures { result.now ≡ spec.unsought_with_plays hosts }
-{
-    match hosts {
-        KnownHosts::All => "  not looked for beside these faults: anything of plays and steps\n",
-        KnownHosts::Some =>
-            "  not looked for beside these faults: empty-limit, loose-limit, empty-group, anything of plays and steps\n",
-        KnownHosts::Unlimited =>
-            "  not looked for beside these faults: zero-limit, empty-limit, loose-limit, empty-group, anything of plays and steps\n",
-    }
-}
-
-fn kinds_unsought(hosts: KnownHosts, left_out: LeftOut) -> &'static str
-    ensures { result.now ≡ unsought hosts left_out }
-{
-    match (hosts, left_out) {
-        (KnownHosts::All, LeftOut::Nothing) => "",
-        (KnownHosts::All, LeftOut::Parts) =>
-            "  not looked for beside these faults: one-failure, local-play, idle-handler\n",
-        (KnownHosts::All, LeftOut::Conditions) =>
-            "  not looked for beside these faults: one-failure, local-play, missing-name, missing-result, constant-condition, idle-handler\n",
-        (KnownHosts::Some, LeftOut::Nothing) =>
-            "  not looked for beside these faults: empty-limit, loose-limit, empty-group, no-hosts, down-hosts, unlimited-hosts, idle-serial, one-failure, local-play, missing-result, unknown-group, idle-step, fixed-target\n",
-        (KnownHosts::Some, LeftOut::Parts) =>
-            "  not looked for beside these faults: empty-limit, loose-limit, empty-group, no-hosts, down-hosts, unlimited-hosts, idle-serial, one-failure, local-play, missing-result, unknown-group, idle-step, fixed-target, idle-handler\n",
-        (KnownHosts::Some, LeftOut::Conditions) =>
-            "  not looked for beside these faults: empty-limit, loose-limit, empty-group, no-hosts, down-hosts, unlimited-hosts, idle-serial, one-failure, local-play, missing-name, missing-result, unknown-group, idle-step, constant-condition, fixed-target, idle-handler\n",
-        (KnownHosts::Unlimited, LeftOut::Nothing) =>
-            "  not looked for beside these faults: zero-limit, empty-limit, loose-limit, empty-group, no-hosts, down-hosts, unlimited-hosts, idle-serial, one-failure, local-play, missing-result, unknown-group, idle-step, fixed-target\n",
-        (KnownHosts::Unlimited, LeftOut::Parts) =>
-            "  not looked for beside these faults: zero-limit, empty-limit, loose-limit, empty-group, no-hosts, down-hosts, unlimited-hosts, idle-serial, one-failure, local-play, missing-result, unknown-group, idle-step, fixed-target, idle-handler\n",
-        (KnownHosts::Unlimited, LeftOut::Conditions) =>
-            "  not looked for beside these faults: zero-limit, empty-limit, loose-limit, empty-group, no-hosts, down-hosts, unlimited-hosts, idle-serial, one-failure, local-play, missing-name, missing-result, unknown-group, idle-step, constant-condition, fixed-target, idle-handler\n",
-    }
-}
-
 /// The text of notes, and whether plays are among what is noted.
 #[derive(Drop)]
 struct Noted {
@@ -148,50 +90,31 @@ fn notes_on(
         Ok(kinds) => kinds,
         Err(refused) => return Err(refused),
     };
-    let hidden = Allowed::among(kinds.as_str());
+    match notes_without(alloc, given, kept, &Allowed::among(kinds.as_str())) {
+        Ok(noted) => Ok(noted),
+        Err(_) => Err(AllocError),
+    }
+}
+
+/// Those on them, without the kinds that are hidden. A fault is none of a text.
+fn notes_without(
+    alloc: Global,
+    given: Texts<'_>,
+    kept: &KeptTexts,
+    hidden: &Allowed<'_>,
+) -> Result<Noted, PlanFault>
+    ensures ok { IfOk result (λ noted. IsNotedOf hidden.now (repeats_given given.entry) kept.now.inventory.items (playbook_of kept.now) noted.text.items noted.has_plays) }
+    ensures err { IfErr result (λ fault. spec.tells_rule fault ≡ false) }
+{
     match &kept.playbook {
         Some(playbook) => notes_on_both(
             alloc,
             given,
             kept.inventory.as_slice(),
             playbook.as_slice(),
-            &hidden,
+            hidden,
         ),
-        None => noted_alone(alloc, given, kept.inventory.as_slice(), &hidden),
-    }
-}
-
-/// Kinds of notes that may be there only for what was left out.
-fn kinds_hidden(hosts: KnownHosts, left_out: LeftOut) -> &'static str
-    ensures { result.now ≡ hidden_kinds hosts left_out }
-{
-    match hosts {
-        KnownHosts::All => all_hidden(left_out),
-        KnownHosts::Some | KnownHosts::Unlimited => some_hidden(left_out),
-    }
-}
-
-fn all_hidden(left_out: LeftOut) -> &'static str
-    ensures { result.now ≡ spec.all_hidden left_out }
-{
-    match left_out {
-        LeftOut::Nothing => "",
-        LeftOut::Parts => "one-failure,local-play,idle-handler,",
-        LeftOut::Conditions =>
-            "one-failure,local-play,missing-name,missing-result,constant-condition,idle-handler,",
-    }
-}
-
-fn some_hidden(left_out: LeftOut) -> &'static str
-    ensures { result.now ≡ spec.some_hidden left_out }
-{
-    match left_out {
-        LeftOut::Nothing =>
-            "empty-limit,loose-limit,empty-group,no-hosts,down-hosts,unlimited-hosts,idle-serial,one-failure,local-play,missing-result,unknown-group,idle-step,fixed-target,",
-        LeftOut::Parts =>
-            "empty-limit,loose-limit,empty-group,no-hosts,down-hosts,unlimited-hosts,idle-serial,one-failure,local-play,missing-result,unknown-group,idle-step,fixed-target,idle-handler,",
-        LeftOut::Conditions =>
-            "empty-limit,loose-limit,empty-group,no-hosts,down-hosts,unlimited-hosts,idle-serial,one-failure,local-play,missing-name,missing-result,unknown-group,idle-step,constant-condition,fixed-target,idle-handler,",
+        None => noted_alone(alloc, given, kept.inventory.as_slice(), hidden),
     }
 }
 
@@ -208,15 +131,16 @@ fn noted_alone(
     given: Texts<'_>,
     inventory: &[u8],
     hidden: &Allowed<'_>,
-) -> Result<Noted, AllocError>
-    ensures { IfOk result (λ noted. IsNotedOf hidden.now (repeats_given given.entry) inventory.now None noted.text.items noted.has_plays) }
+) -> Result<Noted, PlanFault>
+    ensures ok { IfOk result (λ noted. IsNotedOf hidden.now (repeats_given given.entry) inventory.now None noted.text.items noted.has_plays) }
+    ensures err { IfErr result (λ fault. spec.tells_rule fault ≡ false) }
 {
     match notes_on_one(alloc, given, inventory, hidden) {
         Ok(text) => Ok(Noted {
             text,
             has_plays: false,
         }),
-        Err(refused) => Err(refused),
+        Err(fault) => Err(fault),
     }
 }
 
@@ -226,8 +150,9 @@ fn notes_on_both(
     inventory: &[u8],
     playbook: &[u8],
     hidden: &Allowed<'_>,
-) -> Result<Noted, AllocError>
-    ensures { IfOk result (λ noted. IsNotedOf hidden.now (repeats_given given.entry) inventory.now (Some playbook.now) noted.text.items noted.has_plays) }
+) -> Result<Noted, PlanFault>
+    ensures ok { IfOk result (λ noted. IsNotedOf hidden.now (repeats_given given.entry) inventory.now (Some playbook.now) noted.text.items noted.has_plays) }
+    ensures err { IfErr result (λ fault. spec.tells_rule fault ≡ false) }
 {
     let mut text = Vec::new(alloc);
     match lint_text(alloc, given, inventory, playbook, hidden, &mut text) {
@@ -236,7 +161,7 @@ fn notes_on_both(
             has_plays: true,
         }),
         Err(fault) if tells_rule(&fault) => noted_alone(alloc, given, inventory, hidden),
-        Err(_) => Err(AllocError),
+        Err(fault) => Err(fault),
     }
 }
 
@@ -245,13 +170,14 @@ fn notes_on_one(
     given: Texts<'_>,
     inventory: &[u8],
     hidden: &Allowed<'_>,
-) -> Result<Vec<u8>, AllocError>
-    ensures { IfOk result (λ text. IsNotedOfOne hidden.now (repeats_given given.entry) inventory.now text.items) }
+) -> Result<Vec<u8>, PlanFault>
+    ensures ok { IfOk result (λ text. IsNotedOfOne hidden.now (repeats_given given.entry) inventory.now text.items) }
+    ensures err { IfErr result (λ fault. spec.tells_rule fault ≡ false) }
 {
     let mut text = Vec::new(alloc);
     match lint_fleet_text(alloc, given, inventory, hidden, &mut text) {
         Ok(_) => Ok(text),
         Err(fault) if tells_rule(&fault) => Ok(Vec::new(alloc)),
-        Err(_) => Err(AllocError),
+        Err(fault) => Err(fault),
     }
 }

@@ -2,6 +2,8 @@
 #![tactic(auto)]
 
 mod beside;
+mod hidden;
 mod rule;
+mod unsought;
 
 pub use beside::notes_beside_faults;

@@ -19,3 +19,5 @@ pub mod HostKeyLemmas
 pub mod AdviceLemmas
 pub mod ResultLemmas
 pub mod RepeatLemmas
+pub mod ValueLemmas
+pub mod ValueLaws

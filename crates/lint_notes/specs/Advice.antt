@@ -6,7 +6,7 @@ use Rattle.lint_notes.specs.Kinds.{allows, kind_name}
 use Rattle.lint_notes.specs.Notes.{Note, kind_of}
 use Rattle.lint_notes.specs.declared.kind.Kind.{Kind}
 use Rattle.lint_notes.specs.declared.kind.Kind.TheVariants.{RepeatedKey, ZeroLimit, EmptyLimit, LooseLimit, EmptyGroup, GroupDown, NearKey, ValueHole, CaseHosts, GroupHost, NoHosts, DownHosts, UnlimitedHosts, IdleSerial, OneFailure, LocalPlay}
-use Rattle.lint_notes.specs.declared.kind.Kind.TheVariants.{UnknownName, MissingName, MissingResult, UnknownGroup, IdleStep, ConstantCondition, UnlikeValues}
+use Rattle.lint_notes.specs.declared.kind.Kind.TheVariants.{UnknownName, MissingName, MissingResult, UnknownGroup, FalseText, UnlikeVariable, WholeResult, IdleStep, ConstantCondition, UnlikeValues}
 use Rattle.lint_notes.specs.declared.kind.Kind.TheVariants.{ShellWord, BlankProgram, LostQuotes, LocalStep, FixedTarget, LongWord, DashName, IdleNotify, IdleHandler}
 
 abbrev pub advice : Kind → List ℕ
@@ -30,6 +30,9 @@ advice UnknownName = codes "spell it as the variable or the `register`, give it 
 advice MissingName = codes "give it to these hosts too, or to a group that holds them all; or ask in `when` first whether it is defined"
 advice MissingResult = codes "write a field, {{ r.stdout }} as an example, where a result stands in a word; let a task of this play register it, or of an earlier play for the same hosts; or ask in `when` first whether it is defined: a handler may not run, and other plays may be for other hosts"
 advice UnknownGroup = codes "spell the group as the inventory has it, letter by letter: nobody is in a group that isn't there; where another inventory has it, switch the note off"
+advice FalseText = codes "a text is true unless it is empty, `false` and `no` in quotes too: write false without quotes in the inventory, or compare the name with the text that is to count, as the inventory has it"
+advice UnlikeVariable = codes "write the other side as the inventory has the variable, letter by letter, or the variable as the other side is: 15 is a number and '15' a text, true a truth value and 'true' a text, and values of two kinds are never the same; where another inventory has it so, switch the note off"
+advice WholeResult = codes "a result as a whole is always true and equals nothing: ask for a field, N.rc == 0 or N.stdout == 'a' as examples, or for its state, N is changed"
 advice IdleStep = codes "spell groups and values as the inventory has them, letter by letter: 15 is a number and '15' a text, which are never the same; where the step waits for another value, switch the note off"
 advice ConstantCondition = codes "leave `when` out where it holds, and the step where it doesn't; names stand in it without quotes"
 advice UnlikeValues = codes "write numbers without quotes and texts in them: `rc` is a number, `stdout` and `stderr` are texts, `changed`, `failed` and `skipped` are true or false; values of two kinds are never the same"
@@ -68,7 +71,7 @@ tells allowed notes kind = not (allows allowed kind) && list_any (is_of kind) no
 abbrev pub help_of : List ℕ → List Note → Kind → List ℕ
 help_of allowed notes kind = if tells allowed notes kind then help_line kind else []
 
--- Of each kind of which a note is told a line, in the order of the kinds: those of keys and limits, of variables and the names of hosts, of plays, of names and conditions, of programs, and of what else stands in a step.
+-- Of each kind of which a note is told a line, in the order of the kinds: those of keys and limits, of variables and the names of hosts, of plays, of names, of conditions, of programs, and of what else stands in a step.
 abbrev pub limit_helps : List ℕ → List Note → List ℕ
 limit_helps allowed notes =
     help_of allowed notes RepeatedKey
@@ -88,8 +91,13 @@ play_helps allowed notes =
 abbrev pub name_helps : List ℕ → List Note → List ℕ
 name_helps allowed notes =
     help_of allowed notes UnknownName
-    ++ (help_of allowed notes MissingName
-    ++ (help_of allowed notes MissingResult ++ (help_of allowed notes UnknownGroup
+    ++ (help_of allowed notes MissingName ++ help_of allowed notes MissingResult)
+
+abbrev pub condition_helps : List ℕ → List Note → List ℕ
+condition_helps allowed notes =
+    help_of allowed notes UnknownGroup
+    ++ (help_of allowed notes FalseText ++ (help_of allowed notes UnlikeVariable
+    ++ (help_of allowed notes WholeResult
     ++ (help_of allowed notes IdleStep ++ (help_of allowed notes ConstantCondition ++ help_of allowed notes UnlikeValues)))))
 
 abbrev pub program_helps : List ℕ → List Note → List ℕ
@@ -105,4 +113,4 @@ abbrev pub helps : List ℕ → List Note → List ℕ
 helps allowed notes =
     limit_helps allowed notes
     ++ (host_helps allowed notes
-    ++ (play_helps allowed notes ++ (name_helps allowed notes ++ (program_helps allowed notes ++ word_helps allowed notes))))
+    ++ (play_helps allowed notes ++ (name_helps allowed notes ++ (condition_helps allowed notes ++ (program_helps allowed notes ++ word_helps allowed notes)))))

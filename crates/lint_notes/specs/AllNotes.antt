@@ -7,7 +7,7 @@ use Rattle.host_vars.specs.Layers.{HostView}
 use Rattle.host_vars.specs.Shared.{AreHostsOf}
 use Rattle.play_model.specs.declared.play.Play.{Play}
 use Rattle.lint_notes.specs.Notes.{Note}
-use Rattle.lint_notes.specs.Given.{is_given}
+use Rattle.lint_notes.specs.Given.{is_given, is_given_as}
 use Rattle.lint_notes.specs.Near.{all_with_near, compared_names}
 use Rattle.lint_notes.specs.Hosts.{foreseen_of, lacks_of}
 use Rattle.lint_notes.specs.Batches.{AreSmallestOf}
@@ -24,4 +24,4 @@ pub record AreNotesOf (first : List Note) (inventory : Inventory) (fleet : Fleet
   pub given : List Name
   pub gives : (name : Name) → is_among name given ≡ is_given inventory name
   pub notes_are : notes
-      ≡ all_with_near (compared_names given plays) ((first ++ fleet_notes inventory fleet) ++ plays_notes fleet (lacks_of hosts) (foreseen_of fleet plays hosts) sizes plays)
+      ≡ all_with_near (compared_names given plays) ((first ++ fleet_notes inventory fleet) ++ plays_notes fleet (lacks_of hosts) (λ sort. is_given_as sort inventory) (foreseen_of fleet plays hosts) sizes plays)

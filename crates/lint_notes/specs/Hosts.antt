@@ -12,6 +12,7 @@ use Rattle.play_course.specs.PlayPlans.{targets}
 use Rattle.step_words.specs.Lines.{fresh}
 use Rattle.missing_names.specs.Spots.{missed_at, skipped_at}
 use Rattle.lint_notes.specs.Notes.{Note, down_hosts, missing_name, missing_result, no_hosts, unknown_name}
+use Rattle.lint_notes.specs.declared.sort.Sort.{Sort}
 use Rattle.lint_notes.specs.declared.step_path.StepPath.{StepPath}
 
 abbrev pub is_off : FleetView → ℕ → Bool
@@ -64,14 +65,15 @@ foreseen_of fleet plays hosts number place host = foreseen_with fleet plays numb
 abbrev pub missed_on : (ℕ → Foreseen) → ℕ → List Name
 missed_on foreseen host = (foreseen host).missed
 
--- the hosts that wait for a play, and which names each host lacks
+-- the hosts that wait for a play, which names each host lacks, and to which the inventory gives a value of a sort
 pub record Crowd : Type 0 where
   pub fleet : FleetView
   pub lacks : Name → ℕ → Bool
+  pub gives : Sort → Name → Bool
   pub waiting : List ℕ
 
-abbrev pub crowd_for : FleetView → (Name → ℕ → Bool) → Play → Crowd
-crowd_for fleet lacks play = record { fleet = fleet; lacks = lacks; waiting = waiting_for fleet play }
+abbrev pub crowd_for : FleetView → (Name → ℕ → Bool) → (Sort → Name → Bool) → Play → Crowd
+crowd_for fleet lacks gives play = record { fleet = fleet; lacks = lacks; gives = gives; waiting = waiting_for fleet play }
 
 abbrev pub has_conditions : Step → Bool
 has_conditions step = is_some step.when || (is_some step.changed_when || is_some step.failed_when)
@@ -81,6 +83,7 @@ abbrev pub asking : Crowd → (ℕ → List Name) → Crowd
 asking crowd missed = record {
   fleet = crowd.fleet;
   lacks = λ name host. is_among name (missed host) && crowd.lacks name host;
+  gives = crowd.gives;
   waiting = crowd.waiting;
 }
 
@@ -89,6 +92,7 @@ abbrev pub wanting : Crowd → (ℕ → List Name) → Crowd
 wanting crowd missed = record {
   fleet = crowd.fleet;
   lacks = λ name host. is_among name (missed host);
+  gives = crowd.gives;
   waiting = crowd.waiting;
 }
 

@@ -4,7 +4,7 @@ use Rattle.std.specs.Borrow.{Bor}
 use Rattle.std.specs.List.{list_any}
 use Rattle.std.specs.Option.{option_or}
 use Rattle.std.specs.HashMap.{HashMap, get_by_text}
-use Rattle.std.specs.Prelude.{String, string_bytes}
+use Rattle.std.specs.Prelude.{String, Vec}
 use Rattle.lint_notes.specs.CaseHosts.{small_letters}
 use Rattle.group_tree.specs.Names.{Name, is_among, same_name}
 use Rattle.domains.specs.FleetViews.{FleetView}
@@ -13,7 +13,7 @@ use Rattle.host_vars.specs.HostVars.{known_of}
 use Rattle.host_vars.specs.declared.vars.Vars.{Vars}
 use Rattle.lint_notes.specs.Hosts.{Crowd, Foreseen, asking, foreseen_at, missed_on, wanting}
 use Rattle.lint_notes.specs.NamesRead.{once_after}
-pub use Rattle.lint_notes.specs.Given.{has_missed}
+pub use Rattle.lint_notes.specs.Given.{gives, has_missed}
 pub use Rattle.lint_notes.specs.Lacks.{finds_none, lacks_in}
 use Rattle.cond.specs.Grammar.{Test}
 use Rattle.cond.specs.Trees.{written}
@@ -27,6 +27,8 @@ use Rattle.lint_notes.specs.declared.document.Document.{Document}
 use Rattle.lint_notes.specs.declared.document.Document.TheVariants.{Inventory, Playbook}
 use Rattle.lint_notes.specs.declared.repeats.Repeats.{Repeats}
 use Rattle.lint_notes.specs.declared.stand.Stand.{Stand}
+use Rattle.lint_notes.specs.Values.{Known, known_by}
+use Rattle.lint_notes.specs.declared.known.Known as known
 use Rattle.lint_notes.specs.declared.registered.Registered.{Registered}
 
 -- what is foreseen of the step there on a host that has these variables
@@ -56,15 +58,15 @@ abbrev pub AreMissed : (ℕ → List Name) → List ℕ → List Missed → Type
 AreMissed missed hosts sets = map has_missed sets ≡ map (λ host name. is_among name (missed host)) hosts
 
 abbrev pub crowd_of : code.Crowd → Crowd
-crowd_of crowd = record { fleet = crowd.fleet.now; lacks = lacks_in crowd.lacks.now.vars.now; waiting = crowd.lacks.now.waiting.now }
+crowd_of crowd = record { fleet = crowd.fleet.now; lacks = lacks_in crowd.lacks.now.vars.now; gives = gives crowd.lacks.now.given.now; waiting = crowd.lacks.now.waiting.now }
 
 -- the same hosts before the step there
 abbrev pub asking_of : code.Crowd → Stand → Crowd
 asking_of crowd stand = asking (crowd_of crowd) (missed_from stand crowd.lacks.now.vars.now)
 
 -- what is noted of keys that stand more than once, by their paths
-abbrev pub noted_paths : {A : Type 0} → Document → List (String A) → List Note
-noted_paths document paths = map (λ path. repeated_key document (string_bytes path)) paths
+abbrev pub noted_paths : {A : Type 0} → Document → List (Vec ℕ A) → List Note
+noted_paths document paths = map (λ (path : Vec ℕ _). repeated_key document path.items) paths
 
 abbrev pub noted_repeats : Repeats → List Note
 noted_repeats repeats = noted_paths Inventory repeats.inventory.items ++ noted_paths Playbook repeats.playbook.items
@@ -90,6 +92,10 @@ first_kept firsts letters = option_map (λ (name : Bor Name). name.now) (get_by_
 
 abbrev pub kept_with : (Name → Option Name) → Name → Name → Option Name
 kept_with kept name letters = option_or (kept letters) (if same_name (small_letters name) letters then Some name else None)
+
+-- what is known of names where a condition of a step asks
+abbrev pub known_in : known.Known → Known
+known_in known = known_by (has_name known.asked.registered.now) (gives known.asked.crowd.lacks.now.given.now) (option_map (λ step. step.now) known.run)
 
 -- a test, as its words stand in its text
 abbrev pub said : Said → Test

@@ -5,7 +5,7 @@ use Rattle.group_tree.specs.Names.{Name, is_among}
 use Rattle.text_parts.specs.Patterns.{parts_of}
 use Rattle.lint_notes.specs.declared.kind.Kind.{Kind}
 use Rattle.lint_notes.specs.declared.kind.Kind.TheVariants.{RepeatedKey, ZeroLimit, EmptyLimit, LooseLimit, EmptyGroup, GroupDown, NearKey, ValueHole, CaseHosts, GroupHost, NoHosts, DownHosts, UnlimitedHosts, IdleSerial, OneFailure, LocalPlay}
-use Rattle.lint_notes.specs.declared.kind.Kind.TheVariants.{UnknownName, MissingName, MissingResult, UnknownGroup, IdleStep, ConstantCondition, UnlikeValues}
+use Rattle.lint_notes.specs.declared.kind.Kind.TheVariants.{UnknownName, MissingName, MissingResult, UnknownGroup, FalseText, UnlikeVariable, WholeResult, IdleStep, ConstantCondition, UnlikeValues}
 use Rattle.lint_notes.specs.declared.kind.Kind.TheVariants.{ShellWord, BlankProgram, LostQuotes, LocalStep, FixedTarget, LongWord, DashName, IdleNotify, IdleHandler}
 
 -- the word with which the line of such a note begins, and by which it is switched off
@@ -30,6 +30,9 @@ kind_name UnknownName = codes "unknown-name"
 kind_name MissingName = codes "missing-name"
 kind_name MissingResult = codes "missing-result"
 kind_name UnknownGroup = codes "unknown-group"
+kind_name FalseText = codes "false-text"
+kind_name UnlikeVariable = codes "unlike-variable"
+kind_name WholeResult = codes "whole-result"
 kind_name IdleStep = codes "idle-step"
 kind_name ConstantCondition = codes "constant-condition"
 kind_name UnlikeValues = codes "unlike-values"
@@ -46,7 +49,7 @@ kind_name IdleHandler = codes "idle-handler"
 abbrev pub all_kinds : List Kind
 all_kinds =
     RepeatedKey ∷ ZeroLimit ∷ EmptyLimit ∷ LooseLimit ∷ EmptyGroup ∷ GroupDown ∷ NearKey ∷ ValueHole ∷ CaseHosts ∷ GroupHost ∷ NoHosts ∷ DownHosts ∷ UnlimitedHosts ∷ IdleSerial ∷ OneFailure ∷ LocalPlay
-    ∷ UnknownName ∷ MissingName ∷ MissingResult ∷ UnknownGroup ∷ IdleStep ∷ ConstantCondition ∷ UnlikeValues
+    ∷ UnknownName ∷ MissingName ∷ MissingResult ∷ UnknownGroup ∷ FalseText ∷ UnlikeVariable ∷ WholeResult ∷ IdleStep ∷ ConstantCondition ∷ UnlikeValues
     ∷ ShellWord ∷ BlankProgram ∷ LostQuotes ∷ LocalStep ∷ FixedTarget ∷ LongWord ∷ DashName ∷ IdleNotify ∷ IdleHandler ∷ []
 
 -- a kind has this name

@@ -1,14 +1,16 @@
--- What holds of the names that are asked about, and of conditions that ask nothing.
-use Rattle.std.specs.Prelude.{◌≡◌, ℕ, Bool, true, ◌&&◌, ◌||◌, is_some, List}
+-- What holds of the names that are asked about, of conditions that ask nothing, and of the values that conditions ask for.
+use Rattle.std.specs.Prelude.{◌≡◌, ℕ, Bool, true, false, ◌&&◌, ◌||◌, is_some, List}
 use Rattle.std.specs.List.{list_any}
 use Rattle.group_tree.specs.Names.{Name, are_distinct, is_among}
-use Rattle.cond.specs.Meaning.{Environment}
+use Rattle.group_tree.specs.Variables.{Scalar}
+use Rattle.cond.specs.Meaning.{Environment, Value, Registered, same_scalar, same_value, scalar_holds, value_holds}
 use Rattle.cond.specs.Trees.{verdict_of}
 use Rattle.cond.specs.declared.condition.Cond.{Cond}
 use Rattle.play_model.specs.declared.step.Step.{Step}
 use Rattle.needed_results.specs.Reads.{read_before, read_behind}
 use Rattle.lint_notes.specs.Hosts.{Crowd, asking, name_note}
-use Rattle.lint_notes.specs.Conditions.{is_constant}
+use Rattle.lint_notes.specs.Conditions.{are_unlike, is_constant}
+use Rattle.lint_notes.specs.Sorts.{is_false_text, kind_of_value}
 use Rattle.lint_notes.specs.NamesRead.{is_asked, is_asked_behind, names_asked}
 use Rattle.lint_notes.specs.declared.step_path.StepPath.{StepPath}
 
@@ -31,3 +33,15 @@ NamesMissedAreTold =
 -- what asks nothing about a host says the same of each
 abbrev pub ConstantsAreAlike : Type 0
 ConstantsAreAlike = (condition : Cond) → is_constant condition ≡ true → (e other : Environment) → verdict_of e condition ≡ verdict_of other condition
+
+-- a condition takes each text by which somebody says no for true
+abbrev pub FalseTextsAreTrue : Type 0
+FalseTextsAreTrue = (value : Scalar) → is_false_text value ≡ true → scalar_holds value ≡ true
+
+-- no value is the same as one of another kind
+abbrev pub UnlikeValuesDiffer : Type 0
+UnlikeValuesDiffer = (value other : Scalar) → are_unlike (kind_of_value value) (kind_of_value other) ≡ true → same_scalar value other ≡ false
+
+-- a result that is asked for without a field is true, and the same as nothing
+abbrev pub WholeResultsAreTrue : Type 0
+WholeResultsAreTrue = (value_holds Registered ≡ true) × ((value : Value) → (same_value Registered value ≡ false) × (same_value value Registered ≡ false))

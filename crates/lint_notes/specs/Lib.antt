@@ -21,6 +21,8 @@ pub mod Quoting
 pub mod ShellWords
 pub mod Tests
 pub mod AskedGroups
+pub mod Sorts
+pub mod Values
 pub mod Steps
 pub mod Playbooks
 pub mod AllNotes

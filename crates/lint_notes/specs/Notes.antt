@@ -54,6 +54,12 @@ pub data Note : Type 0 where
   missing_result : StepPath → Name → ℕ → ℕ → Name → Note
   -- a step with a condition under this key that asks for this group, which isn't there
   unknown_group : StepPath → Name → Name → Note
+  -- a step with a condition under this key that takes the name's value for true or false, though one is a text by which somebody says no
+  false_text : StepPath → Name → Name → Note
+  -- a step with a condition under this key that compares the name's value with what none of its values can be the same as
+  unlike_variable : StepPath → Name → Name → Note
+  -- a step with a condition under this key that asks for the result of this name as a whole
+  whole_result : StepPath → Name → Name → Note
   -- a step whose condition holds on no waiting host
   idle_step : StepPath → Note
   -- a step whose condition asks nothing about the host
@@ -102,6 +108,9 @@ kind_of (unknown_name at name near) = kinds.UnknownName
 kind_of (missing_name at name hosts waiting host) = kinds.MissingName
 kind_of (missing_result at name hosts waiting host) = kinds.MissingResult
 kind_of (unknown_group at key group) = kinds.UnknownGroup
+kind_of (false_text at key name) = kinds.FalseText
+kind_of (unlike_variable at key name) = kinds.UnlikeVariable
+kind_of (whole_result at key name) = kinds.WholeResult
 kind_of (idle_step at) = kinds.IdleStep
 kind_of (constant_condition at) = kinds.ConstantCondition
 kind_of (unlike_values at key) = kinds.UnlikeValues
@@ -148,6 +157,9 @@ seen (notes.UnknownName at name near) = unknown_name at name.now (option_map (λ
 seen (notes.MissingName at name missing) = missing_name at name.now missing.hosts missing.waiting missing.host.now
 seen (notes.MissingResult at name missing) = missing_result at name.now missing.hosts missing.waiting missing.host.now
 seen (notes.UnknownGroup at key group) = unknown_group at key.now group.now
+seen (notes.FalseText at key name) = false_text at key.now name.now
+seen (notes.UnlikeVariable at key name) = unlike_variable at key.now name.now
+seen (notes.WholeResult at key name) = whole_result at key.now name.now
 seen (notes.IdleStep at) = idle_step at
 seen (notes.ConstantCondition at) = constant_condition at
 seen (notes.UnlikeValues at key) = unlike_values at key.now

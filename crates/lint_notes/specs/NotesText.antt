@@ -7,7 +7,7 @@ use Rattle.lint_notes.specs.Kinds.{kind_name}
 use Rattle.recap.specs.Printable.{printed}
 use Rattle.lint_notes.specs.Notes.{Note, kind_of, told}
 use Rattle.lint_notes.specs.Notes.{repeated_key, zero_limit, empty_limit, loose_limit, empty_group, group_down, near_key, near_host_key, value_hole, host_value_hole, case_hosts, group_host}
-use Rattle.lint_notes.specs.Notes.{no_hosts, down_hosts, unlimited_hosts, idle_serial, one_failure, local_play, unknown_name, missing_name, missing_result, unknown_group, idle_step, constant_condition, unlike_values}
+use Rattle.lint_notes.specs.Notes.{no_hosts, down_hosts, unlimited_hosts, idle_serial, one_failure, local_play, unknown_name, missing_name, missing_result, unknown_group, false_text, unlike_variable, whole_result, idle_step, constant_condition, unlike_values}
 use Rattle.lint_notes.specs.Notes.{shell_word, blank_program, lost_quotes, local_step, fixed_target, long_word, dash_name, idle_notify, idle_handler}
 use Rattle.lint_notes.specs.declared.document.Document.{Document}
 use Rattle.lint_notes.specs.declared.document.Document.TheVariants.{Inventory, Playbook}
@@ -70,6 +70,9 @@ details (unknown_name at name near) = step_text at (codes " name=") name ++ near
 details (missing_name at name hosts waiting host) = step_text at (codes " name=") name ++ missing_text hosts waiting host
 details (missing_result at name hosts waiting host) = step_text at (codes " name=") name ++ missing_text hosts waiting host
 details (unknown_group at key group) = step_text at (codes " key=") key ++ named_text (codes " group=") group
+details (false_text at key name) = step_text at (codes " key=") key ++ named_text (codes " name=") name
+details (unlike_variable at key name) = step_text at (codes " key=") key ++ named_text (codes " name=") name
+details (whole_result at key name) = step_text at (codes " key=") key ++ named_text (codes " name=") name
 details (idle_step at) = at_text at
 details (constant_condition at) = at_text at
 details (unlike_values at key) = step_text at (codes " key=") key

@@ -11,6 +11,7 @@ use Rattle.lint_notes.specs.Batches.{failure_note, size_note}
 use Rattle.lint_notes.specs.Programs.{local_play_note}
 use Rattle.lint_notes.specs.Unlimited.{unlimited_note}
 use Rattle.lint_notes.specs.Steps.{notes_at, path_of}
+use Rattle.lint_notes.specs.declared.sort.Sort.{Sort}
 
 -- what is noted of each element, one behind the other; each is told its place, and the list begins at this one
 abbrev pub all_noted : {X : Type 0} → (ℕ → X → List Note) → ℕ → List X → List Note
@@ -38,11 +39,11 @@ batch_notes fleet smallest number play =
     ++ (noted (failure_note number play.max_fail smallest) ++ noted (local_play_note number (length (waiting_for fleet play)) play))))
 
 -- those notes, and those on its steps, whose paths count plays from 0
-abbrev pub play_notes : FleetView → (Name → ℕ → Bool) → (ℕ → ℕ → Foreseen) → (Name → Bool) → Option ℕ → ℕ → Play → List Note
-play_notes fleet lacks foreseen is_earlier smallest number play =
-    batch_notes fleet smallest (number + 1) play ++ steps_notes is_earlier (crowd_for fleet lacks play) foreseen number play
+abbrev pub play_notes : FleetView → (Name → ℕ → Bool) → (Sort → Name → Bool) → (ℕ → ℕ → Foreseen) → (Name → Bool) → Option ℕ → ℕ → Play → List Note
+play_notes fleet lacks gives foreseen is_earlier smallest number play =
+    batch_notes fleet smallest (number + 1) play ++ steps_notes is_earlier (crowd_for fleet lacks gives play) foreseen number play
 
 -- The notes on each play behind those before it; of each, the size of its smallest batch is given. What is foreseen of their steps is told by the play's number, the step's place and the host.
-abbrev pub plays_notes : FleetView → (Name → ℕ → Bool) → (ℕ → ℕ → ℕ → Foreseen) → List (Option ℕ) → List Play → List Note
-plays_notes fleet lacks foreseen sizes plays =
-    all_noted (λ number play. play_notes fleet lacks (foreseen number) (is_registered_in (take number plays)) (slice_index_or sizes number None) number play) 0 plays
+abbrev pub plays_notes : FleetView → (Name → ℕ → Bool) → (Sort → Name → Bool) → (ℕ → ℕ → ℕ → Foreseen) → List (Option ℕ) → List Play → List Note
+plays_notes fleet lacks gives foreseen sizes plays =
+    all_noted (λ number play. play_notes fleet lacks gives (foreseen number) (is_registered_in (take number plays)) (slice_index_or sizes number None) number play) 0 plays

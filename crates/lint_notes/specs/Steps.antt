@@ -17,6 +17,7 @@ use Rattle.lint_notes.specs.Places.{local_note, target_note}
 use Rattle.lint_notes.specs.Programs.{dash_note, long_note}
 use Rattle.lint_notes.specs.Quoting.{blank_note, quotes_note}
 use Rattle.lint_notes.specs.ShellWords.{shell_note}
+use Rattle.lint_notes.specs.Values.{value_notes}
 use Rattle.lint_notes.specs.declared.step_path.StepPath.{StepPath}
 
 -- where a step stands in the play of this number: among its tasks, or among the handlers behind them
@@ -67,10 +68,11 @@ abbrev pub result_notes : (Name → Bool) → Crowd → (ℕ → Foreseen) → L
 result_notes is_set crowd foreseen tasks at step =
     flat_map (λ name. noted (result_note (wanting crowd (missed_on foreseen)) at name)) (names_unsure is_set tasks step)
 
--- Then the groups for which it asks, whether anybody runs it, those on its conditions, its words and its program, and the one on what notifies it.
+-- Then the groups and the values for which it asks, whether anybody runs it, those on its conditions, its words and its program, and the one on what notifies it.
 abbrev pub notes_at : (Name → Bool) → Crowd → (ℕ → Foreseen) → Play → ℕ → StepPath → Step → List Note
 notes_at is_set crowd foreseen play place at step =
     name_notes is_set crowd foreseen at step
     ++ (result_notes is_set crowd foreseen (tasks_before play place) at step
     ++ (groups_asked_notes crowd.fleet.groups at step
-    ++ (noted (idle_step_note crowd foreseen at step) ++ (condition_notes at step ++ (words_notes crowd foreseen play at step ++ noted (idle_note play at))))))
+    ++ (value_notes is_set crowd.gives at step
+    ++ (noted (idle_step_note crowd foreseen at step) ++ (condition_notes at step ++ (words_notes crowd foreseen play at step ++ noted (idle_note play at)))))))

@@ -52,6 +52,12 @@ fn advice(kind: Kind) -> &'static str
             "write a field, {{ r.stdout }} as an example, where a result stands in a word; let a task of this play register it, or of an earlier play for the same hosts; or ask in `when` first whether it is defined: a handler may not run, and other plays may be for other hosts",
         Kind::UnknownGroup =>
             "spell the group as the inventory has it, letter by letter: nobody is in a group that isn't there; where another inventory has it, switch the note off",
+        Kind::FalseText =>
+            "a text is true unless it is empty, `false` and `no` in quotes too: write false without quotes in the inventory, or compare the name with the text that is to count, as the inventory has it",
+        Kind::UnlikeVariable =>
+            "write the other side as the inventory has the variable, letter by letter, or the variable as the other side is: 15 is a number and '15' a text, true a truth value and 'true' a text, and values of two kinds are never the same; where another inventory has it so, switch the note off",
+        Kind::WholeResult =>
+            "a result as a whole is always true and equals nothing: ask for a field, N.rc == 0 or N.stdout == 'a' as examples, or for its state, N is changed",
         Kind::IdleStep =>
             "spell groups and values as the inventory has them, letter by letter: 15 is a number and '15' a text, which are never the same; where the step waits for another value, switch the note off",
         Kind::ConstantCondition =>

@@ -27,7 +27,7 @@ fn kind_of_ref(of: Ref) -> Option<ValueKind>
 }
 
 /// The kind of value that the operand has wherever it has one, if that is known.
-fn kind_of(operand: Operand) -> Option<ValueKind>
+pub(crate) fn kind_of(operand: Operand) -> Option<ValueKind>
     ensures { result ≡ model.kind_of operand }
 {
     match operand {

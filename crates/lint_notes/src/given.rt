@@ -1,74 +1,78 @@
-//! The names to which an inventory gives a value, on whatever host.
-ghost use Rattle.std.specs.Prelude.{◌≡◌, ◌||◌, IfOk, OnOk};
-ghost use Rattle.std.specs.List.{list_any};
-ghost use Rattle.group_tree.specs.Names.{Name};
-ghost use Rattle.lint_notes.specs.Given.{group_gives, hosts_give, is_given, is_named};
-ghost use Rattle.lint_notes.specs.Inside.{has_missed};
+//! The names to which an inventory gives a value, by the sorts of their values.
+ghost use Rattle.std.specs.Prelude.{◌≡◌, ◌||◌, ◌&&◌, OnOk, false};
+ghost use Rattle.group_tree.specs.Names.{Name, same_name};
+ghost use Rattle.group_tree.specs.Scalars.{lent_scalar};
+ghost use Rattle.lint_notes.specs.Given.{gives, has_missed};
+ghost use Rattle.lint_notes.specs.Sorts as sorts;
+ghost use Rattle.lint_notes.specs.Sorts.{is_of_sort};
+ghost use Rattle.lint_notes.specs.declared.sort.Sort.{Sort};
 
 use crate::missed::Missed;
-use domains::{WalkedGroup, list_walk};
-use group_tree::{Group, Host, Tree, Variable};
-use std::alloc::{AllocError, Allocator, Global};
+use crate::questions::ValueKind;
+use crate::sort::{Sort, says_no};
+use group_tree::Scalar;
+use std::alloc::{AllocError, Global};
 
-/// Adds the names of these variables.
-fn add_variables<'t, A: Allocator>(
-    variables: &'t [Variable<A>],
-    names: &mut Missed<'t>,
-) -> Result<(), AllocError>
-    ensures { OnOk result ((name : Name) → has_missed names.new name ≡ (has_missed names.old name || is_named name variables.now)) }
-{
-    for variable in variables {
-        names.add(variable.name())?;
+/// All these names, those with a value of each kind, and those with a text by which somebody says no. They are lent by the inventory.
+#[derive(Drop)]
+pub(crate) struct Given<'t> {
+    pub(crate) names: Missed<'t>,
+    texts: Missed<'t>,
+    numbers: Missed<'t>,
+    truths: Missed<'t>,
+    false_texts: Missed<'t>,
+}
+
+impl<'t> Given<'t> {
+    pub(crate) fn new(alloc: Global) -> Given<'t>
+        ensures { (sort : Sort) (name : Name) → gives result sort name ≡ false }
+    {
+        Given {
+            names: Missed::new(alloc),
+            texts: Missed::new(alloc),
+            numbers: Missed::new(alloc),
+            truths: Missed::new(alloc),
+            false_texts: Missed::new(alloc),
+        }
     }
-    Ok(())
-}
 
-/// Adds those of the hosts' variables.
-fn add_hosts<'t, A: Allocator>(
-    hosts: &'t [Host<A>],
-    names: &mut Missed<'t>,
-) -> Result<(), AllocError>
-    ensures { OnOk result ((name : Name) → has_missed names.new name ≡ (has_missed names.old name || hosts_give name hosts.now)) }
-{
-    for host in hosts {
-        add_variables(host.variables(), names)?;
+    /// Whether the name has a value of the sort somewhere.
+    pub(crate) fn has(&self, sort: Sort, name: &str) -> bool
+        ensures { result ≡ gives self.now sort name.now }
+    {
+        match sort {
+            Sort::Any => self.names.has(name),
+            Sort::Kind(ValueKind::Text) => self.texts.has(name),
+            Sort::Kind(ValueKind::Number) => self.numbers.has(name),
+            Sort::Kind(ValueKind::Truth) => self.truths.has(name),
+            Sort::FalseText => self.false_texts.has(name),
+        }
     }
-    Ok(())
-}
 
-/// Adds those of the group's own variables, and of the hosts that it lists itself.
-fn add_group<'t, A: Allocator>(
-    group: &'t Group<A>,
-    names: &mut Missed<'t>,
-) -> Result<(), AllocError>
-    ensures { OnOk result ((name : Name) → has_missed names.new name ≡ (has_missed names.old name || group_gives name group.now)) }
-{
-    add_variables(group.variables(), names)?;
-    add_hosts(group.hosts(), names)
-}
-
-fn add_groups<'t, A: Allocator>(
-    groups: &[WalkedGroup<'t, A>],
-    names: &mut Missed<'t>,
-) -> Result<(), AllocError>
-    ensures { OnOk result ((name : Name) → has_missed names.new name ≡ (has_missed names.old name || list_any (λ walked. group_gives name walked.group.now) groups.now)) }
-{
-    for walked in groups {
-        add_group(walked.group, names)?;
+    /// Adds the name, which has this value.
+    pub(crate) fn add(&mut self, name: &'t str, value: Scalar<'_>) -> Result<(), AllocError>
+        ensures { OnOk result ((sort : Sort) (other : Name) → gives self.new sort other
+            ≡ (gives self.old sort other || (is_of_sort sort (lent_scalar value.entry) && same_name other name.now))) }
+    {
+        self.names.add(name)?;
+        match value {
+            Scalar::Int(_) => self.numbers.add(name),
+            Scalar::Bool(_) => self.truths.add(name),
+            Scalar::Text(text) => {
+                self.texts.add(name)?;
+                add_false(&mut self.false_texts, name, text)
+            }
+        }
     }
-    Ok(())
 }
 
-/// The names of the variables of all groups and hosts, each once. It fails for want of memory alone.
-pub(crate) fn list_given<'t, A: Allocator>(
-    alloc: Global,
-    tree: &'t Tree<A>,
-) -> Result<Missed<'t>, AllocError>
-    ensures { IfOk result (λ names. (name : Name) → has_missed names name ≡ is_given tree.now name) }
+/// Adds the name to those with a text by which somebody says no, where this is one.
+fn add_false<'t>(names: &mut Missed<'t>, name: &'t str, text: &str) -> Result<(), AllocError>
+    ensures { OnOk result ((other : Name) → has_missed names.new other ≡ (has_missed names.old other || (sorts.says_no text.now && same_name other name.now))) }
 {
-    let mut groups = Vec::new(alloc);
-    list_walk(tree.root(), 0, &mut groups)?;
-    let mut names = Missed::new(alloc);
-    add_groups(groups.as_slice(), &mut names)?;
-    Ok(names)
+    if says_no(text) {
+        names.add(name)
+    } else {
+        Ok(())
+    }
 }

@@ -103,7 +103,20 @@ fn write_name_helps<W: Write>(
     write_help_of(text, notes, allowed, Kind::UnknownName);
     write_help_of(text, notes, allowed, Kind::MissingName);
     write_help_of(text, notes, allowed, Kind::MissingResult);
+}
+
+#[tactic(auto, using(bounded_io::proofs::Pieces::pieces_of_text))]
+fn write_condition_helps<W: Write>(
+    text: &mut TextWriter<'_, W>,
+    notes: &[Note<'_>],
+    allowed: &Allowed<'_>,
+)
+    ensures { Writes W.contents text.old text.new (model.condition_helps allowed.now (map seen notes.now)) }
+{
     write_help_of(text, notes, allowed, Kind::UnknownGroup);
+    write_help_of(text, notes, allowed, Kind::FalseText);
+    write_help_of(text, notes, allowed, Kind::UnlikeVariable);
+    write_help_of(text, notes, allowed, Kind::WholeResult);
     write_help_of(text, notes, allowed, Kind::IdleStep);
     write_help_of(text, notes, allowed, Kind::ConstantCondition);
     write_help_of(text, notes, allowed, Kind::UnlikeValues);
@@ -151,6 +164,7 @@ pub(crate) fn write_helps<W: Write>(
     write_host_helps(text, notes, allowed);
     write_play_helps(text, notes, allowed);
     write_name_helps(text, notes, allowed);
+    write_condition_helps(text, notes, allowed);
     write_program_helps(text, notes, allowed);
     write_word_helps(text, notes, allowed);
 }

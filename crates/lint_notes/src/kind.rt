@@ -45,6 +45,12 @@ pub enum Kind {
     MissingResult,
     /// A condition of a step asks for a group that isn't there.
     UnknownGroup,
+    /// A condition of a step takes a variable for true or false that has a text by which somebody says no.
+    FalseText,
+    /// A condition of a step compares a variable with what is of another kind than all its values.
+    UnlikeVariable,
+    /// A condition of a step asks for a result as a whole.
+    WholeResult,
     /// A step's condition holds on no waiting host.
     IdleStep,
     /// A condition of a step asks nothing about the host.
@@ -97,6 +103,9 @@ impl Kind {
             Kind::MissingName => "missing-name",
             Kind::MissingResult => "missing-result",
             Kind::UnknownGroup => "unknown-group",
+            Kind::FalseText => "false-text",
+            Kind::UnlikeVariable => "unlike-variable",
+            Kind::WholeResult => "whole-result",
             Kind::IdleStep => "idle-step",
             Kind::ConstantCondition => "constant-condition",
             Kind::UnlikeValues => "unlike-values",
@@ -125,7 +134,8 @@ pub(crate) fn is_kind_name(word: &str) -> bool
         "no-hosts" | "down-hosts" | "unlimited-hosts" => true,
         "idle-serial" | "one-failure" | "local-play" => true,
         "unknown-name" | "missing-name" | "missing-result" => true,
-        "unknown-group" | "idle-step" => true,
+        "unknown-group" | "false-text" | "unlike-variable" => true,
+        "whole-result" | "idle-step" => true,
         "constant-condition" | "unlike-values" => true,
         "shell-word" | "blank-program" | "lost-quotes" => true,
         "local-step" | "fixed-target" | "long-word" => true,

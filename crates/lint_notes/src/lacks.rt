@@ -5,6 +5,7 @@ ghost use Rattle.lint_notes.specs.Lacks as spec;
 ghost use Rattle.lint_notes.specs.Given.{AreAllGiven, has_missed};
 ghost use Rattle.lint_notes.specs.Lacks.{KnowsLacks, lack_in, lacks_in};
 
+use crate::given::Given;
 use crate::lack::Lack;
 use crate::mentioned::list_mentioned;
 use crate::missed::Missed;
@@ -21,10 +22,10 @@ use text_parts::first_word_part;
 pub(crate) struct Lacks<'a, 's> {
     pub(crate) vars: &'s [Vars],
     pub(crate) waiting: &'s [usize],
-    given: &'s Missed<'a>,
+    pub(crate) given: &'s Given<'a>,
     known: IndexMap<&'a str, Option<Lack>>,
     ghost knows: { KnowsLacks vars.now waiting.now known },
-    ghost all: { AreAllGiven (has_missed given.now) vars.now },
+    ghost all: { AreAllGiven (has_missed given.now.names) vars.now },
 }
 
 impl<'a, 's> Lacks<'a, 's> {
@@ -35,16 +36,17 @@ impl<'a, 's> Lacks<'a, 's> {
         alloc: Global,
         vars: &'s [Vars],
         waiting: &'s [usize],
-        given: &'s Missed<'a>,
+        given: &'s Given<'a>,
         steps: &'a [Step],
     ) -> Result<Lacks<'a, 's>, AllocError>
-        requires { AreAllGiven (has_missed given.now) vars.now }
+        requires { AreAllGiven (has_missed given.now.names) vars.now }
+        ensures given { IfOk result (λ lacks. lacks.given.now ≡ given.now) }
         ensures vars { IfOk result (λ lacks. lacks.vars.now ≡ vars.now) }
         ensures waiting { IfOk result (λ lacks. lacks.waiting.now ≡ waiting.now) }
     {
         let mut known = IndexMap::new(alloc);
         for step in steps {
-            learn_step(alloc, vars, waiting, given, step, &mut known)?;
+            learn_step(alloc, vars, waiting, &given.names, step, &mut known)?;
         }
         Ok(Lacks {
             vars,
@@ -67,7 +69,7 @@ impl<'a, 's> Lacks<'a, 's> {
     fn find(&self, name: &str) -> Option<Lack>
         ensures { result ≡ lack_in self.now.vars.now self.now.waiting.now name.now }
     {
-        if self.given.has(name) {
+        if self.given.names.has(name) {
             look_up(self.vars, self.waiting, name)
         } else {
             lacked_by_all(self.waiting)

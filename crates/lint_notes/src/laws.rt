@@ -1,5 +1,5 @@
-//! What holds of the names and conditions of which a step's notes tell.
-ghost use Rattle.lint_notes.specs.Laws.{ConstantsAreAlike, NamesAskedAreRead, NamesMissedAreTold, NoNameIsToldTwice};
+//! What holds of the names, values and conditions of which a step's notes tell.
+ghost use Rattle.lint_notes.specs.Laws.{ConstantsAreAlike, FalseTextsAreTrue, NamesAskedAreRead, NamesMissedAreTold, NoNameIsToldTwice, UnlikeValuesDiffer, WholeResultsAreTrue};
 
 /// A name stands in the notes on a step once at most.
 pub fn no_name_is_told_twice()
@@ -20,4 +20,19 @@ pub fn the_names_told_are_missed()
 /// A condition of which a note tells that it asks nothing is the same on each host, whatever that has.
 pub fn a_constant_condition_is_the_same_on_each_host()
     ensures { ConstantsAreAlike }
+{}
+
+/// A condition takes each text by which somebody says no for true.
+pub fn a_text_that_says_no_is_true()
+    ensures { FalseTextsAreTrue }
+{}
+
+/// A comparison of a value with one of another kind is never met.
+pub fn values_of_two_kinds_differ()
+    ensures { UnlikeValuesDiffer }
+{}
+
+/// A result that a condition asks for without a field is true, and the same as nothing.
+pub fn a_whole_result_is_true_and_equals_nothing()
+    ensures { WholeResultsAreTrue }
 {}

@@ -11,7 +11,7 @@ use crate::step_path::StepPath;
 pub(crate) enum Note<'a> {
     RepeatedKey {
         document: Document,
-        path: &'a str,
+        path: &'a [u8],
     },
     ZeroLimit {
         group: &'a str,
@@ -102,6 +102,21 @@ pub(crate) enum Note<'a> {
         key: &'a str,
         group: &'a str,
     },
+    FalseText {
+        at: StepPath,
+        key: &'a str,
+        name: &'a str,
+    },
+    UnlikeVariable {
+        at: StepPath,
+        key: &'a str,
+        name: &'a str,
+    },
+    WholeResult {
+        at: StepPath,
+        key: &'a str,
+        name: &'a str,
+    },
     IdleStep {
         at: StepPath,
     },
@@ -183,6 +198,9 @@ impl Note<'_> {
             Note::MissingName { .. } => Kind::MissingName,
             Note::MissingResult { .. } => Kind::MissingResult,
             Note::UnknownGroup { .. } => Kind::UnknownGroup,
+            Note::FalseText { .. } => Kind::FalseText,
+            Note::UnlikeVariable { .. } => Kind::UnlikeVariable,
+            Note::WholeResult { .. } => Kind::WholeResult,
             Note::IdleStep { .. } => Kind::IdleStep,
             Note::ConstantCondition { .. } => Kind::ConstantCondition,
             Note::UnlikeValues { .. } => Kind::UnlikeValues,

@@ -1,5 +1,5 @@
 //! The notes on the machine on which a step does something, and for whom.
-ghost use Rattle.std.specs.Prelude.{◌≡◌, IfOk, option_map};
+ghost use Rattle.std.specs.Prelude.{◌≡◌, IfOk, count_by, not, option_map};
 ghost use Rattle.lint_notes.specs.Inside.{crowd_of, foreseen_from};
 ghost use Rattle.lint_notes.specs.Notes.{seen};
 ghost use Rattle.lint_notes.specs.Places as model;
@@ -9,12 +9,28 @@ use crate::idle::skips;
 use crate::note::Note;
 use crate::programs::{are_literal, calls_ssh, goes_elsewhere, local_program};
 use crate::step_path::StepPath;
+use cond::Cond;
 use play_model::{Play, Step, Words};
 use std::alloc::{AllocError, Global};
 
-/// How many of the waiting hosts aren't known to skip the step.
-fn count_running(alloc: Global, asked: &Asked<'_, '_>) -> Result<usize, AllocError>
-    ensures { IfOk result (λ count. count ≡ model.run_count (crowd_of asked.now.crowd) (foreseen_from asked.now.stand asked.now.crowd.lacks.now.vars.now)) }
+/// How many of the waiting hosts aren't known to skip the step, which has this `when`.
+fn count_running(
+    alloc: Global,
+    asked: &Asked<'_, '_>,
+    when: &Option<Cond>,
+) -> Result<usize, AllocError>
+    ensures { IfOk result (λ count. count ≡ model.run_count (crowd_of asked.now.crowd) (foreseen_from asked.now.stand asked.now.crowd.lacks.now.vars.now) when.now) }
+{
+    if when.is_some() {
+        count_may_run(alloc, asked)
+    } else {
+        Ok(asked.crowd.lacks.waiting.len())
+    }
+}
+
+/// On how many of them it isn't known that a `when` can't hold.
+fn count_may_run(alloc: Global, asked: &Asked<'_, '_>) -> Result<usize, AllocError>
+    ensures { IfOk result (λ count. count ≡ count_by (λ host. not (foreseen_from asked.now.stand asked.now.crowd.lacks.now.vars.now host).is_skipped) (crowd_of asked.now.crowd).waiting) }
 {
     let lacks = asked.crowd.lacks;
     let mut count = 0;
@@ -27,13 +43,13 @@ fn count_running(alloc: Global, asked: &Asked<'_, '_>) -> Result<usize, AllocErr
 }
 
 /// Whether at most one of several waiting hosts runs the step.
-fn is_once(alloc: Global, asked: &Asked<'_, '_>) -> Result<bool, AllocError>
-    ensures { IfOk result (λ once. once ≡ model.is_once (crowd_of asked.now.crowd) (foreseen_from asked.now.stand asked.now.crowd.lacks.now.vars.now)) }
+fn is_once(alloc: Global, asked: &Asked<'_, '_>, when: &Option<Cond>) -> Result<bool, AllocError>
+    ensures { IfOk result (λ once. once ≡ model.is_once (crowd_of asked.now.crowd) (foreseen_from asked.now.stand asked.now.crowd.lacks.now.vars.now) when.now) }
 {
     if asked.crowd.lacks.waiting.len() <= 1 {
         return Ok(false);
     }
-    Ok(count_running(alloc, asked)? < 2)
+    Ok(count_running(alloc, asked, when)? < 2)
 }
 
 fn program_here<'a>(play: &Play, step: &'a Step) -> Option<&'a str>
@@ -60,7 +76,7 @@ pub(crate) fn local_note<'a>(
     let Some(word) = program_here(play, step) else {
         return Ok(None);
     };
-    if is_once(alloc, asked)? {
+    if is_once(alloc, asked, &step.when)? {
         Ok(None)
     } else {
         Ok(Some(Note::LocalStep { at, word }))
@@ -86,7 +102,7 @@ pub(crate) fn target_note(
     if !has_fixed_target(&step.words) {
         return Ok(None);
     }
-    let hosts = count_running(alloc, asked)?;
+    let hosts = count_running(alloc, asked, &step.when)?;
     if hosts > 1 {
         Ok(Some(Note::FixedTarget { at, hosts }))
     } else {

@@ -3,7 +3,7 @@ ghost use Rattle.std.specs.Prelude.{◌≡◌, ◌<◌, ◌||◌, ◌++◌, ◌^
 ghost use Rattle.group_tree.specs.Names.{Name};
 ghost use Rattle.domains.specs.Fleets.{IsFleetOf};
 ghost use Rattle.needed_results.specs.Registers.{is_registered_by};
-ghost use Rattle.lint_notes.specs.Given.{AreAllGiven};
+ghost use Rattle.lint_notes.specs.Given.{AreAllGiven, gives};
 ghost use Rattle.lint_notes.specs.Inside.{crowd_of, foreseen_in, has_missed, has_name, lacks_in, noted_repeats};
 ghost use Rattle.lint_notes.specs.AllNotes.{AreNotesOf};
 ghost use Rattle.lint_notes.specs.Hosts.{down_for, waiting_for};
@@ -13,7 +13,7 @@ use crate::asked::Asked;
 use crate::batches::{failure_note, list_smallest, size_note};
 use crate::case_hosts::list_fleet_notes;
 use crate::crowd::Crowd;
-use crate::given::list_given;
+use crate::giving::list_given;
 use crate::lacks::Lacks;
 use crate::near::with_near;
 use crate::notes::Notes;
@@ -98,9 +98,9 @@ fn note_play<'a>(
     smallest: Option<usize>,
 ) -> Result<(), AllocError>
     requires number { numbered.number < 2 ^ 63 }
-    requires given { AreAllGiven (has_missed scene.given.now) scene.vars.now }
+    requires given { AreAllGiven (has_missed scene.given.now.names) scene.vars.now }
     ensures notes { OnOk result (notes.new ≡ notes.old
-        ++ play_notes scene.entry.fleet.now (lacks_in scene.entry.vars.now)
+        ++ play_notes scene.entry.fleet.now (lacks_in scene.entry.vars.now) (gives scene.entry.given.now)
         (foreseen_in scene.entry.registry.now.fleet.now scene.entry.registry.now.plays.now scene.entry.vars.now numbered.entry.number)
         (has_name registered.old) smallest numbered.entry.number numbered.entry.play.now) }
     ensures registered { OnOk result ((name : Name) → has_name registered.new name
@@ -137,8 +137,8 @@ fn note_plays<'a>(
     plays: &'a [Play],
 ) -> Result<(), AllocError>
     requires sizes { length sizes.now ≡ length plays.now }
-    requires given { AreAllGiven (has_missed scene.given.now) scene.vars.now }
-    ensures { OnOk result (notes.new ≡ notes.old ++ plays_notes scene.entry.fleet.now (lacks_in scene.entry.vars.now)
+    requires given { AreAllGiven (has_missed scene.given.now.names) scene.vars.now }
+    ensures { OnOk result (notes.new ≡ notes.old ++ plays_notes scene.entry.fleet.now (lacks_in scene.entry.vars.now) (gives scene.entry.given.now)
         (foreseen_in scene.entry.registry.now.fleet.now scene.entry.registry.now.plays.now scene.entry.vars.now) sizes.now plays.now) }
 {
     let mut registered = Registered::new(alloc);
@@ -176,5 +176,5 @@ pub(crate) fn list_notes<'a, A: Allocator>(
         registry: &registry,
     };
     note_plays(alloc, &mut notes, scene, sizes.as_slice(), plays)?;
-    with_near(alloc, &notes, &given, plays)
+    with_near(alloc, &notes, &given.names, plays)
 }

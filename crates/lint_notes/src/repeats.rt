@@ -1,5 +1,5 @@
 //! The notes on keys that stand more than once in one object.
-ghost use Rattle.std.specs.Prelude.{◌≡◌, ◌++◌, IfOk, OnOk, map, string_bytes};
+ghost use Rattle.std.specs.Prelude.{◌≡◌, ◌++◌, IfOk, OnOk, map};
 ghost use Rattle.std.specs.Option.{option_map};
 ghost use Rattle.lint_notes.specs.Inside.{noted_paths, noted_repeats};
 ghost use Rattle.lint_notes.specs.Repeats.{repeated_if, repeats_given};
@@ -20,12 +20,12 @@ pub struct Texts<'t> {
 /// The paths of keys that stand more than once in one object of these texts.
 #[derive(Drop)]
 pub(crate) struct Repeats {
-    pub(crate) inventory: Vec<String>,
-    pub(crate) playbook: Vec<String>,
+    pub(crate) inventory: Vec<Vec<u8>>,
+    pub(crate) playbook: Vec<Vec<u8>>,
 }
 
-fn list_if(alloc: Global, text: Option<&[u8]>) -> Result<Vec<String>, AllocError>
-    ensures { IfOk result (λ paths. map string_bytes paths.items ≡ repeated_if (option_map (λ text. text.now) text.entry)) }
+fn list_if(alloc: Global, text: Option<&[u8]>) -> Result<Vec<Vec<u8>>, AllocError>
+    ensures { IfOk result (λ paths. map (λ path. path.items) paths.items ≡ repeated_if (option_map (λ text. text.now) text.entry)) }
 {
     match text {
         Some(text) => list_repeated(alloc, text),
@@ -48,14 +48,14 @@ impl Repeats {
 fn note_paths<'a>(
     notes: &mut Notes<'a>,
     document: Document,
-    paths: &'a [String],
+    paths: &'a [Vec<u8>],
 ) -> Result<(), AllocError>
     ensures { OnOk result (notes.new ≡ notes.old ++ noted_paths document paths.now) }
 {
     for path in paths {
         notes.add(Some(Note::RepeatedKey {
             document,
-            path: path.as_str(),
+            path: path.as_slice(),
         }))?;
     }
     Ok(())

@@ -1,7 +1,7 @@
 //! Where a step stands among the plays of a file.
 ghost use Rattle.std.specs.Prelude.{◌≡◌};
 
-use crate::missed::Missed;
+use crate::given::Given;
 use domains::Fleet;
 use group_tree::HostId;
 use host_vars::Vars;
@@ -12,7 +12,7 @@ use missing_names::{Registry, Spot};
 pub(crate) struct Scene<'a, 's> {
     pub(crate) fleet: &'a Fleet,
     pub(crate) vars: &'s [Vars],
-    pub(crate) given: &'s Missed<'a>,
+    pub(crate) given: &'s Given<'a>,
     pub(crate) registry: &'s Registry<'a>,
 }
 

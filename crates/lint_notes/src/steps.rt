@@ -23,6 +23,7 @@ use crate::quoting::{blank_note, quotes_note};
 use crate::results::list_unsure;
 use crate::shell_words::shell_note;
 use crate::step_path::StepPath;
+use crate::values::note_values;
 use play_model::{Play, Step};
 use std::alloc::{AllocError, Global};
 
@@ -195,6 +196,7 @@ pub(crate) fn note_step<'a>(
     note_asked(alloc, notes, asked, at, step)?;
     note_results(alloc, notes, asked, play, at, step)?;
     note_asked_groups(alloc, notes, asked.crowd.fleet, at, step)?;
+    note_values(alloc, notes, asked, at, step)?;
     notes.add(idle_step_note(alloc, &asked.crowd, asked.stand, at, step)?)?;
     note_conditions(notes, at, step)?;
     note_words(alloc, notes, asked, play, at, step)?;

@@ -42,11 +42,17 @@ fn write_at<W: Write>(text: &mut TextWriter<'_, W>, at: StepPath)
 }
 
 #[tactic(auto, using(bounded_io::proofs::Pieces::pieces_of_text))]
+fn write_shown<W: Write>(text: &mut TextWriter<'_, W>, word: &str, bytes: &[u8])
+    ensures { Writes W.contents text.old text.new (named_text word.now bytes.now) }
+{
+    text.write_str(word);
+    write_printable(text, bytes);
+}
+
 fn write_named<W: Write>(text: &mut TextWriter<'_, W>, word: &str, name: &str)
     ensures { Writes W.contents text.old text.new (named_text word.now name.now) }
 {
-    text.write_str(word);
-    write_printable(text, name.as_bytes());
+    write_shown(text, word, name.as_bytes());
 }
 
 #[tactic(auto, using(bounded_io::proofs::Pieces::pieces_of_text))]
@@ -55,6 +61,15 @@ fn write_step<W: Write>(text: &mut TextWriter<'_, W>, at: StepPath, word: &str, 
 {
     write_at(text, at);
     write_named(text, word, name);
+}
+
+/// What stands in a condition, behind the key of this.
+#[tactic(auto, using(bounded_io::proofs::Pieces::pieces_of_text))]
+fn write_keyed<W: Write>(text: &mut TextWriter<'_, W>, at: StepPath, key: &str, named: (&str, &str))
+    ensures { Writes W.contents text.old text.new (step_text at (codes " key=") key.now ++ named_text named.entry.0.now named.entry.1.now) }
+{
+    write_step(text, at, " key=", key);
+    write_named(text, named.0, named.1);
 }
 
 #[tactic(auto, using(bounded_io::proofs::Pieces::pieces_of_text))]
@@ -105,7 +120,7 @@ fn write_details<W: Write>(text: &mut TextWriter<'_, W>, note: &Note<'_>)
     ensures { Writes W.contents text.old text.new (details (seen note.now)) }
 {
     match *note {
-        Note::RepeatedKey { document, path } => write_named(text, document_word(document), path),
+        Note::RepeatedKey { document, path } => write_shown(text, document_word(document), path),
         Note::ZeroLimit { group, members } => {
             write_named(text, " group=", group);
             write_field(text, " members=", members as u64);
@@ -180,10 +195,10 @@ fn write_details<W: Write>(text: &mut TextWriter<'_, W>, note: &Note<'_>)
             write_step(text, at, " name=", name);
             write_missing(text, &missing);
         }
-        Note::UnknownGroup { at, key, group } => {
-            write_step(text, at, " key=", key);
-            write_named(text, " group=", group);
-        }
+        Note::UnknownGroup { at, key, group } => write_keyed(text, at, key, (" group=", group)),
+        Note::FalseText { at, key, name } => write_keyed(text, at, key, (" name=", name)),
+        Note::UnlikeVariable { at, key, name } => write_keyed(text, at, key, (" name=", name)),
+        Note::WholeResult { at, key, name } => write_keyed(text, at, key, (" name=", name)),
         Note::IdleStep { at } => write_at(text, at),
         Note::ConstantCondition { at } => write_at(text, at),
         Note::UnlikeValues { at, key } => write_step(text, at, " key=", key),

@@ -1,12 +1,12 @@
 -- Where no object has a key twice nothing is repeated.
-use Rattle.std.proofs.Common.{◌≡◌, ◌≢◌, ℕ, suc, ◌+◌, ◌<◌, Bool, true, false, cond, nat_lt, List, [], ◌∷◌, ◌++◌, length, get_or, filter, Option, Some, refl, sym, ap, ◌∙◌, arith}
+use Rattle.std.proofs.Common.{◌≡◌, ◌≢◌, ℕ, suc, ◌+◌, ◌<◌, Bool, true, false, cond, nat_lt, List, [], ◌∷◌, ◌++◌, length, map, get_or, filter, Option, Some, refl, sym, ap, ◌∙◌, arith}
 use Rattle.std.specs.Fmt.{decimal}
 use Rattle.std.specs.Str.{bytes_eq}
 use Rattle.std.proofs.lemmas.Grind.{common_steps}
 use Rattle.std.proofs.lemmas.Slice.Eq.{bytes_eq-Decides}
 use Rattle.json.specs.Json.{Json, null, boolean, number, string, array, object, Items, no_items, item, Members, no_members, member}
 use Rattle.json.specs.Strict.{AreDistinct, HasUniqueKeys, ItemsHaveUniqueKeys, MembersHaveUniqueKeys, keys}
-use Rattle.repeated_keys.specs.Repeats.{Name, below, how_often, once_each, repeated, repeated_in_any, repeated_in_items, repeated_in_members, repeated_in_value}
+use Rattle.repeated_keys.specs.Repeats.{Name, below, cut, how_often, once_each, repeated, repeated_in_any, repeated_in_items, repeated_in_members, repeated_in_value}
 
 none_is : (name : Name) (names : List Name) → ((place : ℕ) (other : Name) → place < length names → name ≢ get_or names place other) → filter (bytes_eq name) names ≡ []
 none_is name [] differ = refl
@@ -43,7 +43,7 @@ mutual
   none_in_value (number s) unique = refl
   none_in_value (string s) unique = refl
   none_in_value (array items) unique = none_in_items 0 items unique
-  none_in_value (object members) unique = λ i. none_twice (keys members) unique.0 i ++ none_in_members members unique.1 i
+  none_in_value (object members) unique = λ i. map cut (none_twice (keys members) unique.0 i) ++ none_in_members members unique.1 i
 
   none_in_items : (place : ℕ) (items : Items) → ItemsHaveUniqueKeys items → repeated_in_items place items ≡ []
   none_in_items place no_items unique = refl
@@ -51,7 +51,7 @@ mutual
 
   none_in_members : (members : Members) → MembersHaveUniqueKeys members → repeated_in_members members ≡ []
   none_in_members no_members unique = refl
-  none_in_members (member key value members) unique = λ i. below key (none_in_value value unique.0 i) ++ none_in_members members unique.1 i
+  none_in_members (member key value members) unique = λ i. below (cut key) (none_in_value value unique.0 i) ++ none_in_members members unique.1 i
 
 -- of a text that was read
 pub none_in_read : (read : Option Json) (value : Json) → read ≡ Some value → HasUniqueKeys value → repeated_in_any read ≡ []

@@ -1,12 +1,13 @@
 -- Words of the walk.
-use Rattle.std.specs.Prelude.{Bool, List, [], ◌∷◌, ◌++◌, map, String, string_bytes}
+use Rattle.std.specs.Prelude.{ℕ, Bool, List, [], ◌∷◌, ◌++◌, map, Vec}
 use Rattle.std.specs.Borrow.{Bor}
 use Rattle.std.specs.Fmt.{decimal}
 use Rattle.std.specs.List.{list_any}
 use Rattle.std.specs.Str.{bytes_eq}
 use Rattle.indexmap.specs.IndexSet.{IndexSet}
-use Rattle.repeated_keys.specs.Repeats.{Name, Path}
+use Rattle.repeated_keys.specs.Repeats.{Name, Path, cut}
 use Rattle.repeated_keys.specs.declared.path.Part.{Part}
+use Rattle.repeated_keys.specs.declared.told.Told.{Told}
 use Rattle.repeated_keys.specs.declared.path.Part.TheVariants.{Key, Index}
 
 abbrev pub names_of : List (Bor Name) → List Name
@@ -16,11 +17,14 @@ names_of lent = map (λ (name : Bor Name). name.now) lent
 abbrev pub has : {S : Type 0} → IndexSet (Bor Name) S → Name → Bool
 has set name = list_any (λ (key : Bor Name). bytes_eq name key.now) set.keys
 
-abbrev pub paths_of : {Y : Type 0} → List (String Y) → List Path
-paths_of told = map string_bytes told
+abbrev pub paths_of : {Y : Type 0} → List (Vec ℕ Y) → List Path
+paths_of told = map (λ (path : Vec ℕ _). path.items) told
+
+abbrev pub paths_told : Told → List Path
+paths_told told = paths_of told.paths.items
 
 abbrev pub text_of : Part → Name
-text_of (Key key) = key.now
+text_of (Key key) = cut key.now
 text_of (Index place) = decimal place
 
 -- what stands in a path in front of what these parts lead to

@@ -1,5 +1,5 @@
 -- Which keys stand more than once in one object of a JSON text.
-use Rattle.std.specs.Prelude.{ℕ, ◌+◌, not, nat_lt, if◌then◌else◌, List, [], ◌∷◌, ◌++◌, length, map, Option, Some, None}
+use Rattle.std.specs.Prelude.{ℕ, ◌+◌, not, nat_le, nat_lt, if◌then◌else◌, List, [], ◌∷◌, ◌++◌, length, map, take, codes, Option, Some, None}
 use Rattle.std.specs.Fmt.{decimal}
 use Rattle.std.specs.List.{filter}
 use Rattle.std.specs.Str.{bytes_eq, is_utf8}
@@ -10,9 +10,13 @@ use Rattle.json.specs.Strict.{keys}
 abbrev pub Name : Type 0
 Name = List ℕ
 
--- the keys and the places in arrays that lead to a repeated key, and that key last, joined by `/`
+-- the keys and the places in arrays that lead to a repeated key, and that key last, joined by `/`; keys as they are shown
 abbrev pub Path : Type 0
 Path = List ℕ
+
+-- a key as a path shows it: behind 255 bytes two dots stand for the rest
+abbrev pub cut : Name → Name
+cut key = if nat_le (length key) 255 then key else take 255 key ++ codes ".."
 
 -- how many of the names are this one
 abbrev pub how_often : Name → List Name → ℕ
@@ -39,7 +43,7 @@ abbrev mutual
   repeated_in_value (number s) = []
   repeated_in_value (string s) = []
   repeated_in_value (array items) = repeated_in_items 0 items
-  repeated_in_value (object members) = repeated (keys members) ++ repeated_in_members members
+  repeated_in_value (object members) = map cut (repeated (keys members)) ++ repeated_in_members members
 
   -- within the elements, which stand from this place on
   pub repeated_in_items : ℕ → Items → List Path
@@ -49,7 +53,7 @@ abbrev mutual
   -- within the members, each below its key
   pub repeated_in_members : Members → List Path
   repeated_in_members no_members = []
-  repeated_in_members (member key value members) = below key (repeated_in_value value) ++ repeated_in_members members
+  repeated_in_members (member key value members) = below (cut key) (repeated_in_value value) ++ repeated_in_members members
 
 abbrev pub repeated_in_any : Option Json → List Path
 repeated_in_any None = []
@@ -58,3 +62,7 @@ repeated_in_any (Some value) = repeated_in_value value
 -- of the value that the text is, where it is JSON in UTF-8
 abbrev pub repeated_in : List ℕ → List Path
 repeated_in text = if is_utf8 text then repeated_in_any (document text) else []
+
+-- those that are told: the first hundred
+abbrev pub told_in : List ℕ → List Path
+told_in text = take 100 (repeated_in text)

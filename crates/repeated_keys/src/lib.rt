@@ -4,6 +4,7 @@
 mod keys;
 mod listing;
 mod path;
+mod told;
 mod walk;
 
 pub use listing::list_repeated;

@@ -1,24 +1,25 @@
 //! From the top value down to every object.
-ghost use Rattle.std.specs.Prelude.{◌≡◌, ◌++◌, ◌∷◌, [], OnOk};
+ghost use Rattle.std.specs.Prelude.{◌≡◌, ◌++◌, ◌∷◌, [], OnOk, map, take};
 ghost use Rattle.json.specs.Strict as strict;
 ghost use Rattle.json.specs.Value.{items_view, members_view, value_view};
-ghost use Rattle.repeated_keys.specs.Inside.{below_all, paths_of};
-ghost use Rattle.repeated_keys.specs.Repeats.{repeated, repeated_in_items, repeated_in_members, repeated_in_value};
+ghost use Rattle.repeated_keys.specs.Inside.{below_all, paths_told};
+ghost use Rattle.repeated_keys.specs.Repeats.{cut, repeated, repeated_in_items, repeated_in_members, repeated_in_value};
 
 use crate::keys::list_twice;
 use crate::path::{Part, path_of};
+use crate::told::Told;
 use json::Value;
 use std::alloc::{AllocError, Global};
 
-/// Tells what is repeated in the value. The parts that lead to it are as before afterwards.
+/// Tells what is repeated in the value, as far as there is room. The parts that lead to it are as before afterwards.
 #[cycle(repeats)]
 pub(crate) fn tell_in_value<'a>(
     alloc: Global,
     value: &Value<'a>,
     above: &mut Vec<Part<'a>>,
-    told: &mut Vec<String>,
+    told: &mut Told,
 ) -> Result<(), AllocError>
-    ensures told { OnOk result (paths_of told.new.items ≡ paths_of told.old.items ++ below_all above.old.items (repeated_in_value (value_view value.now))) }
+    ensures told { OnOk result (paths_told told.new ≡ take 100 (paths_told told.old ++ below_all above.old.items (repeated_in_value (value_view value.now)))) }
     ensures above { OnOk result (above.new.items ≡ above.old.items) }
 {
     match value {
@@ -39,9 +40,9 @@ fn tell_in_items<'a>(
     alloc: Global,
     items: &[Value<'a>],
     above: &mut Vec<Part<'a>>,
-    told: &mut Vec<String>,
+    told: &mut Told,
 ) -> Result<(), AllocError>
-    ensures told { OnOk result (paths_of told.new.items ≡ paths_of told.old.items ++ below_all above.old.items (repeated_in_items 0 (items_view items.now))) }
+    ensures told { OnOk result (paths_told told.new ≡ take 100 (paths_told told.old ++ below_all above.old.items (repeated_in_items 0 (items_view items.now)))) }
     ensures above { OnOk result (above.new.items ≡ above.old.items) }
 {
     for index in 0..items.len() {
@@ -58,9 +59,9 @@ fn tell_in_members<'a>(
     alloc: Global,
     members: &[(&'a str, Value<'a>)],
     above: &mut Vec<Part<'a>>,
-    told: &mut Vec<String>,
+    told: &mut Told,
 ) -> Result<(), AllocError>
-    ensures told { OnOk result (paths_of told.new.items ≡ paths_of told.old.items ++ below_all above.old.items (repeated_in_members (members_view members.now))) }
+    ensures told { OnOk result (paths_told told.new ≡ take 100 (paths_told told.old ++ below_all above.old.items (repeated_in_members (members_view members.now)))) }
     ensures above { OnOk result (above.new.items ≡ above.old.items) }
 {
     for member in members {
@@ -79,9 +80,9 @@ fn tell_below<'a>(
     part: Part<'a>,
     value: &Value<'a>,
     above: &mut Vec<Part<'a>>,
-    told: &mut Vec<String>,
+    told: &mut Told,
 ) -> Result<(), AllocError>
-    ensures told { OnOk result (paths_of told.new.items ≡ paths_of told.old.items ++ below_all (above.old.items ++ part.entry ∷ []) (repeated_in_value (value_view value.now))) }
+    ensures told { OnOk result (paths_told told.new ≡ take 100 (paths_told told.old ++ below_all (above.old.items ++ part.entry ∷ []) (repeated_in_value (value_view value.now)))) }
     ensures above { OnOk result (above.new.items ≡ above.old.items) }
 {
     above.push(part)?;
@@ -98,13 +99,16 @@ fn tell_keys<'a>(
     alloc: Global,
     members: &[(&'a str, Value<'a>)],
     above: &[Part<'a>],
-    told: &mut Vec<String>,
+    told: &mut Told,
 ) -> Result<(), AllocError>
-    ensures { OnOk result (paths_of told.new.items ≡ paths_of told.old.items ++ below_all above.now (repeated (strict.keys (members_view members.now)))) }
+    ensures { OnOk result (paths_told told.new ≡ take 100 (paths_told told.old ++ below_all above.now (map cut (repeated (strict.keys (members_view members.now)))))) }
 {
     let keys = list_twice(alloc, members)?;
     for key in &keys {
-        told.push(path_of(alloc, above, *key)?)?;
+        if told.is_full() {
+            return Ok(());
+        }
+        told.add(path_of(alloc, above, *key)?)?;
     }
     Ok(())
 }

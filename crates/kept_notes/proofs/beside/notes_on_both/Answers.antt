@@ -7,4 +7,7 @@ pub returns-in-Err : goal.returns-in-Err
 returns-in-Err c =
     let playbook = c.args.playbook.now in
     let refused = are_refused c.args.hidden.now (repeats_given c.args.given) c.args.inventory.now (Some playbook) (Some c.new-text.result.items) (Some c.lint_text.new.out.items) c.in-Err.fault (sym c.tells_rule.ensures ∙ c.if-tells_rule.true) c.in-Err.ensures.err in
-    noted_in (λ noted. noted.text.items) (λ noted. noted.has_plays) c.args.hidden.now (repeats_given c.args.given) c.args.inventory.now playbook c.noted_alone.result refused c.noted_alone.ensures
+    record {
+      ok = noted_in (λ noted. noted.text.items) (λ noted. noted.has_plays) c.args.hidden.now (repeats_given c.args.given) c.args.inventory.now playbook c.noted_alone.result refused c.noted_alone.ensures.ok;
+      err = c.noted_alone.ensures.err;
+    }

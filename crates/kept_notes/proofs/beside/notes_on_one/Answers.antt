@@ -6,4 +6,4 @@ use Rattle.kept_notes.proofs.beside.notes_on_one.Goals as goal
 pub returns-in-Err : goal.returns-in-Err
 returns-in-Err c =
     let refused = are_refused c.args.hidden.now (repeats_given c.args.given) c.args.inventory.now None (Some c.new-text.result.items) (Some c.lint_fleet_text.new.out.items) c.in-Err.fault (sym c.tells_rule.ensures ∙ c.if-tells_rule.true) c.in-Err.ensures.err in
-    inr (refused, c.new.ensures.items)
+    record { ok = inr (refused, c.new.ensures.items); err = tt }

@@ -3,7 +3,7 @@ use Rattle.std.specs.Prelude.{slice_index_or}
 use Rattle.play_model.specs.declared.play.Play.{Play}
 use Rattle.needed_results.specs.Registers.{is_registered_by, is_registered_in}
 use Rattle.lint_notes.specs.Hosts.{Foreseen}
-use Rattle.lint_notes.specs.Inside.{foreseen_in, has_name, lacks_in}
+use Rattle.lint_notes.specs.Inside.{foreseen_in, gives, has_name, lacks_in}
 use Rattle.lint_notes.specs.Notes.{Note}
 use Rattle.lint_notes.specs.Playbooks.{play_notes}
 use Rattle.lint_notes.proofs.NotedLemmas.{any_more, noted_more}
@@ -15,6 +15,7 @@ loop-number-preserved c =
     let scene = c.args.scene in
     let fleet = scene.fleet.now in
     let lacks = lacks_in scene.vars.now in
+    let given = gives scene.given.now in
     let foreseen : ℕ → ℕ → ℕ → Foreseen = foreseen_in scene.registry.now.fleet.now scene.registry.now.plays.now scene.vars.now in
     let plays : List Play = c.args.plays.now in
     let number = c.loop-number.number in
@@ -23,11 +24,11 @@ loop-number-preserved c =
     let smallest = slice_index_or sizes number None in
     let before = c.loop-number.registered in
     let earlier = is_registered_in (take number plays) in
-    let now : c.note_play.new.notes ≡ c.loop-number.notes ++ play_notes fleet lacks (foreseen number) earlier smallest number play =
+    let now : c.note_play.new.notes ≡ c.loop-number.notes ++ play_notes fleet lacks given (foreseen number) earlier smallest number play =
     c.in_ok-note_play.ensures.notes
-    ∙ ap (λ (l : List Note). c.loop-number.notes ++ l) (play_same (has_name before) earlier c.loop-number.invariant.registered fleet lacks (foreseen number) smallest number play) in
+    ∙ ap (λ (l : List Note). c.loop-number.notes ++ l) (play_same (has_name before) earlier c.loop-number.invariant.registered fleet lacks given (foreseen number) smallest number play) in
     record {
-      notes = noted_more (λ number play. play_notes fleet lacks (foreseen number) (is_registered_in (take number plays)) (slice_index_or sizes number None) number play) plays number play c.loop-number.notes c.note_play.new.notes _
+      notes = noted_more (λ number play. play_notes fleet lacks given (foreseen number) (is_registered_in (take number plays)) (slice_index_or sizes number None) number play) plays number play c.loop-number.notes c.note_play.new.notes _
           c.loop-number-test.true c.index-plays-number.is c.loop-number.invariant.notes now;
       registered = λ name. c.in_ok-note_play.ensures.registered name
           ∙ ap (λ b. b || is_registered_by play.steps.items name) (c.loop-number.invariant.registered name)

@@ -4,6 +4,7 @@ use Rattle.lint_notes.specs.AskedGroups.{groups_asked_notes}
 use Rattle.lint_notes.specs.Inside.{crowd_of, foreseen_from, has_name}
 use Rattle.lint_notes.specs.Notes.{Note, noted}
 use Rattle.lint_notes.specs.Steps.{condition_notes, idle_note, idle_step_note, name_notes, result_notes, words_notes}
+use Rattle.lint_notes.specs.Values.{value_notes}
 use Rattle.lint_notes.proofs.NotedLemmas.{two_noted}
 use Rattle.lint_notes.proofs.steps.note_step.Goals as goal
 
@@ -20,6 +21,7 @@ returns c =
     let named = c.note_asked.new.notes in
     let wanted = c.note_results.new.notes in
     let grouped = c.note_asked_groups.new.notes in
+    let valued = c.note_values.new.notes in
     let run = c.add.new.self in
     let asked = c.note_conditions.new.notes in
     let worded = c.note_words.new.notes in
@@ -27,14 +29,16 @@ returns c =
     let names = name_notes is_set crowd foreseen at step in
     let results = result_notes is_set crowd foreseen (tasks_before play stand.place) at step in
     let groups = groups_asked_notes crowd.fleet.groups at step in
+    let values = value_notes is_set crowd.gives at step in
     let skipped = noted (idle_step_note crowd foreseen at step) in
     let conditions = condition_notes at step in
     let words = words_notes crowd foreseen play at step in
     let idle = noted (idle_note play at) in
-    let of_run : run ≡ grouped ++ skipped = c.in_ok-add.ensures ∙ ap (λ (note : Option Note). grouped ++ noted note) c.in_ok-idle_step_note.ensures in
+    let of_run : run ≡ valued ++ skipped = c.in_ok-add.ensures ∙ ap (λ (note : Option Note). valued ++ noted note) c.in_ok-idle_step_note.ensures in
     let of_handler : all ≡ worded ++ idle = c.in_ok-add-2.ensures ∙ ap (λ (note : Option Note). worded ++ noted note) c.idle_note.ensures in
-    two_noted before named all names (results ++ (groups ++ (skipped ++ (conditions ++ (words ++ idle))))) c.in_ok-note_asked.ensures
-    (two_noted named wanted all results (groups ++ (skipped ++ (conditions ++ (words ++ idle)))) c.in_ok-note_results.ensures
-    (two_noted wanted grouped all groups (skipped ++ (conditions ++ (words ++ idle))) c.in_ok-note_asked_groups.ensures
-    (two_noted grouped run all skipped (conditions ++ (words ++ idle)) of_run
-    (two_noted run asked all conditions (words ++ idle) c.in_ok-note_conditions.ensures (two_noted asked worded all words idle c.in_ok-note_words.ensures of_handler)))))
+    two_noted before named all names (results ++ (groups ++ (values ++ (skipped ++ (conditions ++ (words ++ idle)))))) c.in_ok-note_asked.ensures
+    (two_noted named wanted all results (groups ++ (values ++ (skipped ++ (conditions ++ (words ++ idle))))) c.in_ok-note_results.ensures
+    (two_noted wanted grouped all groups (values ++ (skipped ++ (conditions ++ (words ++ idle)))) c.in_ok-note_asked_groups.ensures
+    (two_noted grouped valued all values (skipped ++ (conditions ++ (words ++ idle))) c.in_ok-note_values.ensures
+    (two_noted valued run all skipped (conditions ++ (words ++ idle)) of_run
+    (two_noted run asked all conditions (words ++ idle) c.in_ok-note_conditions.ensures (two_noted asked worded all words idle c.in_ok-note_words.ensures of_handler))))))

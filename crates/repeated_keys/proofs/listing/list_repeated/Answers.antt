@@ -1,14 +1,14 @@
-use Rattle.std.proofs.Common.{◌≡◌, IfOk, List, ap, ◌∙◌, subst}
+use Rattle.std.proofs.Common.{◌≡◌, IfOk, List, take, ap, ◌∙◌, subst}
 use Rattle.json.specs.Json.{document}
 use Rattle.repeated_keys.specs.Inside.{paths_of}
-use Rattle.repeated_keys.specs.Repeats.{Path, repeated_in, repeated_in_any}
+use Rattle.repeated_keys.specs.Repeats.{Path, repeated_in_any, told_in}
 use Rattle.repeated_keys.proofs.Ways.{in_text, in_other_bytes}
 use Rattle.repeated_keys.proofs.listing.list_repeated.Goals as goal
 
 pub returns-in-Ok : goal.returns-in-Ok
 returns-in-Ok c =
     let read = c.in-Ok.ensures.cases in
-    let whole : repeated_in_any (document c.in-Ok.text.now) ≡ repeated_in c.args.text.now = ap (λ bytes. repeated_in_any (document bytes)) read.0 ∙ in_text c.args.text.now read.1 in
+    let whole : take 100 (repeated_in_any (document c.in-Ok.text.now)) ≡ told_in c.args.text.now = ap (λ bytes. take 100 (repeated_in_any (document bytes))) read.0 ∙ in_text c.args.text.now read.1 in
     subst (λ (paths : List Path). IfOk c.list_in_text.result (λ told. paths_of told.items ≡ paths)) whole c.list_in_text.ensures
 
 pub returns-in-Err : goal.returns-in-Err
