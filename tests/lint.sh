@@ -411,6 +411,11 @@ noted 'nor are those that nobody meets' "$one" "[$(play "$(task "\"when\":\"'g' 
 idle-step at=0/tasks/1
 unlike-values at=0/tasks/1 key=when
 idle-step at=0/tasks/2'
+for when in "\"inventory_hostname == 'a' or 'b'\"" '["v","1"]' '"v and not (w == 1 or 0)"' "\"not '' and v\""; do
+    all_noted "a text or a number by itself: $when" '{"all":{"vars":{"v":true,"w":1},"hosts":{"a":null}}}' "[$(play "$(task "\"when\":$when")")]" 'constant-condition at=0/tasks/0' --allow local-play,empty-group,idle-step
+done
+all_noted 'truth values switch, and what is compared is not by itself' '{"all":{"vars":{"v":true,"w":1},"hosts":{"a":null}}}' "[$(play "$(task '"when":"v or false"'),$(task '"when":["v",true]'),$(task "\"when\":\"w == 1 or 'g' in group_names\"")")]" 'unknown-group at=0/tasks/2 key=when group=g' --allow local-play,empty-group
+noted 'nor is one told of what judges its end' "$one" "[$(play '{"command":"true","changed_when":"inventory_hostname or 1","failed_when":["inventory_hostname",0]}')]" ''
 noted 'what only mentions a name asks' "$three" "[$(play "$(task '"when":"true or v"'),$(task '"when":"v is not defined"'),$(task '"register":"r","when":"v.rc == 1"'),$(task '"when":"r is failed"')")]" ''
 noted 'changed_when and failed_when may ask nothing' "$one" "[$(play '{"command":"true","changed_when":false,"failed_when":["1 == 2",true]}')]" ''
 noted 'before the word of a shell, behind the names' "$one" "[$(play '{"command":"echo {{ u }} ;","when":true}' '{"name":"H","command":"true","when":"0"}')]" 'unknown-name at=0/tasks/0 name=u
@@ -761,12 +766,11 @@ whole-result at=0/tasks/0 key=failed_when name=n
 whole-result at=0/tasks/1 key=failed_when name=m'
 noted 'where nobody waits too' '{"all":{"hosts":{"a":{"down":true}}}}' "[$(play "$(task '"register":"r","changed_when":"r"')")]" 'no-hosts play=1
 whole-result at=0/tasks/0 key=changed_when name=r'
-refused 'whole results beside faults of both files' '{"all":{"hosts":{"a":null},"x":1}}' "[$(play "$(task '"register":"r","failed_when":"r"'),$(task '"when":["x >","r != 1"],"x":1'),$(task '"when":["r is defined >","r"]')")]" "rollout: 203 UnknownKey at=all/x
-rollout: 703 UnknownKey at=0/tasks/1/x
+refused 'whole results beside faults of the playbook alone' '{"all":{"hosts":{"a":null}}}' "[$(play "$(task '"register":"r","failed_when":"r"'),$(task '"when":["x >","r != 1"],"x":1'),$(task '"when":["r is defined >","r"]')")]" "rollout: 703 UnknownKey at=0/tasks/1/x
 rollout: 501 BadToken step=2 key=when at=2
 rollout: 501 BadToken step=3 key=when at=13" 'whole-result at=0/tasks/0 key=failed_when name=r
 whole-result at=0/tasks/1 key=when name=r'
-refused 'and where limits cross' '{"f":{"vars":{"max_down":1},"hosts":{"a":null}},"g":{"vars":{"max_down":1},"hosts":{"a":null}}}' "[$(play "$(task '"register":"r","failed_when":"1 == r"')")]" 'rollout: 301 NotNested host=a first=f second=g' 'whole-result at=0/tasks/0 key=failed_when name=r'
+refused 'not beside limits that cross, where hosts may be left out' '{"f":{"vars":{"max_down":1},"hosts":{"a":null}},"g":{"vars":{"max_down":1},"hosts":{"a":null}}}' "[$(play "$(task '"register":"r","failed_when":"1 == r"')")]" 'rollout: 301 NotNested host=a first=f second=g' ''
 refused 'what a step that is left out registers is no result, but a variable, or none' '{"all":{"vars":{"d":"no"},"hosts":{"a":null}}}' "[$(play "null,{\"command\":\"true\",\"register\":\"is\"},$(task '"when":"r or d"')")]" "rollout: 702 BadShape at=0/tasks/0
 rollout: 702 BadShape at=0/tasks/1/register" 'unknown-name at=0/tasks/2 name=r
 false-text at=0/tasks/2 key=when name=d'
@@ -1148,17 +1152,17 @@ unsought() {
 
 bad_down='{"all":{"hosts":{"a":{"down":1}}}}'
 ok_play=$(play '{"command":"true"}')
-unsought 'beside faults of the inventory' "$bad_down" "$ok" 'empty-limit, loose-limit, empty-group, no-hosts, down-hosts, unlimited-hosts, idle-serial, one-failure, local-play, missing-result, unknown-group, unlike-variable, idle-step, fixed-target'
-unsought 'beside limits that cross' "$crossing" "$ok" 'zero-limit, empty-limit, loose-limit, empty-group, no-hosts, down-hosts, unlimited-hosts, idle-serial, one-failure, local-play, missing-result, unknown-group, unlike-variable, idle-step, fixed-target'
-unsought 'and faults of the playbook' "$crossing" "[$(play '{"command":"true","x":1}')]" 'zero-limit, empty-limit, loose-limit, empty-group, no-hosts, down-hosts, unlimited-hosts, idle-serial, one-failure, local-play, missing-result, unknown-group, unlike-variable, idle-step, fixed-target, idle-handler'
-unsought 'and a when that is none' "$crossing" "[$(play "$(task '"when":"x >"')")]" 'zero-limit, empty-limit, loose-limit, empty-group, no-hosts, down-hosts, unlimited-hosts, idle-serial, one-failure, local-play, missing-name, missing-result, unknown-group, unlike-variable, idle-step, constant-condition, fixed-target, idle-handler'
-unsought 'beside a group that starts over its limit' '{"g":{"vars":{"max_down":0},"hosts":{"a":{"down":true}}}}' "$ok" 'zero-limit, empty-limit, loose-limit, empty-group, no-hosts, down-hosts, unlimited-hosts, idle-serial, one-failure, local-play, missing-result, unknown-group, unlike-variable, idle-step, fixed-target'
-unsought 'where what is kept has limits' '{"g":{"vars":{"max_down":0},"hosts":{"a":{"down":1}}}}' "$ok" 'empty-limit, loose-limit, empty-group, no-hosts, down-hosts, unlimited-hosts, idle-serial, one-failure, local-play, missing-result, unknown-group, unlike-variable, idle-step, fixed-target'
+unsought 'beside faults of the inventory' "$bad_down" "$ok" 'empty-limit, loose-limit, empty-group, no-hosts, down-hosts, unlimited-hosts, idle-serial, one-failure, local-play, missing-result, unknown-group, unlike-variable, whole-result, idle-step, fixed-target'
+unsought 'beside limits that cross' "$crossing" "$ok" 'zero-limit, empty-limit, loose-limit, empty-group, no-hosts, down-hosts, unlimited-hosts, idle-serial, one-failure, local-play, missing-result, unknown-group, unlike-variable, whole-result, idle-step, fixed-target'
+unsought 'and faults of the playbook' "$crossing" "[$(play '{"command":"true","x":1}')]" 'zero-limit, empty-limit, loose-limit, empty-group, no-hosts, down-hosts, unlimited-hosts, idle-serial, one-failure, local-play, missing-result, unknown-group, unlike-variable, whole-result, idle-step, fixed-target, idle-handler'
+unsought 'and a when that is none' "$crossing" "[$(play "$(task '"when":"x >"')")]" 'zero-limit, empty-limit, loose-limit, empty-group, no-hosts, down-hosts, unlimited-hosts, idle-serial, one-failure, local-play, missing-name, missing-result, unknown-group, unlike-variable, whole-result, idle-step, constant-condition, fixed-target, idle-handler'
+unsought 'beside a group that starts over its limit' '{"g":{"vars":{"max_down":0},"hosts":{"a":{"down":true}}}}' "$ok" 'zero-limit, empty-limit, loose-limit, empty-group, no-hosts, down-hosts, unlimited-hosts, idle-serial, one-failure, local-play, missing-result, unknown-group, unlike-variable, whole-result, idle-step, fixed-target'
+unsought 'where what is kept has limits' '{"g":{"vars":{"max_down":0},"hosts":{"a":{"down":1}}}}' "$ok" 'empty-limit, loose-limit, empty-group, no-hosts, down-hosts, unlimited-hosts, idle-serial, one-failure, local-play, missing-result, unknown-group, unlike-variable, whole-result, idle-step, fixed-target'
 unsought 'beside faults of the playbook' "$one" "[$(play '{"command":"true","x":1}')]" 'one-failure, local-play, idle-handler'
 unsought 'beside a when that is none' "$one" "[$(play "$(task '"when":"x >"')")]" 'one-failure, local-play, missing-name, missing-result, constant-condition, idle-handler'
-unsought 'of a handler too, beside faults of the inventory' "$bad_down" "[$(play "$(task '"name":"t"')" "$(task '"name":"h","when":[1]')")]" 'empty-limit, loose-limit, empty-group, no-hosts, down-hosts, unlimited-hosts, idle-serial, one-failure, local-play, missing-name, missing-result, unknown-group, unlike-variable, idle-step, constant-condition, fixed-target, idle-handler'
+unsought 'of a handler too, beside faults of the inventory' "$bad_down" "[$(play "$(task '"name":"t"')" "$(task '"name":"h","when":[1]')")]" 'empty-limit, loose-limit, empty-group, no-hosts, down-hosts, unlimited-hosts, idle-serial, one-failure, local-play, missing-name, missing-result, unknown-group, unlike-variable, whole-result, idle-step, constant-condition, fixed-target, idle-handler'
 unsought 'beside another condition that is none' "$one" "[$(play "$(task '"failed_when":"x >"')")]" 'one-failure, local-play, missing-name, missing-result, constant-condition, idle-handler'
-unsought 'beside faults of both' "$bad_down" "[$(play '{"command":"true","x":1}')]" 'empty-limit, loose-limit, empty-group, no-hosts, down-hosts, unlimited-hosts, idle-serial, one-failure, local-play, missing-result, unknown-group, unlike-variable, idle-step, fixed-target, idle-handler'
+unsought 'beside faults of both' "$bad_down" "[$(play '{"command":"true","x":1}')]" 'empty-limit, loose-limit, empty-group, no-hosts, down-hosts, unlimited-hosts, idle-serial, one-failure, local-play, missing-result, unknown-group, unlike-variable, whole-result, idle-step, fixed-target, idle-handler'
 unsought 'beside a playbook of too many plays' "$one" "[$(for i in 1 2 3 4 5 6 7 8 9 10 11 12 13 14 15 16; do echo "$ok_play,"; done)$ok_play]" 'anything of plays and steps'
 unsought 'beside one that is no list' "$one" '{}' 'anything of plays and steps'
 unsought 'beside one that is no JSON, and faults of the inventory' "$bad_down" '{' 'empty-limit, loose-limit, empty-group, anything of plays and steps'

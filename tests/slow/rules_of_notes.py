@@ -151,6 +151,8 @@ NOTES = {
     "lint-groups-before-idle-steps": "Groups that aren't there are told before a step that nobody runs.",
     "lint-groups-of-each-condition": "Groups are looked up in each condition of a step.",
     "lint-first-unknown-group": "Of several groups in a condition the first is told.",
+    "lint-literals-ask-nothing": "A condition is told in which a text or a number is a test by itself.",
+    "lint-truth-values-are-no-literals": "`true` and `false` by themselves are none.",
     "lint-groups-before-values": "Groups that aren't there are told before what is noted of the values of names.",
     "lint-values-before-idle-steps": "What is noted of the values of names is told before a step that nobody runs.",
     "lint-values-of-each-condition": "The values of names are looked at for each condition of a step.",

@@ -355,16 +355,17 @@ how a step is switched on. Where a step waits for another value: `--allow idle-s
 ";
 
 pub(crate) const OF_CONSTANT_CONDITION: &str = "\
-constant-condition at=PATH: the step's `when` looks up no name and asks for no group: it is the same on each host
+constant-condition at=PATH: the step's `when` looks up no name and asks for no group: it is the same on each host; or a text or a number stands in it by itself
 
 ```
 $ echo '[{\"hosts\": \"rack1\", \"tasks\": [{\"command\": \"ssh -- {{ inventory_hostname }} uptime\", \"when\": \"\\\"role\\\" == \\\"web\\\"\"}]}]' | rollout lint examples/two-racks.json /dev/stdin
 constant-condition at=0/tasks/0
 notes=1
-  constant-condition: leave `when` out where it holds, and the step where it doesn't; names stand in it without quotes; `explain constant-condition` says more, `--allow constant-condition` switches it off
+  constant-condition: leave `when` out where it holds, and the step where it doesn't; names stand in it without quotes, and each text beside a name, x == 'a' or x == 'b' as an example; `explain constant-condition` says more, `--allow constant-condition` switches it off
 ```
 
-In quotes `role` is a text, and it isn't the text `web`: the step runs nowhere. Write names without quotes: `role == \"web\"`. Leave `when` away where it always holds, and the step where it never does. For a step that is switched off
+In quotes `role` is a text, and it isn't the text `web`: the step runs nowhere. Write names without quotes: `role == \"web\"`. It is told too where a text or a number stands by itself, as in `role == 'web' or 'db'`, which always
+holds, since a text is true unless it is empty, and a number unless it is 0: write `role == 'web' or role == 'db'`. Leave `when` away where it always holds, and the step where it never does. For a step that is switched off
 for a time by `\"when\": false`: `--allow constant-condition`.
 ";
 

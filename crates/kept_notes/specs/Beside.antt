@@ -56,9 +56,9 @@ all_hidden Parts = codes "one-failure,local-play,idle-handler,"
 all_hidden Conditions = codes "one-failure,local-play,missing-name,missing-result,constant-condition,idle-handler,"
 
 abbrev pub some_hidden : LeftOut → List ℕ
-some_hidden Nothing = codes "empty-limit,loose-limit,empty-group,no-hosts,down-hosts,unlimited-hosts,idle-serial,one-failure,local-play,missing-result,unknown-group,unlike-variable,idle-step,fixed-target,"
-some_hidden Parts = codes "empty-limit,loose-limit,empty-group,no-hosts,down-hosts,unlimited-hosts,idle-serial,one-failure,local-play,missing-result,unknown-group,unlike-variable,idle-step,fixed-target,idle-handler,"
-some_hidden Conditions = codes "empty-limit,loose-limit,empty-group,no-hosts,down-hosts,unlimited-hosts,idle-serial,one-failure,local-play,missing-name,missing-result,unknown-group,unlike-variable,idle-step,constant-condition,fixed-target,idle-handler,"
+some_hidden Nothing = codes "empty-limit,loose-limit,empty-group,no-hosts,down-hosts,unlimited-hosts,idle-serial,one-failure,local-play,missing-result,unknown-group,unlike-variable,whole-result,idle-step,fixed-target,"
+some_hidden Parts = codes "empty-limit,loose-limit,empty-group,no-hosts,down-hosts,unlimited-hosts,idle-serial,one-failure,local-play,missing-result,unknown-group,unlike-variable,whole-result,idle-step,fixed-target,idle-handler,"
+some_hidden Conditions = codes "empty-limit,loose-limit,empty-group,no-hosts,down-hosts,unlimited-hosts,idle-serial,one-failure,local-play,missing-name,missing-result,unknown-group,unlike-variable,whole-result,idle-step,constant-condition,fixed-target,idle-handler,"
 
 -- Kinds of notes that may be there only for what was left out: of hosts, limits, and steps by the hosts that run them, where not all hosts are known; of handlers, where something was left out of the
 -- playbook, which may notify; of the smallest batch and of plays that stay on this machine, where either was; and of what some hosts miss and of conditions that ask nothing, where a part of `when` was. Of a result it matters for which hosts each play is.
@@ -87,12 +87,12 @@ abbrev pub unsought : KnownHosts → LeftOut → List ℕ
 unsought known.All Nothing = []
 unsought known.All Parts = codes "  not looked for beside these faults: one-failure, local-play, idle-handler\n"
 unsought known.All Conditions = codes "  not looked for beside these faults: one-failure, local-play, missing-name, missing-result, constant-condition, idle-handler\n"
-unsought known.Some Nothing = codes "  not looked for beside these faults: empty-limit, loose-limit, empty-group, no-hosts, down-hosts, unlimited-hosts, idle-serial, one-failure, local-play, missing-result, unknown-group, unlike-variable, idle-step, fixed-target\n"
-unsought known.Some Parts = codes "  not looked for beside these faults: empty-limit, loose-limit, empty-group, no-hosts, down-hosts, unlimited-hosts, idle-serial, one-failure, local-play, missing-result, unknown-group, unlike-variable, idle-step, fixed-target, idle-handler\n"
-unsought known.Some Conditions = codes "  not looked for beside these faults: empty-limit, loose-limit, empty-group, no-hosts, down-hosts, unlimited-hosts, idle-serial, one-failure, local-play, missing-name, missing-result, unknown-group, unlike-variable, idle-step, constant-condition, fixed-target, idle-handler\n"
-unsought known.Unlimited Nothing = codes "  not looked for beside these faults: zero-limit, empty-limit, loose-limit, empty-group, no-hosts, down-hosts, unlimited-hosts, idle-serial, one-failure, local-play, missing-result, unknown-group, unlike-variable, idle-step, fixed-target\n"
-unsought known.Unlimited Parts = codes "  not looked for beside these faults: zero-limit, empty-limit, loose-limit, empty-group, no-hosts, down-hosts, unlimited-hosts, idle-serial, one-failure, local-play, missing-result, unknown-group, unlike-variable, idle-step, fixed-target, idle-handler\n"
-unsought known.Unlimited Conditions = codes "  not looked for beside these faults: zero-limit, empty-limit, loose-limit, empty-group, no-hosts, down-hosts, unlimited-hosts, idle-serial, one-failure, local-play, missing-name, missing-result, unknown-group, unlike-variable, idle-step, constant-condition, fixed-target, idle-handler\n"
+unsought known.Some Nothing = codes "  not looked for beside these faults: empty-limit, loose-limit, empty-group, no-hosts, down-hosts, unlimited-hosts, idle-serial, one-failure, local-play, missing-result, unknown-group, unlike-variable, whole-result, idle-step, fixed-target\n"
+unsought known.Some Parts = codes "  not looked for beside these faults: empty-limit, loose-limit, empty-group, no-hosts, down-hosts, unlimited-hosts, idle-serial, one-failure, local-play, missing-result, unknown-group, unlike-variable, whole-result, idle-step, fixed-target, idle-handler\n"
+unsought known.Some Conditions = codes "  not looked for beside these faults: empty-limit, loose-limit, empty-group, no-hosts, down-hosts, unlimited-hosts, idle-serial, one-failure, local-play, missing-name, missing-result, unknown-group, unlike-variable, whole-result, idle-step, constant-condition, fixed-target, idle-handler\n"
+unsought known.Unlimited Nothing = codes "  not looked for beside these faults: zero-limit, empty-limit, loose-limit, empty-group, no-hosts, down-hosts, unlimited-hosts, idle-serial, one-failure, local-play, missing-result, unknown-group, unlike-variable, whole-result, idle-step, fixed-target\n"
+unsought known.Unlimited Parts = codes "  not looked for beside these faults: zero-limit, empty-limit, loose-limit, empty-group, no-hosts, down-hosts, unlimited-hosts, idle-serial, one-failure, local-play, missing-result, unknown-group, unlike-variable, whole-result, idle-step, fixed-target, idle-handler\n"
+unsought known.Unlimited Conditions = codes "  not looked for beside these faults: zero-limit, empty-limit, loose-limit, empty-group, no-hosts, down-hosts, unlimited-hosts, idle-serial, one-failure, local-play, missing-name, missing-result, unknown-group, unlike-variable, whole-result, idle-step, constant-condition, fixed-target, idle-handler\n"
 
 -- the same where no plays can be read, and where none were given, of which nothing is left out then
 abbrev pub unsought_alone : KnownHosts → List ℕ

@@ -31,10 +31,10 @@ fn some_hidden(left_out: LeftOut) -> &'static str
 {
     match left_out {
         LeftOut::Nothing =>
-            "empty-limit,loose-limit,empty-group,no-hosts,down-hosts,unlimited-hosts,idle-serial,one-failure,local-play,missing-result,unknown-group,unlike-variable,idle-step,fixed-target,",
+            "empty-limit,loose-limit,empty-group,no-hosts,down-hosts,unlimited-hosts,idle-serial,one-failure,local-play,missing-result,unknown-group,unlike-variable,whole-result,idle-step,fixed-target,",
         LeftOut::Parts =>
-            "empty-limit,loose-limit,empty-group,no-hosts,down-hosts,unlimited-hosts,idle-serial,one-failure,local-play,missing-result,unknown-group,unlike-variable,idle-step,fixed-target,idle-handler,",
+            "empty-limit,loose-limit,empty-group,no-hosts,down-hosts,unlimited-hosts,idle-serial,one-failure,local-play,missing-result,unknown-group,unlike-variable,whole-result,idle-step,fixed-target,idle-handler,",
         LeftOut::Conditions =>
-            "empty-limit,loose-limit,empty-group,no-hosts,down-hosts,unlimited-hosts,idle-serial,one-failure,local-play,missing-name,missing-result,unknown-group,unlike-variable,idle-step,constant-condition,fixed-target,idle-handler,",
+            "empty-limit,loose-limit,empty-group,no-hosts,down-hosts,unlimited-hosts,idle-serial,one-failure,local-play,missing-name,missing-result,unknown-group,unlike-variable,whole-result,idle-step,constant-condition,fixed-target,idle-handler,",
     }
 }

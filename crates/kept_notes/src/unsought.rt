@@ -52,16 +52,16 @@ fn kinds_unsought(hosts: KnownHosts, left_out: LeftOut) -> &'static str
         (KnownHosts::All, LeftOut::Conditions) =>
             "  not looked for beside these faults: one-failure, local-play, missing-name, missing-result, constant-condition, idle-handler\n",
         (KnownHosts::Some, LeftOut::Nothing) =>
-            "  not looked for beside these faults: empty-limit, loose-limit, empty-group, no-hosts, down-hosts, unlimited-hosts, idle-serial, one-failure, local-play, missing-result, unknown-group, unlike-variable, idle-step, fixed-target\n",
+            "  not looked for beside these faults: empty-limit, loose-limit, empty-group, no-hosts, down-hosts, unlimited-hosts, idle-serial, one-failure, local-play, missing-result, unknown-group, unlike-variable, whole-result, idle-step, fixed-target\n",
         (KnownHosts::Some, LeftOut::Parts) =>
-            "  not looked for beside these faults: empty-limit, loose-limit, empty-group, no-hosts, down-hosts, unlimited-hosts, idle-serial, one-failure, local-play, missing-result, unknown-group, unlike-variable, idle-step, fixed-target, idle-handler\n",
+            "  not looked for beside these faults: empty-limit, loose-limit, empty-group, no-hosts, down-hosts, unlimited-hosts, idle-serial, one-failure, local-play, missing-result, unknown-group, unlike-variable, whole-result, idle-step, fixed-target, idle-handler\n",
         (KnownHosts::Some, LeftOut::Conditions) =>
-            "  not looked for beside these faults: empty-limit, loose-limit, empty-group, no-hosts, down-hosts, unlimited-hosts, idle-serial, one-failure, local-play, missing-name, missing-result, unknown-group, unlike-variable, idle-step, constant-condition, fixed-target, idle-handler\n",
+            "  not looked for beside these faults: empty-limit, loose-limit, empty-group, no-hosts, down-hosts, unlimited-hosts, idle-serial, one-failure, local-play, missing-name, missing-result, unknown-group, unlike-variable, whole-result, idle-step, constant-condition, fixed-target, idle-handler\n",
         (KnownHosts::Unlimited, LeftOut::Nothing) =>
-            "  not looked for beside these faults: zero-limit, empty-limit, loose-limit, empty-group, no-hosts, down-hosts, unlimited-hosts, idle-serial, one-failure, local-play, missing-result, unknown-group, unlike-variable, idle-step, fixed-target\n",
+            "  not looked for beside these faults: zero-limit, empty-limit, loose-limit, empty-group, no-hosts, down-hosts, unlimited-hosts, idle-serial, one-failure, local-play, missing-result, unknown-group, unlike-variable, whole-result, idle-step, fixed-target\n",
         (KnownHosts::Unlimited, LeftOut::Parts) =>
-            "  not looked for beside these faults: zero-limit, empty-limit, loose-limit, empty-group, no-hosts, down-hosts, unlimited-hosts, idle-serial, one-failure, local-play, missing-result, unknown-group, unlike-variable, idle-step, fixed-target, idle-handler\n",
+            "  not looked for beside these faults: zero-limit, empty-limit, loose-limit, empty-group, no-hosts, down-hosts, unlimited-hosts, idle-serial, one-failure, local-play, missing-result, unknown-group, unlike-variable, whole-result, idle-step, fixed-target, idle-handler\n",
         (KnownHosts::Unlimited, LeftOut::Conditions) =>
-            "  not looked for beside these faults: zero-limit, empty-limit, loose-limit, empty-group, no-hosts, down-hosts, unlimited-hosts, idle-serial, one-failure, local-play, missing-name, missing-result, unknown-group, unlike-variable, idle-step, constant-condition, fixed-target, idle-handler\n",
+            "  not looked for beside these faults: zero-limit, empty-limit, loose-limit, empty-group, no-hosts, down-hosts, unlimited-hosts, idle-serial, one-failure, local-play, missing-name, missing-result, unknown-group, unlike-variable, whole-result, idle-step, constant-condition, fixed-target, idle-handler\n",
     }
 }

@@ -34,7 +34,7 @@ advice FalseText = codes "a text is true unless it is empty, `false` and `no` in
 advice UnlikeVariable = codes "write the other side as the inventory has the variable, letter by letter, or the variable as the other side is: 15 is a number and '15' a text, true a truth value and 'true' a text, and values of two kinds are never the same; where another inventory has it so, switch the note off"
 advice WholeResult = codes "a result as a whole is always true and equals nothing: ask for a field, N.rc == 0 or N.stdout == 'a' as examples, or for its state, N is changed"
 advice IdleStep = codes "spell groups and values as the inventory has them, letter by letter: 15 is a number and '15' a text, which are never the same; where the step waits for another value, switch the note off"
-advice ConstantCondition = codes "leave `when` out where it holds, and the step where it doesn't; names stand in it without quotes"
+advice ConstantCondition = codes "leave `when` out where it holds, and the step where it doesn't; names stand in it without quotes, and each text beside a name, x == 'a' or x == 'b' as an example"
 advice UnlikeValues = codes "write numbers without quotes and texts in them: `rc` is a number, `stdout` and `stderr` are texts, `changed`, `failed` and `skipped` are true or false; values of two kinds are never the same"
 advice ShellWord = codes "no shell reads it here: write {\"argv\": [\"sh\", \"-c\", \"ps | grep x\"]}, or two steps in place of && and ;"
 advice BlankProgram = codes "write each word alone, {\"argv\": [\"systemctl\", \"restart\", \"web\"]} as an example: as it is, the whole text is taken for the name of the program, and the step fails"

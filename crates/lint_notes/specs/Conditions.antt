@@ -20,7 +20,7 @@ use Rattle.text_parts.specs.declared.field.Field.TheVariants.{Rc, Stdout, Stderr
 use Rattle.play_model.specs.declared.step.Step.{Step}
 use Rattle.lint_notes.specs.Notes.{Note, constant_condition, idle_notify, unlike_values}
 use Rattle.lint_notes.specs.declared.questions.Question.{Question}
-use Rattle.lint_notes.specs.declared.questions.Question.TheVariants.{AsksHost, Matches, Switches, ComparesUnlike}
+use Rattle.lint_notes.specs.declared.questions.Question.TheVariants.{AsksHost, Matches, Switches, ComparesUnlike, IsLiteral}
 use Rattle.lint_notes.specs.declared.questions.ValueKind.{ValueKind}
 use Rattle.lint_notes.specs.declared.questions.ValueKind.TheVariants.{Text, Number, Truth}
 use Rattle.lint_notes.specs.declared.step_path.StepPath.{StepPath}
@@ -107,11 +107,26 @@ compares_unlike (test.Equals contrary left right) = are_known_unlike (kind_of le
 compares_unlike (test.Within contrary group) = false
 compares_unlike (test.Alone operand) = false
 
+-- a text or a number alone
+abbrev pub is_fixed : Operand → Bool
+is_fixed (operand.Text word) = true
+is_fixed (operand.Int number) = true
+is_fixed (operand.Truth truth) = false
+is_fixed (operand.Ref of) = false
+
+abbrev pub is_literal : Test → Bool
+is_literal (test.Stands contrary state name) = false
+is_literal (test.Defined contrary of) = false
+is_literal (test.Equals contrary left right) = false
+is_literal (test.Within contrary group) = false
+is_literal (test.Alone operand) = is_fixed operand
+
 abbrev pub answers : Question → Test → Bool
 answers AsksHost of = asks of
 answers Matches of = matches of
 answers Switches of = switches of
 answers ComparesUnlike of = compares_unlike of
+answers IsLiteral of = is_literal of
 
 abbrev pub any_of : List Bool → Bool
 any_of = list_any (λ asked. asked)
@@ -185,8 +200,9 @@ notify_note at step = if nat_lt 0 (length step.notify.items) && never_holds step
 abbrev pub unlike_note : StepPath → Name → Option Cond → Option Note
 unlike_note at key condition = if has_test_if ComparesUnlike condition then Some (unlike_values at key) else None
 
+-- no test of it asks anything, or one is the same wherever it is asked, though others aren't
 abbrev pub constant_note : StepPath → Cond → Option Note
-constant_note at condition = if is_constant condition then Some (constant_condition at) else None
+constant_note at condition = if is_constant condition || has_test IsLiteral condition then Some (constant_condition at) else None
 
 abbrev pub condition_note : StepPath → Option Cond → Option Note
 condition_note at None = None

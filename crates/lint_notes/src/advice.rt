@@ -61,7 +61,7 @@ fn advice(kind: Kind) -> &'static str
         Kind::IdleStep =>
             "spell groups and values as the inventory has them, letter by letter: 15 is a number and '15' a text, which are never the same; where the step waits for another value, switch the note off",
         Kind::ConstantCondition =>
-            "leave `when` out where it holds, and the step where it doesn't; names stand in it without quotes",
+            "leave `when` out where it holds, and the step where it doesn't; names stand in it without quotes, and each text beside a name, x == 'a' or x == 'b' as an example",
         Kind::UnlikeValues =>
             "write numbers without quotes and texts in them: `rc` is a number, `stdout` and `stderr` are texts, `changed`, `failed` and `skipped` are true or false; values of two kinds are never the same",
         Kind::ShellWord =>

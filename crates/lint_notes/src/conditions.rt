@@ -43,6 +43,16 @@ fn matches(test: Test) -> bool
     }
 }
 
+/// Whether the test is a text or a number alone: `true` and `false` switch something on or off.
+fn is_literal(test: Test) -> bool
+    ensures { result ≡ model.is_literal test }
+{
+    match test {
+        Test::Alone(Operand::Text(_) | Operand::Int(_)) => true,
+        _ => false,
+    }
+}
+
 fn is_truth(operand: Operand) -> bool
     ensures { result ≡ model.is_truth operand }
 {
@@ -68,6 +78,7 @@ fn answers(question: Question, test: Test) -> bool
         Question::Matches => matches(test),
         Question::Switches => switches(test),
         Question::ComparesUnlike => compares_unlike(test),
+        Question::IsLiteral => is_literal(test),
     }
 }
 
@@ -207,10 +218,10 @@ pub(crate) fn condition_note(at: StepPath, when: &Option<Cond>) -> Option<Note<'
 fn constant_note(at: StepPath, condition: &Cond) -> Option<Note<'static>>
     ensures { option_map seen result ≡ model.constant_note at condition.now }
 {
-    if has_test(Question::AsksHost, condition) {
-        None
-    } else {
+    if !has_test(Question::AsksHost, condition) || has_test(Question::IsLiteral, condition) {
         Some(Note::ConstantCondition { at })
+    } else {
+        None
     }
 }
 

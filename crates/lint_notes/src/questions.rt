@@ -11,6 +11,8 @@ pub(crate) enum Question {
     Switches,
     /// Does it compare values of kinds that differ?
     ComparesUnlike,
+    /// Is it a text or a number alone?
+    IsLiteral,
 }
 
 /// The kinds of values that conditions compare.
