@@ -415,7 +415,7 @@ for when in "\"inventory_hostname == 'a' or 'b'\"" '["v","1"]' '"v and not (w ==
     all_noted "a text or a number by itself: $when" '{"all":{"vars":{"v":true,"w":1},"hosts":{"a":null}}}' "[$(play "$(task "\"when\":$when")")]" 'constant-condition at=0/tasks/0' --allow local-play,empty-group,idle-step
 done
 all_noted 'truth values switch, and what is compared is not by itself' '{"all":{"vars":{"v":true,"w":1},"hosts":{"a":null}}}' "[$(play "$(task '"when":"v or false"'),$(task '"when":["v",true]'),$(task "\"when\":\"w == 1 or 'g' in group_names\"")")]" 'unknown-group at=0/tasks/2 key=when group=g' --allow local-play,empty-group
-noted 'nor is one told of what judges its end' "$one" "[$(play '{"command":"true","changed_when":"inventory_hostname or 1","failed_when":["inventory_hostname",0]}')]" ''
+noted 'nor is one told of what judges its end' "$one" "[$(play '{"command":"true","changed_when":"inventory_hostname or 1","failed_when":["inventory_hostname","0"]}')]" ''
 noted 'what only mentions a name asks' "$three" "[$(play "$(task '"when":"true or v"'),$(task '"when":"v is not defined"'),$(task '"register":"r","when":"v.rc == 1"'),$(task '"when":"r is failed"')")]" ''
 noted 'changed_when and failed_when may ask nothing' "$one" "[$(play '{"command":"true","changed_when":false,"failed_when":["1 == 2",true]}')]" ''
 noted 'before the word of a shell, behind the names' "$one" "[$(play '{"command":"echo {{ u }} ;","when":true}' '{"name":"H","command":"true","when":"0"}')]" 'unknown-name at=0/tasks/0 name=u
@@ -1065,11 +1065,9 @@ refused 'a group before a host that is as near, and an edit before two' '{"webs"
     "rollout: 304 NoSuchName name=web2${newline}rollout: 304 NoSuchName name=wob1" "unknown-name at=0/tasks/0 name=v
 unknown-name at=1/tasks/0 name=v"
 refused 'where none is near no step is noted, and what steps register is there' "$one" "[$(play '{"command":"echo {{ y }} ;","register":"r"},{"command":"true","when":true}' '{"name":"H","command":"true","register":"s"}' nobody),$(play "$(task '"when":"r and s and t"')")]" \
-    'rollout: 304 NoSuchName name=nobody' 'unknown-name at=1/tasks/0 name=t
-whole-result at=1/tasks/0 key=when name=r'
+    'rollout: 304 NoSuchName name=nobody' 'unknown-name at=1/tasks/0 name=t'
 refused 'and so it is of a play whose hosts are none' "$one" "[{\"hosts\":{\"a\":1},\"tasks\":[{\"command\":\"echo {{ y }} ;\",\"register\":\"r\"},{\"register\":\"is\"}],\"handlers\":[{\"register\":\"s\"},7]},$(play "$(task '"when":"r and s and t"')")]" \
-    "rollout: 702 BadShape at=0/hosts${newline}rollout: 702 BadShape at=0/handlers/0${newline}rollout: 702 BadShape at=0/handlers/0${newline}rollout: 702 BadShape at=0/handlers/1${newline}rollout: 702 BadShape at=0/tasks/1${newline}rollout: 702 BadShape at=0/tasks/1/register" 'unknown-name at=1/tasks/0 name=t
-whole-result at=1/tasks/0 key=when name=r'
+    "rollout: 702 BadShape at=0/hosts${newline}rollout: 702 BadShape at=0/handlers/0${newline}rollout: 702 BadShape at=0/handlers/0${newline}rollout: 702 BadShape at=0/handlers/1${newline}rollout: 702 BadShape at=0/tasks/1${newline}rollout: 702 BadShape at=0/tasks/1/register" 'unknown-name at=1/tasks/0 name=t'
 refused 'nobody is noted of whom a name may be missing' '{"g":{"hosts":{"a":{"down":true}}},"h":{"hosts":{"b":null}}}' "[$(echo_play '{{ v }}' g:nobody),{\"hosts\":\"h:nobody\",\"serial\":9,\"tasks\":[{\"command\":\"true\"}]}]" "rollout: 304 NoSuchName name=nobody${newline}rollout: 304 NoSuchName name=nobody" ''
 refused 'a handler is noted where the playbook has no fault of its own' '{"g":{"hosts":{"a":null},"x":1}}' "[$(play '{"command":"uptime"},{"command":"ssh x"}' '{"name":"H","command":"ssh x"}' g:nobody)]" "rollout: 203 UnknownKey at=g/x${newline}rollout: 304 NoSuchName name=nobody" "local-step at=0/tasks/0 word=uptime
 idle-handler at=0/handlers/0"
