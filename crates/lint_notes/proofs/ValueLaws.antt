@@ -1,11 +1,9 @@
 -- What conditions make of values.
-use Rattle.std.proofs.Common.{◌≡◌, ℕ, suc, Bool, true, false, nat_lt, List, [], ◌∷◌, length, refl, arith}
+use Rattle.std.proofs.Common.{◌≡◌, ℕ, suc, true, false, nat_lt, [], ◌∷◌, length, refl, arith}
 use Rattle.std.proofs.lemmas.Grind.{common_steps}
-use Rattle.group_tree.specs.Variables.{Scalar, Text, Int, Truth}
-use Rattle.cond.specs.Meaning.{Value, Registered, Plain, same_scalar, same_value, scalar_holds}
-use Rattle.lint_notes.specs.Conditions.{are_unlike}
+use Rattle.group_tree.specs.Variables.{Text, Int, Truth}
+use Rattle.cond.specs.Meaning.{Value, Registered, Plain, same_value}
 use Rattle.lint_notes.specs.Laws.{FalseTextsAreTrue, UnlikeValuesDiffer, WholeResultsAreTrue}
-use Rattle.lint_notes.specs.Sorts.{is_false_text, kind_of_value}
 
 some_bytes : (count : ℕ) → nat_lt 0 (suc count) ≡ true
 some_bytes count = grind (arith, common_steps)

@@ -5,7 +5,7 @@ use Rattle.std.proofs.lemmas.List.{map-append, take_all, take-append-le}
 use Rattle.std.proofs.lemmas.Str.{IsUtf8-from_is_utf8, is_utf8-from_IsUtf8}
 use Rattle.json.specs.Json.{Json, Members, object, document}
 use Rattle.json.specs.Strict.{keys}
-use Rattle.repeated_keys.specs.Repeats.{Name, Path, below, cut, told_in, repeated, repeated_in_value, repeated_in_members, repeated_in_any, repeated_in}
+use Rattle.repeated_keys.specs.Repeats.{Name, Path, below, cut, told_in, repeated, repeated_in_value, repeated_in_members, repeated_in_any}
 use Rattle.repeated_keys.specs.Inside.{text_of, front_of, below_all}
 use Rattle.repeated_keys.specs.declared.path.Part.{Part}
 use Rattle.repeated_keys.proofs.Firsts.{all_first, first_again, full}

@@ -1,7 +1,6 @@
 use Rattle.std.proofs.Common.{◌<◌, length, take, arith}
 use Rattle.std.specs.List.{list_any}
 use Rattle.lint_notes.specs.Given.{gives, group_gives}
-use Rattle.lint_notes.specs.declared.sort.Sort.{Sort}
 use Rattle.lint_notes.proofs.NotedLemmas.{any_more, set_more}
 use Rattle.lint_notes.proofs.giving.add_groups.Goals as goal
 

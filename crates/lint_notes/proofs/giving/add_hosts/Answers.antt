@@ -2,7 +2,6 @@ use Rattle.std.proofs.Common.{◌||◌, List, ap, ◌∙◌, take}
 use Rattle.group_tree.specs.Subtrees.{Host}
 use Rattle.group_tree.specs.Variables.{Variable}
 use Rattle.lint_notes.specs.Given.{gives, hosts_give, is_named}
-use Rattle.lint_notes.specs.declared.sort.Sort.{Sort}
 use Rattle.lint_notes.proofs.NotedLemmas.{any_more, set_more}
 use Rattle.lint_notes.proofs.giving.add_hosts.Goals as goal
 

@@ -3,7 +3,7 @@ use Rattle.std.specs.List.{list_any}
 use Rattle.group_tree.specs.Places.{Inventory}
 use Rattle.domains.specs.Walked.{walked_groups}
 use Rattle.domains.specs.Walks.{IsWalkOf}
-use Rattle.lint_notes.specs.Given.{gives, group_gives}
+use Rattle.lint_notes.specs.Given.{group_gives}
 use Rattle.lint_notes.proofs.GivenLemmas.{given_walked}
 use Rattle.lint_notes.proofs.giving.list_given.Goals as goal
 
