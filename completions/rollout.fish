@@ -72,7 +72,7 @@ end
 
 # The kinds of notes of lint.
 function __rollout_kinds
-    string split ' ' 'repeated-key zero-limit empty-limit loose-limit empty-group group-down near-key value-hole case-hosts group-host no-hosts down-hosts unlimited-hosts idle-serial one-failure local-play unknown-name missing-name missing-result unknown-group false-text unlike-variable whole-result idle-step constant-condition unlike-values shell-word blank-program lost-quotes local-step fixed-target long-word dash-name idle-notify idle-handler'
+    string split ' ' 'repeated-key zero-limit empty-limit loose-limit empty-group group-down near-key value-hole case-hosts group-host no-hosts down-hosts full-group unlimited-hosts idle-serial one-failure local-play unknown-name missing-name missing-result unknown-group unknown-host false-text unlike-variable whole-result text-hole idle-step idle-state constant-condition unlike-values clashing-values shell-word blank-program lost-quotes local-step fixed-target long-word dash-name idle-notify idle-handler'
 end
 
 # The numbers of faults, with their names.

@@ -81,7 +81,8 @@ LOST: one failure, of web12: status 4
 LOST: one failure, of web22: status 4
 LOST: one failure, of db2: status 4'
 # Two of its rack are down, which is as many as may be.
-changed 'one host more that is down' fleet.json 's/"worker3": null/"worker3": { "down": true }/' 'LOST: the plan: status 3
+changed 'one host more that is down' fleet.json 's/"worker3": null/"worker3": { "down": true }/' 'LOST: something is probably not meant
+LOST: the plan: status 3
 LOST: the plan that was agreed on: status 1
 LOST: the course: status 3'
 changed 'a host more' fleet.json 's/"web30": null/&, "web31": null/' 'rollout: 907 Unexpected name=hosts expected=40 found=41

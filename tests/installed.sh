@@ -257,7 +257,7 @@ listed() {
     echo 'rollout lint i>inv.json'
     echo 'rollout lint --allow a inv.json p>play.json'
     echo 'rollout lint inv.json play.json i>'
-    echo 'rollout lint --allow >repeated-key/zero-limit/empty-limit/loose-limit/empty-group/group-down/near-key/value-hole/case-hosts/group-host/no-hosts/down-hosts/unlimited-hosts/idle-serial/one-failure/local-play/unknown-name/missing-name/missing-result/unknown-group/false-text/unlike-variable/whole-result/idle-step/constant-condition/unlike-values/shell-word/blank-program/lost-quotes/local-step/fixed-target/long-word/dash-name/idle-notify/idle-handler'
+    echo 'rollout lint --allow >repeated-key/zero-limit/empty-limit/loose-limit/empty-group/group-down/near-key/value-hole/case-hosts/group-host/no-hosts/down-hosts/full-group/unlimited-hosts/idle-serial/one-failure/local-play/unknown-name/missing-name/missing-result/unknown-group/unknown-host/false-text/unlike-variable/whole-result/text-hole/idle-step/idle-state/constant-condition/unlike-values/clashing-values/shell-word/blank-program/lost-quotes/local-step/fixed-target/long-word/dash-name/idle-notify/idle-handler'
     echo 'rollout lint inv.json --allow n>near-key/no-hosts'
     echo 'rollout explain qx>'
     echo 'rollout explain d>down-hosts/dash-name'

@@ -148,7 +148,7 @@ idle-handler at=0/handlers/1'
 noted 'a guard asks for the step'"'"'s own result where that is there' "$one" "[$(play '{"command":"echo {{ y }}","register":"r","when":"r is defined"},{"command":"true","register":"s","changed_when":"s is defined or y","failed_when":"s is not defined and y"}')]" ''
 noted 'where a name is looked up several times, once is enough' "$three" "[$(play '{"command":"echo {{ x }}","when":"x is defined or true"},{"command":"echo {{ x }}","when":"x is defined","failed_when":"x"},{"command":"true","when":"(x is defined and x) or x == 1"}')]" 'missing-name at=0/tasks/0 name=x hosts=2 of=3 host=a
 missing-name at=0/tasks/2 name=x hosts=2 of=3 host=a'
-noted 'texts, groups, numbers, truth values and the name of the host are no names' "$one" "[$(play '{"command":"echo {{ inventory_hostname }}","when":["\"u\" in group_names","inventory_hostname == \"u\"","inventory_hostname is defined","1 == 1 or True"]}')]" ''
+noted 'texts, groups, numbers, truth values and the name of the host are no names' "$one" "[$(play '{"command":"echo {{ inventory_hostname }}","when":["\"u\" in group_names","inventory_hostname == \"u\"","inventory_hostname is defined","1 == 1 or True"]}')]" 'unknown-host at=0/tasks/0 key=when host=u'
 noted 'braces that close nothing, and what a variable holds, have no names' '{"all":{"vars":{"v":"{{ u }}"},"hosts":{"a":null}}}' "[$(play '{"command":"echo {{ v }} }} u {u}"}')]" 'value-hole group=all name=v'
 
 # Registers.
@@ -308,9 +308,10 @@ group-down group=f
 near-key group=g name=Max_Down
 group-down group=g
 case-hosts host=A other=a'
-refused_alone 'beside a fault of the inventory there may be more hosts' '{"g":{"vars":{"max_down":2},"hosts":{"a":{"down":1}}}}' 'rollout: 205 BadDown at=g/hosts/a/down' ''
+refused_alone 'beside a fault of the inventory there may be more hosts' '{"g":{"vars":{"max_down":2},"hosts":{"a":null,"b c":null}}}' 'rollout: 101 BadName name=b c' ''
+refused_alone 'but not beside one that leaves none out' '{"g":{"vars":{"max_down":2},"hosts":{"a":{"down":1}}}}' 'rollout: 205 BadDown at=g/hosts/a/down' 'loose-limit group=g limit=2 members=1'
 refused 'beside one of the playbook not' '{"g":{"vars":{"max_down":2},"hosts":{"a":null}}}' "[$(play '{"command":"true","x":1}')]" 'rollout: 703 UnknownKey at=0/tasks/0/x' 'loose-limit group=g limit=2 members=1'
-refused 'but where a name of a play names nothing it is none of those' '{"g":{"vars":{"max_down":2},"hosts":{"a":null}}}' "[$(play '{"command":"true"}' '' g:nobody)]" 'rollout: 304 NoSuchName name=nobody' ''
+refused 'nor where a name of a play names nothing, since it is about no play' '{"g":{"vars":{"max_down":2},"hosts":{"a":null}}}' "[$(play '{"command":"true"}' '' g:nobody)]" 'rollout: 304 NoSuchName name=nobody' 'loose-limit group=g limit=2 members=1'
 
 # Variables of groups, and names of hosts.
 
@@ -389,8 +390,10 @@ failing 'percentages of 50 and more bear one of two' '"max_fail_percentage":50,"
 failing 'four batches of two hosts at most' '"max_fail_percentage":1,"serial":[3,1]' 'one-failure play=1 percent=1 size=2'
 noted 'a size at which equality bears' '{"all":{"hosts":{"a":null,"b":null,"c":null,"d":null}}}' '[{"hosts":"all","max_fail_percentage":25,"tasks":[{"command":"true"}]},{"hosts":"all","max_fail_percentage":24,"tasks":[{"command":"true"}]}]' 'one-failure play=2 percent=24 size=4'
 blocked='{"g":{"vars":{"max_down":1},"hosts":{"a":{"down":true},"b":null}},"f":{"hosts":{"c":null,"d":null}}}'
-noted 'a play that a group blocks has no plan' "$blocked" '[{"hosts":"all","max_fail_percentage":1,"tasks":[{"command":"true"}]}]' 'down-hosts play=1 hosts=1 host=a'
+noted 'a play that a group blocks has no plan' "$blocked" '[{"hosts":"all","max_fail_percentage":1,"tasks":[{"command":"true"}]}]' 'down-hosts play=1 hosts=1 host=a
+full-group play=1 hosts=1 of=3 host=b group=g'
 noted 'where its hosts are set aside there is one' "$blocked" '[{"hosts":"all","max_fail_percentage":1,"on_blocked":"hold","tasks":[{"command":"true"}]}]' 'down-hosts play=1 hosts=1 host=a
+full-group play=1 hosts=1 of=3 host=b group=g
 one-failure play=1 percent=1 size=2'
 noted 'the size before the percentage' "$three" '[{"hosts":"all","serial":9,"max_fail_percentage":9,"tasks":[{"command":"true"}]}]' 'idle-serial play=1 size=9 waiting=3
 one-failure play=1 percent=9 size=3'
@@ -416,7 +419,7 @@ for when in "\"inventory_hostname == 'a' or 'b'\"" '["v","1"]' '"v and not (w ==
 done
 all_noted 'truth values switch, and what is compared is not by itself' '{"all":{"vars":{"v":true,"w":1},"hosts":{"a":null}}}' "[$(play "$(task '"when":"v or false"'),$(task '"when":["v",true]'),$(task "\"when\":\"w == 1 or 'g' in group_names\"")")]" 'unknown-group at=0/tasks/2 key=when group=g' --allow local-play,empty-group
 noted 'nor is one told of what judges its end' "$one" "[$(play '{"command":"true","changed_when":"inventory_hostname or 1","failed_when":["inventory_hostname","0"]}')]" ''
-noted 'what only mentions a name asks' "$three" "[$(play "$(task '"when":"true or v"'),$(task '"when":"v is not defined"'),$(task '"register":"r","when":"v.rc == 1"'),$(task '"when":"r is failed"')")]" ''
+noted 'what only mentions a name asks' "$three" "[$(play "$(task '"when":"true or v"'),$(task '"when":"v is not defined"'),$(task '"register":"r","when":"v.rc == 1","ignore_errors":true'),$(task '"when":"r is failed"')")]" ''
 noted 'changed_when and failed_when may ask nothing' "$one" "[$(play '{"command":"true","changed_when":false,"failed_when":["1 == 2",true]}')]" ''
 noted 'before the word of a shell, behind the names' "$one" "[$(play '{"command":"echo {{ u }} ;","when":true}' '{"name":"H","command":"true","when":"0"}')]" 'unknown-name at=0/tasks/0 name=u
 constant-condition at=0/tasks/0
@@ -508,7 +511,7 @@ shell-word at=0/tasks/0 word=;'
 refused 'where no plays can be read too' "$one" '{"a":1,"a":[{"b":1,"b":2}]}' 'rollout: 702 BadShape at=' "repeated-key playbook=a${newline}repeated-key playbook=a/0/b"
 refused 'none of a playbook that is no JSON' '{"all":{"hosts":{"a":null},"hosts":{"a":null}}}' '[{"hosts":"all","hosts":"all"}' 'rollout: 701 NotJson' 'repeated-key inventory=all/hosts'
 refused 'none where nothing is kept' '{"g":null,"g":null' '[{"hosts":"all","hosts":"all","tasks":[{"command":"true"}]}]' 'rollout: 201 NotJson'
-refused_alone 'of an inventory alone, beside its faults' '{"g":{"down":1,"down":2},"h":{"hosts":{"a":null,"A":null}}}' 'rollout: 203 UnknownKey at=g/down' "repeated-key inventory=g/down${newline}case-hosts host=A other=a"
+refused_alone 'of an inventory alone, beside its faults' '{"g":{"down":1,"down":2},"h":{"hosts":{"a":null,"A":null}}}' 'rollout: 203 UnknownKey at=g/down' "repeated-key inventory=g/down${newline}empty-group group=g${newline}case-hosts host=A other=a"
 texts '{"g":{"x":1,"x":2}}' "[$(play '{"command":"true","x":1,"x":2}')]"
 run lint "$inventory" "$playbook" --allow repeated-key
 told 'nor where they are switched off' "rollout: 203 UnknownKey at=g/x${newline}rollout: 703 UnknownKey at=0/tasks/0/x" ''
@@ -558,7 +561,7 @@ local-step at=0/tasks/2 word=true'
 # Steps that nobody runs.
 many='{"all":{"vars":{"n":15,"t":"15","b":true},"hosts":{"a":{"x":0},"b":{"x":1},"c":{"x":1,"y":"p"}},"children":{"g":{"hosts":{"a":null,"b":null,"c":null}},"h":{"hosts":{"a":null}},"e":null}}}'
 for when in '"n == 16"' '"15 != n"' "\"t != '15'\"" '"n == t"' '"n != n"' '"not (n == 15 or false)"' "\"'e' in group_names\"" "\"'nobody' in group_names\"" "\"'all' in group_names\"" "\"'g' not in group_names\"" \
-    "\"inventory_hostname == 'd'\"" '"x == 2"' '["x == 0","x == 1"]' "\"x == 0 and 'h' not in group_names\"" '[false,"n == 15"]' '"false and n == 15"'; do
+    '"x == 2"' '["x == 0","x != 0"]' "\"x == 0 and 'h' not in group_names\"" '[false,"n == 15"]' '"false and n == 15"'; do
     noted "a step that nobody runs: $when" "$many" "[$(play "$(task "\"when\":$when")")]" 'idle-step at=0/tasks/0'
 done
 for when in "\"n == '15'\"" '"t == 15"' '"b == 1"'; do
@@ -592,6 +595,7 @@ idle-step at=0/tasks/0
 unlike-values at=0/tasks/0 key=when
 unlike-values at=0/tasks/0 key=changed_when
 unlike-values at=0/tasks/0 key=failed_when
+clashing-values at=0/tasks/0 key=when
 shell-word at=0/tasks/0 word=;'
 noted 'of literals behind that they are' "$one" "[$(play "$(task "\"when\":\"1 != '1'\""),$(task '"changed_when":"true == 1"')")]" 'constant-condition at=0/tasks/0
 unlike-values at=0/tasks/0 key=when
@@ -610,6 +614,8 @@ operands = [(kind, operand) for kind, those in kinds.items() for operand in thos
 steps, lines = [], []
 for kind, one in operands:
     for other_kind, other in operands:
+        if {one, other} == {'"7"', "inventory_hostname"}:
+            lines.append(f"unknown-host at=0/tasks/{len(steps)} key=failed_when host=7\n")
         if "any" not in (kind, other_kind) and kind != other_kind:
             lines.append(f"unlike-values at=0/tasks/{len(steps)} key=failed_when\n")
         if "r" in (one, other):
@@ -719,7 +725,8 @@ refused 'beside faults of both files too' '{"all":{"vars":{"d":"no","n":15},"hos
 rollout: 703 UnknownKey at=0/tasks/0/x
 rollout: 501 BadToken step=1 key=when at=2
 rollout: 501 BadToken step=2 key=when at=13" 'false-text at=0/tasks/0 key=when name=d'
-refused 'and where limits cross' '{"f":{"vars":{"max_down":1,"d":"no"},"hosts":{"a":{"n":15}}},"g":{"vars":{"max_down":1},"hosts":{"a":null}}}' "[$(play "$(task '"when":"d and n != \"15\""')")]" 'rollout: 301 NotNested host=a first=f second=g' 'false-text at=0/tasks/0 key=when name=d'
+refused 'and where limits cross' '{"f":{"vars":{"max_down":1,"d":"no"},"hosts":{"a":{"n":15}}},"g":{"vars":{"max_down":1},"hosts":{"a":null}}}' "[$(play "$(task '"when":"d and n != \"15\""')")]" 'rollout: 301 NotNested host=a first=f second=g' 'false-text at=0/tasks/0 key=when name=d
+unlike-variable at=0/tasks/0 key=when name=n'
 refused 'variables of other kinds beside faults of the playbook alone' '{"all":{"vars":{"d":"no","n":15},"hosts":{"a":null}}}' "[$(play "$(task '"when":["d","x >","n != \"15\""],"x":1')")]" "rollout: 703 UnknownKey at=0/tasks/0/x
 rollout: 501 BadToken step=1 key=when at=2" 'false-text at=0/tasks/0 key=when name=d
 unlike-variable at=0/tasks/0 key=when name=n'
@@ -770,10 +777,204 @@ refused 'whole results beside faults of the playbook alone' '{"all":{"hosts":{"a
 rollout: 501 BadToken step=2 key=when at=2
 rollout: 501 BadToken step=3 key=when at=13" 'whole-result at=0/tasks/0 key=failed_when name=r
 whole-result at=0/tasks/1 key=when name=r'
-refused 'not beside limits that cross, where hosts may be left out' '{"f":{"vars":{"max_down":1},"hosts":{"a":null}},"g":{"vars":{"max_down":1},"hosts":{"a":null}}}' "[$(play "$(task '"register":"r","failed_when":"1 == r"')")]" 'rollout: 301 NotNested host=a first=f second=g' ''
+refused 'not beside a key that is none, where hosts and variables may be left out' '{"all":{"hosts":{"a":null},"x":1}}' "[$(play "$(task '"register":"r","failed_when":"1 == r"')")]" 'rollout: 203 UnknownKey at=all/x' ''
+refused 'but beside limits that cross' '{"f":{"vars":{"max_down":1},"hosts":{"a":null}},"g":{"vars":{"max_down":1},"hosts":{"a":null}}}' "[$(play "$(task '"register":"r","failed_when":"1 == r"')")]" 'rollout: 301 NotNested host=a first=f second=g' 'whole-result at=0/tasks/0 key=failed_when name=r'
 refused 'what a step that is left out registers is no result, but a variable, or none' '{"all":{"vars":{"d":"no"},"hosts":{"a":null}}}' "[$(play "null,{\"command\":\"true\",\"register\":\"is\"},$(task '"when":"r or d"')")]" "rollout: 702 BadShape at=0/tasks/0
 rollout: 702 BadShape at=0/tasks/1/register" 'unknown-name at=0/tasks/2 name=r
 false-text at=0/tasks/2 key=when name=d'
+
+# Texts with holes, which nothing fills.
+
+# holed CONDITION WORD: a step whose program is judged by this condition, as JSON, in which this is told.
+holed() {
+    noted "the condition $1, with a hole" '{"all":{"vars":{"v":"x","w":"y"},"hosts":{"a":null}}}' "[$(play "$(task "\"changed_when\":$1")")]" "${2:+text-hole at=0/tasks/0 key=changed_when word=$2}"
+}
+for when in "\"v == '{{ w }}'\"" "\"'{{ w }}' != v\"" "\"not ('{{ w }}' == v or w)\"" "[\"v == 'a'\",true,\"w != '{{ w }}'\"]" "\"v == 'a' and '{{ w }}'\"" "\"'{{ w }}'\"" "\"true or '{{ w }}' == v\"" "\"'{{ w }}' == '{{ v }}'\"" \
+    "\"v == 'a' or '{{ w }}' == v or '{{ v }}'\"" "\"'{{ v }}' in group_names or v == '{{ w }}'\"" "[\"w == '{ {'\",\"'{{ w }}' == v\",\"w == '{{'\"]" "\"(v is defined and ((v != '{{ w }}')))\""; do
+    holed "$when" '{{ w }}'
+done
+for text in '{{' '{%' '{#' 'a{{b' '{{{' '{ {{ }}' '{% if v %}' '{{ v'; do
+    holed "\"v == '$text'\"" "$text"
+done
+for text in '' '{' '{ {' '{x}' '}}' '%}' '{ %' '#}' '%{' '$v'; do
+    holed "\"v == '$text' or '$text'\"" ''
+done
+for when in "\"'{{ v }}' in group_names\"" "\"'{{ v }}' not in group_names or v == 'a'\"" '"v == w"' 'true'; do
+    holed "$when" ''
+done
+holed "\"v == 'caf\\u00e9 {{\\t'\"" 'caf?? {{?'
+noted 'of each condition, behind what else is noted of it' "$switches" "[$(play "$(task '"register":"r"'),$(task '"when":"r and d and n != \"15\" or \"{{ a }}\" == t","failed_when":"\"{{ c }}\" == \"{{ d }}\"","changed_when":"\"{{ b }}\" != t or r"')")]" 'false-text at=0/tasks/1 key=when name=d
+unlike-variable at=0/tasks/1 key=when name=n
+whole-result at=0/tasks/1 key=when name=r
+text-hole at=0/tasks/1 key=when word={{ a }}
+whole-result at=0/tasks/1 key=changed_when name=r
+text-hole at=0/tasks/1 key=changed_when word={{ b }}
+text-hole at=0/tasks/1 key=failed_when word={{ c }}'
+noted 'before who runs it, and what a condition asks' "$switches" "[$(play "$(task '"when":"t == \"{{ n }}\""'),$(task '"when":["t == \"15\"","\"{{ n }}\""]'),$(task '"when":"\"{{ n }}\" != 15","notify":"H"')" "$(task '"name":"H","when":"t != \"{{ n }}\""')")]" 'text-hole at=0/tasks/0 key=when word={{ n }}
+idle-step at=0/tasks/0
+text-hole at=0/tasks/1 key=when word={{ n }}
+constant-condition at=0/tasks/1
+text-hole at=0/tasks/2 key=when word={{ n }}
+constant-condition at=0/tasks/2
+unlike-values at=0/tasks/2 key=when
+text-hole at=0/handlers/0 key=when word={{ n }}'
+noted 'also where nobody waits' '{"all":{"hosts":{"a":{"down":true}}}}' "[$(play "$(task '"failed_when":"\"{{ x }}\" == \"a\""')")]" 'no-hosts play=1
+text-hole at=0/tasks/0 key=failed_when word={{ x }}'
+refused 'holes beside faults of both files' '{"all":{"vars":{"v":"x"},"hosts":{"a":null},"x":1}}' "[$(play "$(task '"when":["x >","v != \"{{ w }}\""],"x":1')" '' all:nobody)]" "rollout: 203 UnknownKey at=all/x
+rollout: 703 UnknownKey at=0/tasks/0/x
+rollout: 501 BadToken step=1 key=when at=2
+rollout: 304 NoSuchName name=nobody" 'text-hole at=0/tasks/0 key=when word={{ w }}'
+
+# States for which steps wait, and in which none before them ends.
+
+# awaiting CONDITION NAME: a step with this `when`, as JSON, that waits in vain for a state of this result, behind three steps: `r` may end as changed alone, `q` as failed alone, and `v`, which is a variable
+# too, as changed and as skipped.
+awaiting() {
+    noted "the condition $1, for a state" '{"all":{"vars":{"w":7},"hosts":{"a":{"v":1}}}}' \
+        "[$(play "$(task '"register":"r"'),$(task '"register":"q","ignore_errors":true,"changed_when":false'),$(task '"register":"v","when":"w == 7"'),$(task "\"when\":$1")")]" "${2:+idle-state at=0/tasks/3 name=$2}"
+}
+for when in '"r is failed"' '"r is skipped"' '"r.failed"' '"r.skipped"' '"not r is not failed"' '"not r is not skipped"' '"r is not succeeded"' '"not r is succeeded"' '"(r is failed)"' '"not (r is not failed)"' '["w == 7","r is failed"]' \
+    '"w == 7 and r is failed"' '"r.rc == 0 and r.skipped and w == 7"' '["r is changed","q is failed and r is failed"]' '"r is failed and q is changed"' '["r.failed","q.changed"]' '"r is defined and r is failed"' \
+    '["(w == 7 or v) and r is failed","r is changed"]'; do
+    awaiting "$when" r
+done
+for when in '"q is changed"' '"q.changed"' '"q is skipped"' '"not q is not changed"' '"q is changed and r is failed"' '["q is failed","q is changed","r is failed"]' '"r is changed and v is changed and q.skipped"'; do
+    awaiting "$when" q
+done
+for when in '"v is failed"' '"v.failed"' '"v is changed and v is not succeeded"'; do
+    awaiting "$when" v
+done
+for when in '"r is changed"' '"r.changed"' '"q is failed"' '"q is not succeeded"' '"not q is succeeded"' '"v is skipped"' '"v.changed"' '"r is succeeded"' '"not r is not succeeded"' '"r is not failed"' '"not r is failed"' '"not not r is failed"' \
+    '"not (r is failed)"' '"not (not r is failed)"' '"not r.failed"' '"not not r.failed"' '"r.failed == true"' '"true == r.skipped"' '"r.failed != false"' '"r.rc == 0"' '"r.stdout"' '"r is failed or w == 7"' '"r is failed or r is skipped"' '"not (r is changed or r is failed)"' \
+    '"(r is failed or w == 7) and q is failed"' '"(r is failed and w == 7) and q is failed"' '["r is failed or w == 7"]' '"r is not changed"' '"r is defined"' '"r.failed is defined"' '"w is failed"' '"w.changed"'; do
+    awaiting "$when" ''
+done
+
+# ending KEYS STATE [VAIN]: a step that waits for this state of the result of one with these keys; in vain where that is said.
+ending() {
+    noted "$2 by ${1:-nothing}" "$one" "[$(play "{\"command\":\"true\",\"register\":\"r\"${1:+,$1}},$(task "\"when\":\"r is $2\"")")]" "${3:+idle-state at=0/tasks/1 name=r}"
+}
+ending '' changed
+ending '' failed vain
+ending '' skipped vain
+for key in '"ignore_errors":false' '"failed_when":"r.rc == 9"' '"ignore_errors":true,"failed_when":false' '"ignore_errors":true,"failed_when":"False"' '"ignore_errors":true,"failed_when":["r.rc == 9","not true"]' '"ignore_errors":true,"failed_when":"(false)"'; do
+    ending "$key" failed vain
+done
+for key in '"ignore_errors":true' '"ignore_errors":true,"failed_when":"r.rc == 9"' '"ignore_errors":true,"failed_when":"false and r.rc == 9"' '"ignore_errors":true,"failed_when":"not not false"' '"ignore_errors":true,"failed_when":"0"' '"ignore_errors":true,"failed_when":[]' \
+    '"ignore_errors":true,"changed_when":false'; do
+    ending "$key" failed
+done
+for key in '"changed_when":false' '"changed_when":"not True"' '"changed_when":["r.rc == 0",false]' '"changed_when":false,"ignore_errors":true'; do
+    ending "$key" changed vain
+done
+for key in '"changed_when":true' '"changed_when":"not false"' '"changed_when":"r.rc == 0"' '"changed_when":"1 == 2"' '"changed_when":null' '"failed_when":false'; do
+    ending "$key" changed
+done
+for key in '"when":null' '"when":[]' '"ignore_errors":true'; do
+    ending "$key" skipped vain
+done
+ending '"when":"inventory_hostname == \"a\""' skipped
+noted 'a step that is never skipped, or never runs, may be so too' "$one" "[$(play "$(task '"register":"r","when":true'),$(task '"when":"r is skipped"'),$(task '"when":"r is changed"')")]" 'constant-condition at=0/tasks/0'
+noted 'of several steps before one is enough' "$one" "[$(play "$(task '"register":"r"'),$(task '"register":"r","ignore_errors":true'),$(task '"register":"r"'),$(task '"when":"r is failed"')")]" ''
+noted 'but none behind it, nor itself, nor one of another name' "$one" "[$(play "$(task '"register":"r"'),$(task '"register":"r","when":"r is failed","ignore_errors":true'),$(task '"register":"q","ignore_errors":true'),$(task '"when":"r is skipped"'),$(task '"when":"q is skipped"'),$(task '"register":"q","when":"q is failed"')")]" 'idle-state at=0/tasks/1 name=r
+idle-state at=0/tasks/4 name=q'
+noted 'steps of earlier plays, and handlers; for a handler all tasks, and the handlers before it' "$one" "[$(play "$(task '"register":"r","notify":["H","I"]'),$(task '"register":"s","ignore_errors":true')" "$(task '"name":"H","register":"h","ignore_errors":true,"when":"r is failed"'),$(task '"name":"I","when":["s is failed","h is changed","h is failed"]')"),$(play "$(task '"when":"r is failed"'),$(task '"when":"s is failed"'),$(task '"when":"s is skipped and h is failed"'),$(task '"register":"r","ignore_errors":true'),$(task '"when":"r is failed"'),$(task '"when":"h is skipped or s.rc == 0"')")]" 'idle-state at=0/handlers/0 name=r
+missing-result at=0/handlers/1 name=h hosts=1 of=1 host=a
+idle-state at=1/tasks/0 name=r
+missing-result at=1/tasks/2 name=h hosts=1 of=1 host=a
+idle-state at=1/tasks/2 name=s
+missing-result at=1/tasks/5 name=h hosts=1 of=1 host=a'
+noted 'a failure that an earlier play leaves, also one for other hosts' "$two" "[$(play "$(task '"register":"r","ignore_errors":true')" '' a),$(play "$(task '"register":"r"'),$(task '"when":"r is failed"')"),$(play "$(task '"when":"r is failed"')" '' b)]" ''
+noted 'and one that none of them does' "$two" "[$(play "$(task '"register":"r"')" '' a),$(play "$(task '"when":"r is failed"')" '' b)]" 'missing-result at=1/tasks/0 name=r hosts=1 of=1 host=b
+idle-state at=1/tasks/0 name=r'
+noted 'who has no such step before it is told for the name' "$one" "[$(play "$(task '"when":"r is failed"'),$(task '"register":"r"')")]" 'unknown-name at=0/tasks/0 name=r'
+noted 'behind who runs it, and before what a condition asks; other conditions wait for nothing' "$many" "[$(play "$(task '"register":"r"'),$(task '"when":["r is failed","n == 16","1"],"notify":"H"'),$(task '"changed_when":"r is failed","failed_when":"r is skipped"')" "$(task '"name":"H","when":"r.failed"')")]" 'idle-step at=0/tasks/1
+idle-state at=0/tasks/1 name=r
+constant-condition at=0/tasks/1
+idle-state at=0/handlers/0 name=r'
+noted 'a state where nobody waits' '{"all":{"hosts":{"a":{"down":true}}}}' "[$(play "$(task '"register":"r"'),$(task '"when":"r is failed"')")]" 'no-hosts play=1
+idle-state at=0/tasks/1 name=r'
+awaited=$(play "$(task '"register":"r"'),$(task '"when":"r is failed"')")
+refused 'states beside faults of the inventory alone' '{"all":{"hosts":{"a":null},"x":1}}' "[$awaited]" 'rollout: 203 UnknownKey at=all/x' 'idle-state at=0/tasks/1 name=r'
+refused 'not beside those of the playbook, where a step may be left out' "$one" "[$awaited,$(play '{"command":"true","x":1}')]" 'rollout: 703 UnknownKey at=1/tasks/0/x' ''
+refused 'but beside such that leave all steps known' "$one" "[$awaited,{\"hosts\":\"all\",\"serial\":\"x\",\"tasks\":[{\"command\":\"true\",\"tags\":1}]}]" "rollout: 706 BadSerial at=1/serial${newline}rollout: 703 UnknownKey at=1/tasks/0/tags" 'idle-state at=0/tasks/1 name=r'
+refused 'not where a part of a condition is none' "$one" "[$awaited,$(play "$(task '"when":"x >"')")]" 'rollout: 501 BadToken play=2 step=1 key=when at=2' ''
+refused 'nor beside a name that nothing has' "$one" "[$awaited,$(play '{"command":"true"}' '' a:nobody)]" 'rollout: 304 NoSuchName name=nobody' ''
+
+# Hosts that aren't there.
+
+# naming CONDITION HOST: a step whose program is judged by this condition, as JSON, for a host `a` beside `B`, which is down, `c`, for which the play isn't, and the group `g`; this host isn't there.
+naming() {
+    noted "the condition $1, of hosts" '{"all":{"vars":{"v":"x"},"hosts":{"a":null,"B":{"down":true},"c":null}},"g":{"hosts":{"a":null}}}' "[$(play "$(task "\"register\":\"r\",\"failed_when\":$1")" '' a)]" "${2:+unknown-host at=0/tasks/0 key=failed_when host=$2}"
+}
+for when in "\"inventory_hostname == 'd'\"" "\"inventory_hostname != 'd'\"" "\"'d' == inventory_hostname\"" "\"'d' != inventory_hostname or r.rc == 1\"" "\"not (v == 'e' or inventory_hostname == 'd')\"" "[\"v == 'x'\",true,\"inventory_hostname != 'd'\"]" \
+    "\"inventory_hostname != 'a' and 'd' == inventory_hostname\"" "\"inventory_hostname == 'd' or inventory_hostname == 'e'\"" "[\"'d' != inventory_hostname\",\"inventory_hostname != 'e'\"]" "\"true or inventory_hostname == 'd'\"" "\"'e' in group_names or inventory_hostname == 'd'\""; do
+    naming "$when" d
+done
+for name in b A C g all aa 'a ' '*'; do
+    naming "\"inventory_hostname != '$name'\"" "$name"
+done
+for name in a B c; do
+    naming "\"inventory_hostname != '$name'\"" ''
+done
+for when in "\"v == 'd'\"" "\"'d' != r.stdout\"" "\"inventory_hostname == v\"" '"inventory_hostname != inventory_hostname"' "\"'d' == 'e' or inventory_hostname\"" "\"'d' not in group_names or inventory_hostname is defined\"" "\"inventory_hostname == 'a' or 'd' != v\""; do
+    naming "$when" ''
+done
+naming '"inventory_hostname != \"caf\u00e9\t\""' 'caf???'
+noted 'a name without a letter' "$one" "[$(play "$(task "\"failed_when\":\"inventory_hostname == ''\"")")]" 'unknown-host at=0/tasks/0 key=failed_when host='
+all_noted 'of each condition, behind all groups, and before values; also where nobody waits' '{"all":{"vars":{"d":"no"},"hosts":{"a":{"down":true}}}}' "[$(play "$(task "\"when\":\"inventory_hostname == 'b' and 'x' in group_names and d\",\"failed_when\":\"inventory_hostname != 'e' and 'y' in group_names\",\"changed_when\":\"'c' != inventory_hostname\",\"notify\":\"H\"")" "$(task "\"name\":\"H\",\"when\":\"inventory_hostname != 'f'\"")")]" 'no-hosts play=1
+unknown-group at=0/tasks/0 key=when group=x
+unknown-group at=0/tasks/0 key=failed_when group=y
+unknown-host at=0/tasks/0 key=when host=b
+unknown-host at=0/tasks/0 key=changed_when host=c
+unknown-host at=0/tasks/0 key=failed_when host=e
+false-text at=0/tasks/0 key=when name=d
+unknown-host at=0/handlers/0 key=when host=f'
+noted 'a step that runs on no other host' "$many" "[$(play "$(task "\"when\":\"inventory_hostname == 'd'\"")")]" 'unknown-host at=0/tasks/0 key=when host=d
+idle-step at=0/tasks/0'
+asking_for=$(play "$(task "\"when\":\"inventory_hostname != 'd'\"")")
+refused 'hosts beside faults of the playbook' "$one" "[$asking_for,$(play '{"command":"true","x":1}')]" 'rollout: 703 UnknownKey at=1/tasks/0/x' 'unknown-host at=0/tasks/0 key=when host=d'
+refused 'and beside a name that nothing has' "$one" "[$asking_for,$(play '{"command":"true"}' '' a:nobody)]" 'rollout: 304 NoSuchName name=nobody' 'unknown-host at=0/tasks/0 key=when host=d'
+refused 'and beside a limit and a down that are none' '{"all":{"vars":{"max_down":-1},"hosts":{"a":{"down":1}}}}' "[$asking_for]" "rollout: 204 BadLimit at=all/vars/max_down${newline}rollout: 205 BadDown at=all/hosts/a/down" 'unknown-host at=0/tasks/0 key=when host=d'
+refused 'not where hosts may be left out' '{"all":{"hosts":{"a":null,"d d":null}}}' "[$asking_for]" 'rollout: 101 BadName name=d d' ''
+
+# Comparisons that clash.
+
+# clashing CONDITION [NOTES]: a step whose program is judged by this condition, as JSON, in which two comparisons clash; these notes in place of that where they are given.
+clashing() {
+    noted "the condition $1, of comparisons" '{"all":{"vars":{"v":"x","w":"y","n":1,"m":1},"hosts":{"a":{"m":"1"},"b":{"m":true}}}}' "[$(play "$(task "\"register\":\"r\",\"failed_when\":$1")")]" "${2-clashing-values at=0/tasks/0 key=failed_when}"
+}
+for when in "\"v != 'a' or v != 'b'\"" "\"v == 'a' and v == 'b'\"" "\"'a' != v or v != 'b'\"" "\"v == 'a' and 'b' == v\"" '"n != 1 or n != 2"' '"r.rc == 0 and r.rc == 1"' '"r.failed == true and r.failed == false"' "\"r.stdout != 'a' or 'b' != r.stdout\"" \
+    "\"inventory_hostname != 'a' or inventory_hostname != 'b'\"" "\"'a' == inventory_hostname and inventory_hostname == 'b'\"" "\"not v == 'a' or v != 'b'\"" "\"not v != 'a' and v == 'b'\"" "\"not v == 'a' or not v == 'b'\"" "\"not (v == 'a') or (v != 'b')\"" \
+    "\"(v == 'a') and (((v == 'b')))\"" "\"w == 'a' or v != 'a' or v != 'b' or w == 'b'\"" "\"w == 'a' and v == 'a' and v == 'b'\"" "[\"v == 'a'\",\"v == 'b'\"]" "[\"w == 'c' and v == 'a'\",\"v == 'b' and w == 'd'\"]" "[true,\"v == 'a'\",\"not v != 'b'\",\"w\"]" \
+    "[\"w\",\"v != 'a' or v != 'b'\"]" "\"w and (v != 'a' or v != 'b')\"" "\"w or v == 'a' and v == 'b'\"" "\"not (v != 'a' or v != 'b')\"" "\"not (v == 'a' and v == 'b')\"" "\"not not (w or (v == 'a' and v == 'b'))\"" "\"((w or (w and (v != 'a' or v != 'b'))))\"" \
+    "\"v == 'a' and v == 'a' and v == 'b'\"" "\"m != '1' or m != 1\"" '"m == 1 and m == true"' "\"m == true and m == 'true'\"" '"m != -1 or m != 1"' "\"v == 'a' and v == 'A'\"" "\"v != '' or v != ' '\"" "[\"(w or v) and v == 'a'\",\"v == 'b'\"]" "[\"(w and v == 'a')\",\"v == 'b'\"]"; do
+    clashing "$when"
+done
+for when in "\"v == 'a' or v == 'b'\"" "\"v != 'a' and v != 'b'\"" "\"v == 'a' or v != 'b'\"" "\"v == 'a' and v != 'b'\"" "\"not v == 'a' or not v != 'b'\"" "\"not (v == 'a' or v == 'b')\"" "\"not (v != 'a') or not (v != 'b')\"" "\"v != 'a' or v != 'a'\"" '"n == 1 and n == 1"' \
+    "\"v != 'a' or w != 'b'\"" '"r.rc == 0 and n == 1"' "\"r.stdout != 'a' or r.stderr != 'b'\"" "\"v == 'a' and w and v == 'b'\"" "\"v != 'a' or w == 'c' or v != 'b'\"" "[\"v == 'a'\",true,\"v == 'b'\"]" "[\"v != 'a'\",\"v != 'b'\"]" "[\"v == 'a' or w\",\"v == 'b'\"]" \
+    "\"(v == 'a' and w) and v == 'b'\"" "\"v != 'a' or (v != 'b' or w)\"" "\"v == 'a' and not (v != 'b' or w)\"" "\"not not v == 'a' and v == 'b'\"" "\"not (not v == 'a') and v == 'b'\"" "\"v != w or v != 'a'\"" "\"'a' != 'b' or v != 'c'\"" "\"v != v or v != 'a'\"" "\"v is defined and v == 'a'\"" \
+    "\"r is changed and r.rc == 0\"" "\"'all' in group_names and v == 'a'\"" "\"v and v == 'a'\"" "\"v == 'a'\""; do
+    clashing "$when" ''
+done
+clashing "\"r == 'a' and r == 'b'\"" 'whole-result at=0/tasks/0 key=failed_when name=r
+clashing-values at=0/tasks/0 key=failed_when'
+clashing '"r.rc != 0 or r.rc != \"0\""' 'unlike-values at=0/tasks/0 key=failed_when
+clashing-values at=0/tasks/0 key=failed_when'
+noted 'comparisons of each condition, behind values of two kinds, and before that it never changes' "$many" "[$(play "$(task "\"register\":\"r\",\"when\":\"n == 15 or t != 'a' or t != 'b' or 1 == '1'\",\"changed_when\":[\"t == 'a'\",\"t == 'b'\",false],\"failed_when\":\"r.rc != '0' or x != 0 or x != 1\",\"notify\":\"H\"")" "$(task "\"name\":\"H\",\"when\":\"x == 0 and x == 1\"")")]" 'unlike-values at=0/tasks/0 key=when
+unlike-values at=0/tasks/0 key=failed_when
+clashing-values at=0/tasks/0 key=when
+clashing-values at=0/tasks/0 key=changed_when
+clashing-values at=0/tasks/0 key=failed_when
+idle-notify at=0/tasks/0
+idle-step at=0/handlers/0
+clashing-values at=0/handlers/0 key=when'
+noted 'a list that nobody runs' "$many" "[$(play "$(task '"when":["x == 0","x == 1"]')")]" 'idle-step at=0/tasks/0
+clashing-values at=0/tasks/0 key=when'
+refused 'comparisons beside faults of both files' '{"all":{"vars":{"v":"x"},"hosts":{"a":null},"x":1}}' "[$(play "$(task "\"when\":[\"x >\",\"v != 'a' or v != 'b'\"],\"x\":1")" '' all:nobody)]" "rollout: 203 UnknownKey at=all/x
+rollout: 703 UnknownKey at=0/tasks/0/x
+rollout: 501 BadToken step=1 key=when at=2
+rollout: 304 NoSuchName name=nobody" 'clashing-values at=0/tasks/0 key=when'
 
 # Beside faults these are told where they can't be so by what is left out.
 refused 'a condition of which a part can be read' "$two" "[$(play '{"command":"ssh x","when":["x >","1 == inventory_hostname"]}')]" 'rollout: 501 BadToken step=1 key=when at=2' 'idle-step at=0/tasks/0
@@ -815,6 +1016,53 @@ all_noted 'where all are held, or none, it is not told' "$limits" "[$(play "$eac
 all_noted 'before the sizes' "$limits" "[$(play "$each" '' a:c | sed 's/^{/{"serial":9,/')]" 'unlimited-hosts play=1 hosts=1 of=2 host=c
 idle-serial play=1 size=9 waiting=2'
 
+# Hosts that a full group holds.
+filled='{"g":{"vars":{"max_down":1},"hosts":{"a":{"down":true},"b":null,"c":null}},"h":{"hosts":{"d":null}}}'
+noted 'a full group holds those of its hosts that wait, whether or not the play names who is down, or sets hosts aside' "$filled" "[$(play "$each"),$(play "$each" '' c,d),$(play "$each" '' d),$(play "$each" '' a),$(play "$each" '' b | sed 's/^{/{"on_blocked":"hold",/')]" 'down-hosts play=1 hosts=1 host=a
+full-group play=1 hosts=2 of=3 host=b group=g
+full-group play=2 hosts=1 of=2 host=c group=g
+no-hosts play=4
+full-group play=5 hosts=1 of=1 host=b group=g'
+all_noted 'behind who is down, and before hosts without a limit' "$filled" "[$(play "$each" | sed 's/^{/{"serial":9,/')]" 'down-hosts play=1 hosts=1 host=a
+full-group play=1 hosts=2 of=3 host=b group=g
+unlimited-hosts play=1 hosts=1 of=3 host=d
+idle-serial play=1 size=9 waiting=3'
+
+# full WHAT LIMIT DOWN NOTE: a play for b, in a group of three with this limit, of which these are down.
+full() {
+    rows=$(for host in a b c; do case $2 in *$host*) printf '"%s":{"down":true},' "$host" ;; *) printf '"%s":null,' "$host" ;; esac; done)
+    noted "$1" "{\"g\":{\"vars\":{\"max_down\":$3},\"hosts\":{${rows%,}}}}" "[$(play "$each" '' b)]" "$4"
+}
+full 'as many are down as may be' a 1 'full-group play=1 hosts=1 of=1 host=b group=g'
+full 'also where that is more than one' ac 2 'full-group play=1 hosts=1 of=1 host=b group=g'
+full 'where one more may be it is not full' a 2 ''
+full 'nor where nobody is down' '' 1 ''
+full 'a limit of 0 is told as such' '' 0 'zero-limit group=g members=3'
+full 'and so is a percentage that comes to 0' '' '"33%"' 'zero-limit group=g members=3'
+full 'one that comes to as many as are down' a '"34%"' 'full-group play=1 hosts=1 of=1 host=b group=g'
+full 'up to this' a '"66%"' 'full-group play=1 hosts=1 of=1 host=b group=g'
+full 'one that comes to more' a '"67%"' ''
+# nested OUTER INNER: two racks below a group, of each of which one host of two is down.
+nested() {
+    printf '{"eu":{"vars":{"max_down":%s},"children":{"r1":{"vars":{"max_down":1},"hosts":{"a":{"down":true},"b":null}},"r2":{"vars":{"max_down":%s},"hosts":{"c":{"down":true},"d":null}}}}}' "$1" "$2"
+}
+both='down-hosts play=1 hosts=2 host=a'
+noted 'of several full groups of a host the outermost is told' "$(nested 2 1)" "[$(play "$each")]" "$both${newline}full-group play=1 hosts=2 of=2 host=b group=eu"
+noted 'a group above holds hosts whose own is not full' "$(nested 2 2)" "[$(play "$each" '' d)]" 'full-group play=1 hosts=1 of=1 host=d group=eu'
+noted 'one that is not full leaves it to those below' "$(nested 3 2)" "[$(play "$each")]" "$both${newline}full-group play=1 hosts=1 of=2 host=b group=r1"
+noted 'hosts of two groups count together, the first by name with its group' "$(nested 3 1)" "[$(play "$each"),$(play "$each" '' r2)]" "$both
+full-group play=1 hosts=2 of=2 host=b group=r1
+down-hosts play=2 hosts=1 host=c
+full-group play=2 hosts=1 of=1 host=d group=r2"
+noted 'hosts of groups below fill it, each once' '{"g":{"vars":{"max_down":1},"children":{"i":{"hosts":{"a":{"down":true}}},"j":{"hosts":{"a":null,"b":null}}}},"k":{"vars":{"max_down":2},"hosts":{"l":{"down":true},"m":null},"children":{"n":{"hosts":{"l":null}}}}}' "[$(play "$each")]" 'down-hosts play=1 hosts=2 host=a
+full-group play=1 hosts=1 of=2 host=b group=g'
+noted 'a full group of which nobody waits holds nobody, nor does a group without a limit' '{"g":{"vars":{"max_down":1},"hosts":{"a":{"down":true}}},"h":{"hosts":{"b":{"down":true},"c":null}}}' "[$(play "$each")]" 'down-hosts play=1 hosts=2 host=a'
+refused 'full groups beside faults of the playbook alone' "$filled" "[$(play '{"command":"true","x":1}' '' b)]" 'rollout: 703 UnknownKey at=0/tasks/0/x' 'full-group play=1 hosts=1 of=1 host=b group=g'
+refused 'not where hosts may be left out' '{"g":{"vars":{"max_down":1},"hosts":{"a":{"down":true},"b":null},"x":1}}' "[$(play "$each")]" 'rollout: 203 UnknownKey at=g/x' ''
+refused 'nor where it is not known of a host whether it is down' '{"g":{"vars":{"max_down":1},"hosts":{"a":{"down":true},"b":null,"c":{"down":1}}}}' "[$(play "$each")]" 'rollout: 205 BadDown at=g/hosts/c/down' ''
+refused 'nor where a limit is none' '{"g":{"vars":{"max_down":1},"hosts":{"a":{"down":true},"b":null}},"h":{"vars":{"max_down":-1},"hosts":{"c":null}}}' "[$(play "$each")]" 'rollout: 204 BadLimit at=h/vars/max_down' 'down-hosts play=1 hosts=1 host=a'
+refused 'nor where a name of a play names nothing' "$filled" "[$(play "$each" '' b:nobody)]" 'rollout: 304 NoSuchName name=nobody' ''
+
 # What a shell would put in place, programs of several words, and scripts for ssh.
 noted 'a variable of the shell, in braces, and a command; a home' "$one" "[$(play '{"command":"echo $HOME"},{"command":"echo a${B}c"},{"command":"echo $(x)"},{"command":"echo ~/x"},{"command":"echo $_"}')]" 'shell-word at=0/tasks/0 word=$HOME
 shell-word at=0/tasks/1 word=a${B}c
@@ -837,11 +1085,11 @@ noted 'it notifies, and a part of what says that it changed never holds' "$one" 
 idle-notify at=0/tasks/1'
 
 # All kinds at once, in their order; and then each of them switched off.
-full='{"all":{"vars":{"debug":"No"},"children":{"full":{"vars":{"max_down":0},"hosts":{"a":null,"b":{"w":1}}},"empty":{"vars":{"max_down":3,"down":1}},"none":null,"off":{"vars":{"max_down":2},"hosts":{"none":{"down":true}}},"free":{"vars":{"maxdown":1,"url":"{{ x }}"},"hosts":{"-d":null,"-D":null,"-d":null}}}}}'
+full='{"all":{"vars":{"debug":"No"},"children":{"brim":{"vars":{"max_down":1},"hosts":{"x":{"down":true},"y":null}},"full":{"vars":{"max_down":0},"hosts":{"a":null,"b":{"w":1}}},"empty":{"vars":{"max_down":3,"down":1}},"none":null,"off":{"vars":{"max_down":2},"hosts":{"none":{"down":true}}},"free":{"vars":{"maxdown":1,"url":"{{ x }}"},"hosts":{"-d":null,"-D":null,"-d":null}}}}}'
 first='{"hosts":"full:off","serial":8,"serial":9,"tasks":[{"command":"echo {{ w }} {{ u }} | x","register":"r"},{"command":"true","when":"r.rc == 0 and q"}],"handlers":[{"name":"H","command":"echo > {{ u }}"}]}'
 last="{\"hosts\":\"free\",\"max_fail_percentage\":5,\"tasks\":[{\"command\":\"uptime\",\"when\":true},{\"command\":\"ssh {{ inventory_hostname }} $(printf %065537d 0)\"},{\"command\":\"ssh -- x\",\"when\":\"inventory_hostname == 1\"}]}"
-mixed='{"command":"echo x{{ inventory_hostname }}","when":"\"nobody\" not in group_names","register":"m","changed_when":"debug","failed_when":"debug == true or m"},{"command":{"argv":["a b","x{{ inventory_hostname }}"]}},{"command":{"argv":["ssh","x{{ inventory_hostname }}","sh","-c","c d"]},"changed_when":false,"notify":"N"},{"command":"ssh -- x"}'
-plays="[$first,$(play '{"command":"echo {{ r.rc }} ;"}' '' off),$last,$(play "$(task '"changed_when":"r.rc == 0"')" '' free),$(play "$mixed" '{"name":"N","command":"echo x{{ inventory_hostname }}"}' full:free)]"
+mixed='{"command":"echo x{{ inventory_hostname }}","when":"\"nobody\" not in group_names","register":"m","changed_when":"debug","failed_when":"debug == true or m or m.stdout == \"{{ x }}\""},{"command":{"argv":["a b","x{{ inventory_hostname }}"]},"when":"m is failed"},{"command":{"argv":["ssh","x{{ inventory_hostname }}","sh","-c","c d"]},"changed_when":false,"notify":"N"},{"command":"ssh -- x"}'
+plays="[$first,$(play '{"command":"echo {{ r.rc }} ;"}' '' off),$last,$(play "$(task '"changed_when":"r.rc == 0"')" '' free),$(play "$mixed" '{"name":"N","command":"echo x{{ inventory_hostname }}"}' full:free:y)]"
 cat >"$work/all" <<'NOTES'
 repeated-key inventory=all/children/free/hosts/-d
 repeated-key playbook=0/serial
@@ -874,18 +1122,21 @@ idle-step at=2/tasks/2
 unlike-values at=2/tasks/2 key=when
 local-play play=4 hosts=2
 missing-result at=3/tasks/0 name=r hosts=2 of=2 host=-D
-unlimited-hosts play=5 hosts=2 of=4 host=-D
+full-group play=5 hosts=1 of=5 host=y group=brim
+unlimited-hosts play=5 hosts=2 of=5 host=-D
 unknown-group at=4/tasks/0 key=when group=nobody
 false-text at=4/tasks/0 key=changed_when name=debug
 unlike-variable at=4/tasks/0 key=failed_when name=debug
 whole-result at=4/tasks/0 key=failed_when name=m
+text-hole at=4/tasks/0 key=failed_when word={{ x }}
+idle-state at=4/tasks/1 name=m
 blank-program at=4/tasks/1 word=a b
 idle-notify at=4/tasks/2
 lost-quotes at=4/tasks/2 word=c d
-fixed-target at=4/tasks/3 hosts=4
+fixed-target at=4/tasks/3 hosts=5
 NOTES
 all_noted 'all kinds, in their order' "$full" "$plays" "$(cat "$work/all")"
-kinds='repeated-key zero-limit empty-limit loose-limit empty-group group-down near-key value-hole case-hosts group-host no-hosts down-hosts unlimited-hosts idle-serial one-failure local-play unknown-name missing-name missing-result unknown-group false-text unlike-variable whole-result idle-step constant-condition unlike-values shell-word blank-program lost-quotes local-step fixed-target long-word dash-name idle-notify idle-handler'
+kinds='repeated-key zero-limit empty-limit loose-limit empty-group group-down near-key value-hole case-hosts group-host no-hosts down-hosts full-group unlimited-hosts idle-serial one-failure local-play unknown-name missing-name missing-result unknown-group false-text unlike-variable whole-result text-hole idle-step idle-state constant-condition unlike-values shell-word blank-program lost-quotes local-step fixed-target long-word dash-name idle-notify idle-handler'
 run lint "$inventory" "$playbook"
 [ "$(sed -n 's/^  \([a-z-]*\): .*/\1/p' "$work/out" | tr '\n' ' ')" = "$kinds " ] && pass || fail 'what to do about all kinds stands in their order'
 run lint "$inventory"
@@ -1065,9 +1316,11 @@ refused 'a group before a host that is as near, and an edit before two' '{"webs"
     "rollout: 304 NoSuchName name=web2${newline}rollout: 304 NoSuchName name=wob1" "unknown-name at=0/tasks/0 name=v
 unknown-name at=1/tasks/0 name=v"
 refused 'where none is near no step is noted, and what steps register is there' "$one" "[$(play '{"command":"echo {{ y }} ;","register":"r"},{"command":"true","when":true}' '{"name":"H","command":"true","register":"s"}' nobody),$(play "$(task '"when":"r and s and t"')")]" \
-    'rollout: 304 NoSuchName name=nobody' 'unknown-name at=1/tasks/0 name=t'
+    'rollout: 304 NoSuchName name=nobody' 'unknown-name at=1/tasks/0 name=t
+whole-result at=1/tasks/0 key=when name=r'
 refused 'and so it is of a play whose hosts are none' "$one" "[{\"hosts\":{\"a\":1},\"tasks\":[{\"command\":\"echo {{ y }} ;\",\"register\":\"r\"},{\"register\":\"is\"}],\"handlers\":[{\"register\":\"s\"},7]},$(play "$(task '"when":"r and s and t"')")]" \
-    "rollout: 702 BadShape at=0/hosts${newline}rollout: 702 BadShape at=0/handlers/0${newline}rollout: 702 BadShape at=0/handlers/0${newline}rollout: 702 BadShape at=0/handlers/1${newline}rollout: 702 BadShape at=0/tasks/1${newline}rollout: 702 BadShape at=0/tasks/1/register" 'unknown-name at=1/tasks/0 name=t'
+    "rollout: 702 BadShape at=0/hosts${newline}rollout: 702 BadShape at=0/handlers/0${newline}rollout: 702 BadShape at=0/handlers/0${newline}rollout: 702 BadShape at=0/handlers/1${newline}rollout: 702 BadShape at=0/tasks/1${newline}rollout: 702 BadShape at=0/tasks/1/register" 'unknown-name at=1/tasks/0 name=t
+whole-result at=1/tasks/0 key=when name=r'
 refused 'nobody is noted of whom a name may be missing' '{"g":{"hosts":{"a":{"down":true}}},"h":{"hosts":{"b":null}}}' "[$(echo_play '{{ v }}' g:nobody),{\"hosts\":\"h:nobody\",\"serial\":9,\"tasks\":[{\"command\":\"true\"}]}]" "rollout: 304 NoSuchName name=nobody${newline}rollout: 304 NoSuchName name=nobody" ''
 refused 'a handler is noted where the playbook has no fault of its own' '{"g":{"hosts":{"a":null},"x":1}}' "[$(play '{"command":"uptime"},{"command":"ssh x"}' '{"name":"H","command":"ssh x"}' g:nobody)]" "rollout: 203 UnknownKey at=g/x${newline}rollout: 304 NoSuchName name=nobody" "local-step at=0/tasks/0 word=uptime
 idle-handler at=0/handlers/0"
@@ -1094,18 +1347,22 @@ idle-handler at=0/handlers/0
 no-hosts play=2'
 sed -i 's/"serial":9/"become":1,&/' "$playbook"
 run lint "$inventory" "$playbook"
-told 'of which two are not told beside a fault of the playbook' 'rollout: 703 UnknownKey at=0/become' 'empty-limit group=e
+told 'of which one is not told beside any fault of the playbook' 'rollout: 703 UnknownKey at=0/become' 'empty-limit group=e
 down-hosts play=1 hosts=1 host=d
 idle-serial play=1 size=9 waiting=3
 local-step at=0/tasks/0 word=uptime
 fixed-target at=0/handlers/0 hosts=3
+idle-handler at=0/handlers/0
 no-hosts play=2'
 sed -i 's/"hosts":"e"/"hosts":["e","nobody"]/' "$playbook"
 run lint "$inventory" "$playbook"
-told 'and more where a name of a play names nothing' "rollout: 703 UnknownKey at=0/become${newline}rollout: 304 NoSuchName name=nobody" 'local-step at=0/tasks/0 word=uptime'
+told 'and more where a name of a play names nothing' "rollout: 703 UnknownKey at=0/become${newline}rollout: 304 NoSuchName name=nobody" 'empty-limit group=e
+local-step at=0/tasks/0 word=uptime
+idle-handler at=0/handlers/0'
 sed -i 's/"become":1,//' "$playbook"
 run lint "$inventory" "$playbook"
-told 'or where that is the only fault' 'rollout: 304 NoSuchName name=nobody' 'local-step at=0/tasks/0 word=uptime
+told 'or where that is the only fault' 'rollout: 304 NoSuchName name=nobody' 'empty-limit group=e
+local-step at=0/tasks/0 word=uptime
 idle-handler at=0/handlers/0'
 sed -i 's/,"nobody"//' "$playbook"
 sed -i 's/"g":{/&"x":1,/' "$inventory"
@@ -1148,29 +1405,86 @@ unsought() {
     [ "$found" = "$4" ] && pass || fail "$1: not looked for is '$found'"
 }
 
+# Of each sort of fault in what it leaves known.
 bad_down='{"all":{"hosts":{"a":{"down":1}}}}'
 ok_play=$(play '{"command":"true"}')
-unsought 'beside faults of the inventory' "$bad_down" "$ok" 'empty-limit, loose-limit, empty-group, no-hosts, down-hosts, unlimited-hosts, idle-serial, one-failure, local-play, missing-result, unknown-group, unlike-variable, whole-result, idle-step, fixed-target'
-unsought 'beside limits that cross' "$crossing" "$ok" 'zero-limit, empty-limit, loose-limit, empty-group, no-hosts, down-hosts, unlimited-hosts, idle-serial, one-failure, local-play, missing-result, unknown-group, unlike-variable, whole-result, idle-step, fixed-target'
-unsought 'and faults of the playbook' "$crossing" "[$(play '{"command":"true","x":1}')]" 'zero-limit, empty-limit, loose-limit, empty-group, no-hosts, down-hosts, unlimited-hosts, idle-serial, one-failure, local-play, missing-result, unknown-group, unlike-variable, whole-result, idle-step, fixed-target, idle-handler'
-unsought 'and a when that is none' "$crossing" "[$(play "$(task '"when":"x >"')")]" 'zero-limit, empty-limit, loose-limit, empty-group, no-hosts, down-hosts, unlimited-hosts, idle-serial, one-failure, local-play, missing-name, missing-result, unknown-group, unlike-variable, whole-result, idle-step, constant-condition, fixed-target, idle-handler'
-unsought 'beside a group that starts over its limit' '{"g":{"vars":{"max_down":0},"hosts":{"a":{"down":true}}}}' "$ok" 'zero-limit, empty-limit, loose-limit, empty-group, no-hosts, down-hosts, unlimited-hosts, idle-serial, one-failure, local-play, missing-result, unknown-group, unlike-variable, whole-result, idle-step, fixed-target'
-unsought 'where what is kept has limits' '{"g":{"vars":{"max_down":0},"hosts":{"a":{"down":1}}}}' "$ok" 'empty-limit, loose-limit, empty-group, no-hosts, down-hosts, unlimited-hosts, idle-serial, one-failure, local-play, missing-result, unknown-group, unlike-variable, whole-result, idle-step, fixed-target'
-unsought 'beside faults of the playbook' "$one" "[$(play '{"command":"true","x":1}')]" 'one-failure, local-play, idle-handler'
-unsought 'beside a when that is none' "$one" "[$(play "$(task '"when":"x >"')")]" 'one-failure, local-play, missing-name, missing-result, constant-condition, idle-handler'
-unsought 'of a handler too, beside faults of the inventory' "$bad_down" "[$(play "$(task '"name":"t"')" "$(task '"name":"h","when":[1]')")]" 'empty-limit, loose-limit, empty-group, no-hosts, down-hosts, unlimited-hosts, idle-serial, one-failure, local-play, missing-name, missing-result, unknown-group, unlike-variable, whole-result, idle-step, constant-condition, fixed-target, idle-handler'
-unsought 'beside another condition that is none' "$one" "[$(play "$(task '"failed_when":"x >"')")]" 'one-failure, local-play, missing-name, missing-result, constant-condition, idle-handler'
-unsought 'beside faults of both' "$bad_down" "[$(play '{"command":"true","x":1}')]" 'empty-limit, loose-limit, empty-group, no-hosts, down-hosts, unlimited-hosts, idle-serial, one-failure, local-play, missing-result, unknown-group, unlike-variable, whole-result, idle-step, fixed-target, idle-handler'
+of_hosts='empty-limit, loose-limit, empty-group, no-hosts, down-hosts, full-group, unlimited-hosts, idle-serial, one-failure, local-play, missing-result, unknown-group, unknown-host, unlike-variable, whole-result, idle-step, fixed-target'
+of_downs='no-hosts, down-hosts, full-group, idle-serial, one-failure'
+of_limits='empty-group, full-group, unlimited-hosts, one-failure'
+of_targets='no-hosts, down-hosts, full-group, unlimited-hosts, idle-serial, one-failure, local-play, missing-result, idle-step, idle-state, fixed-target'
+unlimited='zero-limit, empty-limit, loose-limit, empty-group, full-group, unlimited-hosts, one-failure'
+unsought 'beside a down that is none' "$bad_down" "$ok" "$of_downs"
+unsought 'or at a wrong place' '{"all":{"hosts":{"a":null},"down":true}}' "$ok" "$of_downs"
+unsought 'or both' '{"all":{"hosts":{"a":{"down":1}},"children":{"g":{"down":true}}}}' "$ok" "$of_downs"
+unsought 'beside a limit that is none' '{"all":{"vars":{"max_down":-1},"hosts":{"a":null}}}' "$ok" "$of_limits"
+unsought 'or at a wrong place' '{"all":{"hosts":{"a":null},"max_down":1}}' "$ok" "$of_limits"
+unsought 'or both' '{"all":{"vars":{"max_down":-1},"hosts":{"a":null},"children":{"g":{"max_down":1}}}}' "$ok" "$of_limits"
+unsought 'beside a limit and a down that are none' '{"all":{"vars":{"max_down":-1},"hosts":{"a":{"down":1}}}}' "$ok" 'empty-group, no-hosts, down-hosts, full-group, unlimited-hosts, idle-serial, one-failure'
+unsought 'beside a limit that is none and a down at a wrong place' '{"all":{"vars":{"max_down":-1},"hosts":{"a":null},"down":true}}' "$ok" 'empty-group, no-hosts, down-hosts, full-group, unlimited-hosts, idle-serial, one-failure'
+for key in x host maxdown max_down2 downs Down; do
+    unsought "beside the key $key" "{\"all\":{\"hosts\":{\"a\":null},\"$key\":1}}" "$ok" "$of_hosts"
+done
+unsought 'beside another key and a down that is none' '{"all":{"hosts":{"a":{"down":1}},"x":1}}' "$ok" "$of_hosts"
+unsought 'beside a name that is none' '{"all":{"hosts":{"a":null,"a b":null}}}' "$ok" "$of_hosts"
+unsought 'beside a host that is no object' '{"all":{"hosts":{"a":null,"b":1}}}' "$ok" "$of_hosts"
+unsought 'beside a group that stands twice' '{"all":{"hosts":{"a":null}},"g":{"hosts":{"a":null}},"h":{"children":{"g":null}}}' "$ok" "$of_hosts"
+unsought 'beside limits that cross' "$crossing" "$ok" "$unlimited"
+unsought 'and a down that is none' '{"f":{"vars":{"max_down":1},"hosts":{"a":{"down":1}}},"g":{"vars":{"max_down":0},"hosts":{"a":null}}}' "$ok" 'zero-limit, empty-limit, loose-limit, empty-group, no-hosts, down-hosts, full-group, unlimited-hosts, idle-serial, one-failure'
+unsought 'and faults of the playbook' "$crossing" "[$(play '{"command":"true","x":1}')]" "$unlimited, local-play, idle-state, idle-handler"
+unsought 'and a when that is none' "$crossing" "[$(play "$(task '"when":"x >"')")]" "$unlimited, local-play, missing-name, missing-result, idle-state, constant-condition"
+unsought 'beside a group that starts over its limit' '{"g":{"vars":{"max_down":0},"hosts":{"a":{"down":true}}}}' "$ok" "$unlimited"
+unsought 'where what is kept has limits' '{"g":{"vars":{"max_down":0},"hosts":{"a":{"down":1}}}}' "$ok" "$of_downs"
+for key in become become_user become_method environment gather_facts no_log remote_user run_once tags vars; do
+    unsought "beside the key $key of a step" "$one" "[$(play "{\"command\":\"true\",\"$key\":1}")]" 'one-failure, local-play'
+    [ "$key" = gather_facts ] || unsought "or of a play" "$one" "[{\"hosts\":\"all\",\"$key\":1,\"tasks\":[{\"command\":\"true\"}]}]" 'one-failure, local-play'
+done
+for key in x roles pre_tasks loop block becomes Tags tag vars_files; do
+    unsought "beside the key $key of a step" "$one" "[$(play "{\"command\":\"true\",\"$key\":1}")]" 'one-failure, local-play, idle-state, idle-handler'
+    unsought "or of a play" "$one" "[{\"hosts\":\"all\",\"$key\":1,\"tasks\":[{\"command\":\"true\"}]}]" 'one-failure, local-play, idle-state, idle-handler'
+done
+unsought 'beside a size that is none' "$one" '[{"hosts":"all","serial":"x","tasks":[{"command":"true"}]}]' 'one-failure, local-play'
+unsought 'beside a percentage that is none' "$one" '[{"hosts":"all","max_fail_percentage":101,"tasks":[{"command":"true"}]}]' 'one-failure, local-play'
+unsought 'beside words that are none' "$one" "[$(play '{"command":"echo {{ 1 }}"}')]" 'one-failure, local-play'
+unsought 'beside a handler that is not there' "$one" "[$(play '{"command":"true","notify":"H"}')]" 'one-failure, local-play, idle-state, idle-handler'
+unsought 'beside a when that is none' "$one" "[$(play "$(task '"when":"x >"')")]" 'one-failure, local-play, missing-name, missing-result, idle-state, constant-condition'
+unsought 'beside another condition that is none' "$one" "[$(play "$(task '"failed_when":"x >"')")]" 'one-failure, local-play, missing-name, missing-result, idle-state, constant-condition'
+unsought 'beside one of another kind' "$one" "[$(play "$(task '"failed_when":7')")]" 'one-failure, local-play, missing-name, missing-result, idle-state, constant-condition, idle-handler'
+unsought 'beside several that leave steps known' "$one" '[{"hosts":"all","serial":"x","tags":"x","tasks":[{"command":"echo {{ 1 }}","become":true,"when":"x >"}]}]' 'one-failure, local-play, missing-name, missing-result, idle-state, constant-condition'
+unsought 'and one that does not' "$one" '[{"hosts":"all","serial":"x","tags":"x","tasks":[{"command":"echo {{ 1 }}","become":true,"loop":[]}]}]' 'one-failure, local-play, idle-state, idle-handler'
+unsought 'of a handler too, beside faults of the inventory' "$bad_down" "[$(play "$(task '"name":"t"')" "$(task '"name":"h","when":[1]')")]" "$of_downs, local-play, missing-name, missing-result, idle-state, constant-condition, idle-handler"
+unsought 'beside faults of both' "$bad_down" "[$(play '{"command":"true","x":1}')]" "$of_downs, local-play, idle-state, idle-handler"
+unsought 'beside harmless ones of both' "$bad_down" "[$(play '{"command":"true","tags":1}')]" "$of_downs, local-play"
+unsought 'beside a name that nothing has' "$one" "[$(play '{"command":"true"}' '' a:nobody)]" "$of_targets"
+unsought 'in any play, and limits that cross' "$crossing" "[$ok_play,$(play '{"command":"true"}' '' a:nobody)]" "zero-limit, empty-limit, loose-limit, empty-group, $of_targets"
+unsought 'beside hosts of a play that are none' "$one" '[{"hosts":7,"tasks":[{"command":"true"}]}]' "$of_targets, idle-handler"
+for count in 100 101; do
+    python3 -c 'import json, sys; print(json.dumps({"all": {"hosts": {f"h{place}": {"down": 1} for place in range(int(sys.argv[1]))}}}))' "$count" >"$work/many.json"
+    python3 -c 'import json, sys; print(json.dumps([{"hosts": "all", "tasks": [{"command": "true", "tags": 1}] * int(sys.argv[1])}]))' "$count" >"$work/tagged.json"
+    if [ "$count" -eq 100 ]; then
+        unsought 'beside a hundred of one sort' "$(cat "$work/many.json")" "$ok" "$of_downs"
+        unsought 'of the playbook' "$one" "$(cat "$work/tagged.json")" 'one-failure, local-play'
+    else
+        unsought 'beside more than are told nothing is known that each of them may say' "$(cat "$work/many.json")" "$ok" "$of_hosts"
+        unsought 'of the playbook' "$one" "$(cat "$work/tagged.json")" 'one-failure, local-play, idle-state, idle-handler'
+    fi
+done
 unsought 'beside a playbook of too many plays' "$one" "[$(for i in 1 2 3 4 5 6 7 8 9 10 11 12 13 14 15 16; do echo "$ok_play,"; done)$ok_play]" 'anything of plays and steps'
 unsought 'beside one that is no list' "$one" '{}' 'anything of plays and steps'
-unsought 'beside one that is no JSON, and faults of the inventory' "$bad_down" '{' 'empty-limit, loose-limit, empty-group, anything of plays and steps'
+unsought 'beside one that is no JSON, and faults of the inventory' '{"all":{"hosts":{"a":null},"x":1}}' '{' 'empty-limit, loose-limit, empty-group, anything of plays and steps'
+unsought 'that leave all groups known' "$bad_down" '{' 'anything of plays and steps'
+unsought 'or all but a limit' '{"all":{"hosts":{"a":null},"max_down":1}}' '{' 'empty-group, anything of plays and steps'
 unsought 'and limits that cross' "$crossing" '[]' 'zero-limit, empty-limit, loose-limit, empty-group, anything of plays and steps'
-texts "$bad_down" ''
-run lint "$inventory"
-[ "$(tail -n 1 "$work/out")" = '  not looked for beside these faults: empty-limit, loose-limit, empty-group' ] && pass || fail "of an inventory alone: $(tail -n 1 "$work/out")"
-texts "$crossing" ''
-run lint "$inventory"
-[ "$(tail -n 1 "$work/out")" = '  not looked for beside these faults: zero-limit, empty-limit, loose-limit, empty-group' ] && pass || fail "of an inventory alone whose limits cross: $(tail -n 1 "$work/out")"
+
+# unsought_alone WHAT INVENTORY LINE: of an inventory alone the text ends with this line.
+unsought_alone() {
+    texts "$2" ''
+    run lint "$inventory"
+    [ "$(tail -n 1 "$work/out")" = "$3" ] && pass || fail "$1: $(tail -n 1 "$work/out")"
+}
+unsought_alone 'of an inventory alone' '{"all":{"hosts":{"a":null},"x":1}}' '  not looked for beside these faults: empty-limit, loose-limit, empty-group'
+unsought_alone 'with a limit that is none' '{"all":{"vars":{"max_down":-1},"hosts":{"a":null}}}' '  not looked for beside these faults: empty-group'
+unsought_alone 'with a down that is none' "$bad_down" 'notes=0'
+unsought_alone 'of one whose limits cross' "$crossing" '  not looked for beside these faults: zero-limit, empty-limit, loose-limit, empty-group'
 unsought 'where nothing is kept' '{' "$ok" 'anything else'
 unsought 'without faults' "$one" "$ok" ''
 

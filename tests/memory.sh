@@ -421,9 +421,6 @@ while read -r crate name; do
     echo "$crate $name: $((number - 1)) allocations refused in turn"
 done <<'TESTS'
 core_tests refused::a_batch_comes_to_its_end_whatever_is_refused
-core_tests joined::a_part_that_is_refused_leaves_the_others
-core_tests taken_again::a_step_that_was_refused_memory_is_taken_again
-pool_tests tickets::each_ticket_is_taken_once
 pool_tests gathered::what_was_put_is_what_all_took
 pool_tests memory::a_roll_ends_or_memory_is_wanting
 TESTS

@@ -10,7 +10,7 @@ import re
 
 import tree
 
-FAULTS, NOTES, KINDS = "docs/FAULTS.md", "docs/NOTES.md", "crates/lint_notes/src/kind.rt"
+FAULTS, NOTES, KINDS = "docs/FAULTS.md", "docs/NOTES.md", "crates/note_lines/src/kind.rt"
 CRATE = "crates/fault_pages"
 ROW = re.compile(r"^\| \[([\w-]+)\]\(#([\w-]+)\) \| ([^|]+) \| (.*) \|$", re.M)
 

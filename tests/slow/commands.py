@@ -6,7 +6,7 @@ from answers import Lines
 from checking import judged, read_batches
 from course import next_boundary
 from entries import digest
-from every import every_fault, fault_lines, has_all_hosts, has_all_conditions, has_limits, has_plays, is_accepted, is_fleet, looked_at
+from every import every_fault, fault_lines, has_plays, looked_at
 from expecting import number_in_plan, number_in_table, read_expectations, unmet
 from facts import accepted, coursed, gone_on, planned, plays_before, ran, status_of_plan, targeted, went_on
 from faults import Fault
@@ -15,6 +15,7 @@ from foreseen import foreseen_text
 from foretold import foretold
 from inventory import read_inventory
 from json_answers import Objects
+from known import known_of
 from linting import lines_beside_faults, lint_lines, read_allowed
 from missing import first_missed
 from planning import start
@@ -123,9 +124,8 @@ def lint(inventory, playbook=None, allowed=()):
     allowed."""
     faults = every_fault(inventory, playbook)
     if faults:
-        of_playbook = (True, True, is_fleet(inventory)) if playbook is None else (is_accepted(playbook), has_all_conditions(playbook), has_all_hosts(inventory, playbook))
         found = key_notes(inventory, playbook), looked_at(inventory, playbook)
-        beside = [] if turned("notes-beside-faults") else lines_beside_faults(*found, allowed, *of_playbook, has_limits(inventory), has_plays(inventory, playbook))
+        beside = [] if turned("notes-beside-faults") else lines_beside_faults(*found, allowed, known_of(inventory, playbook), has_plays(inventory, playbook))
         return Said("".join(fault_lines(faults)) + as_text(beside), "", 0 if turned("faults-make-status-one") else 1)
     fleet, plays, targets = (Fleet(read_inventory(inventory)), [], []) if playbook is None else accepted(inventory, playbook)
     lines, count = lint_lines(key_notes(inventory, playbook), fleet, plays, targets, allowed)

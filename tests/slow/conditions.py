@@ -22,6 +22,10 @@ class CondFault(Exception):
         self.number, self.name, self.at = number, name, at
 
 
+class Contrary(tuple):
+    """A ("not", tree) that a test says itself, as `is not` or `!=`, and no `not` before it."""
+
+
 def parse(text):
     """The tree of a condition; CondFault where it has none."""
     raw = text.encode()
@@ -153,11 +157,21 @@ class _Parser:
         else:
             self.refuse()
         self.step()
-        return ("not", tree) if contrary else tree
+        return Contrary(("not", tree)) if contrary else tree
 
     def compared(self, left):
         if not self.has("==", "!="):
             return "operand", left
         sign = self.step()
         tree = ("same", left, self.operand())
-        return ("not", tree) if sign == "!=" else tree
+        return Contrary(("not", tree)) if sign == "!=" else tree
+
+
+def tests_in(tree):
+    """The tests of a condition, also behind what decides it."""
+    if not isinstance(tree, tuple):
+        return [("operand", tree)]
+    kind, *rest = tree
+    if kind in ("or", "and"):
+        return [test for below in rest[0] for test in tests_in(below)]
+    return tests_in(rest[0]) if kind == "not" else [tree]

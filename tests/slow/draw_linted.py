@@ -2,7 +2,7 @@
 nobody notifies; words of a shell; groups of which no host may be down, and variables of groups that are nearly keys; hosts that are alike, or begin with a dash; programs here and elsewhere, words
 that are too long, and conditions that ask nothing, or for values and groups that nobody has; comparisons of values of two kinds; plays that say nothing of their hosts, and keys that stand more than
 once; names that are nearly others, results of other plays and of handlers, and limits above the number of hosts; texts that say no, and variables that are compared with what is of another kind; results
-that are asked for as a whole. And files with faults, of which what is kept has such notes."""
+that are asked for as a whole; and what waits, asks or compares in vain. And files with faults, of which what is kept has such notes."""
 
 import re
 from copy import deepcopy
@@ -14,7 +14,9 @@ from draw_conditions import draw_condition
 from draw_inventory import draw_right as draw_right_inventory
 from draw_playbook import draw_right as draw_right_playbook
 from draw_refused import spoiled_inventory, spoiled_playbook
+from draw_spared import spared_inventory, spared_playbook, with_comparisons
 from draw_steps import AnyStyle
+from draw_vain import more_racks, play_for, with_awaited_states, with_holes
 from json_draw import Members, write
 from linting import KINDS, SHELL_WORDS
 from mutate import mutate
@@ -159,6 +161,16 @@ def draw_linted(seed, number):
     if is_switched:
         value = _with_switches(value, switching, {name: switching.choice(SAID) for name in SWITCHES})
         inventory = write(value, switching)
+    own_racks = Random(f"{seed}/racks/{number}")
+    racks, parts = more_racks(own_racks)
+    if racks and isinstance(value, Members):
+        value = Members([*value, *((name, body) for name, body in racks if name not in value.names())])
+        inventory = write(value, own_racks)
+    spared = Random(f"{seed}/spared/{number}")
+    sparing = spared.choice([("inventory",), ("playbook",), ("inventory", "playbook")]) if not spoiled and spared.random() < 0.35 else ()
+    if "inventory" in sparing:
+        value = spared_inventory(spared, value)
+        inventory = write(value, spared)
     inventory = _written(Random(f"{seed}/keys/{number}"), value, inventory)
     value = draw_right_playbook(random, names, LintedStyle(), random.choice([1, 1, 2, 3, 4]))
     value = [_with_ends_of_options(Random(f"{seed}/options/{number}/{place}"), play) for place, play in enumerate(value)]
@@ -167,10 +179,16 @@ def draw_linted(seed, number):
     value = [_with_scripts(Random(f"{seed}/scripts/{number}/{place}"), play) for place, play in enumerate(value)]
     value = [_with_near_names(Random(f"{seed}/near/{number}/{place}"), play) for place, play in enumerate(value)]
     value = [_with_whole_results(Random(f"{seed}/whole/{number}/{place}"), play) for place, play in enumerate(value)]
+    value = [with_holes(Random(f"{seed}/holes/{number}/{place}"), play) for place, play in enumerate(value)]
+    value = [with_comparisons(Random(f"{seed}/compared/{number}/{place}"), play) for place, play in enumerate(value)]
+    value = [with_awaited_states(Random(f"{seed}/states/{number}/{place}"), play) for place, play in enumerate(value)]
+    value = [*value, play_for(own_racks, parts)] if parts else value
     value = [_with_like_results(own, play) for play in value] if is_like else value
     value = [_with_switched_steps(switching, play) for play in value] if is_switched else value
     if "playbook" in spoiled:
         value = spoiled_playbook(random, value)
+    if "playbook" in sparing:
+        value = spared_playbook(spared, value)
     value = mutate(value, random) if random.random() < 0.03 else value
     playbook = _written(Random(f"{seed}/keys/{number}/playbook"), value, write(value, random))
     words = ["lint", INVENTORY, *([] if random.random() < 0.15 else [PLAYBOOK])]

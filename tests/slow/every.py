@@ -44,8 +44,8 @@ def _looked_at(playbook, fleet):
 
 
 def has_plays(inventory, playbook=None):
-    """Whether plays are looked at; None where no playbook was given."""
-    return None if playbook is None else fleet_of(inventory) is not None and _looked_at(playbook, fleet_of(inventory)) is not None
+    """Whether plays are looked at."""
+    return playbook is not None and fleet_of(inventory) is not None and _looked_at(playbook, fleet_of(inventory)) is not None
 
 
 def _unknown(fleet, plays):
@@ -81,20 +81,15 @@ def has_all_conditions(playbook):
     return top is not None and knows_conditions(top)
 
 
-def is_fleet(inventory):
-    """Whether the inventory is accepted as it is."""
-    return _first([lambda: Fleet(read_inventory(inventory))]) is not None
-
-
 def has_limits(inventory):
     """Whether the inventory is a fleet with its limits, or what is kept of it is."""
     return _first([lambda way=way: Fleet(way()) for way in (lambda: read_inventory(inventory), lambda: _kept_places(inventory))]) is not None
 
 
-def has_all_hosts(inventory, playbook):
-    """Whether the inventory is accepted, and each play says for which of its hosts it is."""
-    top = _first([lambda: read_json(playbook)])
-    return is_fleet(inventory) and top is not None and all(says_hosts(play, fleet_of(inventory)) for play in (top if isinstance(top, list) else []))
+def names_all_hosts(inventory, playbook):
+    """Whether each play says for which hosts it is of the fleet that is looked at."""
+    fleet, top = fleet_of(inventory), _first([lambda: read_json(playbook)])
+    return fleet is not None and top is not None and all(says_hosts(play, fleet) for play in (top if isinstance(top, list) else []))
 
 
 def _kept_plays(playbook):

@@ -1,4 +1,5 @@
-//! The texts of the faults that an inventory is no fleet for; the program writes lines of its own.
+//! The texts of faults, which are in no contract; the program writes lines of its own.
+use cond::CondFault;
 use domains::FleetFault;
 use std::alloc::{AllocError, Global};
 use std::test::Fail;
@@ -31,5 +32,23 @@ fn a_fault_says_what_it_is_about(rt: HostRuntime) -> Result<(), Fail> {
         start_over(rt.alloc())?.as_str(),
         "2 hosts of g are down, and its limit is 1"
     );
+    Ok(())
+}
+
+fn says(alloc: Global, fault: CondFault, text: &str) -> Result<bool, AllocError> {
+    Ok(fault.to_string(alloc)?.as_str() == text)
+}
+
+#[test]
+fn a_condition_fault_says_its_place(rt: HostRuntime) -> Result<(), Fail> {
+    for (fault, text) in [
+        (CondFault::BadToken { at: 0 }, "no token at byte 0"),
+        (CondFault::Unexpected { at: 231 }, "unexpected at byte 231"),
+        (CondFault::TooDeep { at: 32 }, "nested too deep at byte 32"),
+        (CondFault::TooLong { at: 4096 }, "longer than 4096 bytes"),
+        (CondFault::Memory, "out of memory"),
+    ] {
+        assert!(rt; says(rt.alloc(), fault, text)?, "{text}");
+    }
     Ok(())
 }

@@ -4,7 +4,6 @@ ghost use Rattle.host_track.specs.Endings.{ending_of};
 ghost use Rattle.roll_core.specs.Givings.{HasItsGo};
 ghost use Rattle.event_log.specs.Rolls.{is_of_program};
 
-use crate::rolled::{move_on, report};
 use fork_pool::Script;
 use group_tree::{Group, GroupFault, HostId};
 use roll_core::{
@@ -99,6 +98,40 @@ fn claim_again<'s, L: Ledger>(
             alloc,
         ),
         answer => answer,
+    }
+}
+
+/// Reports it in a tally of its own.
+fn report<'s, L: Ledger>(
+    board: &mut Board<'s, Script, L, Unwatched>,
+    done: Done<'s, Script>,
+) -> Result<(), Fail> {
+    if board.tallies() > 0 {
+        return Err(Fail::new("a tally is out"));
+    }
+    let mut tally = board.split_tally();
+    let answer = board.report(done, &mut tally);
+    let count = tally.count();
+    board.join_tally(tally);
+    match answer {
+        Ok(()) if count == 1 => Ok(()),
+        Ok(()) => Err(Fail::new("a report that isn't counted")),
+        Err(_stranger) => Err(Fail::new("a stranger")),
+    }
+}
+
+/// Passes the step, or closes the batch.
+fn move_on<L: Ledger>(board: &mut Board<'_, Script, L, Unwatched>) -> Result<(), Fail> {
+    match board.stage() {
+        Stage::Between => Ok(()),
+        Stage::Working(_) => match board.barrier() {
+            Ok(_next) => Ok(()),
+            Err(_busy) => Err(Fail::new("busy")),
+        },
+        Stage::Ended(_) => {
+            board.close();
+            Ok(())
+        }
     }
 }
 
@@ -205,6 +238,19 @@ fn run_batch<L: Ledger, H: Threads + Wait + Processes<Started = SystemProcess> +
     ends_so(board, stranded)
 }
 
+/// What is left has one of each a host, and the history this board's log alone.
+fn is_left_so<L: Ledger>(board: Board<'_, Script, L, Unwatched>) -> Result<(), Fail> {
+    let log = board.log().len();
+    let (left, _watch, history) = board.finish();
+    if left.statuses.len() != 3 || left.vars.len() != 3 || left.counts.len() != 3 {
+        return Err(Fail::new("not one of each a host"));
+    }
+    if history.rolls() != 1 || history.log(0).len() != log || !history.log(1).is_empty() {
+        return Err(Fail::new("a history without this log"));
+    }
+    Ok(())
+}
+
 /// Whether there was memory for the board.
 fn rolled<L: Ledger, H: Threads + Wait + Processes<Started = SystemProcess> + Sync>(
     rt: &H,
@@ -222,14 +268,7 @@ fn rolled<L: Ledger, H: Threads + Wait + Processes<Started = SystemProcess> + Sy
         return Ok(false);
     };
     run_batch(rt, alloc, &mut board)?;
-    let log = board.log().len();
-    let (left, _watch, history) = board.finish();
-    if left.statuses.len() != 3 || left.vars.len() != 3 || left.counts.len() != 3 {
-        return Err(Fail::new("not one of each a host"));
-    }
-    if history.rolls() != 1 || history.log(0).len() != log || !history.log(1).is_empty() {
-        return Err(Fail::new("a history without this log"));
-    }
+    is_left_so(board)?;
     Ok(true)
 }
 
@@ -238,19 +277,11 @@ fn a_batch_comes_to_its_end_whatever_is_refused(rt: HostRuntime) -> Result<(), F
     let alloc = rt.alloc();
     let setting = set_up(alloc, region_again(alloc)?, PLAY)?;
     let script = script_again(alloc)?;
-    let history = History::new(&rt);
-    if rolled::<Brand, HostRuntime>(&rt, alloc, &setting, &script, Blank::new(129), history)? {
-        return Ok(());
+    for _again in 0..2 {
+        let history = History::new(&rt);
+        if rolled::<Brand, HostRuntime>(&rt, alloc, &setting, &script, Blank::new(129), history)? {
+            return Ok(());
+        }
     }
-    let history = History::new(&rt);
-    let again = rolled::<Brand, HostRuntime>(
-        &rt,
-        alloc,
-        &setting,
-        &script,
-        Blank::new(129),
-        history,
-    )?;
-    assert!(rt; again);
-    Ok(())
+    Err(Fail::new("no memory for a board, twice"))
 }

@@ -2,4 +2,5 @@ pub mod Unread
 pub mod Inventories
 pub mod Playbooks
 pub mod Every
+pub mod Known
 pub mod KeptTexts

@@ -4,10 +4,12 @@
 mod choosing;
 mod every;
 mod fleet;
+mod known;
 mod patterns;
 mod silence;
 mod standing;
 mod text;
 
-pub use choosing::{KeptTexts, KnownHosts, LeftOut, kept_texts};
+pub use choosing::{KeptTexts, kept_texts};
 pub use every::{EveryFault, every_fault};
+pub use known::Known;

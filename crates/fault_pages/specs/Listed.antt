@@ -26,9 +26,10 @@ unfoldable pub is_of_kinds : List ℕ → Bool
 is_of_kinds word = list_any (bytes_eq word) (
     codes "repeated-key" ∷ codes "zero-limit" ∷ codes "empty-limit" ∷ codes "loose-limit" ∷ codes "empty-group" ∷ codes "group-down" ∷
     codes "near-key" ∷ codes "value-hole" ∷ codes "case-hosts" ∷ codes "group-host" ∷ codes "no-hosts" ∷ codes "down-hosts" ∷
-    codes "unlimited-hosts" ∷ codes "idle-serial" ∷ codes "one-failure" ∷ codes "local-play" ∷ codes "unknown-name" ∷ codes "missing-name" ∷
-    codes "missing-result" ∷ codes "unknown-group" ∷ codes "false-text" ∷ codes "unlike-variable" ∷ codes "whole-result" ∷
-    codes "idle-step" ∷ codes "constant-condition" ∷ codes "unlike-values" ∷ codes "shell-word" ∷ codes "blank-program" ∷
+    codes "full-group" ∷ codes "unlimited-hosts" ∷ codes "idle-serial" ∷ codes "one-failure" ∷ codes "local-play" ∷ codes "unknown-name" ∷
+    codes "missing-name" ∷ codes "missing-result" ∷ codes "unknown-group" ∷ codes "unknown-host" ∷ codes "false-text" ∷
+    codes "unlike-variable" ∷ codes "whole-result" ∷ codes "text-hole" ∷ codes "idle-step" ∷ codes "idle-state" ∷
+    codes "constant-condition" ∷ codes "unlike-values" ∷ codes "clashing-values" ∷ codes "shell-word" ∷ codes "blank-program" ∷
     codes "lost-quotes" ∷ codes "local-step" ∷ codes "fixed-target" ∷ codes "long-word" ∷ codes "dash-name" ∷ codes "idle-notify" ∷
     codes "idle-handler" ∷ [])
 

@@ -129,7 +129,7 @@ $ echo '{\"web\": {\"vars\": {\"max_down\": 1}, \"hosts\": {\"a\": {\"down\": tr
 rollout: 302 StartOver group=web down=2 limit=1
 ```
 
-Bring hosts up and say so in the inventory, or raise the limit. With a limit in percent, `limit=` is the number that it makes.
+Bring hosts up and say so in the inventory, or raise the limit above the number of those that are down: as many as that leave no room for another. With a limit in percent, `limit=` is the number that it makes.
 ";
 
 pub(crate) const OF_303: &str = "\

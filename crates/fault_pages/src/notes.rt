@@ -158,13 +158,29 @@ pub(crate) const OF_DOWN_HOSTS: &str = "\
 down-hosts play=P hosts=N host=H: N of the hosts that the play names are down at the start, H the first of them by name; others wait
 
 ```
-$ echo '[{\"hosts\": \"rack2\", \"tasks\": [{\"command\": \"uptime\"}]}]' | rollout lint examples/two-racks.json /dev/stdin
-down-hosts play=1 hosts=1 host=web5
+$ echo '{\"web\": {\"hosts\": {\"web1\": null, \"web2\": {\"down\": true}}}}' >/tmp/fleet.json
+$ echo '[{\"hosts\": \"web\", \"tasks\": [{\"command\": \"uptime\"}]}]' | rollout lint /tmp/fleet.json /dev/stdin
+down-hosts play=1 hosts=1 host=web2
 notes=1
   down-hosts: they are left as they are: where they are up again, take their \"down\": true out, or name them by --mended; `explain down-hosts` says more, `--allow down-hosts` switches it off
 ```
 
-web4 is updated, and web5 is left as it is, on the old state. Where it is up again, take its `\"down\": true` away, or name it by `--mended`. Where it is down, and the others are to go on without it: `--allow down-hosts`.
+web1 is updated, and web2 is left as it is, on the old state. Where it is up again, take its `\"down\": true` away, or name it by `--mended`. Where it is down, and the others are to go on without it: `--allow down-hosts`.
+";
+
+pub(crate) const OF_FULL_GROUP: &str = "\
+full-group play=P hosts=N of=M host=H group=G: N of the M hosts that wait for the play are in a full group: as many of its hosts are down at the start as its limit, which isn't 0, allows, so that no other may go; H is the first of them by name, G the outermost such group of H
+
+```
+$ echo '[{\"hosts\": \"web4\", \"tasks\": [{\"command\": \"uptime\"}]}]' | rollout lint examples/two-racks.json /dev/stdin
+full-group play=1 hosts=1 of=1 host=web4 group=rack2
+notes=1
+  full-group: raise the group's max_down above the number of its hosts that are down at the start, or take their \"down\": true out where they are up again: as it is, no other host of it may go; `explain full-group` says more, `--allow full-group` switches it off
+```
+
+One host of rack2 may be down, and web5 is: as long as that is so web4 has no turn, whatever other batches do. The play is blocked, and nothing of it begins; with `\"on_blocked\": \"hold\"` the other hosts are updated, and web4 is left over at
+the end. So it is with each group that holds it and has a limit, from the outermost on. Where web5 is up again, take its `\"down\": true` away, or name it by `--mended`; where it stays down, and the rack bears one more, write a `max_down` of 2. A limit of
+0 is told as [zero-limit](#zero-limit), and of a group with more hosts down than it may lose the inventory isn't accepted at all ([302](FAULTS.md#302-startover)). Where web4 is to wait for another day: `--allow full-group`.
 ";
 
 pub(crate) const OF_UNLIMITED_HOSTS: &str = "\
@@ -287,6 +303,20 @@ notes=1
 Nobody is in a group that isn't there, so that `not in` always holds: the group is `rack2`. Of a condition with several such groups the first is told. Where another inventory of the same playbook has it: `--allow unknown-group`.
 ";
 
+pub(crate) const OF_UNKNOWN_HOST: &str = "\
+unknown-host at=PATH key=KEY host=TEXT: the condition under KEY compares `inventory_hostname` with TEXT, the first such text that is the name of no host of the inventory
+
+```
+$ echo '[{\"hosts\": \"rack1\", \"tasks\": [{\"command\": \"ssh -- {{ inventory_hostname }} rotate-logs\", \"when\": \"inventory_hostname != \\\"web-1\\\"\"}]}]' | rollout lint examples/two-racks.json /dev/stdin
+unknown-host at=0/tasks/0 key=when host=web-1
+notes=1
+  unknown-host: spell the host as the inventory has it, letter by letter: inventory_hostname is never the name of a host that isn't there; where another inventory has it, switch the note off; `explain unknown-host` says more, `--allow unknown-host` switches it off
+```
+
+No host is called web-1, so that `!=` holds on each of them, and the step runs on web1 too, which it was to leave alone. A host that is down, or that the play isn't for, is there. Of a condition with several such texts the first is told, on
+whichever side of `==` or `!=` it stands. KEY is `when`, `changed_when` or `failed_when`. Where another inventory of the same playbook has it: `--allow unknown-host`.
+";
+
 pub(crate) const OF_FALSE_TEXT: &str = "\
 false-text at=PATH key=KEY name=N: the condition under KEY asks just whether N is true, no step before registers N, and a variable N of the inventory is `false`, `no`, `0` or the like as a text, which is true
 
@@ -338,6 +368,22 @@ host; of several in a condition the first is told. KEY is `when`, `changed_when`
 `--allow whole-result`.
 ";
 
+pub(crate) const OF_TEXT_HOLE: &str = "\
+text-hole at=PATH key=KEY word=TEXT: the condition under KEY has the text TEXT, in which `{{`, `{%` or `{#` stands, which nothing fills: the first such text that isn't a group's name
+
+```
+$ echo '{\"web\": {\"vars\": {\"wanted\": \"1.2\"}, \"hosts\": {\"web1\": {\"version\": \"1.1\"}, \"web2\": {\"version\": \"1.2\"}}}}' >/tmp/fleet.json
+$ echo '[{\"hosts\": \"web\", \"tasks\": [{\"command\": \"deploy {{ inventory_hostname }}\", \"when\": \"version != \\\"{{ wanted }}\\\"\"}]}]' | rollout lint /tmp/fleet.json /dev/stdin
+text-hole at=0/tasks/0 key=when word={{ wanted }}
+notes=1
+  text-hole: write the name without quotes and braces, x == y as an example: a text in a condition is taken as it stands, and a hole in it isn't filled; `explain text-hole` says more, `--allow text-hole` switches it off
+```
+
+A condition is no template: `version` is compared with the text `{{ wanted }}`, braces and all, and no version is that, so the step runs on web2 too. In Ansible such a text is filled in before it is compared. Names stand in a condition without quotes and braces: write
+`version != wanted`. A text that stands alone is told too, `'{{ reboot }}'`, which is always true; of several in a condition the first, from left to right. The name of a group isn't told, as in `'{{ g }}' in group_names`: that is a group that
+isn't there ([unknown-group](#unknown-group)). KEY is `when`, `changed_when` or `failed_when`. Where a program prints braces, and that is asked for: `--allow text-hole`.
+";
+
 pub(crate) const OF_IDLE_STEP: &str = "\
 idle-step at=PATH: the step's `when` compares what it looks up or asks for a group, asks for no value just whether it is true or there, and is known not to hold on any of the hosts that wait
 
@@ -352,6 +398,23 @@ notes=1
 The step runs nowhere: `env` is `production` on each host, and a letter is missing. So it is with `release == '15'` where that is the number 15 ([unlike-variable](#unlike-variable)), and with a group that no host is in, `'wbe' in group_names` as an example. What is known before anything runs
 decides: variables, groups and names, and that a result as a whole equals nothing; what a program will have printed isn't known. A `when` that asks anywhere just whether a value is true, or defined, isn't told: `reboot`, `reboot == true` and `x is defined and x == 'a'` are
 how a step is switched on. Where a step waits for another value: `--allow idle-step`.
+";
+
+pub(crate) const OF_IDLE_STATE: &str = "\
+idle-state at=PATH name=R: the step's `when` waits until the result R is changed, failed or skipped; steps before register R, and none of these may end so
+
+```
+$ echo '[{\"hosts\": \"rack1\", \"tasks\": [{\"command\": \"deploy {{ inventory_hostname }}\", \"register\": \"deploy\"},' \\
+  '{\"command\": \"roll-back {{ inventory_hostname }}\", \"when\": \"deploy is failed\"}]}]' | rollout lint examples/two-racks.json /dev/stdin
+idle-state at=0/tasks/1 name=deploy
+notes=1
+  idle-state: let a step before leave that state: \"ignore_errors\": true for a failure, a changed_when that can hold for a change, a when for a skip; as it is, none that registers the result does, and this step never runs; `explain idle-state` says more, `--allow idle-state` switches it off
+```
+
+A host on which a step fails takes no further steps, so nobody comes to the second one with a `deploy` that failed: it never runs. Let the first one ignore errors, `\"ignore_errors\": true`, and the host goes on. A step waits for a state where its `when`, a part of it that
+`and` joins to others, or an element of its list is such a test: `R is changed`, `R is failed`, `R is skipped`, one of `R.changed`, `R.failed` and `R.skipped` that stands alone, or `R is not succeeded`, which waits for a failure. What asks for the contrary waits for nothing,
+nor does what stands beside an `or`. A step may end as failed where it ignores errors, and no part of its `failed_when` is `false`; as changed where no part of its `changed_when` is `false`; as skipped where it has a `when`. Of all steps before it that register R,
+of this play and of earlier ones, one is enough. Where it is meant so: `--allow idle-state`.
 ";
 
 pub(crate) const OF_CONSTANT_CONDITION: &str = "\
@@ -383,6 +446,22 @@ notes=1
 A number and a text are never the same: `web.rc != '0'` always holds, so the step fails on each host. Of a result `rc` is a number, `stdout` and `stderr` are texts, and `changed`, `failed` and `skipped` are true or false;
 `inventory_hostname` is a text. A variable may be of any kind: [unlike-variable](#unlike-variable) tells where none of its values is of the one with which it is compared. KEY is `when`, `changed_when` or `failed_when`. Write `web.rc != 0`, and `count.stdout == '0'`.
 Where it is meant so: `--allow unlike-values`.
+";
+
+pub(crate) const OF_CLASHING_VALUES: &str = "\
+clashing-values at=PATH key=KEY: the condition under KEY compares one thing with two values beside each other, so that it always holds, as `x != 'a' or x != 'b'`, or never, as `x == 'a' and x == 'b'`
+
+```
+$ echo '[{\"hosts\": \"rack1\", \"tasks\": [{\"command\": \"check-web {{ inventory_hostname }}\", \"register\": \"web\", \"failed_when\": \"web.rc != 0 or web.rc != 3\"}]}]' | \\
+  rollout lint examples/two-racks.json /dev/stdin
+clashing-values at=0/tasks/0 key=failed_when
+notes=1
+  clashing-values: write and in place of or between values that are not to be there, x != 'a' and x != 'b', and or in place of and between those that may be, x == 'a' or x == 'b': as it is, it always holds, or never; `explain clashing-values` says more, `--allow clashing-values` switches it off
+```
+
+No code is 0 and 3 at once, so that one of both differs from it: the step fails on each host. Write `web.rc != 0 and web.rc != 3`. Told are comparisons of a name, a field or `inventory_hostname` with texts, numbers, `true` and `false`
+that stand directly one behind the other: joined by `or` where each asks for another value, by `and`, or as entries of a list, where each asks for the value itself. `not x == 'a'` asks as `x != 'a'` does. Brackets with `and` or `or` in them
+stand between the others, and what is in them is looked at by itself. KEY is `when`, `changed_when` or `failed_when`. Where it is meant so: `--allow clashing-values`.
 ";
 
 pub(crate) const OF_SHELL_WORD: &str = "\

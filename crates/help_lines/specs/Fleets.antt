@@ -14,4 +14,4 @@ crossing_help first second =
 -- a group of which too many hosts are down, with names of such hosts
 unfoldable pub down_help : Text → Text → List Text
 down_help group hosts =
-    codes "bring hosts of " ∷ cut group ∷ codes " up and take \"down\": true from them, or raise its max_down; down are " ∷ cut hosts ∷ []
+    codes "bring hosts of " ∷ cut group ∷ codes " up and take \"down\": true from them, or raise its max_down above their number; down are " ∷ cut hosts ∷ []

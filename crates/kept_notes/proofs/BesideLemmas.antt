@@ -5,12 +5,13 @@ use Rattle.domains.specs.declared.pattern_fault.PatternFault.TheVariants.{NoSuch
 use Rattle.planning.specs.declared.fault.PlanFault.{PlanFault}
 use Rattle.planning.specs.declared.fault.PlanFault.TheVariants.{Read, Fleet, Playbook, Pattern, Write}
 use Rattle.lint_notes.specs.LintTexts.{IsTextOf}
-use Rattle.lint_notes.specs.Notes.{Note}
-use Rattle.lint_notes.specs.Repeats.{repeat_notes}
-use Rattle.lint_notes.specs.declared.end.LintEnd.{LintEnd}
+use Rattle.note_lines.specs.Notes.{Note}
+use Rattle.fleet_notes.specs.Repeats.{repeat_notes}
+use Rattle.note_lines.specs.declared.end.LintEnd.{LintEnd}
 use Rattle.every_fault.specs.KeptTexts.{AreKeptTexts, playbook_of}
 use Rattle.every_fault.specs.declared.choosing.KeptTexts.{KeptTexts}
-use Rattle.kept_notes.specs.Beside.{AreNotesOn, AreRefused, IsBeside, IsNotedOf, IsTextOn, IsToldOf, IsTrueOn, RefusesOn, WritesOn, hidden_kinds, tells_rule, unsought_if}
+use Rattle.kept_notes.specs.Beside.{AreNotesOn, AreRefused, IsBeside, IsNotedOf, IsTextOn, IsToldOf, IsTrueOn, RefusesOn, WritesOn, tells_rule}
+use Rattle.kept_notes.specs.Sought.{hidden_kinds, unsought, unsought_line}
 
 -- what went out to an empty list is all that it holds
 pub written_is : (kinds : List ℕ) (first : List Note) (inventory : List ℕ) (playbook : Option (List ℕ)) (text : List ℕ) (end : LintEnd) → WritesOn kinds first inventory playbook (Some []) (Some text) end → IsTextOn kinds first inventory playbook text
@@ -44,8 +45,8 @@ module _ {T E : Type 0} (bytes : T → List ℕ) (has_plays : T → Bool) (kinds
   noted_in playbook (Err failed) refused noted = tt
 
 module _ {T E : Type 0} (bytes : T → List ℕ) (allowed : List ℕ) (first : List Note) (kept : KeptTexts) where
-  pub ended_so : (notes : List ℕ) (has_plays : Bool) (result : Result T E) → IsNotedOf (hidden_kinds kept.hosts kept.left_out ++ allowed) first kept.inventory.items (playbook_of kept) notes has_plays
-      → IfOk result (λ text. bytes text ≡ notes ++ unsought_if has_plays kept.hosts kept.left_out) → IfOk result (λ text. IsToldOf allowed first kept (bytes text))
+  pub ended_so : (notes : List ℕ) (has_plays : Bool) (result : Result T E) → IsNotedOf (hidden_kinds kept.known ++ allowed) first kept.inventory.items (playbook_of kept) notes has_plays
+      → IfOk result (λ text. bytes text ≡ notes ++ unsought_line (unsought has_plays kept.known)) → IfOk result (λ text. IsToldOf allowed first kept (bytes text))
   ended_so notes has_plays (Ok text) noted is = record { notes = notes; has_plays = has_plays; noted = noted; text_is = is }
   ended_so notes has_plays (Err failed) noted is = tt
 

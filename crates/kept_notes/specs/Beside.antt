@@ -7,15 +7,12 @@ use Rattle.planning.specs.PlanTexts.{IsRefusedAfter, IsUnread}
 use Rattle.planning.specs.declared.fault.PlanFault.{PlanFault}
 use Rattle.planning.specs.declared.fault.PlanFault.TheVariants.{Read, Fleet, Playbook, Pattern, Write}
 use Rattle.lint_notes.specs.LintTexts.{AreFleetNotesIn, AreNotesIn, IsTextOf, IsTrueFault, IsTrueFleetFault, WritesNotes}
-use Rattle.lint_notes.specs.Notes.{Note}
-use Rattle.lint_notes.specs.Repeats.{repeat_notes}
-use Rattle.lint_notes.specs.declared.end.LintEnd.{LintEnd}
+use Rattle.note_lines.specs.Notes.{Note}
+use Rattle.fleet_notes.specs.Repeats.{repeat_notes}
+use Rattle.note_lines.specs.declared.end.LintEnd.{LintEnd}
 use Rattle.every_fault.specs.KeptTexts.{AreKeptTexts, playbook_of}
 use Rattle.every_fault.specs.declared.choosing.KeptTexts.{KeptTexts}
-use Rattle.every_fault.specs.declared.choosing.KnownHosts.{KnownHosts}
-use Rattle.every_fault.specs.declared.choosing.KnownHosts.TheVariants as known
-use Rattle.every_fault.specs.declared.choosing.LeftOut.{LeftOut}
-use Rattle.every_fault.specs.declared.choosing.LeftOut.TheVariants.{Nothing, Parts, Conditions}
+use Rattle.kept_notes.specs.Sought.{hidden_kinds, unsought, unsought_line}
 
 -- behind the first ones the notes on an inventory, or on one and a playbook
 abbrev pub AreNotesOn : List Note → List ℕ → Option (List ℕ) → (List Note → Type 0)
@@ -49,24 +46,6 @@ pub record AreRefused (inventory : List ℕ) (playbook : Option (List ℕ)) : Ty
   pub is_rule : tells_rule fault ≡ true
   pub refuses : RefusesOn inventory playbook fault
 
--- where all hosts are known, and where not all are
-abbrev pub all_hidden : LeftOut → List ℕ
-all_hidden Nothing = []
-all_hidden Parts = codes "one-failure,local-play,idle-handler,"
-all_hidden Conditions = codes "one-failure,local-play,missing-name,missing-result,constant-condition,idle-handler,"
-
-abbrev pub some_hidden : LeftOut → List ℕ
-some_hidden Nothing = codes "empty-limit,loose-limit,empty-group,no-hosts,down-hosts,unlimited-hosts,idle-serial,one-failure,local-play,missing-result,unknown-group,unlike-variable,whole-result,idle-step,fixed-target,"
-some_hidden Parts = codes "empty-limit,loose-limit,empty-group,no-hosts,down-hosts,unlimited-hosts,idle-serial,one-failure,local-play,missing-result,unknown-group,unlike-variable,whole-result,idle-step,fixed-target,idle-handler,"
-some_hidden Conditions = codes "empty-limit,loose-limit,empty-group,no-hosts,down-hosts,unlimited-hosts,idle-serial,one-failure,local-play,missing-name,missing-result,unknown-group,unlike-variable,whole-result,idle-step,constant-condition,fixed-target,idle-handler,"
-
--- Kinds of notes that may be there only for what was left out: of hosts, limits, and steps by the hosts that run them, where not all hosts are known; of handlers, where something was left out of the
--- playbook, which may notify; of the smallest batch and of plays that stay on this machine, where either was; and of what some hosts miss and of conditions that ask nothing, where a part of `when` was. Of a result it matters for which hosts each play is.
-abbrev pub hidden_kinds : KnownHosts → LeftOut → List ℕ
-hidden_kinds known.All left_out = all_hidden left_out
-hidden_kinds known.Some left_out = some_hidden left_out
-hidden_kinds known.Unlimited left_out = some_hidden left_out
-
 -- the text of those notes on these texts that no kind in the list switches off
 pub record IsTextOn (kinds : List ℕ) (first : List Note) (inventory : List ℕ) (playbook : Option (List ℕ)) (text : List ℕ) : Type 0 where
   pub end : LintEnd
@@ -82,38 +61,6 @@ IsNotedOf kinds first inventory None text has_plays = IsNotedOfOne kinds first i
 IsNotedOf kinds first inventory (Some playbook) text has_plays =
     (IsTextOn kinds first inventory (Some playbook) text × (has_plays ≡ true)) ⊎ (AreRefused inventory (Some playbook) × (IsNotedOfOne kinds first inventory text × (has_plays ≡ false)))
 
--- Of which kinds notes aren't looked for beside faults: what is mended may give them. Where no limit is known none is looked for that is about one.
-abbrev pub unsought : KnownHosts → LeftOut → List ℕ
-unsought known.All Nothing = []
-unsought known.All Parts = codes "  not looked for beside these faults: one-failure, local-play, idle-handler\n"
-unsought known.All Conditions = codes "  not looked for beside these faults: one-failure, local-play, missing-name, missing-result, constant-condition, idle-handler\n"
-unsought known.Some Nothing = codes "  not looked for beside these faults: empty-limit, loose-limit, empty-group, no-hosts, down-hosts, unlimited-hosts, idle-serial, one-failure, local-play, missing-result, unknown-group, unlike-variable, whole-result, idle-step, fixed-target\n"
-unsought known.Some Parts = codes "  not looked for beside these faults: empty-limit, loose-limit, empty-group, no-hosts, down-hosts, unlimited-hosts, idle-serial, one-failure, local-play, missing-result, unknown-group, unlike-variable, whole-result, idle-step, fixed-target, idle-handler\n"
-unsought known.Some Conditions = codes "  not looked for beside these faults: empty-limit, loose-limit, empty-group, no-hosts, down-hosts, unlimited-hosts, idle-serial, one-failure, local-play, missing-name, missing-result, unknown-group, unlike-variable, whole-result, idle-step, constant-condition, fixed-target, idle-handler\n"
-unsought known.Unlimited Nothing = codes "  not looked for beside these faults: zero-limit, empty-limit, loose-limit, empty-group, no-hosts, down-hosts, unlimited-hosts, idle-serial, one-failure, local-play, missing-result, unknown-group, unlike-variable, whole-result, idle-step, fixed-target\n"
-unsought known.Unlimited Parts = codes "  not looked for beside these faults: zero-limit, empty-limit, loose-limit, empty-group, no-hosts, down-hosts, unlimited-hosts, idle-serial, one-failure, local-play, missing-result, unknown-group, unlike-variable, whole-result, idle-step, fixed-target, idle-handler\n"
-unsought known.Unlimited Conditions = codes "  not looked for beside these faults: zero-limit, empty-limit, loose-limit, empty-group, no-hosts, down-hosts, unlimited-hosts, idle-serial, one-failure, local-play, missing-name, missing-result, unknown-group, unlike-variable, whole-result, idle-step, constant-condition, fixed-target, idle-handler\n"
-
--- the same where no plays can be read, and where none were given, of which nothing is left out then
-abbrev pub unsought_alone : KnownHosts → List ℕ
-unsought_alone known.All = []
-unsought_alone known.Some = codes "  not looked for beside these faults: empty-limit, loose-limit, empty-group\n"
-unsought_alone known.Unlimited = codes "  not looked for beside these faults: zero-limit, empty-limit, loose-limit, empty-group\n"
-
-abbrev pub unsought_with_plays : KnownHosts → List ℕ
-unsought_with_plays known.All = codes "  not looked for beside these faults: anything of plays and steps\n"
-unsought_with_plays known.Some = codes "  not looked for beside these faults: empty-limit, loose-limit, empty-group, anything of plays and steps\n"
-unsought_with_plays known.Unlimited = codes "  not looked for beside these faults: zero-limit, empty-limit, loose-limit, empty-group, anything of plays and steps\n"
-
-abbrev pub unsought_without_plays : KnownHosts → LeftOut → List ℕ
-unsought_without_plays hosts Nothing = unsought_alone hosts
-unsought_without_plays hosts Parts = unsought_with_plays hosts
-unsought_without_plays hosts Conditions = unsought_with_plays hosts
-
-abbrev pub unsought_if : Bool → KnownHosts → LeftOut → List ℕ
-unsought_if true hosts left_out = unsought hosts left_out
-unsought_if false hosts left_out = unsought_without_plays hosts left_out
-
 -- none are where nothing is kept
 abbrev pub nothing_sought : List ℕ
 nothing_sought = codes "  not looked for beside these faults: anything else\n"
@@ -122,8 +69,8 @@ nothing_sought = codes "  not looked for beside these faults: anything else\n"
 pub record IsToldOf (allowed : List ℕ) (first : List Note) (kept : KeptTexts) (text : List ℕ) : Type 0 where
   pub notes : List ℕ
   pub has_plays : Bool
-  pub noted : IsNotedOf (hidden_kinds kept.hosts kept.left_out ++ allowed) first kept.inventory.items (playbook_of kept) notes has_plays
-  pub text_is : text ≡ notes ++ unsought_if has_plays kept.hosts kept.left_out
+  pub noted : IsNotedOf (hidden_kinds kept.known ++ allowed) first kept.inventory.items (playbook_of kept) notes has_plays
+  pub text_is : text ≡ notes ++ unsought_line (unsought has_plays kept.known)
 
 -- of what is kept, and where nothing is
 abbrev pub IsToldIf : List ℕ → List Note → Option KeptTexts → List ℕ → Type 0

@@ -3,15 +3,18 @@ ghost use Rattle.std.specs.Prelude.{◌≡◌, ◌++◌, IfErr, IfOk, None, Some
 ghost use Rattle.std.specs.Option.{option_map};
 ghost use Rattle.std.specs.String.{string_bytes};
 ghost use Rattle.every_fault.specs.KeptTexts.{playbook_of};
-ghost use Rattle.lint_notes.specs.Repeats.{repeats_given};
+ghost use Rattle.fleet_notes.specs.Repeats.{repeats_given};
 ghost use Rattle.kept_notes.specs.Beside as spec;
-ghost use Rattle.kept_notes.specs.Beside.{IsBeside, IsNotedOf, IsNotedOfOne, IsToldOf, hidden_kinds};
+ghost use Rattle.kept_notes.specs.Beside.{IsBeside, IsNotedOf, IsNotedOfOne, IsToldOf};
+ghost use Rattle.kept_notes.specs.Sought.{hidden_kinds};
 
-use crate::hidden::kinds_hidden;
+use crate::hidden::hidden_with;
 use crate::rule::tells_rule;
-use crate::unsought::line_behind;
+use crate::unsought::with_line;
 use every_fault::{KeptTexts, kept_texts};
-use lint_notes::{Allowed, Texts, lint_fleet_text, lint_text};
+use fleet_notes::Texts;
+use lint_notes::{lint_fleet_text, lint_text};
+use note_lines::Allowed;
 use planning::PlanFault;
 use std::alloc::{AllocError, Global};
 
@@ -54,10 +57,7 @@ fn tell_kept(
     ensures { IfOk result (λ text. IsToldOf allowed.now (repeats_given given.entry) kept.now text.items) }
 {
     match notes_on(alloc, given, kept, allowed) {
-        Ok(noted) => ended(
-            noted.text,
-            line_behind(noted.has_plays, kept.hosts, kept.left_out),
-        ),
+        Ok(noted) => with_line(alloc, noted.text, noted.has_plays, kept.known),
         Err(refused) => Err(refused),
     }
 }
@@ -84,9 +84,9 @@ fn notes_on(
     kept: &KeptTexts,
     allowed: &Allowed<'_>,
 ) -> Result<Noted, AllocError>
-    ensures { IfOk result (λ noted. IsNotedOf (hidden_kinds kept.now.hosts kept.now.left_out ++ allowed.now) (repeats_given given.entry) kept.now.inventory.items (playbook_of kept.now) noted.text.items noted.has_plays) }
+    ensures { IfOk result (λ noted. IsNotedOf (hidden_kinds kept.now.known ++ allowed.now) (repeats_given given.entry) kept.now.inventory.items (playbook_of kept.now) noted.text.items noted.has_plays) }
 {
-    let kinds = match hidden_with(alloc, kinds_hidden(kept.hosts, kept.left_out), allowed) {
+    let kinds = match hidden_with(alloc, kept.known, allowed) {
         Ok(kinds) => kinds,
         Err(refused) => return Err(refused),
     };
@@ -116,14 +116,6 @@ fn notes_without(
         ),
         None => noted_alone(alloc, given, kept.inventory.as_slice(), hidden),
     }
-}
-
-fn hidden_with(alloc: Global, hidden: &str, allowed: &Allowed<'_>) -> Result<String, AllocError>
-    ensures { IfOk result (λ kinds. string_bytes kinds ≡ hidden.now ++ allowed.now) }
-{
-    let mut kinds = String::from_str(alloc, hidden)?;
-    kinds.push_str(allowed.as_str())?;
-    Ok(kinds)
 }
 
 fn noted_alone(

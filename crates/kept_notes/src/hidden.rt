@@ -1,40 +1,45 @@
 //! Which kinds of notes aren't told of what is kept.
-ghost use Rattle.std.specs.Prelude.{◌≡◌};
-ghost use Rattle.kept_notes.specs.Beside as spec;
-ghost use Rattle.kept_notes.specs.Beside.{hidden_kinds};
+ghost use Rattle.std.specs.Prelude.{◌≡◌, ◌++◌, IfOk, OnOk, flat_map};
+ghost use Rattle.std.specs.String.{string_bytes};
+ghost use Rattle.kept_notes.specs.Sought as spec;
+ghost use Rattle.kept_notes.specs.Sought.{hidden_kinds};
 
-use every_fault::{KnownHosts, LeftOut};
+use crate::sought::is_sought;
+use every_fault::Known;
+use note_lines::{Allowed, Kind, fleet_kinds, play_kinds};
+use std::alloc::{AllocError, Global};
 
-/// Kinds of notes that may be there only for what was left out.
-pub(crate) fn kinds_hidden(hosts: KnownHosts, left_out: LeftOut) -> &'static str
-    ensures { result.now ≡ hidden_kinds hosts left_out }
+/// The names of the kinds for which notes aren't looked, and those that are allowed.
+pub(crate) fn hidden_with(
+    alloc: Global,
+    known: Known,
+    allowed: &Allowed<'_>,
+) -> Result<String, AllocError>
+    ensures { IfOk result (λ kinds. string_bytes kinds ≡ hidden_kinds known ++ allowed.now) }
 {
-    match hosts {
-        KnownHosts::All => all_hidden(left_out),
-        KnownHosts::Some | KnownHosts::Unlimited => some_hidden(left_out),
-    }
+    let mut kinds = String::new(alloc);
+    add_hidden(known, fleet_kinds(), &mut kinds)?;
+    add_hidden(known, play_kinds(), &mut kinds)?;
+    kinds.push_str(allowed.as_str())?;
+    Ok(kinds)
 }
 
-fn all_hidden(left_out: LeftOut) -> &'static str
-    ensures { result.now ≡ spec.all_hidden left_out }
+/// Adds the names of those of these kinds for which notes aren't looked.
+fn add_hidden(known: Known, kinds: &[Kind], names: &mut String) -> Result<(), AllocError>
+    ensures { OnOk result (string_bytes names.new ≡ string_bytes names.old ++ flat_map (spec.hidden_name known) kinds.now) }
 {
-    match left_out {
-        LeftOut::Nothing => "",
-        LeftOut::Parts => "one-failure,local-play,idle-handler,",
-        LeftOut::Conditions =>
-            "one-failure,local-play,missing-name,missing-result,constant-condition,idle-handler,",
+    for kind in kinds {
+        add_name(known, *kind, names)?;
     }
+    Ok(())
 }
 
-fn some_hidden(left_out: LeftOut) -> &'static str
-    ensures { result.now ≡ spec.some_hidden left_out }
+fn add_name(known: Known, kind: Kind, names: &mut String) -> Result<(), AllocError>
+    ensures { OnOk result (string_bytes names.new ≡ string_bytes names.old ++ spec.hidden_name known kind) }
 {
-    match left_out {
-        LeftOut::Nothing =>
-            "empty-limit,loose-limit,empty-group,no-hosts,down-hosts,unlimited-hosts,idle-serial,one-failure,local-play,missing-result,unknown-group,unlike-variable,whole-result,idle-step,fixed-target,",
-        LeftOut::Parts =>
-            "empty-limit,loose-limit,empty-group,no-hosts,down-hosts,unlimited-hosts,idle-serial,one-failure,local-play,missing-result,unknown-group,unlike-variable,whole-result,idle-step,fixed-target,idle-handler,",
-        LeftOut::Conditions =>
-            "empty-limit,loose-limit,empty-group,no-hosts,down-hosts,unlimited-hosts,idle-serial,one-failure,local-play,missing-name,missing-result,unknown-group,unlike-variable,whole-result,idle-step,constant-condition,fixed-target,idle-handler,",
+    if is_sought(known, kind) {
+        return Ok(());
     }
+    names.push_str(kind.name())?;
+    names.push_str(",")
 }

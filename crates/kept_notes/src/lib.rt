@@ -4,6 +4,7 @@
 mod beside;
 mod hidden;
 mod rule;
+mod sought;
 mod unsought;
 
 pub use beside::notes_beside_faults;

@@ -1,67 +1,105 @@
-//! Which kinds of notes aren't looked for beside faults.
-ghost use Rattle.std.specs.Prelude.{◌≡◌};
-ghost use Rattle.kept_notes.specs.Beside as spec;
-ghost use Rattle.kept_notes.specs.Beside.{unsought};
+//! What isn't looked for beside faults.
+ghost use Rattle.std.specs.Prelude.{◌≡◌, ◌++◌, IfOk, OnOk, codes};
+ghost use Rattle.kept_notes.specs.Sought as spec;
+ghost use Rattle.kept_notes.specs.Sought.{kinds_unsought, later_names, unsought, unsought_line};
 
-use every_fault::{KnownHosts, LeftOut};
+use crate::sought::is_sought;
+use every_fault::Known;
+use note_lines::{Kind, fleet_kinds, play_kinds};
+use std::alloc::{AllocError, Global};
 
-/// What isn't looked for, where plays are noted or aren't.
-pub(crate) fn line_behind(has_plays: bool, hosts: KnownHosts, left_out: LeftOut) -> &'static str
-    ensures { result.now ≡ spec.unsought_if has_plays hosts left_out }
+/// What isn't looked for: notes of a kind, or all on plays and steps.
+#[derive(Clone, Copy, Debug)]
+pub(crate) enum Unsought {
+    Of(Kind),
+    Plays,
+}
+
+fn name_of(one: Unsought) -> &'static str
+    ensures { result.now ≡ spec.name_of one }
+{
+    match one {
+        Unsought::Of(kind) => kind.name(),
+        Unsought::Plays => "anything of plays and steps",
+    }
+}
+
+/// Goes on with the line that says what isn't looked for, where plays are noted or aren't.
+pub(crate) fn with_line(
+    alloc: Global,
+    notes: Vec<u8>,
+    has_plays: bool,
+    known: Known,
+) -> Result<Vec<u8>, AllocError>
+    ensures { IfOk result (λ text. text.items ≡ notes.items ++ unsought_line (unsought has_plays known)) }
+{
+    let missed = list_unsought(alloc, has_plays, known)?;
+    let mut text = notes;
+    add_line(missed.as_slice(), &mut text)?;
+    Ok(text)
+}
+
+fn list_unsought(alloc: Global, has_plays: bool, known: Known) -> Result<Vec<Unsought>, AllocError>
+    ensures { IfOk result (λ missed. missed.items ≡ unsought has_plays known) }
+{
+    let mut missed = Vec::new(alloc);
+    add_unsought(known, fleet_kinds(), &mut missed)?;
+    add_plays(has_plays, known, &mut missed)?;
+    Ok(missed)
+}
+
+/// Adds what of plays and steps isn't looked for.
+fn add_plays(has_plays: bool, known: Known, missed: &mut Vec<Unsought>) -> Result<(), AllocError>
+    ensures { OnOk result (missed.new.items ≡ missed.old.items ++ spec.plays_unsought has_plays known) }
 {
     if has_plays {
-        return kinds_unsought(hosts, left_out);
+        return add_unsought(known, play_kinds(), missed);
     }
-    match left_out {
-        LeftOut::Nothing => unsought_alone(hosts),
-        LeftOut::Parts | LeftOut::Conditions => unsought_with_plays(hosts),
+    if !known.whole {
+        missed.push(Unsought::Plays)?;
     }
+    Ok(())
 }
 
-fn unsought_alone(hosts: KnownHosts) -> &'static str
-    ensures { result.now ≡ spec.unsought_alone hosts }
+/// Adds those of these kinds for which notes aren't looked.
+fn add_unsought(known: Known, kinds: &[Kind], missed: &mut Vec<Unsought>) -> Result<(), AllocError>
+    ensures { OnOk result (missed.new.items ≡ missed.old.items ++ kinds_unsought known kinds.now) }
 {
-    match hosts {
-        KnownHosts::All => "",
-        KnownHosts::Some =>
-            "  not looked for beside these faults: empty-limit, loose-limit, empty-group\n",
-        KnownHosts::Unlimited =>
-            "  not looked for beside these faults: zero-limit, empty-limit, loose-limit, empty-group\n",
+    for kind in kinds {
+        if !is_sought(known, *kind) {
+            missed.push(Unsought::Of(*kind))?;
+        }
     }
+    Ok(())
 }
 
-fn unsought_with_plays(hosts: KnownHosts) -> &'static str
-    ensures { result.now ≡ spec.unsought_with_plays hosts }
+/// Adds a line of their names, where there are any.
+fn add_line(missed: &[Unsought], text: &mut Vec<u8>) -> Result<(), AllocError>
+    ensures { OnOk result (text.new.items ≡ text.old.items ++ unsought_line missed.now) }
 {
-    match hosts {
-        KnownHosts::All => "  not looked for beside these faults: anything of plays and steps\n",
-        KnownHosts::Some =>
-            "  not looked for beside these faults: empty-limit, loose-limit, empty-group, anything of plays and steps\n",
-        KnownHosts::Unlimited =>
-            "  not looked for beside these faults: zero-limit, empty-limit, loose-limit, empty-group, anything of plays and steps\n",
-    }
+    let [first, later @ ..] = missed else {
+        return Ok(());
+    };
+    add_first(*first, text)?;
+    add_later(later, text)?;
+    text.extend_from_slice(b"\n")?;
+    Ok(())
 }
 
-fn kinds_unsought(hosts: KnownHosts, left_out: LeftOut) -> &'static str
-    ensures { result.now ≡ unsought hosts left_out }
+fn add_first(one: Unsought, text: &mut Vec<u8>) -> Result<(), AllocError>
+    ensures { OnOk result (text.new.items ≡ text.old.items ++ (codes "  not looked for beside these faults: " ++ spec.name_of one)) }
 {
-    match (hosts, left_out) {
-        (KnownHosts::All, LeftOut::Nothing) => "",
-        (KnownHosts::All, LeftOut::Parts) =>
-            "  not looked for beside these faults: one-failure, local-play, idle-handler\n",
-        (KnownHosts::All, LeftOut::Conditions) =>
-            "  not looked for beside these faults: one-failure, local-play, missing-name, missing-result, constant-condition, idle-handler\n",
-        (KnownHosts::Some, LeftOut::Nothing) =>
-            "  not looked for beside these faults: empty-limit, loose-limit, empty-group, no-hosts, down-hosts, unlimited-hosts, idle-serial, one-failure, local-play, missing-result, unknown-group, unlike-variable, whole-result, idle-step, fixed-target\n",
-        (KnownHosts::Some, LeftOut::Parts) =>
-            "  not looked for beside these faults: empty-limit, loose-limit, empty-group, no-hosts, down-hosts, unlimited-hosts, idle-serial, one-failure, local-play, missing-result, unknown-group, unlike-variable, whole-result, idle-step, fixed-target, idle-handler\n",
-        (KnownHosts::Some, LeftOut::Conditions) =>
-            "  not looked for beside these faults: empty-limit, loose-limit, empty-group, no-hosts, down-hosts, unlimited-hosts, idle-serial, one-failure, local-play, missing-name, missing-result, unknown-group, unlike-variable, whole-result, idle-step, constant-condition, fixed-target, idle-handler\n",
-        (KnownHosts::Unlimited, LeftOut::Nothing) =>
-            "  not looked for beside these faults: zero-limit, empty-limit, loose-limit, empty-group, no-hosts, down-hosts, unlimited-hosts, idle-serial, one-failure, local-play, missing-result, unknown-group, unlike-variable, whole-result, idle-step, fixed-target\n",
-        (KnownHosts::Unlimited, LeftOut::Parts) =>
-            "  not looked for beside these faults: zero-limit, empty-limit, loose-limit, empty-group, no-hosts, down-hosts, unlimited-hosts, idle-serial, one-failure, local-play, missing-result, unknown-group, unlike-variable, whole-result, idle-step, fixed-target, idle-handler\n",
-        (KnownHosts::Unlimited, LeftOut::Conditions) =>
-            "  not looked for beside these faults: zero-limit, empty-limit, loose-limit, empty-group, no-hosts, down-hosts, unlimited-hosts, idle-serial, one-failure, local-play, missing-name, missing-result, unknown-group, unlike-variable, whole-result, idle-step, constant-condition, fixed-target, idle-handler\n",
+    text.extend_from_slice(b"  not looked for beside these faults: ")?;
+    text.extend_from_slice(name_of(one).as_bytes())?;
+    Ok(())
+}
+
+fn add_later(missed: &[Unsought], text: &mut Vec<u8>) -> Result<(), AllocError>
+    ensures { OnOk result (text.new.items ≡ text.old.items ++ later_names missed.now) }
+{
+    for one in missed {
+        text.extend_from_slice(b", ")?;
+        text.extend_from_slice(name_of(*one).as_bytes())?;
     }
+    Ok(())
 }

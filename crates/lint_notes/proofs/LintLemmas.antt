@@ -8,9 +8,9 @@ use Rattle.planning.specs.declared.fault.PlanFault.{PlanFault}
 use Rattle.planning.specs.declared.fault.PlanFault.TheVariants.{Read, Fleet, Playbook, Pattern, Write}
 use Rattle.planning.proofs.TextLemmas.{refused_is_true}
 use Rattle.lint_notes.specs.LintTexts.{BreaksNotes, IsTrueFault, WritesNotes}
-use Rattle.lint_notes.specs.Notes.{Note, told}
-use Rattle.lint_notes.specs.NotesText.{end_of, notes_text}
-use Rattle.lint_notes.specs.declared.end.LintEnd.{LintEnd}
+use Rattle.note_lines.specs.Notes.{Note, told}
+use Rattle.note_lines.specs.NotesText.{end_of, notes_text}
+use Rattle.note_lines.specs.declared.end.LintEnd.{LintEnd}
 
 pub refused_lint : (first : List Note) (inventory playbook allowed : List ℕ) (old new : Option (List ℕ)) (fleet : FleetView) → IsFleetIn inventory fleet → (fault : PlanFault) → Keeps old new
     → IsPlaybookFault fleet playbook fault → IsTrueFault first inventory playbook allowed old new fault

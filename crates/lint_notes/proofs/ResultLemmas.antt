@@ -3,7 +3,7 @@ use Rattle.std.proofs.Common.{◌≡◌, ◌||◌, List, [], ◌∷◌, flat_map
 use Rattle.std.proofs.lemmas.List.Folds.{list_any-append}
 use Rattle.group_tree.specs.Names.{Name, is_among, same_name}
 use Rattle.text_parts.specs.Words.{Part, parts_of}
-use Rattle.lint_notes.specs.Results.{whole_in_part, whole_in_word, whole_in_words}
+use Rattle.step_notes.specs.Results.{whole_in_part, whole_in_word, whole_in_words}
 
 -- the first part of a word, and the rest behind it
 pub whole_part : (name word rest : Name) (first : Part) → parts_of word ≡ first ∷ parts_of rest

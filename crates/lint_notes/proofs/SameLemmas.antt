@@ -7,22 +7,23 @@ use Rattle.host_vars.specs.HostVars.{HasNoResult, variables_of}
 use Rattle.host_vars.specs.declared.vars.Vars.{Vars}
 use Rattle.play_model.specs.declared.play.Play.{Play}
 use Rattle.play_model.specs.declared.step.Step.{Step}
-use Rattle.lint_notes.specs.Hosts.{Crowd, Foreseen, foreseen_of, lacks_of}
-use Rattle.lint_notes.specs.Inside.{foreseen_in, lacks_in}
-use Rattle.lint_notes.specs.Notes.{Note}
+use Rattle.step_notes.specs.Hosts.{Crowd, Foreseen, foreseen_of, lacks_of}
+use Rattle.step_notes.specs.Inside.{foreseen_in, lacks_in}
+use Rattle.note_lines.specs.Notes.{Note}
 use Rattle.lint_notes.specs.Playbooks.{play_notes, plays_notes}
-use Rattle.lint_notes.specs.Steps.{notes_at}
-use Rattle.lint_notes.specs.declared.sort.Sort.{Sort}
-use Rattle.lint_notes.specs.declared.step_path.StepPath.{StepPath}
-use Rattle.lint_notes.proofs.CrowdLemmas.{foreseen_same, lacks_same}
+use Rattle.step_notes.specs.Steps.{notes_at}
+use Rattle.step_notes.specs.declared.ending.Ending.{Ending}
+use Rattle.step_notes.specs.declared.sort.Sort.{Sort}
+use Rattle.note_lines.specs.declared.step_path.StepPath.{StepPath}
+use Rattle.step_notes.proofs.CrowdLemmas.{foreseen_same, lacks_same}
 
-pub step_same : (is_set other : Name → Bool) → ((name : Name) → is_set name ≡ other name) → (crowd : Crowd) (foreseen : ℕ → Foreseen) (play : Play) (place : ℕ) (at path : StepPath) → at ≡ path → (step : Step)
-    → notes_at is_set crowd foreseen play place at step ≡ notes_at other crowd foreseen play place path step
-step_same is_set other same crowd foreseen play place at path is step = λ i. notes_at (λ name. same name i) crowd foreseen play place (is i) step
+pub step_same : (is_set other : Name → Bool) → ((name : Name) → is_set name ≡ other name) → (is_left also : Ending → Name → Bool) → ((ending : Ending) (name : Name) → is_left ending name ≡ also ending name) → (crowd : Crowd) (foreseen : ℕ → Foreseen) (play : Play) (place : ℕ) (at path : StepPath) → at ≡ path → (step : Step)
+    → notes_at is_set is_left crowd foreseen play place at step ≡ notes_at other also crowd foreseen play place path step
+step_same is_set other same is_left also left crowd foreseen play place at path is step = λ i. notes_at (λ name. same name i) (λ ending name. left ending name i) crowd foreseen play place (is i) step
 
-pub play_same : (is_set other : Name → Bool) → ((name : Name) → is_set name ≡ other name) → (fleet : FleetView) (lacks : Name → ℕ → Bool) (gives : Sort → Name → Bool) (foreseen : ℕ → ℕ → Foreseen) (smallest : Option ℕ) (number : ℕ) (play : Play)
-    → play_notes fleet lacks gives foreseen is_set smallest number play ≡ play_notes fleet lacks gives foreseen other smallest number play
-play_same is_set other same fleet lacks gives foreseen smallest number play = λ i. play_notes fleet lacks gives foreseen (λ name. same name i) smallest number play
+pub play_same : (is_set other : Name → Bool) → ((name : Name) → is_set name ≡ other name) → (is_left also : Ending → Name → Bool) → ((ending : Ending) (name : Name) → is_left ending name ≡ also ending name) → (fleet : FleetView) (lacks : Name → ℕ → Bool) (gives : Sort → Name → Bool) (foreseen : ℕ → ℕ → Foreseen) (smallest : Option ℕ) (number : ℕ) (play : Play)
+    → play_notes fleet lacks gives foreseen is_set is_left smallest number play ≡ play_notes fleet lacks gives foreseen other also smallest number play
+play_same is_set other same is_left also left fleet lacks gives foreseen smallest number play = λ i. play_notes fleet lacks gives foreseen (λ name. same name i) (λ ending name. left ending name i) smallest number play
 
 pub plays_same : (lacks other : Name → ℕ → Bool) → ((name : Name) (host : ℕ) → lacks name host ≡ other name host) → (gives also : Sort → Name → Bool)
     → ((sort : Sort) (name : Name) → gives sort name ≡ also sort name) → (foreseen others : ℕ → ℕ → ℕ → Foreseen) → ((number place host : ℕ) → foreseen number place host ≡ others number place host) → (fleet : FleetView) (sizes : List (Option ℕ)) (plays : List Play)

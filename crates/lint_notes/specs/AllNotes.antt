@@ -6,12 +6,12 @@ use Rattle.domains.specs.FleetViews.{FleetView}
 use Rattle.host_vars.specs.Layers.{HostView}
 use Rattle.host_vars.specs.Shared.{AreHostsOf}
 use Rattle.play_model.specs.declared.play.Play.{Play}
-use Rattle.lint_notes.specs.Notes.{Note}
-use Rattle.lint_notes.specs.Given.{is_given, is_given_as}
+use Rattle.note_lines.specs.Notes.{Note}
+use Rattle.step_notes.specs.Given.{is_given, is_given_as}
 use Rattle.lint_notes.specs.Near.{all_with_near, compared_names}
-use Rattle.lint_notes.specs.Hosts.{foreseen_of, lacks_of}
+use Rattle.step_notes.specs.Hosts.{foreseen_of, lacks_of}
 use Rattle.lint_notes.specs.Batches.{AreSmallestOf}
-use Rattle.lint_notes.specs.CaseHosts.{fleet_notes}
+use Rattle.fleet_notes.specs.CaseHosts.{fleet_notes}
 use Rattle.lint_notes.specs.Playbooks.{plays_notes}
 
 -- The notes on these plays, for a fleet of this inventory whose hosts have the variables that the inventory gives them: behind the first ones those on groups and hosts, then play by play. A play's

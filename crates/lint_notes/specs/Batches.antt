@@ -9,7 +9,7 @@ use Rattle.batch_plan.specs.declared.answers.Answer.{Answer}
 use Rattle.batch_plan.specs.declared.answers.Answer.TheVariants.{Planned, Blocked}
 use Rattle.play_course.specs.PlayPlans.{IsPlanOf}
 use Rattle.fleet_states.specs.Batches.{is_past}
-use Rattle.lint_notes.specs.Notes.{Note, idle_serial, one_failure}
+use Rattle.note_lines.specs.Notes.{Note, idle_serial, one_failure}
 
 -- the number of hosts that a size says; a percentage says none
 abbrev pub counted_hosts : Size → ℕ

@@ -12,11 +12,11 @@ use Rattle.planning.specs.PlanTexts as plans
 use Rattle.planning.specs.PlanTexts.{ArePlaysIn, IsFleetIn, IsUnread}
 use Rattle.planning.specs.declared.fault.PlanFault.{PlanFault}
 use Rattle.planning.specs.declared.fault.PlanFault.TheVariants.{Read, Fleet, Playbook, Pattern, Write}
-use Rattle.lint_notes.specs.Notes.{Note, told}
-use Rattle.lint_notes.specs.NotesText.{end_of, notes_text}
-use Rattle.lint_notes.specs.CaseHosts.{fleet_notes}
+use Rattle.note_lines.specs.Notes.{Note, told}
+use Rattle.note_lines.specs.NotesText.{end_of, notes_text}
+use Rattle.fleet_notes.specs.CaseHosts.{fleet_notes}
 use Rattle.lint_notes.specs.AllNotes.{AreNotesOf}
-use Rattle.lint_notes.specs.declared.end.LintEnd.{LintEnd}
+use Rattle.note_lines.specs.declared.end.LintEnd.{LintEnd}
 
 -- the notes on the inventory and the playbook that the texts say, behind the first ones
 pub record AreNotesIn (first : List Note) (inventory playbook : List ℕ) (notes : List Note) : Type 0 where

@@ -4,7 +4,7 @@ use Rattle.group_tree.specs.Names.{Name, same_name}
 use Rattle.near_names.specs.Nearness.{nearest_of}
 use Rattle.play_model.specs.declared.play.Play.{Play}
 use Rattle.play_model.specs.declared.step.Step.{Step}
-use Rattle.lint_notes.specs.Notes.{Note, unknown_name}
+use Rattle.note_lines.specs.Notes.{Note, unknown_name}
 
 abbrev pub register_names : {Y : Type 0} → Option (String Y) → List Name
 register_names None = []

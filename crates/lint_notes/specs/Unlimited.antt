@@ -4,7 +4,7 @@ use Rattle.std.specs.List.{find}
 use Rattle.domains.specs.FleetViews.{FleetView}
 use Rattle.domains.specs.Numbered.{host_at}
 use Rattle.fleet_numbers.specs.NumberLists.{list_at}
-use Rattle.lint_notes.specs.Notes.{Note, unlimited_hosts}
+use Rattle.note_lines.specs.Notes.{Note, unlimited_hosts}
 
 -- no group with a limit holds the host; so it is where no host has the number
 abbrev pub is_unlimited : FleetView → ℕ → Bool

@@ -4,12 +4,12 @@ ghost use Rattle.std.specs.List.{find};
 ghost use Rattle.fleet_numbers.specs.NumberLists.{list_at};
 ghost use Rattle.lint_notes.specs.Batches as model;
 ghost use Rattle.lint_notes.specs.Batches.{AreSmallestOf, IsSmallestIn, IsSmallestOf};
-ghost use Rattle.lint_notes.specs.Notes.{seen};
+ghost use Rattle.note_lines.specs.Notes.{seen};
 
-use crate::note::Note;
 use batch_plan::{Answer, Batches};
 use domains::Fleet;
 use group_tree::Percentage;
+use note_lines::Note;
 use play_course::plan_play;
 use play_model::{Play, Size};
 use std::alloc::{AllocError, Global};

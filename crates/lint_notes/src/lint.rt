@@ -1,17 +1,14 @@
 //! From the bytes of an inventory and a playbook to the notes on them.
 ghost use Rattle.std.specs.Prelude.{IfErr, IfOk};
-ghost use Rattle.lint_notes.specs.Repeats.{repeats_given};
+ghost use Rattle.fleet_notes.specs.Repeats.{repeats_given};
 ghost use Rattle.lint_notes.specs.LintTexts.{AreFleetNotesIn, AreNotesIn, IsTrueFault, IsTrueFleetFault, WritesNotes};
 
-use crate::allowed::Allowed;
-use crate::case_hosts::list_fleet_notes;
-use crate::end::LintEnd;
 use crate::playbook::list_notes;
-use crate::repeats::{Repeats, Texts};
-use crate::told::send_notes;
 use bumpalo::Bump;
 use domains::{Fleet, PatternFault};
+use fleet_notes::{Repeats, Texts, list_fleet_notes};
 use inventory_read::read_inventory;
+use note_lines::{Allowed, LintEnd, send_notes};
 use planning::{PlanFault, read_known_plays};
 use std::alloc::{AllocError, Global};
 use std::io::Write;

@@ -1,18 +1,17 @@
 //! The name that was probably meant where one is read that no waiting host has.
 ghost use Rattle.std.specs.Prelude.{◌≡◌, ◌∷◌, ◌++◌, IfOk, OnOk, codes, filter, map, option_map};
-ghost use Rattle.lint_notes.specs.Inside.{names_of};
+ghost use Rattle.step_notes.specs.Inside.{names_of};
 ghost use Rattle.lint_notes.specs.Near as model;
 ghost use Rattle.lint_notes.specs.Near.{all_with_near, compared_names, play_registers, register_names, step_registers};
-ghost use Rattle.lint_notes.specs.Notes.{seen};
+ghost use Rattle.note_lines.specs.Notes.{seen};
 ghost use Rattle.near_names.specs.Nearness.{nearest_of};
 
-use crate::missed::Missed;
-use crate::note::Note;
-use crate::notes::Notes;
 use cond::span::split;
 use near_names::nearest;
+use note_lines::{Note, Notes};
 use play_model::{Play, Step};
 use std::alloc::{AllocError, Global};
+use step_notes::Missed;
 
 /// With so many names at most a name is compared.
 const MOST_COMPARED: usize = 1000;

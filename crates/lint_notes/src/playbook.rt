@@ -3,34 +3,31 @@ ghost use Rattle.std.specs.Prelude.{◌≡◌, ◌<◌, ◌||◌, ◌++◌, ◌^
 ghost use Rattle.group_tree.specs.Names.{Name};
 ghost use Rattle.domains.specs.Fleets.{IsFleetOf};
 ghost use Rattle.needed_results.specs.Registers.{is_registered_by};
-ghost use Rattle.lint_notes.specs.Given.{AreAllGiven, gives};
-ghost use Rattle.lint_notes.specs.Inside.{crowd_of, foreseen_in, has_missed, has_name, lacks_in, noted_repeats};
+ghost use Rattle.step_notes.specs.Given.{AreAllGiven, gives};
+ghost use Rattle.step_notes.specs.Inside.{crowd_of, foreseen_in, has_missed, has_name, lacks_in, may_be};
+ghost use Rattle.fleet_notes.specs.Inside.{noted_repeats};
 ghost use Rattle.lint_notes.specs.AllNotes.{AreNotesOf};
-ghost use Rattle.lint_notes.specs.Hosts.{down_for, waiting_for};
+ghost use Rattle.lint_notes.specs.FullGroups.{AreMarks};
+ghost use Rattle.step_notes.specs.Endings.{is_left_by};
+ghost use Rattle.step_notes.specs.declared.ending.Ending.{Ending};
+ghost use Rattle.step_notes.specs.Hosts.{down_for, waiting_for};
 ghost use Rattle.lint_notes.specs.Playbooks.{batch_notes, play_notes, plays_notes, steps_notes};
 
-use crate::asked::Asked;
 use crate::batches::{failure_note, list_smallest, size_note};
-use crate::case_hosts::list_fleet_notes;
-use crate::crowd::Crowd;
-use crate::giving::list_given;
-use crate::lacks::Lacks;
+use crate::full_groups::{full_note, mark_full};
 use crate::near::with_near;
-use crate::notes::Notes;
-use crate::programs::local_play_note;
-use crate::registered::Registered;
-use crate::repeats::Repeats;
-use crate::stand::{Scene, Stand};
-use crate::step_path::{Numbered, StepPath};
-use crate::steps::note_step;
+use crate::scene::Scene;
 use crate::targets::{Targets, note_of};
 use crate::unlimited::unlimited_note;
 use domains::Fleet;
+use fleet_notes::{Repeats, list_fleet_notes};
 use group_tree::Tree;
 use host_vars::layered_all;
 use missing_names::Registry;
+use note_lines::{Notes, Numbered, StepPath};
 use play_model::Play;
 use std::alloc::{AllocError, Allocator, Global};
+use step_notes::{Asked, Crowd, Lacks, Registered, Stand, list_given, local_play_note, note_step};
 
 /// Adds what is noted of the steps of a play, and the names under which they register results.
 fn note_steps<'a>(
@@ -41,10 +38,12 @@ fn note_steps<'a>(
     registered: &mut Registered<'a>,
     numbered: Numbered<'a>,
 ) -> Result<(), AllocError>
-    ensures notes { OnOk result (notes.new ≡ notes.old ++ steps_notes (has_name registered.old) (crowd_of crowd.now)
+    ensures notes { OnOk result (notes.new ≡ notes.old ++ steps_notes (has_name registered.old) (may_be registered.old) (crowd_of crowd.now)
         (foreseen_in registry.now.fleet.now registry.now.plays.now crowd.now.lacks.now.vars.now numbered.entry.number) numbered.entry.number numbered.entry.play.now) }
     ensures registered { OnOk result ((name : Name) → has_name registered.new name
         ≡ (has_name registered.old name || is_registered_by numbered.entry.play.now.steps.items name)) }
+    ensures endings { OnOk result ((ending : Ending) (name : Name) → may_be registered.new ending name
+        ≡ (may_be registered.old ending name || is_left_by numbered.entry.play.now.steps.items ending name)) }
 {
     let play = numbered.play;
     let steps = play.steps();
@@ -69,19 +68,23 @@ fn note_steps<'a>(
 /// Adds what is noted of a play's hosts and batches, of which the smallest has this size. Here plays are counted from 1.
 fn note_batches<'a>(
     notes: &mut Notes<'a>,
-    fleet: &'a Fleet,
+    scene: Scene<'a, '_>,
     targets: &Targets,
     numbered: Numbered<'_>,
     smallest: Option<usize>,
 ) -> Result<(), AllocError>
-    requires waiting { targets.now.waiting.items ≡ waiting_for fleet.now numbered.play.now }
-    requires down { targets.now.down.items ≡ down_for fleet.now numbered.play.now }
-    ensures { OnOk result (notes.new ≡ notes.old ++ batch_notes fleet.now smallest numbered.entry.number numbered.entry.play.now) }
+    requires full { AreMarks scene.fleet.now scene.full.now }
+    requires waiting { targets.now.waiting.items ≡ waiting_for scene.fleet.now numbered.play.now }
+    requires down { targets.now.down.items ≡ down_for scene.fleet.now numbered.play.now }
+    ensures { OnOk result (notes.new ≡ notes.old ++ batch_notes scene.entry.fleet.now smallest numbered.entry.number numbered.entry.play.now) }
 {
+    let fleet = scene.fleet;
     let play = numbered.play;
     let number = numbered.number;
+    let waiting = targets.waiting.as_slice();
     notes.add(note_of(fleet, number, targets))?;
-    notes.add(unlimited_note(fleet, number, targets.waiting.as_slice()))?;
+    notes.add(full_note(fleet, scene.full, number, waiting))?;
+    notes.add(unlimited_note(fleet, number, waiting))?;
     notes.add(size_note(number, play.sizes(), targets.waiting.len()))?;
     notes.add(failure_note(number, play.max_fail(), smallest))?;
     notes.add(local_play_note(number, targets.waiting.len(), play))?;
@@ -98,13 +101,16 @@ fn note_play<'a>(
     smallest: Option<usize>,
 ) -> Result<(), AllocError>
     requires number { numbered.number < 2 ^ 63 }
+    requires full { AreMarks scene.fleet.now scene.full.now }
     requires given { AreAllGiven (has_missed scene.given.now.names) scene.vars.now }
     ensures notes { OnOk result (notes.new ≡ notes.old
         ++ play_notes scene.entry.fleet.now (lacks_in scene.entry.vars.now) (gives scene.entry.given.now)
         (foreseen_in scene.entry.registry.now.fleet.now scene.entry.registry.now.plays.now scene.entry.vars.now numbered.entry.number)
-        (has_name registered.old) smallest numbered.entry.number numbered.entry.play.now) }
+        (has_name registered.old) (may_be registered.old) smallest numbered.entry.number numbered.entry.play.now) }
     ensures registered { OnOk result ((name : Name) → has_name registered.new name
         ≡ (has_name registered.old name || is_registered_by numbered.entry.play.now.steps.items name)) }
+    ensures endings { OnOk result ((ending : Ending) (name : Name) → may_be registered.new ending name
+        ≡ (may_be registered.old ending name || is_left_by numbered.entry.play.now.steps.items ending name)) }
 {
     let fleet = scene.fleet;
     let targets = Targets::of(alloc, fleet, numbered.play)?;
@@ -112,7 +118,7 @@ fn note_play<'a>(
         number: numbered.number + 1,
         play: numbered.play,
     };
-    note_batches(notes, fleet, &targets, from_one, smallest)?;
+    note_batches(notes, scene, &targets, from_one, smallest)?;
     let lacks = Lacks::of(
         alloc,
         scene.vars,
@@ -137,6 +143,7 @@ fn note_plays<'a>(
     plays: &'a [Play],
 ) -> Result<(), AllocError>
     requires sizes { length sizes.now ≡ length plays.now }
+    requires full { AreMarks scene.fleet.now scene.full.now }
     requires given { AreAllGiven (has_missed scene.given.now.names) scene.vars.now }
     ensures { OnOk result (notes.new ≡ notes.old ++ plays_notes scene.entry.fleet.now (lacks_in scene.entry.vars.now) (gives scene.entry.given.now)
         (foreseen_in scene.entry.registry.now.fleet.now scene.entry.registry.now.plays.now scene.entry.vars.now) sizes.now plays.now) }
@@ -169,8 +176,10 @@ pub(crate) fn list_notes<'a, A: Allocator>(
     let mut notes = list_fleet_notes(alloc, repeats, tree, fleet)?;
     let registry = Registry::of(alloc, fleet, plays)?;
     let given = list_given(alloc, tree)?;
+    let full = mark_full(alloc, fleet)?;
     let scene = Scene {
         fleet,
+        full: full.as_slice(),
         vars: vars.as_slice(),
         given: &given,
         registry: &registry,

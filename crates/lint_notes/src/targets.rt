@@ -1,12 +1,12 @@
 //! The hosts that a play is for.
 ghost use Rattle.std.specs.Prelude.{◌≡◌, ◌∷◌, ◌++◌, [], IfOk, OnOk, filter, not, option_map};
-ghost use Rattle.lint_notes.specs.Hosts as model;
-ghost use Rattle.lint_notes.specs.Hosts.{down_for, hosts_note, waiting_for};
-ghost use Rattle.lint_notes.specs.Notes.{seen};
+ghost use Rattle.step_notes.specs.Hosts as model;
+ghost use Rattle.step_notes.specs.Hosts.{down_for, hosts_note, waiting_for};
+ghost use Rattle.note_lines.specs.Notes.{seen};
 
-use crate::note::Note;
 use domains::Fleet;
 use group_tree::HostId;
+use note_lines::Note;
 use play_model::Play;
 use recap::host_name;
 use std::alloc::{AllocError, Global};

@@ -1,12 +1,12 @@
 //! The note on hosts that no limit holds, where limits hold others of their play.
 ghost use Rattle.std.specs.Prelude.{◌≡◌, count_by, option_map};
 ghost use Rattle.std.specs.List.{find};
-ghost use Rattle.lint_notes.specs.Notes.{seen};
+ghost use Rattle.note_lines.specs.Notes.{seen};
 ghost use Rattle.lint_notes.specs.Unlimited as model;
 
-use crate::note::{Missing, Note};
 use domains::Fleet;
 use group_tree::HostId;
+use note_lines::{Missing, Note};
 use recap::host_name;
 
 #[tactic(auto, using(crate::proofs::UnlimitedLemmas::chain_of))]

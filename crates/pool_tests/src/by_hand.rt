@@ -5,7 +5,7 @@ use crate::faults::opened;
 use fork_pool::{Front, StepFault, WorkerEnd, pool};
 use group_tree::HostId;
 use roll_core::{Board, Go, History, Job, Outcome, Runner, Unwatched};
-use sample_fleets::{limited_again, set_up};
+use sample_fleets::{Setting, limited_again, set_up};
 use std::alloc::{AllocError, Global};
 use std::marker::Brand;
 use std::process::{Processes, SystemProcess};
@@ -41,6 +41,34 @@ struct Plan {
     /// There is no second one.
     alone: bool,
 }
+
+const SECOND: Plan = Plan {
+    first_wants: false,
+    second_wants: true,
+    turned: false,
+    alone: false,
+};
+
+const BOTH: Plan = Plan {
+    first_wants: true,
+    second_wants: true,
+    turned: true,
+    alone: false,
+};
+
+const FIRST: Plan = Plan {
+    first_wants: true,
+    second_wants: false,
+    turned: false,
+    alone: false,
+};
+
+const ALONE: Plan = Plan {
+    first_wants: true,
+    second_wants: false,
+    turned: false,
+    alone: true,
+};
 
 /// A runner for both workers: programs end well, where the plan doesn't say that memory is wanting.
 #[derive(Drop)]
@@ -222,7 +250,36 @@ fn is_told<L: Ledger>(
     }
 }
 
-/// So many hosts, of which as many are worked on at once as there are forks. The workers have the last two places.
+/// The step of a batch, whose workers have the last two places. The board is made here alone, so that the setting is held without it.
+fn step_by_plan<'s, L: Ledger, H: Threads + Wait + Processes<Started = SystemProcess> + Sync>(
+    rt: &H,
+    alloc: Global,
+    setting: &'s Setting,
+    hands: &'s Hands,
+    forks: usize,
+    batch: &[HostId],
+    blank: Blank,
+    history: History,
+) -> Result<
+    Result<Board<'s, Hands, L, Unwatched>, (StepFault, Board<'s, Hands, L, Unwatched>)>,
+    Fail,
+>
+    requires some { 0 < forks }
+    requires few { forks ≤ 64 }
+    requires name { blank.name ≡ L.name }
+    requires parts { blank.parts ≡ L.parts }
+    requires many { blank.parts ≡ 129 }
+{
+    let board = opened::<Hands, L>(alloc, setting, hands, forks, batch, blank, history)?;
+    let (front, mut ends) = pool(alloc, forks)?;
+    let (Some(second), Some(first)) = (ends.pop(), ends.pop()) else {
+        return Err(Fail::new("one worker"));
+    };
+    drop(ends);
+    Ok(with_hands(rt, alloc, front, first, second, board, hands))
+}
+
+/// So many hosts, of which as many are worked on at once as there are forks.
 fn stopped<L: Ledger, H: Threads + Wait + Processes<Started = SystemProcess> + Sync>(
     rt: &H,
     alloc: Global,
@@ -233,106 +290,56 @@ fn stopped<L: Ledger, H: Threads + Wait + Processes<Started = SystemProcess> + S
     blank: Blank,
     history: History,
 ) -> Result<(), Fail>
-    requires some { 0 < forks }
-    requires few { forks ≤ 64 }
     requires name { blank.name ≡ L.name }
     requires parts { blank.parts ≡ L.parts }
     requires many { blank.parts ≡ 129 }
 {
+    let Some(batch) = FIVE.get(..hosts) else {
+        return Err(Fail::new("too many hosts"));
+    };
     let setting = set_up(
         alloc,
         limited_again(alloc, 5, &["a", "b", "c", "d", "e"])?,
         PLAY,
     )?;
     let hands = Hands::new(plan);
-    let Some(batch) = FIVE.get(..hosts) else {
-        return Err(Fail::new("too many hosts"));
-    };
-    let board = opened::<Hands, L>(alloc, &setting, &hands, forks, batch, blank, history)?;
-    let (front, mut ends) = pool(alloc, forks)?;
-    let (Some(second), Some(first)) = (ends.pop(), ends.pop()) else {
-        return Err(Fail::new("one worker"));
-    };
-    drop(ends);
-    let answer = with_hands(rt, alloc, front, first, second, board, &hands);
+    let answer = step_by_plan::<L, H>(
+        rt,
+        alloc,
+        &setting,
+        &hands,
+        forks.clamp(1, 64),
+        batch,
+        blank,
+        history,
+    )?;
     let (place, out, reports) = told;
     is_told(answer, place, out, reports)
 }
 
 #[test]
 fn want_of_memory_stops_a_step(rt: HostRuntime) -> Result<(), Fail> {
-    // the second worker alone finds none
-    let plan = Plan {
-        first_wants: false,
-        second_wants: true,
-        turned: false,
-        alone: false,
-    };
-    stopped::<Brand, HostRuntime>(
-        &rt,
-        rt.alloc(),
-        2,
-        2,
-        plan,
-        (1, 1, 1),
-        Blank::new(129),
-        History::new(&rt),
-    )?;
-    // neither does, and the second one says so first
-    let turned = Plan {
-        first_wants: true,
-        turned: true,
-        ..plan
-    };
-    stopped::<Brand, HostRuntime>(
-        &rt,
-        rt.alloc(),
-        2,
-        2,
-        turned,
-        (0, 2, 0),
-        Blank::new(129),
-        History::new(&rt),
-    )?;
-    // the other reply is entered, and no third ticket is put
-    let plan = Plan {
-        first_wants: true,
-        second_wants: false,
-        ..plan
-    };
-    stopped::<Brand, HostRuntime>(
-        &rt,
-        rt.alloc(),
-        5,
-        2,
-        plan,
-        (0, 1, 1),
-        Blank::new(129),
-        History::new(&rt),
-    )?;
-    // the tickets that nobody has taken come back, all of them
-    let alone = Plan {
-        alone: true,
-        ..plan
-    };
-    stopped::<Brand, HostRuntime>(
-        &rt,
-        rt.alloc(),
-        5,
-        2,
-        alone,
-        (0, 2, 0),
-        Blank::new(129),
-        History::new(&rt),
-    )?;
-    stopped::<Brand, HostRuntime>(
-        &rt,
-        rt.alloc(),
-        5,
-        5,
-        alone,
-        (3, 5, 0),
-        Blank::new(129),
-        History::new(&rt),
-    )
+    for (hosts, forks, plan, told) in [
+        // the second worker alone finds none
+        (2, 2, SECOND, (1, 1, 1)),
+        // neither does, and the second one says so first
+        (2, 2, BOTH, (0, 2, 0)),
+        // the other reply is entered, and no third ticket is put
+        (5, 2, FIRST, (0, 1, 1)),
+        // the tickets that nobody has taken come back, all of them
+        (5, 2, ALONE, (0, 2, 0)),
+        (5, 5, ALONE, (3, 5, 0)),
+    ] {
+        stopped::<Brand, HostRuntime>(
+            &rt,
+            rt.alloc(),
+            hosts,
+            forks,
+            plan,
+            told,
+            Blank::new(129),
+            History::new(&rt),
+        )?;
+    }
+    Ok(())
 }

@@ -1,11 +1,11 @@
-//! The programs of a step run at once: a call waits for another that has to be at work beside it.
+//! The programs of a step on a pool of its own run at once: a call waits for another that has to be at work beside it.
 ghost use Rattle.std.specs.Prelude.{◌≡◌};
 
-use crate::rolling::{Rolled, roll_apart, roll_together};
+use crate::rolling::{Rolled, roll_apart};
 use fork_pool::StepFault;
 use group_tree::HostId;
 use roll_core::{Board, Go, History, Job, Outcome, Runner};
-use sample_fleets::{board_of, limited_again, set_up};
+use sample_fleets::{Setting, board_of, limited_again, set_up};
 use std::alloc::{AllocError, Global};
 use std::marker::Brand;
 use std::process::{Processes, SystemProcess};
@@ -132,14 +132,14 @@ impl Gate {
     }
 }
 
-/// A worker could not be started: the others have finished the step, or there was no pool at all.
+/// A worker could not be started: the others have finished the step.
 fn is_want_of_a_worker<L: Ledger>(rolled: &Rolled<'_, Gate, L>) -> bool {
     match rolled {
         Rolled::ToItsEnd(_board) => false,
         Rolled::Stopped(fault, board) => {
             *fault == StepFault::Mem && board.out() == 0 && board.due() == 0
         }
-        Rolled::NoMemory => true,
+        Rolled::NoMemory => false,
     }
 }
 
@@ -157,12 +157,31 @@ fn all_are_updated<L: Ledger>(rolled: Rolled<'_, Gate, L>, hosts: &[HostId]) -> 
     Ok(())
 }
 
-/// One step, on a pool of its own or on a standing one.
+/// The board is made here alone, so that the setting is held without it.
+fn rolled<'s, L: Ledger, H: Threads + Wait + Processes<Started = SystemProcess> + Sync>(
+    rt: &H,
+    alloc: Global,
+    setting: &'s Setting,
+    gate: &'s Gate,
+    forks: usize,
+    batch: &[HostId],
+    blank: Blank,
+    history: History,
+) -> Result<Rolled<'s, Gate, L>, Fail>
+    requires name { blank.name ≡ L.name }
+    requires parts { blank.parts ≡ L.parts }
+    requires many { blank.parts ≡ 129 }
+{
+    let board = board_of::<Gate, L>(alloc, setting, gate, forks.clamp(1, 64), blank, history)?;
+    let batches = [batch];
+    roll_apart(rt, alloc, board, &batches)
+}
+
+/// One step.
 fn gated<L: Ledger, H: Threads + Wait + Processes<Started = SystemProcess> + Sync>(
     rt: &H,
     alloc: Global,
     case: Case,
-    apart: bool,
     may_want: bool,
     blank: Blank,
     history: History,
@@ -177,20 +196,9 @@ fn gated<L: Ledger, H: Threads + Wait + Processes<Started = SystemProcess> + Syn
     };
     let setting = set_up(alloc, limited_again(alloc, 5, names)?, PLAY)?;
     let gate = Gate::new(case.until);
-    let batches = [batch];
-    let board = board_of::<Gate, L>(
-        alloc,
-        &setting,
-        &gate,
-        case.forks.clamp(1, 64),
-        blank,
-        history,
+    let rolled = rolled::<L, H>(
+        rt, alloc, &setting, &gate, case.forks, batch, blank, history,
     )?;
-    let rolled = if apart {
-        roll_apart(rt, alloc, board, &batches)?
-    } else {
-        roll_together(rt, alloc, board, &batches)?
-    };
     if may_want && is_want_of_a_worker(&rolled) {
         return Ok(());
     }
@@ -199,18 +207,15 @@ fn gated<L: Ledger, H: Threads + Wait + Processes<Started = SystemProcess> + Syn
 
 #[test]
 fn gate_two_at_once(rt: HostRuntime) -> Result<(), Fail> {
-    for apart in [true, false] {
-        for case in [TWO_AT_ONCE, FIVE_AT_ONCE, ONE_GOES_ON] {
-            gated::<Brand, HostRuntime>(
-                &rt,
-                rt.alloc(),
-                case,
-                apart,
-                false,
-                Blank::new(129),
-                History::new(&rt),
-            )?;
-        }
+    for case in [TWO_AT_ONCE, FIVE_AT_ONCE, ONE_GOES_ON] {
+        gated::<Brand, HostRuntime>(
+            &rt,
+            rt.alloc(),
+            case,
+            false,
+            Blank::new(129),
+            History::new(&rt),
+        )?;
     }
     Ok(())
 }
@@ -218,16 +223,12 @@ fn gate_two_at_once(rt: HostRuntime) -> Result<(), Fail> {
 /// Where a thread is refused, the answer is want of memory: without it both programs have run at once.
 #[test]
 fn a_step_ends_or_a_worker_is_wanting(rt: HostRuntime) -> Result<(), Fail> {
-    for apart in [true, false] {
-        gated::<Brand, HostRuntime>(
-            &rt,
-            rt.alloc(),
-            TWO_AT_ONCE,
-            apart,
-            true,
-            Blank::new(129),
-            History::new(&rt),
-        )?;
-    }
-    Ok(())
+    gated::<Brand, HostRuntime>(
+        &rt,
+        rt.alloc(),
+        TWO_AT_ONCE,
+        true,
+        Blank::new(129),
+        History::new(&rt),
+    )
 }

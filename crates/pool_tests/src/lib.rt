@@ -1,5 +1,5 @@
-//! What no clause says of workers: that a step comes to its end where there is memory, that its programs run at once, that the number of workers and
-//! their order make no difference, and want of memory; and that each ticket of a line is taken, and the threads of a line end.
+//! What no clause and no command says of workers: that a step on a pool of its own comes to its end where there is memory, that its programs run at once,
+//! that it is the same at any number of forks, and want of memory; what a step says that does not come to its end; and that the threads of a line end.
 #![tactic(auto)]
 
 #[cfg(test)]
@@ -13,12 +13,6 @@ mod gathered;
 #[cfg(test)]
 mod memory;
 #[cfg(test)]
-mod paced;
-#[cfg(test)]
-mod plays;
-#[cfg(test)]
 mod rolling;
 #[cfg(test)]
 mod rows;
-#[cfg(test)]
-mod tickets;

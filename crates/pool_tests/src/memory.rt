@@ -1,4 +1,4 @@
-//! Whatever one request of memory is refused, a roll comes to its end with its rows, or says that memory is wanting.
+//! The same rows at any number of forks; whatever one request of memory, or one thread, is refused, a roll comes to its end with them, or says that memory is wanting.
 ghost use Rattle.std.specs.Prelude.{◌≡◌};
 
 use crate::rows::{rolled, script_again, six_hosts};
@@ -14,21 +14,18 @@ fn a_roll_ends_or_memory_is_wanting(rt: HostRuntime) -> Result<(), Fail> {
     let setting = six_hosts(alloc)?;
     let script = script_again(alloc)?;
     let mut wanting = 0u32;
-    for forks in [1, 2] {
-        for apart in [true, false] {
-            let to_its_end = rolled::<Script, Brand, HostRuntime>(
-                &rt,
-                alloc,
-                &setting,
-                &script,
-                forks,
-                apart,
-                Blank::new(129),
-                History::new(&rt),
-            )?;
-            if !to_its_end {
-                wanting = wanting.saturating_add(1);
-            }
+    for forks in [1, 2, 5, 64] {
+        let to_its_end = rolled::<Script, Brand, HostRuntime>(
+            &rt,
+            alloc,
+            &setting,
+            &script,
+            forks,
+            Blank::new(129),
+            History::new(&rt),
+        )?;
+        if !to_its_end {
+            wanting = wanting.saturating_add(1);
         }
     }
     assert!(rt; wanting <= 1, "memory was refused once");

@@ -1,20 +1,19 @@
-//! Six hosts of which two may be down, three steps, and one host that fails at the second: the same rows at any number of forks.
+//! Six hosts of which two may be down, three steps, and one host that fails at the second.
 ghost use Rattle.std.specs.Prelude.{◌≡◌, ◌<◌, ◌≤◌};
 
-use crate::rolling::{Rolled, roll_apart, roll_together};
+use crate::rolling::{Rolled, roll_apart};
 use fork_pool::{Script, StepFault};
 use group_tree::HostId;
 use roll_core::{Board, Counts, History, Outcome, Runner, Status, Unwatched};
 use sample_fleets::{Setting, board_of, limited_again, set_up};
 use std::alloc::{AllocError, Global};
-use std::marker::Brand;
 use std::process::{Processes, SystemProcess};
 use std::sync::Wait;
 use std::sync::ledger::{Blank, Ledger};
 use std::test::Fail;
 use std::thread::Threads;
 
-const THREE_STEPS: &str =
+pub const THREE_STEPS: &str =
     r#"[{"hosts":"all","tasks":[{"command":"x"},{"command":"y"},{"command":"z"}]}]"#;
 
 pub const SIX: [&str; 6] = ["a", "b", "c", "d", "e", "f"];
@@ -67,7 +66,7 @@ fn is_row(counts: Counts, rows: (u32, u32, u32)) -> bool {
 }
 
 /// Each host has its rows and its status, and each report is counted.
-pub fn is_as_worked<R: Runner, L: Ledger>(board: &Board<'_, R, L, Unwatched>) -> bool {
+fn is_as_worked<R: Runner, L: Ledger>(board: &Board<'_, R, L, Unwatched>) -> bool {
     for index in 0..SIX.len() {
         let host = HostId { index };
         let (rows, status) = if host == FAILS {
@@ -89,7 +88,6 @@ pub fn rolled<R: Runner, L: Ledger, H: Threads + Wait + Processes<Started = Syst
     setting: &Setting,
     runner: &R,
     forks: usize,
-    apart: bool,
     blank: Blank,
     history: History,
 ) -> Result<bool, Fail>
@@ -102,39 +100,11 @@ pub fn rolled<R: Runner, L: Ledger, H: Threads + Wait + Processes<Started = Syst
     let Ok(board) = board_of::<R, L>(alloc, setting, runner, forks, blank, history) else {
         return Ok(false);
     };
-    let rolled = if apart {
-        roll_apart(rt, alloc, board, &BATCHES)?
-    } else {
-        roll_together(rt, alloc, board, &BATCHES)?
-    };
-    match rolled {
+    match roll_apart(rt, alloc, board, &BATCHES)? {
         Rolled::ToItsEnd(board) if is_as_worked(&board) => Ok(true),
         Rolled::ToItsEnd(_board) => Err(Fail::new("other rows")),
         Rolled::Stopped(StepFault::Mixed, _board) => Err(Fail::new("mixed")),
         Rolled::Stopped(_fault, _board) => Ok(false),
         Rolled::NoMemory => Ok(false),
     }
-}
-
-#[test]
-fn forks_make_no_difference(rt: HostRuntime) -> Result<(), Fail> {
-    let alloc = rt.alloc();
-    let setting = six_hosts(alloc)?;
-    let script = script_again(alloc)?;
-    for forks in [1, 2, 5, 64] {
-        for apart in [true, false] {
-            let to_its_end = rolled::<Script, Brand, HostRuntime>(
-                &rt,
-                alloc,
-                &setting,
-                &script,
-                forks,
-                apart,
-                Blank::new(129),
-                History::new(&rt),
-            )?;
-            assert!(rt; to_its_end, "{forks} forks, {apart}");
-        }
-    }
-    Ok(())
 }

@@ -8,7 +8,7 @@ use Rattle.domains.specs.declared.pattern_fault.PatternFault.TheVariants.{NoSuch
 use Rattle.planning.specs.declared.fault.PlanFault.{PlanFault}
 use Rattle.planning.specs.declared.fault.PlanFault.TheVariants as planning
 use Rattle.kept_notes.specs.Beside.{AreNotesOn, IsTrueOn}
-use Rattle.lint_notes.specs.Repeats.{repeat_notes}
+use Rattle.fleet_notes.specs.Repeats.{repeat_notes}
 use Rattle.lint_notes.specs.LintTexts.{BreaksNotes}
 use Rattle.rollout.specs.LintFaults.{AreFaultless, PrintsFaults}
 use Rattle.rollout.specs.Notes.{FailsOver, IsFaultlessFor, IsRefusedSo, LosesAll, LosesNotes, SaysOf, TellsInstead, TellsLost, is_lost}

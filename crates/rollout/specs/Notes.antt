@@ -3,10 +3,10 @@ use Rattle.std.specs.Prelude.{◌≡◌, ◌⊎◌, ℕ, Bool, false, true, List
 use Rattle.bounded_io.specs.declared.write_fault.WriteFault.{WriteFault}
 use Rattle.command_line.specs.declared.command.Source.{Source}
 use Rattle.kept_notes.specs.Beside.{AreNotesOn, IsTrueOn, WritesOn}
-use Rattle.lint_notes.specs.Kinds.{are_kind_names}
+use Rattle.note_lines.specs.Kinds.{are_kind_names}
 use Rattle.lint_notes.specs.LintTexts.{BreaksNotes}
-use Rattle.lint_notes.specs.Repeats.{repeat_notes}
-use Rattle.lint_notes.specs.declared.end.LintEnd.{LintEnd}
+use Rattle.fleet_notes.specs.Repeats.{repeat_notes}
+use Rattle.note_lines.specs.declared.end.LintEnd.{LintEnd}
 use Rattle.planning.specs.declared.fault.PlanFault.{PlanFault}
 use Rattle.planning.specs.declared.fault.PlanFault.TheVariants as planning
 use Rattle.rollout.specs.LintFaults.{AreFaultless, LosesFaults, PrintsFaults, WantsMemory}

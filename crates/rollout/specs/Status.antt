@@ -10,8 +10,8 @@ use Rattle.plan_check.specs.declared.end.CheckEnd.{CheckEnd}
 use Rattle.plan_check.specs.declared.end.CheckEnd.TheVariants as check_ends
 use Rattle.step_words.specs.declared.end.WordsEnd.{WordsEnd}
 use Rattle.step_words.specs.declared.end.WordsEnd.TheVariants as words_ends
-use Rattle.lint_notes.specs.declared.end.LintEnd.{LintEnd}
-use Rattle.lint_notes.specs.declared.end.LintEnd.TheVariants as lint_ends
+use Rattle.note_lines.specs.declared.end.LintEnd.{LintEnd}
+use Rattle.note_lines.specs.declared.end.LintEnd.TheVariants as lint_ends
 use Rattle.rollout.specs.declared.status.Status.{Status}
 use Rattle.rollout.specs.declared.status.Status.TheVariants.{Done, Refused, Failed, Blocked, Stopped, Memory, BrokenOff}
 

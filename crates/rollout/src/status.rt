@@ -2,7 +2,7 @@
 ghost use Rattle.std.specs.Prelude.{◌≡◌};
 ghost use Rattle.rollout.specs.Status.{code_of};
 
-use lint_notes::LintEnd;
+use note_lines::LintEnd;
 use plan_check::CheckEnd;
 use planning::End;
 use rehearsing::CourseEnd;

@@ -1,7 +1,7 @@
 //! The command `lint`: from the files of an inventory and a playbook to what is accepted and probably not meant.
 ghost use Rattle.std.specs.Prelude.{◌≡◌, IfErr, IfOk, None, Some, false, true};
 ghost use Rattle.std.specs.Option.{option_map};
-ghost use Rattle.lint_notes.specs.Kinds.{are_kind_names};
+ghost use Rattle.note_lines.specs.Kinds.{are_kind_names};
 ghost use Rattle.rollout.specs.LintFaults.{IsFound, PrintsFaults};
 ghost use Rattle.rollout.specs.Lists.{IsBadList};
 ghost use Rattle.rollout.specs.Notes.{FailsOver, Lints, LintsBoth, LintsOne, LosesAll, SaysOf, TellsInstead};
@@ -17,8 +17,10 @@ use crate::status::Status;
 use crate::system::System;
 use bounded_io::Input;
 use command_line::Source;
+use fleet_notes::Texts;
 use kept_notes::notes_beside_faults;
-use lint_notes::{Allowed, Texts, lint_fleet_text, lint_text, read_allowed};
+use lint_notes::{lint_fleet_text, lint_text};
+use note_lines::{Allowed, read_allowed};
 use planning::PlanFault;
 use std::alloc::Global;
 use std::io::Write;

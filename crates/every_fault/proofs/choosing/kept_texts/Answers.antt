@@ -1,7 +1,8 @@
 use Rattle.std.proofs.Common.{Bool, is_some, option_map, subst}
 use Rattle.std.proofs.lemmas.Result.{IfOk-weaker}
 use Rattle.every_fault.specs.Inventories.{IsFleetPart, standing_of}
-use Rattle.every_fault.specs.KeptTexts.{AreTextsOf}
+use Rattle.every_fault.specs.KeptTexts.{AreTextsOf, known_fleet}
+use Rattle.every_fault.specs.declared.choosing.KnownFleet.{KnownFleet}
 use Rattle.every_fault.specs.Unread.{is_silent}
 use Rattle.every_fault.proofs.choosing.kept_texts.Goals as goal
 
@@ -20,7 +21,7 @@ returns-in-Ok-find_fleet c =
           subst (λ silent. IsFleetPart c.args.inventory.now 0 silent c.in-Ok-fleet_part._told standing) read c.in-Ok-fleet_part.ensures;
       found = found;
       is_found = c.in-Ok-find_fleet.ensures;
-      are = subst (λ (limited : Bool). AreTextsOf (is_silent c.in-Ok.told.faults.items c.in-Ok.told.more) limited found (option_map (λ text. text.now) c.args.playbook) texts) c.is_there-limited.ensures
-          (subst (λ (silent : Bool). AreTextsOf silent c.is_there-limited.result found (option_map (λ text. text.now) c.args.playbook) texts) read are);
+      are = subst (λ (limited : Bool). AreTextsOf (known_fleet c.in-Ok.told limited) found (option_map (λ text. text.now) c.args.playbook) texts) c.is_there.ensures
+          (subst (λ (known : KnownFleet). AreTextsOf known found (option_map (λ text. text.now) c.args.playbook) texts) c.known_of-known.ensures are);
     })
     c.texts_of.ensures

@@ -1,5 +1,5 @@
 use Rattle.std.proofs.Common.{Some, sym, ◌∙◌}
-use Rattle.lint_notes.specs.Repeats.{repeats_given}
+use Rattle.fleet_notes.specs.Repeats.{repeats_given}
 use Rattle.kept_notes.proofs.BesideLemmas.{are_refused, noted_in}
 use Rattle.kept_notes.proofs.beside.notes_on_both.Goals as goal
 

@@ -1,5 +1,5 @@
 use Rattle.std.proofs.Common.{None, Some, inr, sym, ◌∙◌}
-use Rattle.lint_notes.specs.Repeats.{repeats_given}
+use Rattle.fleet_notes.specs.Repeats.{repeats_given}
 use Rattle.kept_notes.proofs.BesideLemmas.{are_refused}
 use Rattle.kept_notes.proofs.beside.notes_on_one.Goals as goal
 

@@ -1,8 +1,8 @@
 use Rattle.std.proofs.Common.{List, ◌++◌, ap, ◌∙◌}
-use Rattle.lint_notes.specs.CaseHosts.{fleet_notes}
+use Rattle.fleet_notes.specs.CaseHosts.{fleet_notes}
 use Rattle.lint_notes.specs.LintTexts.{AreFleetNotesIn}
-use Rattle.lint_notes.specs.Notes.{Note}
-use Rattle.lint_notes.specs.Repeats.{repeats_given}
+use Rattle.note_lines.specs.Notes.{Note}
+use Rattle.fleet_notes.specs.Repeats.{repeats_given}
 use Rattle.lint_notes.proofs.LintLemmas.{breaks_notes, writes_notes}
 use Rattle.lint_notes.proofs.lint.lint_fleet_text.Goals as goal
 

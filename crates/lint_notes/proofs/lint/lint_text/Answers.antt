@@ -3,10 +3,10 @@ use Rattle.std.proofs.KnownBytes.{Keeps-refl}
 use Rattle.planning.specs.PlanTexts.{IsFleetIn}
 use Rattle.play_model.specs.declared.play.Play.{Play}
 use Rattle.lint_notes.specs.AllNotes.{AreNotesOf}
-use Rattle.lint_notes.specs.Inside.{noted_repeats}
+use Rattle.fleet_notes.specs.Inside.{noted_repeats}
 use Rattle.lint_notes.specs.LintTexts.{AreNotesIn}
-use Rattle.lint_notes.specs.Notes.{Note}
-use Rattle.lint_notes.specs.Repeats.{repeats_given}
+use Rattle.note_lines.specs.Notes.{Note}
+use Rattle.fleet_notes.specs.Repeats.{repeats_given}
 use Rattle.lint_notes.proofs.LintLemmas.{breaks_notes, refused_lint, writes_notes}
 use Rattle.lint_notes.proofs.lint.lint_text.Goals as goal
 

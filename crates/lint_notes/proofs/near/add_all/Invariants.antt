@@ -1,5 +1,5 @@
 use Rattle.std.proofs.Common.{◌≡◌, ◌++◌, map, take}
-use Rattle.lint_notes.specs.Notes.{seen}
+use Rattle.note_lines.specs.Notes.{seen}
 use Rattle.lint_notes.proofs.near.add_all.Given as goal
 
 abbrev pub invariant-loop-note : goal.invariant-loop-note

@@ -1,5 +1,5 @@
 use Rattle.std.proofs.Common.{◌≡◌, ◌++◌, take}
-use Rattle.lint_notes.specs.Inside.{names_of}
+use Rattle.step_notes.specs.Inside.{names_of}
 use Rattle.lint_notes.specs.Near.{play_registers}
 use Rattle.lint_notes.proofs.near.add_play_registers.Given as goal
 

@@ -1,5 +1,5 @@
 use Rattle.std.proofs.Common.{◌≡◌, ◌++◌, take}
-use Rattle.lint_notes.specs.Inside.{names_of}
+use Rattle.step_notes.specs.Inside.{names_of}
 use Rattle.lint_notes.specs.Near.{step_registers}
 use Rattle.lint_notes.proofs.near.add_step_registers.Given as goal
 

@@ -1,5 +1,5 @@
 use Rattle.std.proofs.Common.{◌≡◌, filter, take}
-use Rattle.lint_notes.specs.Inside.{names_of}
+use Rattle.step_notes.specs.Inside.{names_of}
 use Rattle.lint_notes.specs.Near as model
 use Rattle.lint_notes.proofs.near.list_others.Given as goal
 

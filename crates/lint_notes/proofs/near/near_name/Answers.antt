@@ -1,5 +1,5 @@
 use Rattle.std.proofs.Common.{ap, ◌∙◌}
-use Rattle.lint_notes.specs.Inside.{names_of}
+use Rattle.step_notes.specs.Inside.{names_of}
 use Rattle.near_names.specs.Nearness.{nearest_of}
 use Rattle.lint_notes.proofs.SameLemmas.{if_ok_same}
 use Rattle.lint_notes.proofs.near.near_name.Goals as goal

@@ -1,7 +1,7 @@
 use Rattle.std.proofs.Common.{◌≡◌, map, take}
-use Rattle.lint_notes.specs.Inside.{names_of}
+use Rattle.step_notes.specs.Inside.{names_of}
 use Rattle.lint_notes.specs.Near.{with_near}
-use Rattle.lint_notes.specs.Notes.{seen}
+use Rattle.note_lines.specs.Notes.{seen}
 use Rattle.lint_notes.proofs.near.notes_with_near.Given as goal
 
 abbrev pub invariant-loop-note : goal.invariant-loop-note

@@ -2,9 +2,9 @@ use Rattle.std.proofs.Common.{◌≡◌, ◌++◌, ◌∷◌, Bor, List, drop, m
 use Rattle.std.specs.Prelude.{codes}
 use Rattle.std.proofs.lemmas.List.{drop-map, take-map}
 use Rattle.group_tree.specs.Names.{Name}
-use Rattle.lint_notes.specs.Inside.{names_of}
+use Rattle.step_notes.specs.Inside.{names_of}
 use Rattle.lint_notes.specs.Near.{compared_names, most_compared, most_told, play_registers, with_near}
-use Rattle.lint_notes.specs.Notes.{Note, seen}
+use Rattle.note_lines.specs.Notes.{Note, seen}
 use Rattle.lint_notes.proofs.near.with_near.Goals as goal
 
 pub returns : goal.returns

@@ -2,11 +2,13 @@ use Rattle.std.proofs.Common.{◌≡◌, ℕ, ◌||◌, ◌++◌, None, List, sy
 use Rattle.std.specs.Prelude.{slice_index_or}
 use Rattle.play_model.specs.declared.play.Play.{Play}
 use Rattle.needed_results.specs.Registers.{is_registered_by, is_registered_in}
-use Rattle.lint_notes.specs.Hosts.{Foreseen}
-use Rattle.lint_notes.specs.Inside.{foreseen_in, gives, has_name, lacks_in}
-use Rattle.lint_notes.specs.Notes.{Note}
+use Rattle.step_notes.specs.Hosts.{Foreseen}
+use Rattle.step_notes.specs.Inside.{foreseen_in, gives, has_name, lacks_in, may_be}
+use Rattle.step_notes.specs.Endings.{is_left_by, is_left_in}
+use Rattle.note_lines.specs.Notes.{Note}
 use Rattle.lint_notes.specs.Playbooks.{play_notes}
-use Rattle.lint_notes.proofs.NotedLemmas.{any_more, noted_more}
+use Rattle.step_notes.proofs.AnyLemmas.{any_more}
+use Rattle.lint_notes.proofs.EachLemmas.{noted_more}
 use Rattle.lint_notes.proofs.SameLemmas.{play_same}
 use Rattle.lint_notes.proofs.playbook.note_plays.Goals as goal
 
@@ -24,13 +26,17 @@ loop-number-preserved c =
     let smallest = slice_index_or sizes number None in
     let before = c.loop-number.registered in
     let earlier = is_registered_in (take number plays) in
-    let now : c.note_play.new.notes ≡ c.loop-number.notes ++ play_notes fleet lacks given (foreseen number) earlier smallest number play =
+    let left = is_left_in (take number plays) in
+    let now : c.note_play.new.notes ≡ c.loop-number.notes ++ play_notes fleet lacks given (foreseen number) earlier left smallest number play =
     c.in_ok-note_play.ensures.notes
-    ∙ ap (λ (l : List Note). c.loop-number.notes ++ l) (play_same (has_name before) earlier c.loop-number.invariant.registered fleet lacks given (foreseen number) smallest number play) in
+    ∙ ap (λ (l : List Note). c.loop-number.notes ++ l) (play_same (has_name before) earlier c.loop-number.invariant.registered (may_be before) left c.loop-number.invariant.endings fleet lacks given (foreseen number) smallest number play) in
     record {
-      notes = noted_more (λ number play. play_notes fleet lacks given (foreseen number) (is_registered_in (take number plays)) (slice_index_or sizes number None) number play) plays number play c.loop-number.notes c.note_play.new.notes _
+      notes = noted_more (λ number play. play_notes fleet lacks given (foreseen number) (is_registered_in (take number plays)) (is_left_in (take number plays)) (slice_index_or sizes number None) number play) plays number play c.loop-number.notes c.note_play.new.notes _
           c.loop-number-test.true c.index-plays-number.is c.loop-number.invariant.notes now;
       registered = λ name. c.in_ok-note_play.ensures.registered name
           ∙ ap (λ b. b || is_registered_by play.steps.items name) (c.loop-number.invariant.registered name)
           ∙ sym (any_more (λ (play : Play). is_registered_by play.steps.items name) plays number play c.loop-number-test.true c.index-plays-number.is);
+      endings = λ ending name. c.in_ok-note_play.ensures.endings ending name
+          ∙ ap (λ b. b || is_left_by play.steps.items ending name) (c.loop-number.invariant.endings ending name)
+          ∙ sym (any_more (λ (play : Play). is_left_by play.steps.items ending name) plays number play c.loop-number-test.true c.index-plays-number.is);
     }

@@ -1,7 +1,7 @@
 use Rattle.std.proofs.Common.{not}
 use Rattle.group_tree.specs.declared.ids.HostId.{HostId}
-use Rattle.lint_notes.specs.Hosts.{is_off}
-use Rattle.lint_notes.proofs.CrowdLemmas.{kept_more}
+use Rattle.step_notes.specs.Hosts.{is_off}
+use Rattle.step_notes.proofs.CrowdLemmas.{kept_more}
 use Rattle.lint_notes.proofs.targets.Targets.of.Goals as goal
 
 pub loop-host-preserved : goal.loop-host-preserved

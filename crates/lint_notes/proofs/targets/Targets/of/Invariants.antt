@@ -1,7 +1,7 @@
 use Rattle.std.proofs.Common.{◌≡◌, not, take}
 use Rattle.std.specs.List.{filter}
 use Rattle.domains.specs.Ids.{host_numbers}
-use Rattle.lint_notes.specs.Hosts.{is_off}
+use Rattle.step_notes.specs.Hosts.{is_off}
 use Rattle.lint_notes.proofs.targets.Targets.of.Given as goal
 
 abbrev pub invariant-loop-host : goal.invariant-loop-host

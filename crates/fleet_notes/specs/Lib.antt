@@ -1,0 +1,8 @@
+pub mod Holes
+pub mod NearKeys
+pub mod Groups
+pub mod HostKeys
+pub mod Namesakes
+pub mod CaseHosts
+pub mod Repeats
+pub mod Inside

@@ -1,0 +1,17 @@
+//! The notes on the groups of an inventory and their hosts.
+#![tactic(auto)]
+
+mod bytes;
+mod case_hosts;
+mod groups;
+mod holes;
+mod host_keys;
+mod namesakes;
+mod near_keys;
+mod repeats;
+
+pub use bytes::{behind_blanks, byte_at, bytes_behind, first_bytes, last_bytes};
+pub use case_hosts::list_fleet_notes;
+pub use holes::is_literal;
+pub use namesakes::is_group;
+pub use repeats::{Repeats, Texts};

@@ -1,5 +1,0 @@
-use Rattle.lint_notes.specs.Lacks.{KnowsLacks}
-use Rattle.lint_notes.proofs.lacks.Lacks.of.Given as goal
-
-abbrev pub invariant-loop-step : goal.invariant-loop-step
-invariant-loop-step l = KnowsLacks l.vars l.waiting l.known

@@ -1,7 +1,0 @@
-use Rattle.std.proofs.Common.{◌≡◌, drop}
-use Rattle.lint_notes.specs.ShellWords.{has_expansion}
-use Rattle.lint_notes.proofs.shell_words.has_expansion.Given as goal
-
--- what is left decides
-abbrev pub invariant-loop-place : goal.invariant-loop-place
-invariant-loop-place l = has_expansion (drop l.place l.bytes) ≡ has_expansion l.bytes

@@ -1,8 +1,0 @@
-use Rattle.std.proofs.Common.{◌≡◌, ◌++◌, flat_map, take}
-use Rattle.lint_notes.specs.Hosts.{name_note}
-use Rattle.lint_notes.specs.Inside.{crowd_of, names_of}
-use Rattle.lint_notes.specs.Notes.{noted}
-use Rattle.lint_notes.proofs.steps.note_names.Given as goal
-
-abbrev pub invariant-loop-name : goal.invariant-loop-name
-invariant-loop-name l = l.notes ≡ l.initial.notes ++ flat_map (λ name. noted (name_note (crowd_of l.crowd) l.at name)) (names_of (take l.name-index l.names))

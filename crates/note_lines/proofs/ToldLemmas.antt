@@ -1,0 +1,37 @@
+-- Notes that are told, one behind the other.
+use Rattle.std.proofs.Common.{◌≡◌, ℕ, ◌+◌, ◌<◌, ◌==◌, Bor, Bool, true, false, not, ◌||◌, List, [], ◌∷◌, ◌++◌, length}
+use Rattle.std.proofs.Common.{arith, length-append, map, take, drop, drop-cons, add-one, get_or, flat_map, refl, sym, ap, ◌∙◌, append_assoc, append-nil}
+use Rattle.std.specs.List.{list_any, range_with_len}
+use Rattle.std.specs.Prelude.{OnOk, Result, Ok, Err}
+use Rattle.std.proofs.lemmas.Bool.Decides.{nat_tests}
+use Rattle.std.proofs.lemmas.Grind.{take_at_read, flat_map-append}
+use Rattle.std.proofs.lemmas.List.{map-append}
+use Rattle.std.proofs.lemmas.List.Elements.{filter-append}
+use Rattle.std.proofs.lemmas.List.Folds.{list_any-append}
+use Rattle.note_lines.specs.Kinds.{allows}
+use Rattle.note_lines.specs.Notes.{Note, kind_of, seen, told}
+use Rattle.note_lines.specs.NotesText.{note_line}
+use Rattle.note_lines.specs.declared.note.Note as code
+
+-- one more note, told or not
+told_more : (allowed : List ℕ) (all : List code.Note) (place : ℕ) (note none : code.Note) → place < length all → note ≡ get_or all place none
+    → told allowed (map seen (take (place + 1) all)) ≡ told allowed (map seen (take place all)) ++ told allowed (seen note ∷ [])
+told_more allowed all place note none within read =
+    let front : take (place + 1) all ≡ take place all ++ note ∷ [] =
+    (take_at_read all place none within).1 ∙ ap (λ (n : code.Note). take place all ++ n ∷ []) (sym read) in
+    ap (λ (l : List code.Note). told allowed (map seen l)) front
+    ∙ ap (told allowed) (map-append seen (take place all) (note ∷ []))
+    ∙ filter-append (λ (n : Note). not (allows allowed (kind_of n))) (map seen (take place all)) (seen note ∷ [])
+
+-- their lines, and how many they are
+pub lines_told : (allowed : List ℕ) (all : List code.Note) (place : ℕ) (note none : code.Note) → place < length all → note ≡ get_or all place none
+    → flat_map note_line (told allowed (map seen (take place all))) ++ flat_map note_line (told allowed (seen note ∷ [])) ≡ flat_map note_line (told allowed (map seen (take (place + 1) all)))
+lines_told allowed all place note none within read =
+    sym (ap (flat_map note_line) (told_more allowed all place note none within read)
+    ∙ flat_map-append note_line (told allowed (map seen (take place all))) (told allowed (seen note ∷ [])))
+
+pub count_told : (allowed : List ℕ) (all : List code.Note) (place : ℕ) (note none : code.Note) → place < length all → note ≡ get_or all place none
+    → length (told allowed (map seen (take place all))) + length (told allowed (seen note ∷ [])) ≡ length (told allowed (map seen (take (place + 1) all)))
+count_told allowed all place note none within read =
+    sym (ap length (told_more allowed all place note none within read)
+    ∙ length-append (told allowed (map seen (take place all))) (told allowed (seen note ∷ [])))

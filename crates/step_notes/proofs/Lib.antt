@@ -1,0 +1,14 @@
+pub mod ValueLemmas
+pub mod OnceLaws
+pub mod ProgramLemmas
+pub mod AskedLemmas
+pub mod CrowdLemmas
+pub mod OnceLemmas
+pub mod LacksLemmas
+pub mod ConstantLaws
+pub mod QuotingLemmas
+pub mod ValueLaws
+pub mod GivenLemmas
+pub mod AnyLemmas
+pub mod NameLemmas
+pub mod StateLaws

@@ -1,0 +1,74 @@
+//! The note on a step that no waiting host runs.
+ghost use Rattle.std.specs.Prelude.{◌≡◌, IfOk, option_map};
+ghost use Rattle.step_notes.specs.Hosts.{skip_all};
+ghost use Rattle.step_notes.specs.Inside.{crowd_of, foreseen_from};
+ghost use Rattle.note_lines.specs.Notes.{seen};
+ghost use Rattle.step_notes.specs.Steps as model;
+
+use crate::conditions::is_matched;
+use crate::crowd::Crowd;
+use crate::stand::Stand;
+use cond::Cond;
+use host_vars::Vars;
+use note_lines::{Note, StepPath};
+use play_model::Step;
+use std::alloc::{AllocError, Global};
+
+/// Whether it is known that the host of this number skips the step there.
+pub(crate) fn skips(
+    alloc: Global,
+    stand: Stand<'_, '_>,
+    vars: &[Vars],
+    host: usize,
+) -> Result<bool, AllocError>
+    ensures { IfOk result (λ skips. skips ≡ (foreseen_from stand.entry vars.now host).is_skipped) }
+{
+    match vars.get(host) {
+        Some(vars) => stand.registry.skips(alloc, stand.spot(host), vars),
+        None => Ok(false),
+    }
+}
+
+/// Whether it is known that each waiting host does; not where nobody waits.
+fn all_skip(alloc: Global, crowd: &Crowd<'_, '_>, stand: Stand<'_, '_>) -> Result<bool, AllocError>
+    ensures { IfOk result (λ skip. skip ≡ skip_all (crowd_of crowd.now) (foreseen_from stand.entry crowd.now.lacks.now.vars.now)) }
+{
+    for host in crowd.lacks.waiting {
+        if !skips(alloc, stand, crowd.lacks.vars, *host)? {
+            return Ok(false);
+        }
+    }
+    Ok(!crowd.lacks.waiting.is_empty())
+}
+
+fn is_idle(
+    alloc: Global,
+    crowd: &Crowd<'_, '_>,
+    stand: Stand<'_, '_>,
+    when: &Option<Cond>,
+) -> Result<bool, AllocError>
+    ensures { IfOk result (λ idle. idle ≡ model.is_idle (crowd_of crowd.now) (foreseen_from stand.entry crowd.now.lacks.now.vars.now) when.now) }
+{
+    if is_matched(when) {
+        all_skip(alloc, crowd, stand)
+    } else {
+        Ok(false)
+    }
+}
+
+/// What is noted of who runs the step. It fails for want of memory alone.
+pub(crate) fn idle_step_note(
+    alloc: Global,
+    crowd: &Crowd<'_, '_>,
+    stand: Stand<'_, '_>,
+    at: StepPath,
+    step: &Step,
+) -> Result<Option<Note<'static>>, AllocError>
+    ensures { IfOk result (λ note. option_map seen note ≡ model.idle_step_note (crowd_of crowd.now) (foreseen_from stand.entry crowd.now.lacks.now.vars.now) at step.now) }
+{
+    if is_idle(alloc, crowd, stand, &step.when)? {
+        Ok(Some(Note::IdleStep { at }))
+    } else {
+        Ok(None)
+    }
+}

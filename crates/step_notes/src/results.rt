@@ -1,0 +1,103 @@
+//! The results that a step reads and that may not be there, though a step before registers them.
+ghost use Rattle.std.specs.Prelude.{◌≡◌, ◌&&◌, ◌||◌, not, IfOk, OnOk};
+ghost use Rattle.group_tree.specs.Names.{Name, is_among};
+ghost use Rattle.needed_results.specs.Needs.{tasks_before};
+ghost use Rattle.needed_results.specs.Registers.{is_registered_by};
+ghost use Rattle.text_parts.specs.Seen.{said};
+ghost use Rattle.step_notes.specs.Inside.{has_missed, has_name, names_of};
+ghost use Rattle.step_notes.specs.Results.{names_unsure, whole_in_part, whole_in_word, whole_in_words};
+
+use crate::asked::{Asked, add_before, add_behind};
+use crate::guards::list_guarded;
+use crate::missed::Missed;
+use crate::registered::{Registered, registers};
+use cond::Names;
+use cond::span::split;
+use play_model::{Play, Step, Words};
+use std::alloc::{AllocError, Global};
+use text_parts::{Part, Ref, first_word_part};
+
+fn add_in_part<'s>(part: Part<'s>, found: &mut Missed<'s>) -> Result<(), AllocError>
+    ensures { OnOk result ((name : Name) → has_missed found.new name ≡ (has_missed found.old name || is_among name (whole_in_part (said part.entry)))) }
+{
+    match part {
+        Part::Hole(Ref::Whole(name)) => found.add(name),
+        _ => Ok(()),
+    }
+}
+
+/// Adds the names that stand in holes of the word without a field.
+fn add_in_word<'s>(word: &'s str, found: &mut Missed<'s>) -> Result<(), AllocError>
+    ensures { OnOk result ((name : Name) → has_missed found.new name ≡ (has_missed found.old name || is_among name (whole_in_word word.now))) }
+{
+    let mut rest = word;
+    while let Some((part, behind)) = first_word_part(rest) {
+        add_in_part(part, found)?;
+        rest = behind;
+    }
+    Ok(())
+}
+
+/// The names that stand in holes of the words without a field.
+fn list_whole(alloc: Global, words: &Words) -> Result<Missed<'_>, AllocError>
+    ensures { IfOk result (λ found. (name : Name) → has_missed found name ≡ is_among name (whole_in_words words.now)) }
+{
+    let mut found = Missed::new(alloc);
+    for place in 0..words.len() {
+        add_in_word(words.at(place), &mut found)?;
+    }
+    Ok(found)
+}
+
+/// Whether a task before this place of the play registers its result under the name: it is sure to have run.
+fn is_sure(play: &Play, place: usize, name: &str) -> bool
+    ensures { result ≡ is_registered_by (tasks_before play.now place) name.now }
+{
+    let tasks = split(play.steps(), place.min(play.tasks())).0;
+    tasks.iter().any(|task| registers(name, task))
+}
+
+/// Names that a step before registers, of whose results one may not be there, or stands where it has no text.
+#[derive(Clone, Copy)]
+struct Unsure<'a, 's, 'w, 'p> {
+    registered: &'s Registered<'a>,
+    play: &'s Play,
+    place: usize,
+    whole: &'w Missed<'p>,
+    guarded: &'w Missed<'p>,
+}
+
+impl Names for Unsure<'_, '_, '_, '_> {
+    ghost holds = { λ unsure name. has_name unsure.registered.now name
+        && ((not (is_registered_by (tasks_before unsure.play.now unsure.place) name) && not (has_missed unsure.guarded.now name)) || has_missed unsure.whole.now name) };
+
+    fn has(&self, name: &str) -> bool {
+        let is_away = !is_sure(self.play, self.place, name) && !self.guarded.has(name);
+        self.registered.has(name) && (is_away || self.whole.has(name))
+    }
+}
+
+/// Those that the step of this play reads, each once, in the order of reading. It fails for want of memory alone.
+pub(crate) fn list_unsure<'p>(
+    alloc: Global,
+    asked: &Asked<'_, '_>,
+    play: &Play,
+    step: &'p Step,
+) -> Result<Vec<&'p str>, AllocError>
+    ensures { IfOk result (λ names. names_of names.items ≡ names_unsure (has_name asked.now.registered.now) (tasks_before play.now asked.now.stand.place) step.now) }
+{
+    let whole = list_whole(alloc, &step.words)?;
+    let guarded = list_guarded(alloc, &step.when)?;
+    let unsure = Unsure {
+        registered: asked.registered,
+        play,
+        place: asked.stand.place,
+        whole: &whole,
+        guarded: &guarded,
+    };
+    let mut list = Vec::new(alloc);
+    let mut found = Missed::new(alloc);
+    add_before(alloc, step, &unsure, &mut list, &mut found)?;
+    add_behind(alloc, step, &unsure, &mut list, &mut found)?;
+    Ok(list)
+}

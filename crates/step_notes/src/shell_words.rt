@@ -1,0 +1,84 @@
+//! The note on a word that means something to a shell alone.
+ghost use Rattle.std.specs.Prelude.{◌≡◌, option_map};
+ghost use Rattle.note_lines.specs.Notes.{seen};
+ghost use Rattle.step_notes.specs.ShellWords as model;
+ghost use Rattle.step_notes.specs.ShellWords.{first_shell_word};
+
+use crate::programs::calls_ssh;
+use crate::quoting::has_blank;
+use fleet_notes::{byte_at, bytes_behind};
+use note_lines::{Note, StepPath};
+use play_model::{Step, Words};
+use text_parts::{is_letter, starts_with_pair};
+
+/// Whether `$NAME`, `${NAME` or `$(` is in front.
+fn is_expansion(bytes: &[u8]) -> bool
+    ensures { result ≡ model.is_expansion bytes.now }
+{
+    if byte_at(bytes, 0) != b'$' {
+        return false;
+    }
+    let next = byte_at(bytes, 1);
+    is_letter(next) || next == b'(' || (next == b'{' && is_letter(byte_at(bytes, 2)))
+}
+
+fn has_expansion(bytes: &[u8]) -> bool
+    ensures { result ≡ model.has_expansion bytes.now }
+{
+    for place in 0..bytes.len() {
+        if is_expansion(bytes_behind(bytes, place)) {
+            return true;
+        }
+    }
+    false
+}
+
+/// Whether a shell would put something else in place of a part of the word. A text with blanks is a script, for a program that reads it.
+fn is_expanded(word: &str) -> bool
+    ensures { result ≡ model.is_expanded word.now }
+{
+    let bytes = word.as_bytes();
+    !has_blank(bytes) && (has_expansion(bytes) || starts_with_pair(bytes, b'~', b'/'))
+}
+
+#[tactic(auto, unfolding(crate::specs::ShellWords::is_shell_sign))]
+fn is_shell_sign(word: &str) -> bool
+    ensures { result ≡ model.is_shell_sign word.now }
+{
+    match word {
+        "|" | "||" | "&" | "&&" | ";" => true,
+        ">" | ">>" | "<" | "2>&1" => true,
+        _ => false,
+    }
+}
+
+fn is_shell_word(word: &str) -> bool
+    ensures { result ≡ model.is_shell_word word.now }
+{
+    is_shell_sign(word) || is_expanded(word)
+}
+
+/// The first such word behind the program.
+fn find_shell_word(words: &Words) -> Option<&str>
+    ensures { option_map (λ word. word.now) result ≡ first_shell_word words.now }
+{
+    for place in 1..words.len() {
+        if is_shell_word(words.at(place)) {
+            return Some(words.at(place));
+        }
+    }
+    None
+}
+
+/// What is noted of a step's words behind its program, where no shell reads them.
+pub(crate) fn shell_note<'a>(at: StepPath, step: &'a Step) -> Option<Note<'a>>
+    ensures { option_map seen result ≡ model.shell_note at step.now }
+{
+    if calls_ssh(&step.words) {
+        return None;
+    }
+    match find_shell_word(&step.words) {
+        Some(word) => Some(Note::ShellWord { at, word }),
+        None => None,
+    }
+}
