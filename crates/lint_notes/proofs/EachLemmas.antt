@@ -1,14 +1,7 @@
 -- Notes on the elements of a list, one behind the other.
-use Rattle.std.proofs.Common.{◌≡◌, ℕ, ◌+◌, ◌<◌, ◌==◌, Bor, Bool, true, false, not, ◌||◌, List, [], ◌∷◌, ◌++◌, length}
-use Rattle.std.proofs.Common.{arith, length-append, map, take, drop, drop-cons, add-one, get_or, flat_map, refl, sym, ap, ◌∙◌, append_assoc, append-nil}
-use Rattle.std.specs.List.{list_any, range_with_len}
-use Rattle.std.specs.Prelude.{OnOk, Result, Ok, Err}
-use Rattle.std.proofs.lemmas.Bool.Decides.{nat_tests}
-use Rattle.std.proofs.lemmas.Grind.{take_at_read, flat_map-append}
-use Rattle.std.proofs.lemmas.List.{map-append}
-use Rattle.std.proofs.lemmas.List.Elements.{filter-append}
-use Rattle.std.proofs.lemmas.List.Folds.{list_any-append}
-use Rattle.note_lines.specs.Notes.{Note, kind_of, seen, told}
+use Rattle.std.proofs.Common.{◌≡◌, ℕ, ◌+◌, ◌<◌, List, ◌∷◌, ◌++◌, length}
+use Rattle.std.proofs.Common.{drop, drop-cons, add-one, get_or, sym, ap, ◌∙◌, append_assoc}
+use Rattle.note_lines.specs.Notes.{Note}
 use Rattle.lint_notes.specs.Playbooks.{all_noted}
 
 module _ {X : Type 0} (noted : ℕ → X → List Note) (xs : List X) (place : ℕ) where

@@ -1,15 +1,13 @@
 -- Conditions that wait for a state which no result has.
-use Rattle.std.proofs.Common.{◌≡◌, ℕ, Bool, true, false, ◌||◌, if◌then◌else◌, Option, None, Some, Ok, Err, List, [], ◌∷◌, map, take, drop, refl, ap, subst, sym, ◌∙◌}
+use Rattle.std.proofs.Common.{◌≡◌, ℕ, Bool, true, false, if◌then◌else◌, Option, None, Some, Ok, Err, List, [], ◌∷◌, map, take, drop, refl, ap, subst, sym, ◌∙◌}
 use Rattle.std.specs.Prelude.{is_some, option_map, string_bytes}
 use Rattle.std.specs.Option.{option_or}
 use Rattle.group_tree.specs.Names.{Name}
 use Rattle.group_tree.specs.Variables.{Scalar, Truth}
 use Rattle.cond.specs.Grammar as grammar
 use Rattle.cond.specs.Grammar.{Operand, Ref, Test}
-use Rattle.text_parts.specs.Words.{name_of}
 use Rattle.cond.specs.Meaning.{Environment, Plain, Verdict, both, found_holds, named, ref_value, test_meaning, turned}
-use Rattle.cond.specs.Trees.{all_of, bytes_of, part_verdict, tree_verdict, trees_of, verdict_of, verdict_step, verdicts, written}
-use Rattle.cond.specs.declared.condition.Cond.{Cond}
+use Rattle.cond.specs.Trees.{all_of, bytes_of, part_verdict, tree_verdict, trees_of, verdict_step, verdicts, written}
 use Rattle.cond.specs.declared.condition.Part.{Part}
 use Rattle.cond.specs.declared.condition.Part.TheVariants as part
 use Rattle.cond.specs.declared.states.State.{State}

@@ -1,12 +1,8 @@
 -- Words of the passes.
-use Rattle.std.specs.Prelude.{◌≡◌, ℕ, Bool, false, if◌then◌else◌, Option, None, Some, option_map, List, [], ◌++◌, filter, map, slice_get}
+use Rattle.std.specs.Prelude.{◌≡◌, ℕ, Bool, false, Option, None, Some, option_map, List, [], ◌++◌, filter, map, slice_get}
 use Rattle.std.specs.Borrow.{Bor}
 use Rattle.std.specs.List.{list_any}
-use Rattle.std.specs.Option.{option_or}
 use Rattle.indexmap.specs.IndexSet.{IndexSet}
-use Rattle.std.specs.HashMap.{HashMap, get_by_text}
-use Rattle.std.specs.Prelude.{String, Vec}
-use Rattle.fleet_notes.specs.CaseHosts.{small_letters}
 use Rattle.group_tree.specs.Names.{Name, is_among, same_name}
 use Rattle.domains.specs.FleetViews.{FleetView}
 use Rattle.play_model.specs.declared.play.Play.{Play}
@@ -23,10 +19,6 @@ use Rattle.step_notes.specs.declared.asking.Want.{Want}
 use Rattle.step_notes.specs.declared.asking.Want.TheVariants.{Variable, Result}
 use Rattle.step_notes.specs.declared.missed.Missed.{Missed}
 use Rattle.step_notes.specs.declared.crowd.Crowd as code
-use Rattle.note_lines.specs.Notes.{Note, repeated_key}
-use Rattle.note_lines.specs.declared.document.Document.{Document}
-use Rattle.note_lines.specs.declared.document.Document.TheVariants.{Inventory, Playbook}
-use Rattle.fleet_notes.specs.declared.repeats.Repeats.{Repeats}
 use Rattle.step_notes.specs.declared.stand.Stand.{Stand}
 use Rattle.step_notes.specs.Values.{Known, known_by}
 use Rattle.step_notes.specs.declared.known.Known as known

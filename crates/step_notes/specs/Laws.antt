@@ -1,5 +1,5 @@
 -- What holds of the names that are asked about, of conditions that ask nothing, and of the values that conditions ask for.
-use Rattle.std.specs.Prelude.{◌≡◌, ℕ, Bool, true, false, ◌&&◌, ◌||◌, is_some, Option, Some, Ok, Err, List}
+use Rattle.std.specs.Prelude.{◌≡◌, ℕ, Bool, true, false, ◌&&◌, ◌||◌, is_some, Some, Ok, Err, List}
 use Rattle.std.specs.List.{list_any}
 use Rattle.group_tree.specs.Names.{Name, are_distinct, is_among}
 use Rattle.group_tree.specs.Variables.{Scalar, Truth}

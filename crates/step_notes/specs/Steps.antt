@@ -1,5 +1,5 @@
 -- What is noted of a step.
-use Rattle.std.specs.Prelude.{ℕ, ◌-◌, Bool, true, false, not, ◌&&◌, nat_lt, if◌then◌else◌, Option, None, Some, List, ◌++◌, codes, flat_map, take}
+use Rattle.std.specs.Prelude.{ℕ, Bool, not, ◌&&◌, if◌then◌else◌, Option, None, Some, List, ◌++◌, codes, flat_map, take}
 use Rattle.std.specs.List.{list_any}
 use Rattle.group_tree.specs.Names.{Name}
 use Rattle.fleet_numbers.specs.NumberLists.{has_number}

@@ -1,4 +1,4 @@
-use Rattle.std.proofs.Common.{rules, option_map}
+use Rattle.std.proofs.Common.{option_map}
 use Rattle.every_fault.proofs.choosing.choose.Goals as goal
 
 pub returns-in-Ok-aim_if : goal.returns-in-Ok-aim_if

@@ -1,9 +1,8 @@
-use Rattle.std.proofs.Common.{Bool, is_some, option_map, subst}
+use Rattle.std.proofs.Common.{Bool, option_map, subst}
 use Rattle.std.proofs.lemmas.Result.{IfOk-weaker}
 use Rattle.every_fault.specs.Inventories.{IsFleetPart, standing_of}
 use Rattle.every_fault.specs.KeptTexts.{AreTextsOf, known_fleet}
 use Rattle.every_fault.specs.declared.choosing.KnownFleet.{KnownFleet}
-use Rattle.every_fault.specs.Unread.{is_silent}
 use Rattle.every_fault.proofs.choosing.kept_texts.Goals as goal
 
 pub returns-in-Ok-find_fleet : goal.returns-in-Ok-find_fleet

@@ -1,4 +1,4 @@
-use Rattle.std.proofs.Common.{◌<◌, ◌∙◌, length, subst}
+use Rattle.std.proofs.Common.{◌<◌, subst}
 use Rattle.std.specs.Prelude.{option_map}
 use Rattle.fleet_numbers.specs.NumberLists.{list_at}
 use Rattle.lint_notes.proofs.FullLemmas.{around, first_full}
