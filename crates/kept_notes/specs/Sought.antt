@@ -14,7 +14,7 @@ use Rattle.note_lines.specs.declared.kind.Kind.TheVariants.{ClashingValues, Shel
 abbrev pub knows_targets : Known → Bool
 knows_targets known = known.hosts && known.aims
 
--- What notes of the kind are about is known, so that what is mended takes none back: of groups their hosts and limits, of plays for which hosts they are and which of these are down, of names which hosts
+-- What notes of the kind are about is known, so that what is mended takes few of them back: of groups their hosts and limits, of plays for which hosts they are and which of these are down, of names which hosts
 -- have them, of steps when they run, and of handlers who notifies them.
 abbrev pub is_sought : Known → Kind → Bool
 is_sought known RepeatedKey = true

@@ -12,7 +12,7 @@ fn knows_targets(known: Known) -> bool
     known.hosts && known.aims
 }
 
-/// Whether what notes of the kind are about is known, so that what is mended takes none back.
+/// Whether what notes of the kind are about is known, so that what is mended takes few of them back.
 pub(crate) fn is_sought(known: Known, kind: Kind) -> bool
     ensures { result ≡ spec.is_sought known kind }
 {
