@@ -123,11 +123,11 @@ fn step_of_none<'s, L: Ledger, H: Wait>(
     Ok(front.step(rt, alloc, board))
 }
 
+/// What was put comes back; what is settled on every host the coordinator reports by itself.
 fn without_workers<L: Ledger, H: Wait>(
     rt: &H,
     alloc: Global,
-    playbook: &str,
-    fault: Option<StepFault>,
+    is_settled: bool,
     blank: Blank,
     history: History,
 ) -> Result<(), Fail>
@@ -135,6 +135,11 @@ fn without_workers<L: Ledger, H: Wait>(
     requires parts { blank.parts ≡ L.parts }
     requires many { blank.parts ≡ 129 }
 {
+    let (playbook, fault) = if is_settled {
+        (SKIPPED, None)
+    } else {
+        (THREE_STEPS, Some(StepFault::Mixed))
+    };
     let setting = set_up(alloc, limited_again(alloc, 2, &SIX)?, playbook)?;
     let script = script_again(alloc)?;
     let answer = step_of_none::<L, H>(rt, alloc, &setting, &script, blank, history)?;
@@ -144,20 +149,12 @@ fn without_workers<L: Ledger, H: Wait>(
 #[test]
 fn a_fault_hands_the_board_back(rt: HostRuntime) -> Result<(), Fail> {
     of_another_script::<Brand, HostRuntime>(&rt, rt.alloc(), Blank::new(129), History::new(&rt))?;
-    for (playbook, fault) in [
-        // what was put comes back
-        (THREE_STEPS, Some(StepFault::Mixed)),
-        // the coordinator by itself reports what is settled on every host
-        (SKIPPED, None),
-    ] {
-        without_workers::<Brand, HostRuntime>(
-            &rt,
-            rt.alloc(),
-            playbook,
-            fault,
-            Blank::new(129),
-            History::new(&rt),
-        )?;
-    }
-    Ok(())
+    without_workers::<Brand, HostRuntime>(
+        &rt,
+        rt.alloc(),
+        false,
+        Blank::new(129),
+        History::new(&rt),
+    )?;
+    without_workers::<Brand, HostRuntime>(&rt, rt.alloc(), true, Blank::new(129), History::new(&rt))
 }
