@@ -59,7 +59,9 @@ pub fn tell_down<'t>(alloc: Global, group: &'t str, hosts: &'t str) -> Result<St
         &[
             Piece::Said("bring hosts of "),
             Piece::Cut(group.as_bytes()),
-            Piece::Said(" up and take \"down\": true from them, or raise its max_down above their number; down are "),
+            Piece::Said(
+                " up and take \"down\": true from them, or raise its max_down above their number; down are ",
+            ),
             Piece::Cut(hosts.as_bytes()),
         ],
     )
