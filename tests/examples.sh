@@ -194,7 +194,7 @@ done
 
 if python3 -c 'import yaml' 2>/dev/null; then
     from_ansible() {
-        PATH=$work/stub:$PATH python3 examples/ansible/from-ansible "$@" 2>"$work/errors"
+        PATH=$work/programs:$PATH python3 examples/ansible/from-ansible "$@" 2>"$work/errors"
     }
     # brought WHAT EXPECTED WORD..: what is printed is this file
     brought() {
@@ -251,18 +251,18 @@ TWO
     kept_back 'a play without a list' "from-ansible: $work/none.yml is no playbook: that is a list of plays" playbook "$work/none.yml"
 
     # In place of Ansible's programs some that say what these would.
-    mkdir -p "$work/stub" "$work/folder/group_vars"
-    cat >"$work/stub/ansible-inventory" <<'STUB'
+    mkdir -p "$work/programs" "$work/folder/group_vars"
+    cat >"$work/programs/ansible-inventory" <<'PROGRAM'
 #!/bin/sh
 [ "$ANSIBLE_INVENTORY_ANY_UNPARSED_IS_FAILED $*" = "true --list --yaml --export -i $WHERE" ] || exit 9
 [ -z "${WARNS:-}" ] || echo "[WARNING]: $WARNS" >&2
 printf 'all:\n  children:\n    web:\n      hosts:\n        a: {key: !vault 0}\n      vars: {max_down: 1}\n'
-STUB
-    cat >"$work/stub/ansible-config" <<'STUB'
+PROGRAM
+    cat >"$work/programs/ansible-config" <<'PROGRAM'
 #!/bin/sh
 echo "INVENTORY_IGNORE_EXTS(default) = ('.ini', '~')"
-STUB
-    chmod +x "$work"/stub/*
+PROGRAM
+    chmod +x "$work"/programs/*
     touch "$work/folder/hosts" "$work/folder/group_vars/web.ini" "$work/folder/.hosts.ini"
     echo '{"all": {"children": {"web": {"hosts": {"a": {"key": null}}, "vars": {"max_down": 1}}}}}' | python3 -c 'import json, sys; print(json.dumps(json.load(sys.stdin), indent=1))' >"$work/folder.json"
     export WHERE="$work/folder"
@@ -277,7 +277,7 @@ STUB
     brought 'a file that may be skipped' "$work/folder.json" inventory "$work/folder" --skip db.ini
     export WHERE=/elsewhere
     kept_back 'an inventory that cannot be read' 'from-ansible: ansible-inventory has ended with 9' inventory "$work/folder" --skip db.ini
-    rm -r "$work/stub"
+    rm -r "$work/programs"
     if command -v ansible-inventory >/dev/null; then
         for name in racks.ini zones.yml; do
             brought "$name by Ansible itself" "$ansible/${name%.*}.json" inventory $ansible/$name

@@ -6,5 +6,5 @@ mod groups;
 mod setting;
 
 pub use again::{fleet_again, play_again, vars_again};
-pub use groups::{fleet_of, group, limited_again, two_racks, with};
+pub use groups::{group, limited_again, with};
 pub use setting::{Setting, board_of, set_up};
