@@ -13,7 +13,14 @@ texts() {
 
 # without_advice: what the last run printed, without what to do about notes of a kind, and what isn't looked for beside faults, which end it.
 without_advice() {
-    sed -i -e '/^  \([a-z-]*\): .*; `explain \1` says more, `--allow \1` switches it off$/d' -e '/^  not looked for beside these faults: /d' "$work/out"
+    sed -i -e '/^  \([a-z-]*\): .*; `explain \1` says more, `--allow \1` switches it off$/d' -e '/^  not looked for [^:]*: [a-z, -]*$/d' "$work/out"
+}
+
+# without_faults: the same without the faults themselves, each with a line that helps behind it.
+without_faults() {
+    sed -i '/^rollout: /{n;/^  /d;}' "$work/out"
+    sed -i '/^rollout: /d' "$work/out"
+    without_advice
 }
 
 # said WHAT NOTES: the last run printed these notes, each with its line end, and how many they are; that there are some is told by the status.
@@ -123,29 +130,43 @@ noted 'but where the guard is the other way round' "$three" "[$(play "$(task '"w
 missing-name at=0/tasks/1 name=x hosts=2 of=3 host=a
 missing-name at=0/tasks/2 name=w hosts=1 of=3 host=a'
 noted 'another name behind `or` is looked up where the first is not there' "$three" "[$(play "$(task '"when":"x is defined or w == \"\""'),$(task '"when":"w is defined or y == 1"'),$(task '"when":"y is defined or z == 1"')")]" 'missing-name at=0/tasks/0 name=w hosts=1 of=3 host=a
-missing-name at=0/tasks/1 name=y hosts=1 of=3 host=a
+unknown-name at=0/tasks/1 name=y
 unknown-name at=0/tasks/2 name=z'
 noted 'a guard behind it does not help' "$three" "[$(play "$(task '"when":"x == 0 and x is defined"'),$(task '"when":["x == 0","x is defined"]'),$(task '"when":"y or y is defined"')")]" 'missing-name at=0/tasks/0 name=x hosts=2 of=3 host=a
 missing-name at=0/tasks/1 name=x hosts=2 of=3 host=a
 unknown-name at=0/tasks/2 name=y'
-noted 'words are rendered where `when` may hold' "$three" "[$(play '{"command":"echo {{ x }} {{ w }} {{ y }}","when":"x is defined"},{"command":"echo {{ x }}","when":"x is not defined"},{"command":"echo {{ w }}","when":["w is defined",false]},{"command":"echo {{ y }}","when":"y is defined"}')]" 'missing-name at=0/tasks/0 name=y hosts=1 of=3 host=c
+noted 'words are rendered where `when` may hold' "$three" "[$(play '{"command":"echo {{ x }} {{ w }} {{ y }}","when":"x is defined"},{"command":"echo {{ x }}","when":"x is not defined"},{"command":"echo {{ w }}","when":["w is defined",false]},{"command":"echo {{ y }}","when":"y is defined"}')]" 'unknown-name at=0/tasks/0 name=y
 missing-name at=0/tasks/1 name=x hosts=2 of=3 host=a'
-noted 'and so is what judges the end' "$three" "[$(play "$(task '"when":"x is defined","changed_when":"x == 0","failed_when":"y"'),$(task '"when":"w is not defined","changed_when":"x is defined and x","failed_when":["x is defined","y"]'),$(task '"changed_when":"x is defined and x == 0","failed_when":"x is not defined and w == \"\""')")]" 'missing-name at=0/tasks/0 name=y hosts=1 of=3 host=c
+noted 'and so is what judges the end' "$three" "[$(play "$(task '"when":"x is defined","changed_when":"x == 0","failed_when":"y"'),$(task '"when":"w is not defined","changed_when":"x is defined and x","failed_when":["x is defined","y"]'),$(task '"changed_when":"x is defined and x == 0","failed_when":"x is not defined and w == \"\""')")]" 'unknown-name at=0/tasks/0 name=y
 missing-name at=0/tasks/2 name=w hosts=1 of=3 host=a'
-noted 'behind what is known to decide nothing is looked up: truth values, values, groups, the name of the host' "$three" "[$(play "$(task '"when":"true or y"'),$(task '"when":"false and y"'),$(task '"when":["v == 2","y"]'),$(task '"when":"v == 1 or y"'),$(task '"when":"\"g\" in group_names and y"'),$(task '"when":"inventory_hostname != \"b\" or y"'),$(task '"when":"\"1\" == 1 or v and y"')")]" 'missing-name at=0/tasks/4 name=y hosts=1 of=3 host=c
-missing-name at=0/tasks/5 name=y hosts=1 of=3 host=b
+noted 'behind what is known to decide nothing is looked up: truth values, values, groups, the name of the host' "$three" "[$(play "$(task '"when":"true or y"'),$(task '"when":"false and y"'),$(task '"when":["v == 2","y"]'),$(task '"when":"v == 1 or y"'),$(task '"when":"\"g\" in group_names and y"'),$(task '"when":"inventory_hostname != \"b\" or y"'),$(task '"when":"\"1\" == 1 or v and y"')")]" 'unknown-name at=0/tasks/4 name=y
+unknown-name at=0/tasks/5 name=y
 unknown-name at=0/tasks/6 name=y
 unlike-values at=0/tasks/6 key=when'
 noted 'a value that only some have decides for these alone' "$three" "[$(play "$(task '"when":"w == \"\" or y"'),$(task '"when":"w is defined and (w or y)"'),$(task '"when":"w is defined and (w == false or y)"')")]" 'missing-name at=0/tasks/0 name=w hosts=1 of=3 host=a
-missing-name at=0/tasks/0 name=y hosts=2 of=3 host=a
-missing-name at=0/tasks/1 name=y hosts=2 of=3 host=b
-missing-name at=0/tasks/2 name=y hosts=1 of=3 host=b'
+unknown-name at=0/tasks/0 name=y
+unknown-name at=0/tasks/1 name=y
+unknown-name at=0/tasks/2 name=y'
+only_b='inventory_hostname == \"b\"'
+for given in '"a":null,"b":null' '"a":null,"b":{"u":null,"v":[1]}'; do
+    noted 'a name that nobody has is unknown, though some alone look it up' "{\"all\":{\"hosts\":{$given}}}" "[$(play "{\"command\":\"echo {{ u }}\",\"when\":\"$only_b\"}")]" 'unknown-name at=0/tasks/0 name=u'
+done
+for given in '"hosts":{"a":{"u":1},"b":null}' '"hosts":{"a":null,"b":null,"c":{"u":1}}' '"hosts":{"a":null,"b":null,"c":{"u":1,"down":true}}' '"hosts":{"a":null,"b":null},"children":{"none":{"vars":{"u":""}}}'; do
+    noted 'where anybody has it, it is missing: one that does not look it up, that the play is not for or that is down, a group of nobody' "{\"all\":{$given}}" \
+        "[$(play "{\"command\":\"echo {{ u }}\",\"when\":\"$only_b\"}" '' a:b)]" 'missing-name at=0/tasks/0 name=u hosts=1 of=2 host=b'
+    noted 'and where all that wait lack it, it is unknown all the same' "{\"all\":{$given}}" "[$(play '{"command":"echo {{ u }}"}' '' b)]" 'unknown-name at=0/tasks/0 name=u'
+done
+noted 'what a later step registers gives it no value, but may be meant' '{"all":{"hosts":{"a":null,"b":null}}}' "[$(play "{\"command\":\"echo {{ results }} {{ result }}\",\"when\":\"$only_b\"},$(task '"register":"result"')")]" 'unknown-name at=0/tasks/0 name=results near=result
+unknown-name at=0/tasks/0 name=result'
 noted 'what may be so or not guards nothing: what a program says, and a result that may not be there' "$one" "[$(play "$(task '"register":"r","notify":"H"'),$(task '"when":"r.rc == 0 and y"'),$(task '"when":"r is failed or y"'),$(task '"when":"r is defined or y"'),$(task '"when":"r is not defined and y"'),$(task '"when":"r.stdout is defined or y"'),$(task '"when":"r.rc is defined or y"')" "$(task '"name":"H","register":"h"'),$(task '"name":"I","when":"h is defined and y"')")]" 'unknown-name at=0/tasks/1 name=y
 unknown-name at=0/tasks/2 name=y
+whole-result at=0/tasks/3 key=when name=r
+whole-result at=0/tasks/4 key=when name=r
 unknown-name at=0/tasks/6 name=y
 unknown-name at=0/handlers/1 name=y
 idle-handler at=0/handlers/1'
-noted 'a guard asks for the step'"'"'s own result where that is there' "$one" "[$(play '{"command":"echo {{ y }}","register":"r","when":"r is defined"},{"command":"true","register":"s","changed_when":"s is defined or y","failed_when":"s is not defined and y"}')]" ''
+noted 'a guard asks for the step'"'"'s own result where that is there' "$one" "[$(play '{"command":"echo {{ y }}","register":"r","when":"r is defined"},{"command":"true","register":"s","changed_when":"s is defined or y","failed_when":"s is not defined and y"}')]" 'whole-result at=0/tasks/1 key=changed_when name=s
+whole-result at=0/tasks/1 key=failed_when name=s'
 noted 'where a name is looked up several times, once is enough' "$three" "[$(play '{"command":"echo {{ x }}","when":"x is defined or true"},{"command":"echo {{ x }}","when":"x is defined","failed_when":"x"},{"command":"true","when":"(x is defined and x) or x == 1"}')]" 'missing-name at=0/tasks/0 name=x hosts=2 of=3 host=a
 missing-name at=0/tasks/2 name=x hosts=2 of=3 host=a'
 noted 'texts, groups, numbers, truth values and the name of the host are no names' "$one" "[$(play '{"command":"echo {{ inventory_hostname }}","when":["\"u\" in group_names","inventory_hostname == \"u\"","inventory_hostname is defined","1 == 1 or True"]}')]" 'unknown-host at=0/tasks/0 key=when host=u'
@@ -229,7 +250,8 @@ noted 'who asks first is not told' "$pair" "[$(play "$(task '"register":"r"')" '
 noted 'nor who asks for that of a handler' "$pair" "[$(play "$(task '"notify":"H"')" "$(task '"name":"H","register":"h"')"),$(play "$(task '"when":"h is defined and h.rc == 0"'),{\"command\":\"echo {{ h.stdout }}\",\"when\":[\"h.stdout is defined\"]},$(task '"changed_when":"h is defined and h.rc == 0"')")]" 'missing-result at=1/tasks/2 name=h hosts=3 of=3 host=a'
 noted 'nor is one that a host is known not to look up' "$pair" "[$(play "$(task '"register":"r"')" '' b),$(play '{"command":"echo {{ r.rc }}","when":"inventory_hostname == \"b\""},{"command":"echo {{ r.rc }}","when":"inventory_hostname != \"a\""}')]" 'missing-result at=1/tasks/1 name=r hosts=1 of=3 host=c'
 noted 'a variable of that name is there in its place, but perhaps not in a word' "$pair" "[$(play "$(task '"notify":"H"')" "$(task '"name":"H","register":"v"')"),$(play "$(task '"when":"v == 1"'),{\"command\":\"echo {{ v }}\"},$(task '"when":"v.rc == 1"')")]" 'missing-result at=1/tasks/1 name=v hosts=3 of=3 host=a
-missing-result at=1/tasks/2 name=v hosts=3 of=3 host=a'
+missing-result at=1/tasks/2 name=v hosts=3 of=3 host=a
+idle-state at=1/tasks/2 name=v'
 noted 'each once, as they are read: when, words, changed_when, failed_when' "$pair" "[$(play "$(task '"register":"p"'),$(task '"register":"q"'),$(task '"register":"s"'),$(task '"register":"t"')" '' b),$(play '{"failed_when":"s.rc == 0 or p.rc == 0","changed_when":"t.rc == 0","command":"echo {{ q.rc }} {{ p.rc }}","when":"p.rc == 0"}')]" 'missing-result at=1/tasks/0 name=p hosts=2 of=3 host=a
 missing-result at=1/tasks/0 name=q hosts=2 of=3 host=a
 missing-result at=1/tasks/0 name=t hosts=2 of=3 host=a
@@ -239,9 +261,73 @@ missing-result at=1/tasks/0 name=r hosts=2 of=3 host=a
 idle-step at=1/tasks/0'
 missing_plays="$(play "$(task '"register":"r"')" '' b),$(play '{"command":"echo {{ r.rc }}"}')"
 refused 'beside another fault of the playbook it is told' "$pair" "[$missing_plays,$(play '{"command":"true","x":1}')]" 'rollout: 703 UnknownKey at=2/tasks/0/x' 'missing-result at=1/tasks/0 name=r hosts=2 of=3 host=a'
-refused 'but not beside a condition that is none' "$pair" "[$missing_plays,$(play "$(task '"when":"x >"')")]" 'rollout: 501 BadToken play=3 step=1 key=when at=2' ''
+refused 'and beside a condition of another step that is none' "$pair" "[$missing_plays,$(play "$(task '"when":"x >"')")]" 'rollout: 501 BadToken play=3 step=1 key=when at=2' 'missing-result at=1/tasks/0 name=r hosts=2 of=3 host=a'
+refused 'but not of a step with such a one' "$pair" "[$(play "$(task '"register":"r"')" '' b),$(play '{"command":"echo {{ r.rc }}","when":["v >","v == 1"]},{"command":"echo {{ r.rc }}"},{"command":"echo {{ r.rc }}","failed_when":[true,"v >"]},{"command":"echo {{ r.rc }}","changed_when":7}')]" \
+    "rollout: 501 BadToken play=2 step=1 key=when at=2${newline}rollout: 501 BadToken play=2 step=3 key=failed_when at=2${newline}rollout: 702 BadShape at=1/tasks/3/changed_when" 'missing-result at=1/tasks/1 name=r hosts=2 of=3 host=a'
 refused 'nor beside a fault of the inventory' '{"all":{"hosts":{"a":null,"b":null},"x":1}}' "[$missing_plays]" 'rollout: 203 UnknownKey at=all/x' ''
-refused 'nor where a name of a play names nothing' "$pair" "[$missing_plays,$(play '{"command":"true"}' '' b:nobody)]" 'rollout: 304 NoSuchName name=nobody' ''
+refused 'where a name of a play names nothing, before that play' "$pair" "[$missing_plays,$(play '{"command":"true"}' '' b:nobody)]" 'rollout: 304 NoSuchName name=nobody' 'missing-result at=1/tasks/0 name=r hosts=2 of=3 host=a'
+refused 'neither in it nor behind' "$pair" "[$(play "$(task '"register":"r"')" '' b),$(play '{"command":"echo {{ r.rc }}"}' '' a:nobody),$(play '{"command":"echo {{ r.rc }}"}')]" 'rollout: 304 NoSuchName name=nobody' ''
+refused 'nor behind one whose tasks are none' "$pair" "[$(play "$(task '"register":"r"')" '' b),{\"hosts\":\"all\",\"tasks\":7},$(play '{"command":"echo {{ r.rc }}"}')]" 'rollout: 702 BadShape at=1/tasks' ''
+
+# Codes that aren't there, since the step that registers the result is skipped.
+five='{"all":{"hosts":{"web1":null,"web2":null,"web3":null,"web4":null,"web5":{"down":true}}}}'
+on_web1='"register":"r","when":"inventory_hostname == \"web1\""'
+noted 'a code of a step that is skipped on some hosts' "$five" "[$(play "$(task "$on_web1"),$(task '"when":"r.rc == 0"')")]" 'down-hosts play=1 hosts=1 host=web5
+missing-result at=0/tasks/1 name=r hosts=3 of=4 host=web2'
+noted 'who is skipped on the same hosts is not told' "$five" "[$(play "$(task "$on_web1"),$(task '"when":["inventory_hostname == \"web1\"","r.rc == 0"]')")]" 'down-hosts play=1 hosts=1 host=web5'
+noted 'nor who asks first whether the step was skipped' "$five" "[$(play "$(task "$on_web1"),$(task '"when":"r is not skipped and r.rc == 0"')")]" 'down-hosts play=1 hosts=1 host=web5'
+noted 'or whether there is a code' "$five" "[$(play "$(task "$on_web1"),$(task '"when":"r.rc is defined and r.rc == 0"')")]" 'down-hosts play=1 hosts=1 host=web5'
+noted 'nor behind a step between them that registers the same' "$five" "[$(play "$(task "$on_web1"),$(task '"register":"r"'),$(task '"when":"r.rc == 0"')")]" 'down-hosts play=1 hosts=1 host=web5'
+# uncoded WHAT TASKS NOTES [HANDLERS]: of hosts a, b and c behind a task that registers `r` on a alone.
+on_a=$(task '"register":"r","when":"inventory_hostname == \"a\""')
+uncoded() {
+    noted "$1" "$pair" "[$(play "$on_a,$2" "${4:-}")]" "$3"
+}
+uncoded 'a code is read where it is compared, stands alone, or in a word' "$(task '"when":"0 != r.rc or 0 == r.rc"'),$(task '"when":"not r.rc"'),$(task '"when":["v == 2 or not (r.rc == v)"]'),{\"command\":\"echo x{{r . rc}}\"}" 'missing-result at=0/tasks/1 name=r hosts=2 of=3 host=b
+missing-result at=0/tasks/2 name=r hosts=2 of=3 host=b
+missing-result at=0/tasks/3 name=r hosts=2 of=3 host=b
+missing-result at=0/tasks/4 name=r hosts=2 of=3 host=b'
+uncoded 'or so where a step is judged' "$(task '"changed_when":"r.rc == 2"'),$(task '"failed_when":["v == 1","r.rc"]'),$(task '"register":"s","failed_when":"s.rc != r.rc"')" 'missing-result at=0/tasks/1 name=r hosts=2 of=3 host=b
+missing-result at=0/tasks/2 name=r hosts=2 of=3 host=b
+missing-result at=0/tasks/3 name=r hosts=2 of=3 host=b'
+uncoded 'its own code a step has where it is judged' "$(task '"register":"r","changed_when":"r.rc == 0","failed_when":"r.rc == 2"')" ''
+uncoded 'but not before' "$(task '"register":"r","when":"r.rc == 0"'),$(task '"when":"r.rc == 0"')" 'missing-result at=0/tasks/1 name=r hosts=2 of=3 host=b'
+uncoded 'nor in its words' '{"command":"echo {{ r.rc }}","register":"r"}' 'missing-result at=0/tasks/1 name=r hosts=2 of=3 host=b'
+uncoded 'all else of a result is there' "{\"command\":\"echo {{ r.stdout }} {{ r.skipped }}\",\"failed_when\":\"r.stderr == 'x' or r is failed\"},$(task '"when":"r is changed"'),$(task '"changed_when":"r.rc is defined"')" ''
+for guard in 'r is not skipped' 'r is skipped' 'not r is failed' 'r is changed' 'r is succeeded' 'not (r.skipped)' "r.stdout == ''" 'v == 2 or r.stderr' 'r.changed' 'false == r.failed' "0 == 1 or 'x' != r.stdout" 'r.rc is defined' 'r.rc is not defined' 'r.stderr is defined'; do
+    uncoded "who asks '$guard' is not told" "{\"command\":\"echo {{ r.rc }}\",\"when\":\"$guard\",\"changed_when\":\"r.rc == 1\",\"failed_when\":\"r.rc == 3\"},$(task "\"when\":[\"r.rc == 0\",\"$guard\"]")" ''
+done
+for guard in 'r' 'not r' 'v == 1 or r == v' "'x' != r" 'r is defined' 'r is not defined or v == 1'; do
+    uncoded "who asks '$guard' is not told either" "{\"command\":\"echo {{ r.rc }}\",\"when\":\"$guard\"}" 'whole-result at=0/tasks/1 key=when name=r'
+done
+uncoded 'what is asked where a step is judged is no guard' "{\"command\":\"echo {{ r.rc }}\",\"changed_when\":\"r is not skipped\"},$(task '"failed_when":"r.rc is defined and r.rc == 3"')" 'missing-result at=0/tasks/1 name=r hosts=2 of=3 host=b
+missing-result at=0/tasks/2 name=r hosts=2 of=3 host=b'
+uncoded 'nor is what is asked of another result, or of variables' "$(task '"register":"s"'),$(task '"when":"s is not skipped and s.rc == 0 and r.rc == 0"'),$(task '"when":"v is defined and r.rc == 0"')" 'missing-result at=0/tasks/2 name=r hosts=2 of=3 host=b
+missing-result at=0/tasks/3 name=r hosts=2 of=3 host=b'
+uncoded 'hosts that are known to skip the step do not count' "$(task '"when":"inventory_hostname != \"b\" and r.rc == 0"'),$(task '"when":"r.rc == 0 and inventory_hostname == \"a\""'),{\"command\":\"echo {{ r.rc }}\",\"when\":\"v == 1 and inventory_hostname != 'c'\"},$(task '"when":"inventory_hostname == \"c\" or r.rc == 0"')" 'missing-result at=0/tasks/1 name=r hosts=1 of=3 host=c
+missing-result at=0/tasks/3 name=r hosts=1 of=3 host=b
+missing-result at=0/tasks/4 name=r hosts=2 of=3 host=b'
+uncoded 'the last that registers it counts' "$(task '"register":"r","when":"inventory_hostname == \"b\""'),{\"command\":\"echo {{ r.rc }}\"},$(task '"register":"r","when":"v == 1"'),{\"command\":\"echo {{ r.rc }}\"}" 'missing-result at=0/tasks/2 name=r hosts=2 of=3 host=a'
+noted 'whether steps before it ran or not' "$pair" "[$(play "$(task '"register":"r"')"),$(play "$(task '"register":"r"'),$on_a,{\"command\":\"echo {{ r.rc }}\"}")]" 'missing-result at=1/tasks/2 name=r hosts=2 of=3 host=b'
+noted 'of a step of an earlier play nothing is told' "$pair" "[$(play "$on_a"),$(play '{"command":"echo {{ r.rc }}"}'),$(play "$(task '"when":"r.rc == 0"'),$on_a")]" ''
+uncoded 'a handler reads what tasks leave' "$(task '"notify":"H"')" 'missing-result at=0/handlers/0 name=r hosts=2 of=3 host=b' "$(task '"name":"H","when":"r.rc == 0"')"
+uncoded 'a handler above it may not have run, or not be skipped' "$(task '"notify":["G","H"]')" 'missing-result at=0/handlers/0 name=r hosts=1 of=3 host=b' "{\"name\":\"G\",\"register\":\"r\",\"when\":\"inventory_hostname == 'b'\",\"command\":\"echo {{ r.rc }}\"},$(task '"name":"H","when":"r.rc == 0"')"
+noted 'it is known by groups and variables' "$three" "[$(play "$(task '"register":"r","when":"\"g\" in group_names"'),{\"command\":\"echo {{ r.rc }}\"},$(task '"register":"s","when":"x is defined and x == 0"'),{\"command\":\"echo {{ s.rc }}\"}")]" 'missing-result at=0/tasks/1 name=r hosts=2 of=3 host=a
+missing-result at=0/tasks/3 name=s hosts=2 of=3 host=a'
+noted 'on all hosts where nobody runs it' "$pair" "[$(play "$(task '"register":"r","when":"v == 2"'),{\"command\":\"echo {{ r.rc }}\"},$(task '"register":"s","when":false'),{\"command\":\"echo {{ s.rc }}\"}")]" 'idle-step at=0/tasks/0
+missing-result at=0/tasks/1 name=r hosts=3 of=3 host=a
+constant-condition at=0/tasks/2
+missing-result at=0/tasks/3 name=s hosts=3 of=3 host=a'
+noted 'and not where results decide' "$pair" "[$(play "$(task '"register":"q"'),$(task '"register":"r","when":"q is changed"'),{\"command\":\"echo {{ r.rc }}\"},$(task '"register":"s","when":["q is changed","inventory_hostname != \"b\""]'),{\"command\":\"echo {{ s.rc }}\"}")]" 'missing-result at=0/tasks/4 name=s hosts=1 of=3 host=b'
+noted 'a code of a name that is a variable too' "$pair" "[$(play "$(task '"register":"v","when":"inventory_hostname == \"a\""'),$(task '"when":"v.rc == 0"'),$(task '"when":"v == 1 or v.rc == 0"')")]" 'missing-result at=0/tasks/1 name=v hosts=2 of=3 host=b'
+uncoded 'with the result as a whole in a word it is one note' '{"command":"echo {{ r.rc }} {{ r }}"},{"command":"echo {{ r }} {{ r.rc }}","when":"inventory_hostname != \"a\""}' 'missing-result at=0/tasks/1 name=r hosts=3 of=3 host=a
+missing-result at=0/tasks/2 name=r hosts=2 of=3 host=b'
+only_a='"when":"inventory_hostname == \"a\""'
+noted 'in the order of reading' "$pair" "[$(play "$(task "\"register\":\"p\",$only_a"),$(task "\"register\":\"q\",$only_a"),$(task "\"register\":\"s\",$only_a"),$(task "\"register\":\"t\",$only_a"),{\"failed_when\":\"s.rc == 0 or p.rc == 0\",\"changed_when\":\"t.rc == 0\",\"command\":\"echo {{ q.rc }} {{ p.rc }}\",\"when\":\"p.rc == 0\"}")]" 'missing-result at=0/tasks/4 name=p hosts=2 of=3 host=b
+missing-result at=0/tasks/4 name=q hosts=2 of=3 host=b
+missing-result at=0/tasks/4 name=t hosts=2 of=3 host=b
+missing-result at=0/tasks/4 name=s hosts=2 of=3 host=b'
+refused 'also where a part of the condition that skips the step is none, but not of a step with such a one' "$pair" "[$(play "$(task '"register":"r","when":["inventory_hostname == \"a\"","v >"]'),{\"command\":\"echo {{ r.rc }}\"},{\"command\":\"echo {{ r.rc }}\",\"failed_when\":\"v >\"}")]" "rollout: 501 BadToken step=1 key=when at=2${newline}rollout: 501 BadToken step=3 key=failed_when at=2" 'missing-result at=0/tasks/1 name=r hosts=2 of=3 host=b'
 
 # Hosts.
 some='{"all":{"hosts":{"a":{"down":true},"b":{"w":1},"c":{"down":true,"w":1}},"children":{"up":{"hosts":{"d":null}},"off":{"hosts":{"a":null,"e":{"down":true}}},"none":null}}}'
@@ -411,8 +497,8 @@ for when in '[]' null "\"'g' not in group_names\"" "\"'all' not in group_names\"
     noted "the condition $when" "$one" "[$(play "$(task "\"when\":$when")")]" ''
 done
 noted 'nor are those that nobody meets' "$one" "[$(play "$(task "\"when\":\"'g' in group_names\""),$(task '"when":"1 == inventory_hostname"'),$(task "\"when\":[true,\"false and 'g' in group_names\"]")")]" 'idle-step at=0/tasks/0
-idle-step at=0/tasks/1
 unlike-values at=0/tasks/1 key=when
+idle-step at=0/tasks/1
 idle-step at=0/tasks/2'
 for when in "\"inventory_hostname == 'a' or 'b'\"" '["v","1"]' '"v and not (w == 1 or 0)"' "\"not '' and v\""; do
     all_noted "a text or a number by itself: $when" '{"all":{"vars":{"v":true,"w":1},"hosts":{"a":null}}}' "[$(play "$(task "\"when\":$when")")]" 'constant-condition at=0/tasks/0' --allow local-play,empty-group,idle-step
@@ -573,7 +659,8 @@ for when in '"n == 15"' '"x == 0"' "\"'h' in group_names\"" "\"'e' not in group_
 done
 noted 'nor is one of literals alone, which is the same on each host' "$many" "[$(play "$(task '"when":"1 == 2"'),$(task '"when":["1 != 1","b"]'),$(task '"when":false')")]" 'constant-condition at=0/tasks/0
 constant-condition at=0/tasks/2'
-noted 'what a program will have said is not known, nor a result that may not be there' "$many" "[$(play "$(task '"register":"r","notify":["H","I"]'),$(task '"when":"r.rc == 99"'),$(task '"when":"r.stdout == \"x\" and n == 15"')" "$(task '"name":"H","register":"h"'),$(task '"name":"I","when":"h == 1"')")]" 'missing-result at=0/handlers/1 name=h hosts=3 of=3 host=a
+noted 'what a program will have said is not known, nor a result that may not be there' "$many" "[$(play "$(task '"register":"r","notify":["H","I"]'),$(task '"when":"r.rc == 99"'),$(task '"when":"r.stdout == \"x\" and n == 15"')" "$(task '"name":"H","register":"h"'),$(task '"name":"I","when":"h == 1"')")]" 'idle-state at=0/tasks/1 name=r
+missing-result at=0/handlers/1 name=h hosts=3 of=3 host=a
 whole-result at=0/handlers/1 key=when name=h'
 noted 'but what stands beside it may decide' "$many" "[$(play "$(task '"register":"r"'),$(task '"when":["r.rc == 0","n == 16"]'),$(task '"when":"r.rc == 0 or n == 16"')")]" 'idle-step at=0/tasks/1'
 noted 'of a host that has no such variable it is not known' "$many" "[$(play "$(task '"when":"y == \"q\""'),$(task '"when":"z == 1"')"),$(play "$(task '"when":"y == \"q\""')" '' c)]" 'missing-name at=0/tasks/0 name=y hosts=2 of=3 host=a
@@ -590,15 +677,15 @@ idle-handler at=0/handlers/0'
 noted 'other conditions keep nobody from running it' "$many" "[$(play "$(task '"changed_when":"n == 16","failed_when":"n == 16"')")]" ''
 
 # Values of two kinds.
-noted 'behind the names, and who runs it; each condition once, and then the words' "$one" "[$(play '{"command":"echo {{ w }} ;","register":"r","when":["u == 1","inventory_hostname == 3","inventory_hostname == 4"],"changed_when":["true","r.rc == \"0\""],"failed_when":"not (r.failed != 1)"}')]" 'unknown-name at=0/tasks/0 name=u
-idle-step at=0/tasks/0
+noted 'behind the names, each condition once, and then who runs it, and the words' "$one" "[$(play '{"command":"echo {{ w }} ;","register":"r","when":["u == 1","inventory_hostname == 3","inventory_hostname == 4"],"changed_when":["true","r.rc == \"0\""],"failed_when":"not (r.failed != 1)"}')]" 'unknown-name at=0/tasks/0 name=u
 unlike-values at=0/tasks/0 key=when
+clashing-values at=0/tasks/0 key=when
 unlike-values at=0/tasks/0 key=changed_when
 unlike-values at=0/tasks/0 key=failed_when
-clashing-values at=0/tasks/0 key=when
+idle-step at=0/tasks/0
 shell-word at=0/tasks/0 word=;'
-noted 'of literals behind that they are' "$one" "[$(play "$(task "\"when\":\"1 != '1'\""),$(task '"changed_when":"true == 1"')")]" 'constant-condition at=0/tasks/0
-unlike-values at=0/tasks/0 key=when
+noted 'of literals before that they are' "$one" "[$(play "$(task "\"when\":\"1 != '1'\""),$(task '"changed_when":"true == 1"')")]" 'unlike-values at=0/tasks/0 key=when
+constant-condition at=0/tasks/0
 unlike-values at=0/tasks/1 key=changed_when'
 noted 'also behind what decides, in brackets, and in a handler' "$one" "[$(play "$(task '"register":"r","notify":"H"'),$(task "\"when\":\"true or not (r.rc == 0 and ('a' == r.stdout or r.skipped != ''))\"")" "$(task "\"name\":\"H\",\"when\":\"r.stderr == 0 or r.failed\"")")]" 'unlike-values at=0/tasks/1 key=when
 unlike-values at=0/handlers/0 key=when'
@@ -701,15 +788,20 @@ false-text at=0/tasks/0 key=changed_when name=e
 unlike-variable at=0/tasks/0 key=changed_when name=t
 false-text at=0/tasks/0 key=failed_when name=d
 unlike-variable at=0/tasks/0 key=failed_when name=n'
-all_noted 'behind the names and the groups of all conditions, and before who runs it' "$switches" "[$(play '{"command":"echo ;","when":["u == 1","\"x\" in group_names","n == \"15\"","1 == \"1\""],"changed_when":"d","failed_when":"\"y\" in group_names and n == true"}')]" 'unknown-name at=0/tasks/0 name=u
+all_noted 'behind the names and the groups of the same condition, and before who runs it' "$switches" "[$(play '{"command":"echo ;","when":["u == 1","\"x\" in group_names","n == \"15\"","1 == \"1\""],"changed_when":"d","failed_when":"\"y\" in group_names and n == true"}')]" 'unknown-name at=0/tasks/0 name=u
 unknown-group at=0/tasks/0 key=when group=x
-unknown-group at=0/tasks/0 key=failed_when group=y
 unlike-variable at=0/tasks/0 key=when name=n
+unlike-values at=0/tasks/0 key=when
 false-text at=0/tasks/0 key=changed_when name=d
+unknown-group at=0/tasks/0 key=failed_when group=y
 unlike-variable at=0/tasks/0 key=failed_when name=n
 idle-step at=0/tasks/0
-unlike-values at=0/tasks/0 key=when
 shell-word at=0/tasks/0 word=;'
+each_doubt="'x' in group_names or inventory_hostname == 'h' or d or n == '1' or r or '{{ q }}' == d or 1 == '1' or d == 'a' and d == 'b'"
+each_note=$(for key in when changed_when failed_when; do
+    printf '%s\n' "unknown-group key=$key group=x" "unknown-host key=$key host=h" "false-text key=$key name=d" "unlike-variable key=$key name=n" "whole-result key=$key name=r" "text-hole key=$key word={{ q }}" "unlike-values key=$key" "clashing-values key=$key"
+done | sed 's/ / at=0\/tasks\/1 /')
+all_noted 'of each condition all that may be, each once, and then of the next one' "$switches" "[$(play "$(task '"register":"r"'),$(task "\"failed_when\":\"$each_doubt\",\"changed_when\":[\"$each_doubt\"],\"when\":\"$each_doubt or e or t == 1 or $each_doubt\"")")]" "$each_note"
 noted 'what a step before registers is no variable, and behind its program what it registers itself' "$switches" "[$(play "$(task '"when":"d and n != \"15\"","changed_when":"t == 15","notify":["H","I"]'),$(task '"when":"d and n != \"15\"","register":"d","changed_when":"d","failed_when":"not d or n == 1 or n == \"1\""'),$(task '"when":"d","register":"n","changed_when":"n == \"15\""'),$(task '"when":"d or n != \"15\""')" "$(task '"name":"H","when":"d and n != \"15\" and e","register":"t"'),$(task '"name":"I","when":"d and t == 15"')"),$(play "$(task '"when":"d and n != \"15\" and t == 15 or e","failed_when":"e"')")]" 'false-text at=0/tasks/0 key=when name=d
 unlike-variable at=0/tasks/0 key=when name=n
 unlike-variable at=0/tasks/0 key=changed_when name=t
@@ -741,10 +833,13 @@ for when in '"r"' '"not r"' '"(r)"' '["w == 7","r"]' '"w == 7 or r"' '"true or r
     '"w != r"' '"r != w"' '"v != r"' '"r != v"' '"inventory_hostname != r"' '"r != q or q"' '["r.rc == 0","r != q","q"]' '"v or v != 1 or w != v or r"' '"r and q != 1"'; do
     asking "$when" 'whole-result at=0/tasks/3 key=when name=r'
 done
-for when in '"q or r"' '"q != r"' '"1 != q and r"' '["v","q is defined","not (r is changed or q)","r"]'; do
+for when in '"r is defined"' '"r is not defined"' '"not (r is defined)"' '"r is not defined or w"' '"true or r is not defined"' '"r is defined and q"' '["w == 7","r is defined","q"]' '"v is defined and r is defined"' '"r.rc is defined and r is not defined"' '"w == 7 and (r or q is defined)"'; do
+    asking "$when" 'whole-result at=0/tasks/3 key=when name=r'
+done
+for when in '"q or r"' '"q != r"' '"1 != q and r"' '["v","q is defined","not (r is changed or q)","r"]' '"q and r is defined"' '"q is not defined or r"' '["q is defined","r is defined"]'; do
     asking "$when" 'whole-result at=0/tasks/3 key=when name=q'
 done
-for when in '"r is changed"' '"r is not failed"' '"r.rc == 0"' '"r.stdout"' "\"'up' != r.stdout\"" '"r is defined"' '"r is not defined or w"' '"w != r.rc"' '"v"' '"not v"' '"v != 1"' '"7 != v"' '"w"' '"v != w"' '"inventory_hostname"' "\"'r' in group_names or w\""; do
+for when in '"r is changed"' '"r is not failed"' '"r.rc == 0"' '"r.stdout"' "\"'up' != r.stdout\"" '"r.rc is defined"' '"r.stdout is not defined or w"' '"v is defined"' '"w is not defined or v is defined"' '"w != r.rc"' '"v"' '"not v"' '"v != 1"' '"7 != v"' '"w"' '"v != w"' '"inventory_hostname"' "\"'r' in group_names or w\""; do
     asking "$when" ''
 done
 asking "\"'r'\"" 'constant-condition at=0/tasks/3'
@@ -773,6 +868,20 @@ whole-result at=0/tasks/0 key=failed_when name=n
 whole-result at=0/tasks/1 key=failed_when name=m'
 noted 'where nobody waits too' '{"all":{"hosts":{"a":{"down":true}}}}' "[$(play "$(task '"register":"r","changed_when":"r"')")]" 'no-hosts play=1
 whole-result at=0/tasks/0 key=changed_when name=r'
+# Of results that are there for sure `is defined` is told too.
+noted 'of a task above, also one that is skipped; not of itself before it runs, nor of one behind' "$one" "[$(play "$(task '"when":"r is defined"'),$(task '"register":"r","when":["inventory_hostname == \"a\"","r is not defined"]'),$(task '"when":"r is not defined"'),$(task '"when":"s is defined"'),$(task '"register":"s"')")]" 'whole-result at=0/tasks/2 key=when name=r'
+noted 'where it is judged a step'"'"'s own' "$one" "[$(play "$(task '"register":"r","when":"r is defined","changed_when":"r is defined","failed_when":["r.rc == 0","r is not defined"]'),$(task '"failed_when":"r is defined","changed_when":"s is defined"')" "$(task '"name":"H","register":"s","when":"s is not defined","failed_when":"s is defined"')")]" 'whole-result at=0/tasks/0 key=changed_when name=r
+whole-result at=0/tasks/0 key=failed_when name=r
+whole-result at=0/tasks/1 key=failed_when name=r
+whole-result at=0/handlers/0 key=failed_when name=s
+idle-handler at=0/handlers/0'
+noted 'for a handler any task of its play, but no handler, and no step of an earlier play' "$one" "[$(play "$(task '"register":"r","notify":["H","I"]'),$(task '"register":"s"')" "$(task '"name":"H","when":"s is defined","register":"h"'),$(task '"name":"I","when":["h is defined","r is not defined"]')"),$(play "$(task '"when":["r is defined","h is not defined"]'),$(task '"register":"r"'),$(task '"when":"h is defined or r is defined"')")]" 'whole-result at=0/handlers/0 key=when name=s
+whole-result at=0/handlers/1 key=when name=r
+whole-result at=1/tasks/2 key=when name=r'
+noted 'a result as a whole of an earlier play takes its turn beside one that is there' "$one" "[$(play "$(task '"register":"r"')"),$(play "$(task '"register":"s"'),$(task '"when":"r is defined and r and s is defined"'),$(task '"when":"s is defined and r"')")]" 'whole-result at=1/tasks/1 key=when name=r
+whole-result at=1/tasks/2 key=when name=s'
+noted 'not where it may be a variable of anybody' '{"all":{"hosts":{"a":null,"b":{"r":1,"down":true}}}}' "[$(play "$(task '"register":"r","failed_when":"r is not defined"'),$(task '"when":"r is defined"')" '' a)]" ''
+refused 'beside faults of the playbook alone, whatever stands beside it' "$one" "[$(play "$(task '"register":"r","when":"x is defind"'),$(task '"when":["x >","r is defined"]')")]" "rollout: 502 Unexpected step=1 key=when at=5${newline}rollout: 501 BadToken step=2 key=when at=2" 'whole-result at=0/tasks/1 key=when name=r'
 refused 'whole results beside faults of the playbook alone' '{"all":{"hosts":{"a":null}}}' "[$(play "$(task '"register":"r","failed_when":"r"'),$(task '"when":["x >","r != 1"],"x":1'),$(task '"when":["r is defined >","r"]')")]" "rollout: 703 UnknownKey at=0/tasks/1/x
 rollout: 501 BadToken step=2 key=when at=2
 rollout: 501 BadToken step=3 key=when at=13" 'whole-result at=0/tasks/0 key=failed_when name=r
@@ -815,8 +924,8 @@ idle-step at=0/tasks/0
 text-hole at=0/tasks/1 key=when word={{ n }}
 constant-condition at=0/tasks/1
 text-hole at=0/tasks/2 key=when word={{ n }}
-constant-condition at=0/tasks/2
 unlike-values at=0/tasks/2 key=when
+constant-condition at=0/tasks/2
 text-hole at=0/handlers/0 key=when word={{ n }}'
 noted 'also where nobody waits' '{"all":{"hosts":{"a":{"down":true}}}}' "[$(play "$(task '"failed_when":"\"{{ x }}\" == \"a\""')")]" 'no-hosts play=1
 text-hole at=0/tasks/0 key=failed_when word={{ x }}'
@@ -827,27 +936,38 @@ rollout: 304 NoSuchName name=nobody" 'text-hole at=0/tasks/0 key=when word={{ w 
 
 # States for which steps wait, and in which none before them ends.
 
-# awaiting CONDITION NAME: a step with this `when`, as JSON, that waits in vain for a state of this result, behind three steps: `r` may end as changed alone, `q` as failed alone, and `v`, which is a variable
-# too, as changed and as skipped.
+# awaiting CONDITION NAME [NOTES]: a step with this `when`, as JSON, that waits in vain for a state or a code of this result, behind three steps: `r` may end as changed alone, `q` as failed alone, and with any
+# code, and `v`, which is a variable too, as changed and as skipped. These notes stand before that one.
 awaiting() {
     noted "the condition $1, for a state" '{"all":{"vars":{"w":7},"hosts":{"a":{"v":1}}}}' \
-        "[$(play "$(task '"register":"r"'),$(task '"register":"q","ignore_errors":true,"changed_when":false'),$(task '"register":"v","when":"w == 7"'),$(task "\"when\":$1")")]" "${2:+idle-state at=0/tasks/3 name=$2}"
+        "[$(play "$(task '"register":"r"'),$(task '"register":"q","ignore_errors":true,"changed_when":false'),$(task '"register":"v","when":"w == 7"'),$(task "\"when\":$1")")]" "${3:-}${2:+idle-state at=0/tasks/3 name=$2}"
 }
 for when in '"r is failed"' '"r is skipped"' '"r.failed"' '"r.skipped"' '"not r is not failed"' '"not r is not skipped"' '"r is not succeeded"' '"not r is succeeded"' '"(r is failed)"' '"not (r is not failed)"' '["w == 7","r is failed"]' \
-    '"w == 7 and r is failed"' '"r.rc == 0 and r.skipped and w == 7"' '["r is changed","q is failed and r is failed"]' '"r is failed and q is changed"' '["r.failed","q.changed"]' '"r is defined and r is failed"' \
+    '"w == 7 and r is failed"' '"r.rc == 0 and r.skipped and w == 7"' '["r is changed","q is failed and r is failed"]' '"r is failed and q is changed"' '["r.failed","q.changed"]' '"r.rc is defined and r is failed"' \
+    '"r.rc != 0"' '"0 != r.rc"' '"r.rc == 3"' '"3 == r.rc"' '"r.rc == -1"' '"r.rc"' '"(r.rc)"' '"not r.rc == 0"' '"not (0 == r.rc)"' '"not r.rc != 5"' '"not (5 != r.rc)"' '["w == 7","r.rc != 0"]' '"w == 7 and r.rc == 2"' '"q.rc and r.rc"' \
+    '"q.rc != 0 and q is failed and r.rc == 65535"' '["r.rc != 0","q is changed"]' '"q.rc == 1 and r is skipped"' \
     '["(w == 7 or v) and r is failed","r is changed"]'; do
     awaiting "$when" r
 done
 for when in '"q is changed"' '"q.changed"' '"q is skipped"' '"not q is not changed"' '"q is changed and r is failed"' '["q is failed","q is changed","r is failed"]' '"r is changed and v is changed and q.skipped"'; do
     awaiting "$when" q
 done
-for when in '"v is failed"' '"v.failed"' '"v is changed and v is not succeeded"'; do
+for when in '"v is failed"' '"v.failed"' '"v is changed and v is not succeeded"' '"v.rc != 0"' '["v is skipped","v.rc == 1","r.rc == 1"]'; do
     awaiting "$when" v
 done
 for when in '"r is changed"' '"r.changed"' '"q is failed"' '"q is not succeeded"' '"not q is succeeded"' '"v is skipped"' '"v.changed"' '"r is succeeded"' '"not r is not succeeded"' '"r is not failed"' '"not r is failed"' '"not not r is failed"' \
     '"not (r is failed)"' '"not (not r is failed)"' '"not r.failed"' '"not not r.failed"' '"r.failed == true"' '"true == r.skipped"' '"r.failed != false"' '"r.rc == 0"' '"r.stdout"' '"r is failed or w == 7"' '"r is failed or r is skipped"' '"not (r is changed or r is failed)"' \
-    '"(r is failed or w == 7) and q is failed"' '"(r is failed and w == 7) and q is failed"' '["r is failed or w == 7"]' '"r is not changed"' '"r is defined"' '"r.failed is defined"' '"w is failed"' '"w.changed"'; do
+    '"(r is failed or w == 7) and q is failed"' '"(r is failed and w == 7) and q is failed"' '["r is failed or w == 7"]' '"r is not changed"' '"r.failed is defined"' '"w is failed"' '"w.changed"' \
+    '"q.rc != 0"' '"q.rc == 3"' '"q.rc"' '"not q.rc == 0"' '"r.rc == 0"' '"0 == r.rc"' '"r.rc != 5"' '"5 != r.rc"' '"not r.rc"' '"not r.rc == 5"' '"not r.rc != 0"' '"not not r.rc != 0"' '"not not r.rc"' '"not (not r.rc == 0)"' '"r.rc == q.rc"' '"r.rc != r.rc"' '"r.rc != w"' '"w != 3"' \
+    '"r.rc != 0 or w == 7"' '"(r.rc != 0 or w == 7) and q.rc != 0"' '"not (r.rc == 0 and w == 7)"' '"r.rc is defined"' '"w.rc != 0"'; do
     awaiting "$when" ''
+done
+
+awaiting '"r is defined and r is failed"' r "whole-result at=0/tasks/3 key=when name=r$newline"
+awaiting '"r is defined"' '' 'whole-result at=0/tasks/3 key=when name=r'
+# What a code never is: a text, or a truth value.
+for when in "\"r.rc == '1'\"" "\"'0' != r.rc\"" '"r.rc == true"'; do
+    awaiting "$when" '' 'unlike-values at=0/tasks/3 key=when'
 done
 
 # ending KEYS STATE [VAIN]: a step that waits for this state of the result of one with these keys; in vain where that is said.
@@ -874,6 +994,24 @@ for key in '"when":null' '"when":[]' '"ignore_errors":true'; do
     ending "$key" skipped vain
 done
 ending '"when":"inventory_hostname == \"a\""' skipped
+# coded KEYS [VAIN]: a step that waits for a code other than 0 of a step with these keys, in each way in which it may ask; in vain where that is said.
+coded() {
+    for when in 'r.rc != 0' 'r.rc == 7' 'r.rc' 'not r.rc == 0'; do
+        noted "$when by ${1:-nothing}" "$one" "[$(play "{\"command\":\"true\",\"register\":\"r\"${1:+,$1}},$(task "\"when\":\"$when\"")")]" "${2:+idle-state at=0/tasks/1 name=r}"
+    done
+}
+for key in '' '"ignore_errors":false' '"changed_when":false' '"changed_when":"r.rc == 7"' '"when":"inventory_hostname == \"a\""' '"failed_when":null' '"failed_when":[]'; do
+    coded "$key" vain
+done
+for key in '"ignore_errors":true' '"failed_when":false' '"failed_when":"false"' '"failed_when":true' '"failed_when":"r.rc == 9"' '"failed_when":["r.rc == 7",false]' '"ignore_errors":true,"failed_when":false' '"ignore_errors":false,"failed_when":"not true"'; do
+    coded "$key"
+done
+noted 'of several steps before one is enough for a code, and none behind it, nor itself' "$two" "[$(play "$(task '"register":"r"')" '' a),$(play "$(task '"register":"r","failed_when":false'),$(task '"when":"r.rc != 0"')" '' b),$(play "$(task '"register":"q","when":"q.rc != 0"'),$(task '"when":"q.rc == 1"'),$(task '"register":"q","ignore_errors":true'),$(task '"when":"q.rc == 1"')")]" 'unknown-name at=2/tasks/0 name=q
+idle-state at=2/tasks/1 name=q'
+noted 'for a handler all tasks, and the handlers before it; of an earlier play all steps' "$one" "[$(play "$(task '"register":"r","notify":["H","I"]'),$(task '"register":"s","failed_when":"s.rc == 2"')" "$(task '"name":"H","register":"h","when":"r.rc != 0"'),$(task '"name":"I","when":["s.rc != 0","h.rc != 0"]')"),$(play "$(task '"when":"s.rc == 1"'),$(task '"when":"r.rc"')")]" 'idle-state at=0/handlers/0 name=r
+missing-result at=0/handlers/1 name=h hosts=1 of=1 host=a
+idle-state at=0/handlers/1 name=h
+idle-state at=1/tasks/1 name=r'
 noted 'a step that is never skipped, or never runs, may be so too' "$one" "[$(play "$(task '"register":"r","when":true'),$(task '"when":"r is skipped"'),$(task '"when":"r is changed"')")]" 'constant-condition at=0/tasks/0'
 noted 'of several steps before one is enough' "$one" "[$(play "$(task '"register":"r"'),$(task '"register":"r","ignore_errors":true'),$(task '"register":"r"'),$(task '"when":"r is failed"')")]" ''
 noted 'but none behind it, nor itself, nor one of another name' "$one" "[$(play "$(task '"register":"r"'),$(task '"register":"r","when":"r is failed","ignore_errors":true'),$(task '"register":"q","ignore_errors":true'),$(task '"when":"r is skipped"'),$(task '"when":"q is skipped"'),$(task '"register":"q","when":"q is failed"')")]" 'idle-state at=0/tasks/1 name=r
@@ -898,8 +1036,22 @@ awaited=$(play "$(task '"register":"r"'),$(task '"when":"r is failed"')")
 refused 'states beside faults of the inventory alone' '{"all":{"hosts":{"a":null},"x":1}}' "[$awaited]" 'rollout: 203 UnknownKey at=all/x' 'idle-state at=0/tasks/1 name=r'
 refused 'not beside those of the playbook, where a step may be left out' "$one" "[$awaited,$(play '{"command":"true","x":1}')]" 'rollout: 703 UnknownKey at=1/tasks/0/x' ''
 refused 'but beside such that leave all steps known' "$one" "[$awaited,{\"hosts\":\"all\",\"serial\":\"x\",\"tasks\":[{\"command\":\"true\",\"tags\":1}]}]" "rollout: 706 BadSerial at=1/serial${newline}rollout: 703 UnknownKey at=1/tasks/0/tags" 'idle-state at=0/tasks/1 name=r'
-refused 'not where a part of a condition is none' "$one" "[$awaited,$(play "$(task '"when":"x >"')")]" 'rollout: 501 BadToken play=2 step=1 key=when at=2' ''
-refused 'nor beside a name that nothing has' "$one" "[$awaited,$(play '{"command":"true"}' '' a:nobody)]" 'rollout: 304 NoSuchName name=nobody' ''
+refused 'and beside a part of a condition that is none, of another step or of its own' "$one" "[$awaited,$(play "$(task '"when":"x >"'),$(task '"when":["x >","r.skipped"]'),$(task '"changed_when":"x >","when":"r.rc != 0"')")]" \
+    "rollout: 501 BadToken play=2 step=1 key=when at=2${newline}rollout: 501 BadToken play=2 step=2 key=when at=2${newline}rollout: 501 BadToken play=2 step=3 key=changed_when at=2" 'idle-state at=0/tasks/1 name=r
+idle-state at=1/tasks/1 name=r
+idle-state at=1/tasks/2 name=r'
+refused 'before a play for a name that nothing has' "$one" "[$awaited,$(play '{"command":"true"}' '' a:nobody)]" 'rollout: 304 NoSuchName name=nobody' 'idle-state at=0/tasks/1 name=r'
+refused 'not in such a play, nor behind it' "$one" "[$(echo "$awaited" | sed 's/"all"/"a:nobody"/'),$awaited]" 'rollout: 304 NoSuchName name=nobody' ''
+# A step of whose `when` nothing is kept may be skipped; one of which something is may too, and one with other conditions that are none may not.
+for when in '"x >"' '["x >"]' '["x is defind","inventory_hostname == \"a\""]' '["x >","inventory_hostname == \"a\""]' '"x | default(1)"'; do
+    texts "$one" "[$(play "$(task "\"register\":\"r\",\"when\":$when"),$(task '"when":"r is skipped"'),$(task '"when":"r is failed"')")]"
+    run lint "$inventory" "$playbook"
+    without_faults
+    check "a step under $when may be skipped" 1 "faults=1${newline}idle-state at=0/tasks/2 name=r${newline}notes=1$newline" ''
+done
+refused 'what is none of others says nothing of skips' "$one" "[$(play "$(task '"register":"r","changed_when":"x >"'),$(task '"when":"r is skipped"')")]" 'rollout: 501 BadToken step=1 key=changed_when at=2' 'idle-state at=0/tasks/1 name=r'
+refused 'nor does a when that asks for nothing' "$one" "[$(play "$(task '"register":"r","when":[],"changed_when":"x >"'),$(task '"register":"q","when":null'),$(task '"when":"r is skipped and q is skipped"'),$(task '"when":"q is skipped"')")]" 'rollout: 501 BadToken step=1 key=changed_when at=2' 'idle-state at=0/tasks/2 name=r
+idle-state at=0/tasks/3 name=q'
 
 # Hosts that aren't there.
 
@@ -922,13 +1074,13 @@ for when in "\"v == 'd'\"" "\"'d' != r.stdout\"" "\"inventory_hostname == v\"" '
 done
 naming '"inventory_hostname != \"caf\u00e9\t\""' 'caf???'
 noted 'a name without a letter' "$one" "[$(play "$(task "\"failed_when\":\"inventory_hostname == ''\"")")]" 'unknown-host at=0/tasks/0 key=failed_when host='
-all_noted 'of each condition, behind all groups, and before values; also where nobody waits' '{"all":{"vars":{"d":"no"},"hosts":{"a":{"down":true}}}}' "[$(play "$(task "\"when\":\"inventory_hostname == 'b' and 'x' in group_names and d\",\"failed_when\":\"inventory_hostname != 'e' and 'y' in group_names\",\"changed_when\":\"'c' != inventory_hostname\",\"notify\":\"H\"")" "$(task "\"name\":\"H\",\"when\":\"inventory_hostname != 'f'\"")")]" 'no-hosts play=1
+all_noted 'of each condition, behind its groups, and before values; also where nobody waits' '{"all":{"vars":{"d":"no"},"hosts":{"a":{"down":true}}}}' "[$(play "$(task "\"when\":\"inventory_hostname == 'b' and 'x' in group_names and d\",\"failed_when\":\"inventory_hostname != 'e' and 'y' in group_names\",\"changed_when\":\"'c' != inventory_hostname\",\"notify\":\"H\"")" "$(task "\"name\":\"H\",\"when\":\"inventory_hostname != 'f'\"")")]" 'no-hosts play=1
 unknown-group at=0/tasks/0 key=when group=x
-unknown-group at=0/tasks/0 key=failed_when group=y
 unknown-host at=0/tasks/0 key=when host=b
-unknown-host at=0/tasks/0 key=changed_when host=c
-unknown-host at=0/tasks/0 key=failed_when host=e
 false-text at=0/tasks/0 key=when name=d
+unknown-host at=0/tasks/0 key=changed_when host=c
+unknown-group at=0/tasks/0 key=failed_when group=y
+unknown-host at=0/tasks/0 key=failed_when host=e
 unknown-host at=0/handlers/0 key=when host=f'
 noted 'a step that runs on no other host' "$many" "[$(play "$(task "\"when\":\"inventory_hostname == 'd'\"")")]" 'unknown-host at=0/tasks/0 key=when host=d
 idle-step at=0/tasks/0'
@@ -961,27 +1113,31 @@ clashing "\"r == 'a' and r == 'b'\"" 'whole-result at=0/tasks/0 key=failed_when 
 clashing-values at=0/tasks/0 key=failed_when'
 clashing '"r.rc != 0 or r.rc != \"0\""' 'unlike-values at=0/tasks/0 key=failed_when
 clashing-values at=0/tasks/0 key=failed_when'
-noted 'comparisons of each condition, behind values of two kinds, and before that it never changes' "$many" "[$(play "$(task "\"register\":\"r\",\"when\":\"n == 15 or t != 'a' or t != 'b' or 1 == '1'\",\"changed_when\":[\"t == 'a'\",\"t == 'b'\",false],\"failed_when\":\"r.rc != '0' or x != 0 or x != 1\",\"notify\":\"H\"")" "$(task "\"name\":\"H\",\"when\":\"x == 0 and x == 1\"")")]" 'unlike-values at=0/tasks/0 key=when
-unlike-values at=0/tasks/0 key=failed_when
+noted 'comparisons of each condition, behind its values of two kinds, and before that it never changes' "$many" "[$(play "$(task "\"register\":\"r\",\"when\":\"n == 15 or t != 'a' or t != 'b' or 1 == '1'\",\"changed_when\":[\"t == 'a'\",\"t == 'b'\",false],\"failed_when\":\"r.rc != '0' or x != 0 or x != 1\",\"notify\":\"H\"")" "$(task "\"name\":\"H\",\"when\":\"x == 0 and x == 1\"")")]" 'unlike-values at=0/tasks/0 key=when
 clashing-values at=0/tasks/0 key=when
 clashing-values at=0/tasks/0 key=changed_when
+unlike-values at=0/tasks/0 key=failed_when
 clashing-values at=0/tasks/0 key=failed_when
 idle-notify at=0/tasks/0
-idle-step at=0/handlers/0
-clashing-values at=0/handlers/0 key=when'
-noted 'a list that nobody runs' "$many" "[$(play "$(task '"when":["x == 0","x == 1"]')")]" 'idle-step at=0/tasks/0
-clashing-values at=0/tasks/0 key=when'
+clashing-values at=0/handlers/0 key=when
+idle-step at=0/handlers/0'
+noted 'a list that nobody runs' "$many" "[$(play "$(task '"when":["x == 0","x == 1"]')")]" 'clashing-values at=0/tasks/0 key=when
+idle-step at=0/tasks/0'
 refused 'comparisons beside faults of both files' '{"all":{"vars":{"v":"x"},"hosts":{"a":null},"x":1}}' "[$(play "$(task "\"when\":[\"x >\",\"v != 'a' or v != 'b'\"],\"x\":1")" '' all:nobody)]" "rollout: 203 UnknownKey at=all/x
 rollout: 703 UnknownKey at=0/tasks/0/x
 rollout: 501 BadToken step=1 key=when at=2
 rollout: 304 NoSuchName name=nobody" 'clashing-values at=0/tasks/0 key=when'
 
 # Beside faults these are told where they can't be so by what is left out.
-refused 'a condition of which a part can be read' "$two" "[$(play '{"command":"ssh x","when":["x >","1 == inventory_hostname"]}')]" 'rollout: 501 BadToken step=1 key=when at=2' 'idle-step at=0/tasks/0
-unlike-values at=0/tasks/0 key=when'
+refused 'a condition of which a part can be read' "$two" "[$(play '{"command":"ssh x","when":["x >","1 == inventory_hostname"]}')]" 'rollout: 501 BadToken step=1 key=when at=2' 'unlike-values at=0/tasks/0 key=when
+idle-step at=0/tasks/0'
 refused 'beside a fault of the playbook no play is told that runs here' "$two" "[$(play '{"command":"true","x":1}'),$(play '{"command":"ssh x","when":"v == 2"}')]" 'rollout: 703 UnknownKey at=0/tasks/0/x' 'idle-step at=1/tasks/0'
 refused 'beside one of the inventory no count of hosts' '{"all":{"vars":{"v":1},"hosts":{"a":null,"b":null},"x":1}}' "[$(play '{"command":"true"}'),$(play '{"command":"ssh x","register":"r","when":"v == 2","failed_when":"r.rc == true"}')]" 'rollout: 203 UnknownKey at=all/x' 'unlike-values at=1/tasks/0 key=failed_when'
-refused 'nor beside a name that nothing has, in any play' "$two" "[$(play '{"command":"true"}'),$(play '{"command":"ssh x","when":"v == 2"}'),$(play '{"command":"true"}' '' all,nobody)]" 'rollout: 304 NoSuchName name=nobody' ''
+refused 'beside a name that nothing has such as are of other plays' "$two" "[$(play '{"command":"true"}'),$(play '{"command":"ssh x","when":"v == 2"},{"command":"ssh x"}'),$(play '{"command":"true"}' '' all,nobody),$(play '{"command":"ssh x","when":"v == 2"},{"command":"ssh x"}' '' all,nobody),$(play '{"command":"true"}')]" \
+    "rollout: 304 NoSuchName name=nobody${newline}rollout: 304 NoSuchName name=nobody" 'local-play play=1 hosts=2
+idle-step at=1/tasks/0
+fixed-target at=1/tasks/1 hosts=2
+local-play play=5 hosts=2'
 
 # Groups without hosts, values with holes, and hosts with the names of groups.
 alone() {
@@ -1061,7 +1217,9 @@ refused 'full groups beside faults of the playbook alone' "$filled" "[$(play '{"
 refused 'not where hosts may be left out' '{"g":{"vars":{"max_down":1},"hosts":{"a":{"down":true},"b":null},"x":1}}' "[$(play "$each")]" 'rollout: 203 UnknownKey at=g/x' ''
 refused 'nor where it is not known of a host whether it is down' '{"g":{"vars":{"max_down":1},"hosts":{"a":{"down":true},"b":null,"c":{"down":1}}}}' "[$(play "$each")]" 'rollout: 205 BadDown at=g/hosts/c/down' ''
 refused 'nor where a limit is none' '{"g":{"vars":{"max_down":1},"hosts":{"a":{"down":true},"b":null}},"h":{"vars":{"max_down":-1},"hosts":{"c":null}}}' "[$(play "$each")]" 'rollout: 204 BadLimit at=h/vars/max_down' 'down-hosts play=1 hosts=1 host=a'
-refused 'nor where a name of a play names nothing' "$filled" "[$(play "$each" '' b:nobody)]" 'rollout: 304 NoSuchName name=nobody' ''
+refused 'nor where a name of the play names nothing' "$filled" "[$(play "$each" '' b:nobody),$(play "$each" '' b),$(play "$each" '' nobody),$(play "$each" '' c:d)]" "rollout: 304 NoSuchName name=nobody${newline}rollout: 304 NoSuchName name=nobody" 'full-group play=2 hosts=1 of=1 host=b group=g
+full-group play=4 hosts=1 of=2 host=c group=g
+unlimited-hosts play=4 hosts=1 of=2 host=d'
 
 # What a shell would put in place, programs of several words, and scripts for ssh.
 noted 'a variable of the shell, in braces, and a command; a home' "$one" "[$(play '{"command":"echo $HOME"},{"command":"echo a${B}c"},{"command":"echo $(x)"},{"command":"echo ~/x"},{"command":"echo $_"}')]" 'shell-word at=0/tasks/0 word=$HOME
@@ -1118,8 +1276,8 @@ constant-condition at=2/tasks/0
 local-step at=2/tasks/0 word=uptime
 long-word at=2/tasks/1 bytes=65537
 dash-name at=2/tasks/1 host=-D
-idle-step at=2/tasks/2
 unlike-values at=2/tasks/2 key=when
+idle-step at=2/tasks/2
 local-play play=4 hosts=2
 missing-result at=3/tasks/0 name=r hosts=2 of=2 host=-D
 full-group play=5 hosts=1 of=5 host=y group=brim
@@ -1264,8 +1422,25 @@ refused 'a step without a command registers all the same' "$one" "[$(play "{\"sh
     "rollout: 703 UnknownKey at=0/tasks/0/shell${newline}rollout: 702 BadShape at=0/tasks/0" "unknown-name at=0/tasks/0 name=q${newline}unknown-name at=0/tasks/1 name=rr"
 refused 'of a step whose when is none the words are looked at, behind the parts of it that can be read' "$one" "[$(play '{"command":"echo {{ y }} ;","when":["y is defined","z >"],"register":"q","failed_when":"z"},{"command":"echo {{ q.rc }} {{ p }}"}')]" \
     'rollout: 501 BadToken step=1 key=when at=2' "shell-word at=0/tasks/0 word=;${newline}unknown-name at=0/tasks/1 name=p"
-refused 'and so are its other conditions; what some hosts have is not told, nor a condition that asks nothing' "$three" "[$(play '{"command":"echo {{ vv }} {{ x }}","when":[true,"x >"],"changed_when":"q"}')]" \
-    'rollout: 501 BadToken step=1 key=when at=2' "unknown-name at=0/tasks/0 name=vv${newline}unknown-name at=0/tasks/0 name=q"
+refused 'and so are its other conditions; what some hosts have is not told of it, nor that its condition asks nothing' "$three" "[$(play '{"command":"echo {{ vv }} {{ x }}","when":[true,"x >"],"changed_when":"q"},{"command":"echo {{ x }}","when":true}')]" \
+    'rollout: 501 BadToken step=1 key=when at=2' "unknown-name at=0/tasks/0 name=vv${newline}unknown-name at=0/tasks/0 name=q${newline}missing-name at=0/tasks/1 name=x hosts=2 of=3 host=a${newline}constant-condition at=0/tasks/1"
+lacking='"command":"echo {{ w }}"'
+for key in '"when"' '"when":true,"changed_when"' '"when":true,"failed_when"'; do
+    for condition in '"x >"' '[true,"x >"]' '"x is defind"' '["x == 0 and"]'; do
+        texts "$three" "[$(play "{$lacking,\"when\":\"1 == 1\"},{\"command\":\"echo {{ x }}\",$key:$condition},{$lacking}" "{\"name\":\"H\",$lacking,\"when\":true}")]"
+        run lint "$inventory" "$playbook" --allow idle-handler
+        without_faults
+        check "beside $key:$condition what some have not, and conditions that ask nothing, of other steps alone" 1 "faults=1
+missing-name at=0/tasks/0 name=w hosts=1 of=3 host=a
+constant-condition at=0/tasks/0
+missing-name at=0/tasks/2 name=w hosts=1 of=3 host=a
+missing-name at=0/handlers/0 name=w hosts=1 of=3 host=a
+constant-condition at=0/handlers/0
+notes=5
+" ''
+    done
+done
+refused 'a name that nobody has is told of such a step too, though some alone would look it up' "$three" "[$(play '{"command":"echo {{ y }}","when":["inventory_hostname == \"a\"","x >"]}')]" 'rollout: 501 BadToken step=1 key=when at=2' 'unknown-name at=0/tasks/0 name=y'
 refused 'nor is a default told from that' "$one" "[$(play '{"command":"echo {{ y }}","when":"y | default(1)"},{"command":"echo {{ y }}","when":"y is defind"}')]" \
     "rollout: 501 BadToken step=1 key=when at=2${newline}rollout: 502 Unexpected step=2 key=when at=5" ''
 refused 'the rest of another condition isn'"'"'t looked at behind such a part' "$one" "[$(play "$(task '"changed_when":["y is defined and y = 1","y == 1"],"failed_when":["y >","z"]')")]" \
@@ -1356,15 +1531,28 @@ idle-handler at=0/handlers/0
 no-hosts play=2'
 sed -i 's/"hosts":"e"/"hosts":["e","nobody"]/' "$playbook"
 run lint "$inventory" "$playbook"
-told 'and more where a name of a play names nothing' "rollout: 703 UnknownKey at=0/become${newline}rollout: 304 NoSuchName name=nobody" 'empty-limit group=e
+told 'and none of those of a play of which a name names nothing' "rollout: 703 UnknownKey at=0/become${newline}rollout: 304 NoSuchName name=nobody" 'empty-limit group=e
+down-hosts play=1 hosts=1 host=d
+idle-serial play=1 size=9 waiting=3
 local-step at=0/tasks/0 word=uptime
+fixed-target at=0/handlers/0 hosts=3
 idle-handler at=0/handlers/0'
 sed -i 's/"become":1,//' "$playbook"
 run lint "$inventory" "$playbook"
 told 'or where that is the only fault' 'rollout: 304 NoSuchName name=nobody' 'empty-limit group=e
+down-hosts play=1 hosts=1 host=d
+idle-serial play=1 size=9 waiting=3
+one-failure play=1 percent=5 size=3
 local-step at=0/tasks/0 word=uptime
+fixed-target at=0/handlers/0 hosts=3
 idle-handler at=0/handlers/0'
-sed -i 's/,"nobody"//' "$playbook"
+sed -i -e 's/"hosts":"g"/"hosts":"g:nobody"/' -e 's/,"nobody"//' "$playbook"
+run lint "$inventory" "$playbook"
+told 'of the first play none where a name of that names nothing' 'rollout: 304 NoSuchName name=nobody' 'empty-limit group=e
+local-step at=0/tasks/0 word=uptime
+idle-handler at=0/handlers/0
+no-hosts play=2'
+sed -i 's/"hosts":"g:nobody"/"hosts":"g"/' "$playbook"
 sed -i 's/"g":{/&"x":1,/' "$inventory"
 run lint "$inventory" "$playbook"
 told 'or beside a fault of the inventory' 'rollout: 203 UnknownKey at=g/x' 'local-step at=0/tasks/0 word=uptime
@@ -1397,12 +1585,19 @@ notes=3
   shell-word: no shell reads it here: write {\"argv\": [\"sh\", \"-c\", \"ps | grep x\"]}, or two steps in place of && and ;; \`explain shell-word\` says more, \`--allow shell-word\` switches it off
 " ''
 
-# unsought WHAT INVENTORY PLAYBOOK KINDS: behind the faults of the texts stands that notes of these kinds aren't looked for; nothing where none are given.
+# unsought WHAT INVENTORY PLAYBOOK KINDS [STEPS [PLAYS [LATER]]]: behind the faults of the texts stands that notes of these kinds aren't looked for at all, in some steps, in some plays, and in these and later ones;
+# each in a line, and none where none are given.
 unsought() {
     texts "$2" "$3"
     run lint "$inventory" "$playbook"
-    found=$(sed -n 's/^  not looked for beside these faults: //p' "$work/out")
-    [ "$found" = "$4" ] && pass || fail "$1: not looked for is '$found'"
+    {
+        [ -z "$4" ] || echo "  not looked for beside these faults: $4"
+        [ -z "${5:-}" ] || echo "  not looked for in steps with conditions that can't be read: $5"
+        [ -z "${6:-}" ] || echo "  not looked for in plays whose hosts aren't known: $6"
+        [ -z "${7:-}" ] || echo "  not looked for in such a play and later ones: $7"
+    } >"$work/unsought"
+    found=$(sed -n '/^faults=/,$p' "$work/out" | grep -v -e '^  [a-z-]*: .*; `explain ' | grep '^  ')
+    [ "$found" = "$(cat "$work/unsought")" ] && pass || fail "$1: not looked for is '$found'"
 }
 
 # Of each sort of fault in what it leaves known.
@@ -1411,7 +1606,10 @@ ok_play=$(play '{"command":"true"}')
 of_hosts='empty-limit, loose-limit, empty-group, no-hosts, down-hosts, full-group, unlimited-hosts, idle-serial, one-failure, local-play, missing-result, unknown-group, unknown-host, unlike-variable, whole-result, idle-step, fixed-target'
 of_downs='no-hosts, down-hosts, full-group, idle-serial, one-failure'
 of_limits='empty-group, full-group, unlimited-hosts, one-failure'
-of_targets='no-hosts, down-hosts, full-group, unlimited-hosts, idle-serial, one-failure, local-play, missing-result, idle-step, idle-state, fixed-target'
+of_steps='missing-name, missing-result, constant-condition'
+of_plays='no-hosts, down-hosts, full-group, unlimited-hosts, idle-serial, one-failure, local-play, idle-step, fixed-target'
+of_read_plays='no-hosts, down-hosts, full-group, unlimited-hosts, idle-serial, idle-step, fixed-target'
+of_later='missing-result, idle-state'
 unlimited='zero-limit, empty-limit, loose-limit, empty-group, full-group, unlimited-hosts, one-failure'
 unsought 'beside a down that is none' "$bad_down" "$ok" "$of_downs"
 unsought 'or at a wrong place' '{"all":{"hosts":{"a":null},"down":true}}' "$ok" "$of_downs"
@@ -1431,7 +1629,7 @@ unsought 'beside a group that stands twice' '{"all":{"hosts":{"a":null}},"g":{"h
 unsought 'beside limits that cross' "$crossing" "$ok" "$unlimited"
 unsought 'and a down that is none' '{"f":{"vars":{"max_down":1},"hosts":{"a":{"down":1}}},"g":{"vars":{"max_down":0},"hosts":{"a":null}}}' "$ok" 'zero-limit, empty-limit, loose-limit, empty-group, no-hosts, down-hosts, full-group, unlimited-hosts, idle-serial, one-failure'
 unsought 'and faults of the playbook' "$crossing" "[$(play '{"command":"true","x":1}')]" "$unlimited, local-play, idle-state, idle-handler"
-unsought 'and a when that is none' "$crossing" "[$(play "$(task '"when":"x >"')")]" "$unlimited, local-play, missing-name, missing-result, idle-state, constant-condition"
+unsought 'and a when that is none' "$crossing" "[$(play "$(task '"when":"x >"')")]" "$unlimited, local-play" "$of_steps"
 unsought 'beside a group that starts over its limit' '{"g":{"vars":{"max_down":0},"hosts":{"a":{"down":true}}}}' "$ok" "$unlimited"
 unsought 'where what is kept has limits' '{"g":{"vars":{"max_down":0},"hosts":{"a":{"down":1}}}}' "$ok" "$of_downs"
 for key in become become_user become_method environment gather_facts no_log remote_user run_once tags vars; do
@@ -1446,17 +1644,29 @@ unsought 'beside a size that is none' "$one" '[{"hosts":"all","serial":"x","task
 unsought 'beside a percentage that is none' "$one" '[{"hosts":"all","max_fail_percentage":101,"tasks":[{"command":"true"}]}]' 'one-failure, local-play'
 unsought 'beside words that are none' "$one" "[$(play '{"command":"echo {{ 1 }}"}')]" 'one-failure, local-play'
 unsought 'beside a handler that is not there' "$one" "[$(play '{"command":"true","notify":"H"}')]" 'one-failure, local-play, idle-state, idle-handler'
-unsought 'beside a when that is none' "$one" "[$(play "$(task '"when":"x >"')")]" 'one-failure, local-play, missing-name, missing-result, idle-state, constant-condition'
-unsought 'beside another condition that is none' "$one" "[$(play "$(task '"failed_when":"x >"')")]" 'one-failure, local-play, missing-name, missing-result, idle-state, constant-condition'
-unsought 'beside one of another kind' "$one" "[$(play "$(task '"failed_when":7')")]" 'one-failure, local-play, missing-name, missing-result, idle-state, constant-condition, idle-handler'
-unsought 'beside several that leave steps known' "$one" '[{"hosts":"all","serial":"x","tags":"x","tasks":[{"command":"echo {{ 1 }}","become":true,"when":"x >"}]}]' 'one-failure, local-play, missing-name, missing-result, idle-state, constant-condition'
+unsought 'beside a when that is none' "$one" "[$(play "$(task '"when":"x >"')")]" 'one-failure, local-play' "$of_steps"
+unsought 'beside another condition that is none' "$one" "[$(play "$(task '"failed_when":"x >"')")]" 'one-failure, local-play' "$of_steps"
+unsought 'beside one of another kind' "$one" "[$(play "$(task '"failed_when":7')")]" 'one-failure, local-play, idle-state, idle-handler' "$of_steps"
+unsought 'beside several that leave steps known' "$one" '[{"hosts":"all","serial":"x","tags":"x","tasks":[{"command":"echo {{ 1 }}","become":true,"when":"x >"}]}]' 'one-failure, local-play' "$of_steps"
 unsought 'and one that does not' "$one" '[{"hosts":"all","serial":"x","tags":"x","tasks":[{"command":"echo {{ 1 }}","become":true,"loop":[]}]}]' 'one-failure, local-play, idle-state, idle-handler'
-unsought 'of a handler too, beside faults of the inventory' "$bad_down" "[$(play "$(task '"name":"t"')" "$(task '"name":"h","when":[1]')")]" "$of_downs, local-play, missing-name, missing-result, idle-state, constant-condition, idle-handler"
+unsought 'of a handler too, beside faults of the inventory' "$bad_down" "[$(play "$(task '"name":"t"')" "$(task '"name":"h","when":[1]')")]" "$of_downs, local-play, idle-state, idle-handler" "$of_steps"
 unsought 'beside faults of both' "$bad_down" "[$(play '{"command":"true","x":1}')]" "$of_downs, local-play, idle-state, idle-handler"
 unsought 'beside harmless ones of both' "$bad_down" "[$(play '{"command":"true","tags":1}')]" "$of_downs, local-play"
-unsought 'beside a name that nothing has' "$one" "[$(play '{"command":"true"}' '' a:nobody)]" "$of_targets"
-unsought 'in any play, and limits that cross' "$crossing" "[$ok_play,$(play '{"command":"true"}' '' a:nobody)]" "zero-limit, empty-limit, loose-limit, empty-group, $of_targets"
-unsought 'beside hosts of a play that are none' "$one" '[{"hosts":7,"tasks":[{"command":"true"}]}]' "$of_targets, idle-handler"
+unsought 'beside a name that nothing has' "$one" "[$(play '{"command":"true"}' '' a:nobody)]" '' '' "$of_plays" "$of_later"
+unsought 'in any play, and limits that cross' "$crossing" "[$ok_play,$(play '{"command":"true"}' '' a:nobody)]" "$unlimited" '' 'no-hosts, down-hosts, idle-serial, local-play, idle-step, fixed-target' "$of_later"
+unsought 'beside hosts of a play that are none' "$one" '[{"hosts":7,"tasks":[{"command":"true"}]}]' 'one-failure, local-play, idle-state, idle-handler' '' "$of_read_plays" missing-result
+unsought 'or tasks, or a play' "$one" "[{\"hosts\":\"a\",\"tasks\":[]},$ok_play,7]" 'one-failure, local-play, idle-state, idle-handler' '' "$of_read_plays" missing-result
+unsought 'beside a when that is none and a name that nothing has' "$one" "[$(play "$(task '"when":"x >"')"),$(play '{"command":"true"}' '' a:nobody)]" 'one-failure, local-play' "$of_steps" "$of_read_plays" "$of_later"
+unsought 'and a down that is none' "$bad_down" "[$(play "$(task '"when":"x >"')" '' a:nobody)]" "$of_downs, local-play" "$of_steps" 'unlimited-hosts, idle-step, fixed-target' "$of_later"
+unsought 'and an unknown key of a step' "$one" "[$(play "$(task '"x":1,"when":"x >"')" '' a:nobody)]" 'one-failure, local-play, idle-state, idle-handler' "$of_steps" "$of_read_plays" missing-result
+unsought 'and one of the inventory, where hosts may be left out' '{"all":{"hosts":{"a":null},"x":1}}' "[$(play "$(task '"when":"x >"')"),$(play '{"command":"true"}' '' a:nobody)]" "$of_hosts" 'missing-name, constant-condition' '' idle-state
+unsought 'and both' '{"all":{"hosts":{"a":null},"x":1}}' "[$(play "$(task '"x":1,"when":"x >"')" '' a:nobody)]" "${of_hosts%, fixed-target}, idle-state, fixed-target, idle-handler" 'missing-name, constant-condition' ''
+for condition in '["x >","inventory_hostname"]' '[true,7]' '7' '"x is defind"' '{"a":1}'; do
+    unsought "beside a condition $condition, with what is kept" "$one" "[$ok_play,$(play "$(task '"name":"t"'),$(task "\"changed_when\":$condition")")]" "one-failure, local-play$(case $condition in *7* | *1*) echo ', idle-state, idle-handler' ;; esac)" "$of_steps"
+done
+for condition in null '[]' true '[true,"inventory_hostname"]'; do
+    unsought "beside a condition $condition that can be read" "$one" "[$(play "$(task "\"when\":$condition,\"tags\":1")")]" 'one-failure, local-play'
+done
 for count in 100 101; do
     python3 -c 'import json, sys; print(json.dumps({"all": {"hosts": {f"h{place}": {"down": 1} for place in range(int(sys.argv[1]))}}}))' "$count" >"$work/many.json"
     python3 -c 'import json, sys; print(json.dumps([{"hosts": "all", "tasks": [{"command": "true", "tags": 1}] * int(sys.argv[1])}]))' "$count" >"$work/tagged.json"
@@ -1468,6 +1678,7 @@ for count in 100 101; do
         unsought 'of the playbook' "$one" "$(cat "$work/tagged.json")" 'one-failure, local-play, idle-state, idle-handler'
     fi
 done
+unsought 'where no plays are noted nothing of steps and plays by themselves is said' "$one" "[$(for i in 1 2 3 4 5 6 7 8 9 10 11 12 13 14 15 16; do play "$(task '"when":"x >"')" '' nobody; echo ,; done)$ok_play]" 'anything of plays and steps'
 unsought 'beside a playbook of too many plays' "$one" "[$(for i in 1 2 3 4 5 6 7 8 9 10 11 12 13 14 15 16; do echo "$ok_play,"; done)$ok_play]" 'anything of plays and steps'
 unsought 'beside one that is no list' "$one" '{}' 'anything of plays and steps'
 unsought 'beside one that is no JSON, and faults of the inventory' '{"all":{"hosts":{"a":null},"x":1}}' '{' 'empty-limit, loose-limit, empty-group, anything of plays and steps'

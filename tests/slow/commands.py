@@ -15,7 +15,7 @@ from foreseen import foreseen_text
 from foretold import foretold
 from inventory import read_inventory
 from json_answers import Objects
-from known import known_of
+from known import known_of, unread_of
 from linting import lines_beside_faults, lint_lines, read_allowed
 from missing import first_missed
 from planning import start
@@ -125,7 +125,7 @@ def lint(inventory, playbook=None, allowed=()):
     faults = every_fault(inventory, playbook)
     if faults:
         found = key_notes(inventory, playbook), looked_at(inventory, playbook)
-        beside = [] if turned("notes-beside-faults") else lines_beside_faults(*found, allowed, known_of(inventory, playbook), has_plays(inventory, playbook))
+        beside = [] if turned("notes-beside-faults") else lines_beside_faults(*found, allowed, known_of(inventory, playbook), unread_of(inventory, playbook), has_plays(inventory, playbook))
         return Said("".join(fault_lines(faults)) + as_text(beside), "", 0 if turned("faults-make-status-one") else 1)
     fleet, plays, targets = (Fleet(read_inventory(inventory)), [], []) if playbook is None else accepted(inventory, playbook)
     lines, count = lint_lines(key_notes(inventory, playbook), fleet, plays, targets, allowed)

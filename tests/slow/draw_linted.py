@@ -2,7 +2,7 @@
 nobody notifies; words of a shell; groups of which no host may be down, and variables of groups that are nearly keys; hosts that are alike, or begin with a dash; programs here and elsewhere, words
 that are too long, and conditions that ask nothing, or for values and groups that nobody has; comparisons of values of two kinds; plays that say nothing of their hosts, and keys that stand more than
 once; names that are nearly others, results of other plays and of handlers, and limits above the number of hosts; texts that say no, and variables that are compared with what is of another kind; results
-that are asked for as a whole; and what waits, asks or compares in vain. And files with faults, of which what is kept has such notes."""
+that are asked for as a whole, and codes of steps that are skipped; and what waits, asks or compares in vain. And files with faults, of which what is kept has such notes."""
 
 import re
 from copy import deepcopy
@@ -10,6 +10,7 @@ from random import Random
 from string import ascii_letters
 
 from cases import INVENTORY, MISSING, PLAYBOOK, Case, names_in
+from draw_codes import with_codes
 from draw_conditions import draw_condition
 from draw_inventory import draw_right as draw_right_inventory
 from draw_playbook import draw_right as draw_right_playbook
@@ -67,6 +68,8 @@ RESULTS = ["done", "done", "said", "said", "debug", "port", "v", "x"]
 WHOLE = [
     "{0}", "not {0}", "{0} == 'changed'", "0 == {0}", "{0} != {1}", "{1} == {0}", "{0} is changed", "{0}.rc == 0", "{0} is defined and {0}", "({1}.stdout or {0}) and {1}", "inventory_hostname == {0}",
     "{1}.rc == 1 or {0}.failed", "true or {0} == {1}.stdout", "{0} is defined or {0} is failed", "not ({1}.rc != 0 and {0} != true)", "{0} and {1}", "{1} == 1 or {0}.changed",
+    "{0} is defined", "{0} is not defined", "{0} is not defined or {1}", "{0}.rc is defined", "{0}.stdout is not defined or {1} is defined", "{1} == 'x' or {0} is defined", "not ({0} is defined) or {1}",
+    "{0} is defined and {1} is changed", "{0}.rc is defined and {0}.rc == 0 or {1} != 1",
 ]
 # What a member that is lost may be, and keys that show how keys are printed.
 LOST = [None, 1, "x", [], Members(), Members([("x", 1), ("x", 2)]), [Members([("y", 1), ("y", 2)]), Members([("z", [Members([("", 1), ("", 2)])])])]]
@@ -167,7 +170,7 @@ def draw_linted(seed, number):
         value = Members([*value, *((name, body) for name, body in racks if name not in value.names())])
         inventory = write(value, own_racks)
     spared = Random(f"{seed}/spared/{number}")
-    sparing = spared.choice([("inventory",), ("playbook",), ("inventory", "playbook")]) if not spoiled and spared.random() < 0.35 else ()
+    sparing = spared.choice([("inventory",), ("playbook",), ("inventory", "playbook")]) if not spoiled and spared.random() < 0.55 else ()
     if "inventory" in sparing:
         value = spared_inventory(spared, value)
         inventory = write(value, spared)
@@ -182,7 +185,9 @@ def draw_linted(seed, number):
     value = [with_holes(Random(f"{seed}/holes/{number}/{place}"), play) for place, play in enumerate(value)]
     value = [with_comparisons(Random(f"{seed}/compared/{number}/{place}"), play) for place, play in enumerate(value)]
     value = [with_awaited_states(Random(f"{seed}/states/{number}/{place}"), play) for place, play in enumerate(value)]
+    value = [with_codes(Random(f"{seed}/codes/{number}/{place}"), play, names) for place, play in enumerate(value)]
     value = [*value, play_for(own_racks, parts)] if parts else value
+    value = [*value, *_quiet_play(Random(f"{seed}/quiet/{number}"))]
     value = [_with_like_results(own, play) for play in value] if is_like else value
     value = [_with_switched_steps(switching, play) for play in value] if is_switched else value
     if "playbook" in spoiled:
@@ -266,10 +271,18 @@ def _with_whole_results(random, play):
     if random.random() < 0.85:
         return play
     steps = [_whole_step(random) for _ in range(random.choice([1, 2, 3, 4]))]
-    handlers = [Members([("name", "whole"), *_whole_step(random)])] if random.random() < 0.3 else []
+    handlers = [Members([("name", name), *_whole_step(random)]) for name in ("whole", "whole again")] if random.random() < 0.3 else []
     steps = [Members([*step, ("notify", "whole")]) if handlers and random.random() < 0.6 else step for step in steps]
+    if handlers and random.random() < 0.5:
+        handlers = _handing_on(random)
     held = Members((key, [*part, *steps] if key == "tasks" else part) for key, part in play if key != "handlers")
     return Members([*held, ("handlers", [*handlers, *(dict(play).get("handlers") or [])])])
+
+
+def _handing_on(random):
+    """Two handlers, of which the second asks whether there is a result of the first."""
+    asked = (random.choice(["when", "changed_when", "failed_when"]), random.choice(["handed is defined", "handed is not defined or v == 1", "handed.rc is defined"]))
+    return [Members([("name", "whole"), ("command", "true"), ("register", "handed")]), Members([("name", "whole again"), ("command", "true"), asked])]
 
 
 def _whole_step(random):
@@ -385,6 +398,13 @@ def _saying_nothing(random, play):
         return Members((key, _of_words(program, part) if "command" in key else part) for key, part in step)
 
     return Members((key, [without(step) for step in part] if key in ("tasks", "handlers") and part else part) for key, part in play)
+
+
+def _quiet_play(random):
+    """In few cases a play more that says nothing of its hosts, and bears few failures."""
+    if random.random() > 0.02:
+        return []
+    return [Members([("hosts", "all"), *random.choice([[], [("serial", random.choice([2, 5, "50%"]))]]), ("max_fail_percentage", random.choice([1, 10, 30])), ("tasks", [Members([("command", "uptime")])])])]
 
 
 def _with_scripts(random, play):

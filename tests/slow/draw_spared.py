@@ -24,6 +24,10 @@ CLASHING = [
 HARMLESS = ["become", "become_user", "become_method", "environment", "gather_facts", "no_log", "remote_user", "run_once", "tags", "vars"]
 OTHERS = ["roles", "pre_tasks", "when ", "vars_files", "becomes", "Tags", "loop", "no-log", "vars/x", "x/vars"]
 BAD_CONDITIONS = ["x >", "v == ", "((v)", "v | int", "x is", " ".join(["("] * 40)]
+# Some of them may ask first whether a name has a value; what stands beside them; and for which end of such a step another one waits.
+BAD_PARTS = [*BAD_CONDITIONS, "v is defind", "v | default(1)", 7]
+BESIDE = ["v == 'a'", "true", False, "gone", "not true"]
+ENDS = ["vague is skipped", "vague is skipped", "vague is skipped", "vague.skipped", "vague is failed", "vague is changed", "vague.rc != 0", "vague.rc == 2", "vague is not succeeded", "vague is defined", "vague"]
 
 
 def with_comparisons(random, play):
@@ -105,7 +109,7 @@ def spared_playbook(random, value):
     plays = [play for play in value if isinstance(play, Members)]
     if not plays:
         return value
-    for sort in random.choice([[_size], [_percentage], [_bad_condition], [_braces], [_harmless], [_harmless], [_unread], [_nobody], [_size, _harmless], [_bad_condition, _braces], [_harmless, _unread], [_nobody, _harmless]]):
+    for sort in random.choice(SORTS):
         sort(random, random.choice(plays))
     if random.random() < 0.06:
         count = random.choice([98, 99, 100, 101, 120])
@@ -145,6 +149,32 @@ def _unread(random, play):
 
 
 def _nobody(random, play):
+    """Names in the pattern that nothing has, beside its own or alone, or nearly one that is there."""
     pattern = dict(play).get("hosts")
     if isinstance(pattern, str):
-        _put(play, "hosts", pattern + ",nobody-else")
+        _put(play, "hosts", random.choice([pattern + ",nobody-else", pattern + ",nobody-else", "nobody-else", "al", pattern.strip(" \t\r\n,:") + "x"]))
+
+
+def _no_hosts(random, play):
+    key = random.choice(["hosts", "hosts", "tasks"])
+    _put(play, key, random.choice([7, None, [], [7]] if key == "hosts" else [[], None]))
+
+
+def _vague_step(random, play):
+    """A step that registers a result, of which a part of a condition can't be read, or of two, and one that waits for how it ends."""
+    keys = random.choice([["when"], ["when"], ["when"], ["failed_when"], ["changed_when"], ["when", "failed_when"], ["failed_when", "changed_when"]])
+    bad = {key: random.choice(BAD_PARTS) for key in keys}
+    bad = {key: part if random.random() < 0.5 else random.choice([[part], [part, random.choice(BESIDE)], [random.choice(BESIDE), part]]) for key, part in bad.items()}
+    more = [("ignore_errors", True)] * (random.random() < 0.4) + [("failed_when", False)] * ("failed_when" not in bad and random.random() < 0.3)
+    words = random.choice(["true", "ssh -- {{ inventory_hostname }} uptime", "echo {{ gone }}", "echo {{ v }} {{ r.rc }}"])
+    steps = [Members([("command", words), ("register", "vague"), *bad.items(), *more]), Members([("command", "true"), ("when", random.choice(ENDS))])]
+    tasks = dict(play).get("tasks")
+    if isinstance(tasks, list):
+        _put(play, "tasks", random.choice([[*tasks, *steps], [*steps, *tasks], [steps[0], *tasks, steps[1]]]))
+
+
+# The faults that are drawn together.
+SORTS = [
+    [_size], [_percentage], [_bad_condition], [_braces], [_harmless], [_unread], [_nobody], [_nobody], [_no_hosts], [_vague_step], [_vague_step], [_size, _harmless], [_bad_condition, _braces], [_harmless, _unread],
+    [_nobody, _harmless], [_nobody, _bad_condition], [_vague_step, _nobody], [_vague_step, _vague_step], [_nobody, _nobody], [_no_hosts, _bad_condition],
+]

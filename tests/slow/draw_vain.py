@@ -24,6 +24,12 @@ WAITS = [
     "'a' and {0} is {2}", "{0} is not succeeded", "not {0} is succeeded", "{0} is failed and inventory_hostname == 'nobody'", "'nogroup' in group_names and {0}.skipped",
     "{0} is skipped and {1}.failed and {0} is changed",
 ]
+# What waits for a code other than 0, and what only looks so.
+CODES = [
+    "{0}.rc != 0", "{0}.rc != 0", "0 != {0}.rc", "{0}.rc == 3", "3 == {0}.rc", "{0}.rc == -1", "{0}.rc", "({0}.rc)", "not {0}.rc == 0", "not (0 == {0}.rc)", "not {0}.rc != 5", "not (5 != {0}.rc)",
+    "{0}.rc != 5", "5 != {0}.rc", "{0}.rc == 0", "0 == {0}.rc", "not {0}.rc", "not {0}.rc != 0", "not {0}.rc == 3", "{0}.rc == '1'", "{0}.rc == true", "{0}.rc != {1}.rc", "not not {0}.rc != 0", "{0}.rc != '0'",
+    "{0}.rc is defined and {0}.rc != 0", "{0}.rc != 0 and {1} is {2}", "{0} is {2} and {1}.rc == 2", "{0}.rc != 0 or {1}.rc != 0", "{0}.rc == 1 and {1}.rc != 0", "{0}.failed or {1}.rc", "v == 1 and {0}.rc",
+]
 STATES = ["failed", "failed", "failed", "changed", "changed", "skipped", "skipped", "succeeded"]
 
 
@@ -95,7 +101,7 @@ def _step(random):
     """A step that registers a result, or one that waits for the state of one, or both."""
     kind = random.random()
     registered = _registered(random, random.choice(RESULTS), 0.45) if kind < 0.6 else []
-    when = _condition(random, WAITS, RESULTS, STATES) if kind > 0.45 else random.choice(WHENS)
+    when = _condition(random, random.choice([WAITS, WAITS, CODES]), RESULTS, STATES) if kind > 0.45 else random.choice(WHENS)
     return Members([("command", random.choice(["true", "ssh -- {{ inventory_hostname }} uptime"])), *registered, *([] if when is None else [("when", when)])])
 
 
@@ -110,7 +116,7 @@ def _pair(random):
     """A step that registers a result of its own, and one that waits for its state."""
     when = random.choice(WHENS)
     first = Members([("command", "true"), *_registered(random, "late", 0.8), *([] if when is None else [("when", when)])])
-    return [first, Members([("command", "true"), ("when", _condition(random, WAITS, ["late"], STATES))])]
+    return [first, Members([("command", "true"), ("when", _condition(random, random.choice([WAITS, CODES]), ["late"], STATES))])]
 
 
 def _verdict(random, name):

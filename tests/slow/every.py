@@ -5,7 +5,7 @@ from faults import Every, Fault
 from fleet import Fleet
 from inventory import places_in, read_inventory
 from json_text import NotJson, read_json
-from kept_texts import aimed_playbook, kept_inventory, kept_playbook, knows_conditions, says_hosts, single_inventory
+from kept_texts import aimed_playbook, kept_inventory, kept_playbook, says_hosts, single_inventory, steps_with_bad_conditions
 from playbook import plays_in, read_playbook
 from rules import turned
 
@@ -75,10 +75,10 @@ def is_accepted(playbook):
     return not told.found
 
 
-def has_all_conditions(playbook):
-    """Whether the text of a playbook has no fault under its conditions."""
+def vague_steps(playbook):
+    """The steps of a playbook of which a part of a condition can't be read, by their paths."""
     top = _first([lambda: read_json(playbook)])
-    return top is not None and knows_conditions(top)
+    return set() if is_accepted(playbook) else steps_with_bad_conditions(top)
 
 
 def has_limits(inventory):
@@ -86,10 +86,10 @@ def has_limits(inventory):
     return _first([lambda way=way: Fleet(way()) for way in (lambda: read_inventory(inventory), lambda: _kept_places(inventory))]) is not None
 
 
-def names_all_hosts(inventory, playbook):
-    """Whether each play says for which hosts it is of the fleet that is looked at."""
+def unaimed_plays(inventory, playbook):
+    """The plays that don't say for which hosts of the fleet that is looked at they are, by their places."""
     fleet, top = fleet_of(inventory), _first([lambda: read_json(playbook)])
-    return fleet is not None and top is not None and all(says_hosts(play, fleet) for play in (top if isinstance(top, list) else []))
+    return set() if fleet is None or not isinstance(top, list) else {number for number, play in enumerate(top) if not says_hosts(play, fleet)}
 
 
 def _kept_plays(playbook):

@@ -167,7 +167,7 @@ def _named(handlers):
 
 def _kept_step(step, known, names):
     """A step without what is wrong in it, which notifies handlers of these names. Where its words can't be read they are idle; where a part of its `when` that can't be may look first whether a name
-    has a value, nothing is looked up either, though it keeps its name, what it registers and whom it notifies."""
+    has a value, nothing is looked up either, though it keeps its name, what it registers and whom it notifies, and that it has a `when`."""
     if not isinstance(step, dict):
         return IDLE_STEP
     kept = {key: value for key, value in step.items() if key in known or turned("kept-steps-have-known-keys")}
@@ -179,10 +179,18 @@ def _kept_step(step, known, names):
         _keep(kept, key, _conditions(step.get(key)), known)
     is_guarded = _has_guard(step.get("when")) and not turned("kept-guards-hide-words")
     if not is_guarded and _is_right(_read_words, step):
-        return kept
+        return kept | _when_of(step, kept)
     gone = (*COMMANDS, *CONDITIONS) if is_guarded or turned("kept-conditions-without-words") else COMMANDS
     gone += ("register",) if turned("kept-steps-register-without-words") else ()
-    return {key: value for key, value in kept.items() if key not in gone} | IDLE_STEP
+    rest = {key: value for key, value in kept.items() if key not in gone}
+    return rest | ({} if is_guarded and turned("kept-guarded-steps-have-a-when") else _when_of(step, rest)) | IDLE_STEP
+
+
+def _when_of(step, kept):
+    """A `when` and a `failed_when` that hold, in the place of those of which nothing is kept: the step has such a condition, may be skipped, and may leave any code."""
+    if turned("kept-steps-have-a-when"):
+        return {}
+    return {key: [True] for key in ("when", "failed_when") if _parts(step.get(key)) and key not in kept}
 
 
 def _read_name(given, at, told):
@@ -223,12 +231,13 @@ def _has_guard(value):
     return any(not _is_condition(part) and (not isinstance(part, str) or "def" in part or turned("kept-words-without-guards")) for part in _parts(value))
 
 
-def knows_conditions(top):
-    """Whether each part of each condition of a playbook can be read."""
+def steps_with_bad_conditions(top):
+    """The paths of the steps of a playbook of which a part of a condition can't be read."""
     plays = top if isinstance(top, list) else []
-    lists = [play.get(key) for play in plays if isinstance(play, dict) for key in ("tasks", "handlers")]
-    steps = [step for steps in lists if isinstance(steps, list) for step in steps if isinstance(step, dict)]
-    return all(_is_all(step.get(key)) for step in steps for key in (["when"] if turned("kept-conditions-guard-each-other") else CONDITIONS))
+    lists = [(f"{number}/{key}", play.get(key)) for number, play in enumerate(plays) if isinstance(play, dict) for key in ("tasks", "handlers")]
+    steps = [(f"{at}/{place}", step) for at, those in lists if isinstance(those, list) for place, step in enumerate(those) if isinstance(step, dict)]
+    keys = ["when"] if turned("kept-conditions-guard-each-other") else CONDITIONS
+    return {at for at, step in steps if not all(_is_all(step.get(key)) for key in keys)}
 
 
 def _is_condition(part):

@@ -1,4 +1,5 @@
-"""What waits or asks in vain: hosts that a full group holds, conditions that compare a text with a hole, and steps that wait for a state in which no step before them ends."""
+"""What waits or asks in vain: hosts that a full group holds, conditions that compare a text with a hole, and steps that wait for a state, or for a code other
+than 0, with which no step before them ends."""
 
 import re
 
@@ -6,7 +7,9 @@ from conditions import Contrary, tests_in
 from rules import turned
 from words import Ref
 
-STATES = ("changed", "failed", "skipped")
+STATES = ("changed", "failed", "skipped", "another code")
+# What nearly all results have: who asks for the contrary waits for the state behind it.
+CONTRARIES = {"succeeded": "failed", "code 0": "another code"}
 
 
 def held_hosts(fleet, waiting):
@@ -55,7 +58,7 @@ def _texts(test):
 
 
 def awaited_state(step, before):
-    """The name of the first result for a state of which a step waits, though steps before it register it and none of them may end so; None where there is none."""
+    """The name of the first result for a state of which, or a code other than 0, a step waits, though steps before it register it and none of them may end so; None where there is none."""
     waits = [waits_for(part) for tree in step.when or [] for part in _parts(tree)]
     found = [wait[0] for wait in waits if wait is not None and _is_vain(*wait, before)]
     return found[-1 if turned("lint-first-awaited-state") else 0] if found else None
@@ -79,8 +82,8 @@ def _parts(tree):
 
 
 def waits_for(part):
-    """The result for which a part of a condition waits, and in which state; None where it waits for none. A contrary that is asked for waits for nothing, but that of a success; the contrary of a
-    contrary is none."""
+    """The result for which a part of a condition waits, and in which state; None where it waits for none. A contrary that is asked for waits for nothing, but that of a success, and of the code 0; the
+    contrary of a contrary is none."""
     if not isinstance(part, tuple):
         return None
     is_denied = part[0] == "not" and not isinstance(part, Contrary)
@@ -88,18 +91,43 @@ def waits_for(part):
     is_contrary = isinstance(test, Contrary)
     is_turned = is_denied or is_contrary if turned("lint-two-contraries-are-none") else is_denied != is_contrary
     name, state = _asked_state(test[1] if is_contrary else test)
-    if state == "succeeded" and is_turned and not turned("lint-who-has-not-succeeded-failed"):
-        return name, "failed"
-    return (name, state) if state in STATES and (not is_turned or turned("lint-contraries-wait-for-nothing")) else None
+    if is_turned:
+        state = _contrary_of(state)
+    return (name, state) if state in STATES else None
+
+
+def _contrary_of(state):
+    """For which state a step waits that asks for the contrary of one: for none, unless that one is what a result nearly always has."""
+    if state in CONTRARIES:
+        is_left_out = turned("lint-who-has-not-succeeded-failed" if state == "succeeded" else "lint-other-codes-than-0-are-waited-for")
+        return None if is_left_out else CONTRARIES[state]
+    return state if turned("lint-codes-but-one-are-not-waited-for" if state == "another code" else "lint-contraries-wait-for-nothing") else None
 
 
 def _asked_state(test):
-    """The result for whose state a test asks, and the state: by `is`, or by a field that stands alone."""
+    """The result for whose state a test asks, and the state: by `is`, by a field that stands alone, or by its code."""
     kind, *rest = test
     if kind == "result":
         return rest
-    is_field = kind == "operand" and isinstance(rest[0], Ref) and not turned("lint-fields-wait-for-states")
-    return (rest[0].name, rest[0].field) if is_field else (None, None)
+    if kind == "same":
+        return _asked_code(*rest)
+    if kind != "operand" or not isinstance(rest[0], Ref):
+        return None, None
+    if rest[0].field == "rc":
+        return (None, None) if turned("lint-codes-alone-are-other-ones") else (rest[0].name, "another code")
+    return (None, None) if turned("lint-fields-wait-for-states") else (rest[0].name, rest[0].field)
+
+
+def _asked_code(left, right):
+    """The result for whose code a comparison asks, and which one that is: 0, or another."""
+    if isinstance(right, Ref) and not turned("lint-codes-on-either-side"):
+        left, right = right, left
+    is_number = type(right) is int or (not isinstance(right, Ref) and turned("lint-codes-are-numbers"))
+    if not isinstance(left, Ref) or left.field != "rc" or not is_number:
+        return None, None
+    if right == 0 and not turned("lint-code-0-is-no-other"):
+        return left.name, "code 0"
+    return (None, None) if turned("lint-certain-codes-are-waited-for") else (left.name, "another code")
 
 
 def _may_end(step, state):
@@ -108,8 +136,16 @@ def _may_end(step, state):
         return step.when is not None or turned("lint-skips-have-a-when")
     if state == "changed":
         return not never_holds(step.changed_when) or turned("lint-some-steps-never-change")
+    if state == "another code":
+        return _may_have_a_code(step)
     is_left = step.ignore_errors or turned("lint-failures-that-are-not-ignored-end-it")
     return is_left and (not never_holds(step.failed_when) or turned("lint-some-steps-never-fail"))
+
+
+def _may_have_a_code(step):
+    """Whether a step may leave a code other than 0 to those behind it: its errors are ignored, or something else says whether it failed."""
+    is_judged = step.failed_when is not None and not (never_holds(step.failed_when) and turned("lint-codes-of-steps-that-never-fail"))
+    return (step.ignore_errors and not turned("lint-codes-of-ignored-errors")) or (is_judged and not turned("lint-codes-of-judged-steps"))
 
 
 def never_holds(trees):

@@ -1,56 +1,16 @@
 -- The texts of which more is told beside faults.
-use Rattle.std.specs.Prelude.{◌≡◌, ℕ, Bool, true, false, ◌&&◌, Option, None, Some, is_some, option_map, List}
+use Rattle.std.specs.Prelude.{◌≡◌, ℕ, Bool, ◌&&◌, Option, None, Some, is_some, option_map, List}
 use Rattle.inventory_faults.specs.ToldFaults as inventories
 use Rattle.inventory_faults.specs.declared.told.Told as inventory_told
 use Rattle.fleet_faults.specs.declared.told.FleetTold.{FleetTold}
-use Rattle.domains.specs.FleetViews.{FleetView}
-use Rattle.kept_playbook.specs.AimedTexts.{IsAimedOf}
-use Rattle.kept_playbook.specs.Knowing.{KnowsHosts, KnowsConditions}
-use Rattle.kept_playbook.specs.Texts.{IsKeptOf}
-use Rattle.playbook_faults.specs.Telling.{TellsOf}
-use Rattle.playbook_faults.specs.declared.told.Told.{Told}
+use Rattle.every_fault.specs.Chosen.{IsChosenPlaybook}
 use Rattle.every_fault.specs.Inventories.{Standing, IsFleetPart, IsFound}
 use Rattle.every_fault.specs.Unread.{is_silent}
 use Rattle.every_fault.specs.declared.choosing.KeptTexts.{KeptTexts}
 use Rattle.every_fault.specs.declared.choosing.KnownFleet.{KnownFleet}
-use Rattle.every_fault.specs.declared.choosing.KnownPlays.{KnownPlays}
+use Rattle.every_fault.specs.declared.chosen.KnownPlays.{KnownPlays}
 use Rattle.every_fault.specs.declared.known.Known.{Known}
-use Rattle.every_fault.specs.Known.{all_spare, spares_downs, spares_hosts, spares_limits, spares_steps}
-
--- the playbook itself where nothing is told of it, else what is kept of it
-abbrev pub IsChosen : List ℕ → Bool → Option (List ℕ) → Type 0
-IsChosen playbook true chosen = chosen ≡ Some playbook
-IsChosen playbook false chosen = IsKeptOf playbook chosen
-
--- the same with each play aimed at what its pattern names in the fleet
-abbrev pub IsAimedIf : FleetView → Option (List ℕ) → Option (List ℕ) → Type 0
-IsAimedIf fleet None aimed = aimed ≡ None
-IsAimedIf fleet (Some chosen) aimed = IsAimedOf fleet chosen aimed
-
--- each part of each condition is known of a playbook that is whole, and perhaps of one of which something is told
-abbrev pub AreKnownParts : List ℕ → Bool → Bool → Type 0
-AreKnownParts playbook true known = known ≡ true
-AreKnownParts playbook false known = KnowsConditions playbook known
-
--- what is known of the playbook's text, and what stands in its place
-pub record IsChosenText (fleet : FleetView) (playbook : List ℕ) (text : Option (List ℕ)) (known : KnownPlays) : Type 0 where
-  pub told : Told
-  pub tells : TellsOf 16 100 playbook told
-  pub whole : known.whole ≡ is_silent told.faults.items told.more
-  pub steps : known.steps ≡ all_spare spares_steps told.faults.items told.more
-  pub aims : KnowsHosts fleet playbook known.aims
-  pub conditions : AreKnownParts playbook known.whole known.conditions
-  pub chosen : Option (List ℕ)
-  pub is : IsChosen playbook known.whole chosen
-  pub aimed : IsAimedIf fleet chosen text
-
--- of none all is known
-abbrev pub all_known : KnownPlays
-all_known = record { aims = true; whole = true; steps = true; conditions = true }
-
-abbrev pub IsChosenPlaybook : FleetView → Option (List ℕ) → Option (List ℕ) → KnownPlays → Type 0
-IsChosenPlaybook fleet None text known = (text ≡ None) × (known ≡ all_known)
-IsChosenPlaybook fleet (Some playbook) text known = IsChosenText fleet playbook text known
+use Rattle.every_fault.specs.Known.{all_spare, spares_downs, spares_hosts, spares_limits}
 
 abbrev pub playbook_of : KeptTexts → Option (List ℕ)
 playbook_of texts = option_map (λ bytes. bytes.items) texts.playbook
@@ -70,16 +30,14 @@ known_both fleet plays = record {
   any_limits = fleet.any_limits;
   limits = fleet.limits;
   downs = fleet.downs;
-  aims = plays.aims;
   whole = plays.whole;
   steps = plays.steps;
-  conditions = plays.conditions;
 }
 
 pub record AreTexts (known : KnownFleet) (standing : Standing) (playbook : Option (List ℕ)) (texts : KeptTexts) : Type 0 where
   pub text : texts.inventory.items ≡ standing.text
   pub plays : KnownPlays
-  pub chosen : IsChosenPlaybook standing.fleet playbook (playbook_of texts) plays
+  pub chosen : IsChosenPlaybook standing.fleet playbook (playbook_of texts) plays texts.vague.items texts.unaimed.items
   pub known_is : texts.known ≡ known_both known plays
 
 -- the inventory is the text that says the fleet that is found; where there is none there are no texts

@@ -3,4 +3,5 @@ pub mod Inventories
 pub mod Playbooks
 pub mod Every
 pub mod Known
+pub mod Chosen
 pub mod KeptTexts

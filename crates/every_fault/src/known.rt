@@ -17,15 +17,14 @@ pub struct Known {
     pub limits: bool,
     /// Which hosts are down.
     pub downs: bool,
-    /// Which hosts each play names.
-    pub aims: bool,
     /// All that the playbook says, or that there is none.
     pub whole: bool,
     /// Which steps there are, whom they notify, what they register and which errors they ignore.
     pub steps: bool,
-    /// Each part of each condition.
-    pub conditions: bool,
 }
+
+/// By how many faults what is known is judged; where there are more, not all is.
+pub(crate) const MOST: usize = 100;
 
 /// Whether the path ends in this key.
 fn ends_in(path: &str, key: &str) -> bool

@@ -2,6 +2,7 @@
 #![tactic(auto)]
 
 mod choosing;
+mod chosen;
 mod every;
 mod fleet;
 mod known;

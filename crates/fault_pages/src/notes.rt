@@ -243,7 +243,7 @@ web`; or give the program the host's name, or a variable. Where a step of the pl
 ";
 
 pub(crate) const OF_UNKNOWN_NAME: &str = "\
-unknown-name at=PATH name=NAME [near=OTHER]: no waiting host has a variable NAME, no step before registers it, and on each of them the step may come to look it up
+unknown-name at=PATH name=NAME [near=OTHER]: no step before registers NAME, and each of the waiting hosts has no variable of it and may come to look it up, or some do so and no group or host of the inventory has one
 
 ```
 $ echo '{\"web\": {\"vars\": {\"version\": \"1.2\"}, \"hosts\": {\"web1\": null, \"web2\": null}}}' >/tmp/fleet.json
@@ -253,14 +253,14 @@ notes=1
   unknown-name: spell it as the variable or the `register`, give it to the hosts, or let an earlier step register it; a text stands in quotes, 'prod', and a number with a fraction, a list or an object is no value; or ask in `when` first whether it is defined; `explain unknown-name` says more, `--allow unknown-name` switches it off
 ```
 
-As it is, the step fails wherever it looks the name up. Spell it as the variable or the `register` that is meant; give the variable to the hosts, or to a group that holds them; register it in a step that comes before; or ask in
+As it is, the step fails wherever it looks the name up. It is told also where only some hosts come to look it up, as behind `inventory_hostname == 'web1'`, if nobody in the inventory has the name. Spell it as the variable or the `register` that is meant; give the variable to the hosts, or to a group that holds them; register it in a step that comes before; or ask in
 `when` whether it `is defined`. OTHER is the name that was probably meant, where one is near: of the variables of groups and hosts, and of what steps register, up to 1,000 names, one that differs in small and capital letters alone, or
 else by one edit, or by two, of at most one in three bytes; `inventory_hostname` is one of them, and names of over 64 bytes are none. The first hundred notes have it. It may be one that comes too late, or that other hosts have. A text in
 a condition stands in quotes, `env == 'prod'`; and a variable whose value is a number with a fraction, null, a list or an object is none: write it as a text. Where another inventory has the name: `--allow unknown-name`.
 ";
 
 pub(crate) const OF_MISSING_NAME: &str = "\
-missing-name at=PATH name=NAME hosts=N of=M host=H: N of the M hosts that wait have no variable NAME and may come to look it up, H the first of them by name, and no step before registers it
+missing-name at=PATH name=NAME hosts=N of=M host=H: N of the M hosts that wait, not all of them, have no variable NAME and may come to look it up, H the first of them by name, no step before registers it, and some group or host of the inventory has one
 
 ```
 $ echo '{\"web\": {\"hosts\": {\"web1\": {\"port\": 80}, \"web2\": null}}}' >/tmp/fleet.json
@@ -270,24 +270,29 @@ notes=1
   missing-name: give it to these hosts too, or to a group that holds them all; or ask in `when` first whether it is defined; `explain missing-name` says more, `--allow missing-name` switches it off
 ```
 
-The step fails on web2, and runs on web1, which has the variable: the others have it, or don't come to look it up. Give it to the hosts that have none, or to a group that holds them all; or ask in `when`, before the name is looked
+The step fails on web2, and runs on web1, which has the variable: the others have it, or don't come to look it up. A name that nobody in the inventory has is an [unknown](#unknown-name) one. Give it to the hosts that have none, or to a group that holds them all; or ask in `when`, before the name is looked
 up, whether it `is defined`. Where those hosts are to fail there: `--allow missing-name`.
 ";
 
 pub(crate) const OF_MISSING_RESULT: &str = "\
-missing-result at=PATH name=NAME hosts=N of=M host=H: a step before registers NAME, and N of the M hosts that wait may come to look it up in vain all the same, H the first of them by name; `when` doesn't ask whether it is defined
+missing-result at=PATH name=NAME hosts=N of=M host=H: a step before registers NAME, and N of the M hosts that wait, H the first of them by name, may come to look it up in vain all the same, where `when` doesn't ask whether it is defined; or come to look up NAME`.rc` where the last step above in the play that registers NAME is a task that is known to be skipped, and `when` asks for nothing else of NAME
 
 ```
 $ echo '[{\"hosts\": \"web1\", \"tasks\": [{\"command\": \"check-web {{ inventory_hostname }}\", \"register\": \"check\"}]},' \\
-  '{\"hosts\": \"rack1\", \"tasks\": [{\"command\": \"deploy {{ inventory_hostname }} {{ check.stdout }}\"}]}]' | rollout lint examples/two-racks.json /dev/stdin
+  '{\"hosts\": \"rack1\", \"tasks\": [{\"command\": \"deploy {{ inventory_hostname }} {{ check.stdout }}\"},' \\
+  '{\"command\": \"migrate {{ inventory_hostname }}\", \"register\": \"migrated\", \"when\": \"inventory_hostname == \\\"web1\\\"\"},' \\
+  '{\"command\": \"start-web {{ inventory_hostname }}\", \"when\": \"migrated.rc == 0\"}]}]' | rollout lint examples/two-racks.json /dev/stdin
 missing-result at=1/tasks/0 name=check hosts=2 of=3 host=web2
-notes=1
-  missing-result: write a field, {{ r.stdout }} as an example, where a result stands in a word; let a task of this play register it, or of an earlier play for the same hosts; or ask in `when` first whether it is defined: a handler may not run, and other plays may be for other hosts; `explain missing-result` says more, `--allow missing-result` switches it off
+missing-result at=1/tasks/2 name=migrated hosts=2 of=3 host=web2
+notes=2
+  missing-result: write a field, {{ r.stdout }} as an example, where a result stands in a word; let a task of this play register it, or of an earlier play for the same hosts; or ask in `when` first: r is defined, since a handler may not run, or r is not skipped, since a step that is skipped leaves no rc; `explain missing-result` says more, `--allow missing-result` switches it off
 ```
 
 The first play is for web1 alone, so that web2 and web3 have no result `check`: the step fails there. So it is with a result that only a handler registers, which may not have been due, and with `{{ check }}` without a field in a
-word, on any host: a result has no text of its own. Who asks in `when` whether `check is defined` isn't told, but for `{{ check }}` as a whole. Let a task of the same play register it; write `{{ check.stdout }}`; or ask first. Where the step is to fail there:
-`--allow missing-result`.
+word, on any host: a result has no text of its own. The result `migrated` is there on web2 and web3 too, but a step that is skipped leaves one without `rc`: the last step fails there. That is told where the last step above in the
+play that registers the result is a task whose `when` is known not to hold on the host before anything runs, and the step that reads `rc` isn't skipped there as well. Who asks in `when` whether `check is defined` isn't told, but for
+`{{ check }}` as a whole; nor, of `rc`, who asks there for anything else of the result. Let a task of the same play register it; write `{{ check.stdout }}`; or ask first: `check is defined`,
+`migrated is not skipped and migrated.rc == 0`, or what the step that registers it asks. Where the step is to fail there: `--allow missing-result`.
 ";
 
 pub(crate) const OF_UNKNOWN_GROUP: &str = "\
@@ -352,19 +357,20 @@ it as one of them; and so is a variable that says `false`, or is an empty text, 
 ";
 
 pub(crate) const OF_WHOLE_RESULT: &str = "\
-whole-result at=PATH key=KEY name=N: the condition under KEY asks just whether N is true, or compares N with something, and N is a result as a whole: a step before registers it, and no group or host of the inventory has a variable N
+whole-result at=PATH key=KEY name=N: the condition under KEY asks just whether N is true, or compares N with something, and N is a result as a whole: a step before registers it, and no group or host of the inventory has a variable N; or it asks whether N is defined, and a task before the step in its play, or the step itself where it is judged, registers N
 
 ```
 $ echo '[{\"hosts\": \"rack1\", \"tasks\": [{\"command\": \"needs-restart {{ inventory_hostname }}\", \"register\": \"check\", \"failed_when\": \"check.rc == 2\"},' \\
   '{\"command\": \"restart-web {{ inventory_hostname }}\", \"when\": \"check\"}]}]' | rollout lint examples/two-racks.json /dev/stdin
 whole-result at=0/tasks/1 key=when name=check
 notes=1
-  whole-result: a result as a whole is always true and equals nothing: ask for a field, N.rc == 0 or N.stdout == 'a' as examples, or for its state, N is changed; `explain whole-result` says more, `--allow whole-result` switches it off
+  whole-result: a result as a whole is always true, equals nothing, and is defined also where its step was skipped: ask for a field, N.rc == 0 or N.rc is defined as examples, or for its state, N is changed; `explain whole-result` says more, `--allow whole-result` switches it off
 ```
 
 `check` is the result of the first step, and as a whole it is true, whatever its program said: the second step runs on each host. Told is a name that stands alone, as in `check` and `not check`, and one that is compared, on either side, as in `check == 0` and `'up' != check`: a result equals
-nothing, not even itself. A field isn't told, nor `check is changed` or `check is defined`. A step before registers the name; in `changed_when` and `failed_when` the step itself may do so too. Where a variable of any group or host has the name, nothing is told, since it may be that one on some
-host; of several in a condition the first is told. KEY is `when`, `changed_when` or `failed_when`. Write which field is to count, `check.rc == 1`, or `check.stdout == 'yes'`; or ask `check is changed`. Who asks whether there is a result at all writes `check is defined`. Where it is meant so:
+nothing, not even itself. A field isn't told, nor `check is changed`. A step before registers the name; in `changed_when` and `failed_when` the step itself may do so too. `check is defined` and `check is not defined` are told where the result is there in any case, since a step that is skipped
+registers one too: where a task above in the same play registers it, for a handler any task of the play, or the step itself. After a handler, or a step of an earlier play, it may not be there. Where a variable of any group or host has the name, nothing is told, since it may be that one on some
+host; of several in a condition the first is told. KEY is `when`, `changed_when` or `failed_when`. Write which field is to count, `check.rc == 1`, or `check.stdout == 'yes'`; or ask `check is changed`; and in place of `check is defined`, `check.rc is defined` or `check is not skipped`. Where it is meant so:
 `--allow whole-result`.
 ";
 
@@ -401,20 +407,20 @@ how a step is switched on. Where a step waits for another value: `--allow idle-s
 ";
 
 pub(crate) const OF_IDLE_STATE: &str = "\
-idle-state at=PATH name=R: the step's `when` waits until the result R is changed, failed or skipped; steps before register R, and none of these may end so
+idle-state at=PATH name=R: the step's `when` waits until the result R is changed, failed or skipped, or has a code other than 0; steps before register R, and none of these may end so
 
 ```
 $ echo '[{\"hosts\": \"rack1\", \"tasks\": [{\"command\": \"deploy {{ inventory_hostname }}\", \"register\": \"deploy\"},' \\
   '{\"command\": \"roll-back {{ inventory_hostname }}\", \"when\": \"deploy is failed\"}]}]' | rollout lint examples/two-racks.json /dev/stdin
 idle-state at=0/tasks/1 name=deploy
 notes=1
-  idle-state: let a step before leave that state: \"ignore_errors\": true for a failure, a changed_when that can hold for a change, a when for a skip; as it is, none that registers the result does, and this step never runs; `explain idle-state` says more, `--allow idle-state` switches it off
+  idle-state: let a step before leave that state: \"ignore_errors\": true for a failure or a code other than 0, a changed_when that can hold for a change, a when for a skip; as it is, none that registers the result does, and this step never runs; `explain idle-state` says more, `--allow idle-state` switches it off
 ```
 
-A host on which a step fails takes no further steps, so nobody comes to the second one with a `deploy` that failed: it never runs. Let the first one ignore errors, `\"ignore_errors\": true`, and the host goes on. A step waits for a state where its `when`, a part of it that
-`and` joins to others, or an element of its list is such a test: `R is changed`, `R is failed`, `R is skipped`, one of `R.changed`, `R.failed` and `R.skipped` that stands alone, or `R is not succeeded`, which waits for a failure. What asks for the contrary waits for nothing,
-nor does what stands beside an `or`. A step may end as failed where it ignores errors, and no part of its `failed_when` is `false`; as changed where no part of its `changed_when` is `false`; as skipped where it has a `when`. Of all steps before it that register R,
-of this play and of earlier ones, one is enough. Where it is meant so: `--allow idle-state`.
+A host on which a step fails takes no further steps, so nobody comes to the second one with a `deploy` that failed: it never runs. Let the first one ignore errors, `\"ignore_errors\": true`, and the host goes on. So it is with `deploy.rc != 0`: such a code is a failure, where no `failed_when` says what is one. A step waits for a state where its `when`, a part of it that
+`and` joins to others, or an element of its list is such a test: `R is changed`, `R is failed`, `R is skipped`, one of `R.changed`, `R.failed` and `R.skipped` that stands alone, or `R is not succeeded`, which waits for a failure. For a code other than 0 it waits by `R.rc != 0`, by `R.rc == 3` or another number but 0,
+in either order, by `R.rc` alone, and by `not R.rc == 0` and `not R.rc != 3`. What asks for another contrary waits for nothing, as `R is not failed` and `R.rc != 3` do, nor does what stands beside an `or`. A step may end as failed where it ignores errors, and no part of its `failed_when` is `false`;
+as changed where no part of its `changed_when` is `false`; as skipped where it has a `when`; with a code other than 0 where it ignores errors or has a `failed_when`, whatever that says. Of all steps before it that register R, of this play and of earlier ones, one is enough. Where it is meant so: `--allow idle-state`.
 ";
 
 pub(crate) const OF_CONSTANT_CONDITION: &str = "\

@@ -1,2 +1,3 @@
+pub mod Certain
 pub mod Sought
 pub mod Beside

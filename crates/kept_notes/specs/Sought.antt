@@ -1,7 +1,11 @@
 -- Of which kinds notes are looked for beside faults, and what is told of the others.
-use Rattle.std.specs.Prelude.{ℕ, Bool, true, false, not, ◌&&◌, if◌then◌else◌, List, [], ◌∷◌, ◌++◌, codes, filter, flat_map, map}
+use Rattle.std.specs.Prelude.{ℕ, Bool, true, false, not, ◌&&◌, if◌then◌else◌, nat_lt, length, List, [], ◌∷◌, ◌++◌, codes, filter, flat_map, map}
 use Rattle.group_tree.specs.Names.{Name}
+use Rattle.every_fault.specs.declared.choosing.KeptTexts.{KeptTexts}
 use Rattle.every_fault.specs.declared.known.Known.{Known}
+use Rattle.kept_notes.specs.Certain.{needing}
+use Rattle.kept_notes.specs.declared.needs.Need.{Need}
+use Rattle.kept_notes.specs.declared.needs.Need.TheVariants.{Conditions, Hosts, Earlier}
 use Rattle.kept_notes.specs.declared.unsought.Unsought.{Unsought}
 use Rattle.kept_notes.specs.declared.unsought.Unsought.TheVariants.{Of, Plays}
 use Rattle.note_lines.specs.Kinds.{fleet_kinds, kind_name, play_kinds}
@@ -10,12 +14,8 @@ use Rattle.note_lines.specs.declared.kind.Kind.TheVariants.{RepeatedKey, ZeroLim
 use Rattle.note_lines.specs.declared.kind.Kind.TheVariants.{LocalPlay, UnknownName, MissingName, MissingResult, UnknownGroup, UnknownHost, FalseText, UnlikeVariable, WholeResult, TextHole, IdleStep, IdleState, ConstantCondition, UnlikeValues}
 use Rattle.note_lines.specs.declared.kind.Kind.TheVariants.{ClashingValues, ShellWord, BlankProgram, LostQuotes, LocalStep, FixedTarget, LongWord, DashName, IdleNotify, IdleHandler}
 
--- for which hosts of the inventory each play is
-abbrev pub knows_targets : Known → Bool
-knows_targets known = known.hosts && known.aims
-
--- What notes of the kind are about is known, so that what is mended takes few of them back: of groups their hosts and limits, of plays for which hosts they are and which of these are down, of names which hosts
--- have them, of steps when they run, and of handlers who notifies them.
+-- What notes of the kind are about is known of the files, so that what is mended takes few of them back: of groups their hosts and limits, of hosts which are down, of names which hosts have them, of results how they end,
+-- and of handlers who notifies them. What else has to be known of a play or a step is another matter.
 abbrev pub is_sought : Known → Kind → Bool
 is_sought known RepeatedKey = true
 is_sought known ZeroLimit = known.any_limits
@@ -27,44 +27,36 @@ is_sought known NearKey = true
 is_sought known ValueHole = true
 is_sought known CaseHosts = true
 is_sought known GroupHost = true
-is_sought known NoHosts = knows_targets known && known.downs
-is_sought known DownHosts = knows_targets known && known.downs
-is_sought known FullGroup = (knows_targets known && known.downs) && known.limits
-is_sought known UnlimitedHosts = knows_targets known && known.limits
-is_sought known IdleSerial = knows_targets known && known.downs
-is_sought known OneFailure = ((knows_targets known && known.downs) && known.limits) && known.whole
-is_sought known LocalPlay = knows_targets known && known.whole
+is_sought known NoHosts = known.hosts && known.downs
+is_sought known DownHosts = known.hosts && known.downs
+is_sought known FullGroup = (known.hosts && known.downs) && known.limits
+is_sought known UnlimitedHosts = known.hosts && known.limits
+is_sought known IdleSerial = known.hosts && known.downs
+is_sought known OneFailure = ((known.hosts && known.downs) && known.limits) && known.whole
+is_sought known LocalPlay = known.hosts && known.whole
 is_sought known UnknownName = true
-is_sought known MissingName = known.conditions
-is_sought known MissingResult = knows_targets known && known.conditions
+is_sought known MissingName = true
+is_sought known MissingResult = known.hosts
 is_sought known UnknownGroup = known.hosts
 is_sought known UnknownHost = known.hosts
 is_sought known FalseText = true
 is_sought known UnlikeVariable = known.hosts
 is_sought known WholeResult = known.hosts
 is_sought known TextHole = true
-is_sought known IdleStep = knows_targets known
-is_sought known IdleState = (known.aims && known.steps) && known.conditions
-is_sought known ConstantCondition = known.conditions
+is_sought known IdleStep = known.hosts
+is_sought known IdleState = known.steps
+is_sought known ConstantCondition = true
 is_sought known UnlikeValues = true
 is_sought known ClashingValues = true
 is_sought known ShellWord = true
 is_sought known BlankProgram = true
 is_sought known LostQuotes = true
 is_sought known LocalStep = true
-is_sought known FixedTarget = knows_targets known
+is_sought known FixedTarget = known.hosts
 is_sought known LongWord = true
 is_sought known DashName = true
 is_sought known IdleNotify = true
 is_sought known IdleHandler = known.steps
-
--- `KIND,`, where none is looked for
-abbrev pub hidden_name : Known → Kind → List ℕ
-hidden_name known kind = if is_sought known kind then [] else kind_name kind ++ codes ","
-
--- the kinds of which no note is told
-abbrev pub hidden_kinds : Known → List ℕ
-hidden_kinds known = flat_map (hidden_name known) fleet_kinds ++ flat_map (hidden_name known) play_kinds
 
 -- those of these kinds of which none is looked for
 abbrev pub kinds_unsought : Known → List Kind → List Unsought
@@ -85,7 +77,30 @@ name_of Plays = codes "anything of plays and steps"
 abbrev pub later_names : List Unsought → List ℕ
 later_names missed = flat_map (λ one. codes ", " ++ name_of one) missed
 
--- a line of their names, where there are any
-abbrev pub unsought_line : List Unsought → List ℕ
-unsought_line [] = []
-unsought_line (first ∷ later) = codes "  not looked for beside these faults: " ++ (name_of first ++ (later_names later ++ codes "\n"))
+-- a line of their names behind these words, where there are any
+abbrev pub unsought_line : List ℕ → List Unsought → List ℕ
+unsought_line words [] = []
+unsought_line words (first ∷ later) = words ++ (name_of first ++ (later_names later ++ codes "\n"))
+
+-- of what the kinds need where that isn't known everywhere
+abbrev pub words_of : Need → List ℕ
+words_of Conditions = codes "  not looked for in steps with conditions that can't be read: "
+words_of Hosts = codes "  not looked for in plays whose hosts aren't known: "
+words_of Earlier = codes "  not looked for in such a play and later ones: "
+
+-- the kinds that are looked for, but not there
+abbrev pub partly_unsought : Known → Need → List Unsought
+partly_unsought known need = map Of (filter (is_sought known) (needing need))
+
+abbrev pub partly_line : Known → Bool → Need → List ℕ
+partly_line known is_lacking need = if is_lacking then unsought_line (words_of need) (partly_unsought known need) else []
+
+abbrev pub partly_lines : KeptTexts → List ℕ
+partly_lines kept =
+    partly_line kept.known (nat_lt 0 (length kept.vague.items)) Conditions
+    ++ (partly_line kept.known (nat_lt 0 (length kept.unaimed.items)) Hosts ++ partly_line kept.known (nat_lt 0 (length kept.unaimed.items)) Earlier)
+
+-- what is said behind the notes, where plays are noted or aren't
+abbrev pub lines_behind : Bool → KeptTexts → List ℕ
+lines_behind has_plays kept =
+    unsought_line (codes "  not looked for beside these faults: ") (unsought has_plays kept.known) ++ (if has_plays then partly_lines kept else [])

@@ -5,15 +5,14 @@ ghost use Rattle.std.specs.String.{string_bytes};
 ghost use Rattle.every_fault.specs.KeptTexts.{playbook_of};
 ghost use Rattle.fleet_notes.specs.Repeats.{repeats_given};
 ghost use Rattle.kept_notes.specs.Beside as spec;
-ghost use Rattle.kept_notes.specs.Beside.{IsBeside, IsNotedOf, IsNotedOfOne, IsToldOf};
-ghost use Rattle.kept_notes.specs.Sought.{hidden_kinds};
+ghost use Rattle.kept_notes.specs.Beside.{IsBeside, IsNotedOf, IsNotedOfOne, IsToldOf, told_by};
 
-use crate::hidden::hidden_with;
 use crate::rule::tells_rule;
-use crate::unsought::with_line;
+use crate::sieve::BesideFaults;
+use crate::unsought::with_lines;
 use every_fault::{KeptTexts, kept_texts};
 use fleet_notes::Texts;
-use lint_notes::{lint_fleet_text, lint_text};
+use lint_notes::{sift_fleet_text, sift_text};
 use note_lines::Allowed;
 use planning::PlanFault;
 use std::alloc::{AllocError, Global};
@@ -56,9 +55,10 @@ fn tell_kept(
 ) -> Result<Vec<u8>, AllocError>
     ensures { IfOk result (λ text. IsToldOf allowed.now (repeats_given given.entry) kept.now text.items) }
 {
-    match notes_on(alloc, given, kept, allowed) {
-        Ok(noted) => with_line(alloc, noted.text, noted.has_plays, kept.known),
-        Err(refused) => Err(refused),
+    let sieve = BesideFaults { allowed, kept };
+    match notes_on(alloc, given, kept, &sieve) {
+        Ok(noted) => with_lines(alloc, noted.text, noted.has_plays, kept),
+        Err(_) => Err(AllocError),
     }
 }
 
@@ -77,33 +77,14 @@ struct Noted {
     has_plays: bool,
 }
 
-/// The notes on texts that are kept.
+/// The notes on texts that are kept. A fault is none of a text.
 fn notes_on(
     alloc: Global,
     given: Texts<'_>,
     kept: &KeptTexts,
-    allowed: &Allowed<'_>,
-) -> Result<Noted, AllocError>
-    ensures { IfOk result (λ noted. IsNotedOf (hidden_kinds kept.now.known ++ allowed.now) (repeats_given given.entry) kept.now.inventory.items (playbook_of kept.now) noted.text.items noted.has_plays) }
-{
-    let kinds = match hidden_with(alloc, kept.known, allowed) {
-        Ok(kinds) => kinds,
-        Err(refused) => return Err(refused),
-    };
-    match notes_without(alloc, given, kept, &Allowed::among(kinds.as_str())) {
-        Ok(noted) => Ok(noted),
-        Err(_) => Err(AllocError),
-    }
-}
-
-/// Those on them, without the kinds that are hidden. A fault is none of a text.
-fn notes_without(
-    alloc: Global,
-    given: Texts<'_>,
-    kept: &KeptTexts,
-    hidden: &Allowed<'_>,
+    sieve: &BesideFaults<'_>,
 ) -> Result<Noted, PlanFault>
-    ensures ok { IfOk result (λ noted. IsNotedOf hidden.now (repeats_given given.entry) kept.now.inventory.items (playbook_of kept.now) noted.text.items noted.has_plays) }
+    ensures ok { IfOk result (λ noted. IsNotedOf (told_by sieve.now) (repeats_given given.entry) kept.now.inventory.items (playbook_of kept.now) noted.text.items noted.has_plays) }
     ensures err { IfErr result (λ fault. spec.tells_rule fault ≡ false) }
 {
     match &kept.playbook {
@@ -112,9 +93,9 @@ fn notes_without(
             given,
             kept.inventory.as_slice(),
             playbook.as_slice(),
-            hidden,
+            sieve,
         ),
-        None => noted_alone(alloc, given, kept.inventory.as_slice(), hidden),
+        None => noted_alone(alloc, given, kept.inventory.as_slice(), sieve),
     }
 }
 
@@ -122,12 +103,12 @@ fn noted_alone(
     alloc: Global,
     given: Texts<'_>,
     inventory: &[u8],
-    hidden: &Allowed<'_>,
+    sieve: &BesideFaults<'_>,
 ) -> Result<Noted, PlanFault>
-    ensures ok { IfOk result (λ noted. IsNotedOf hidden.now (repeats_given given.entry) inventory.now None noted.text.items noted.has_plays) }
+    ensures ok { IfOk result (λ noted. IsNotedOf (told_by sieve.now) (repeats_given given.entry) inventory.now None noted.text.items noted.has_plays) }
     ensures err { IfErr result (λ fault. spec.tells_rule fault ≡ false) }
 {
-    match notes_on_one(alloc, given, inventory, hidden) {
+    match notes_on_one(alloc, given, inventory, sieve) {
         Ok(text) => Ok(Noted {
             text,
             has_plays: false,
@@ -141,18 +122,18 @@ fn notes_on_both(
     given: Texts<'_>,
     inventory: &[u8],
     playbook: &[u8],
-    hidden: &Allowed<'_>,
+    sieve: &BesideFaults<'_>,
 ) -> Result<Noted, PlanFault>
-    ensures ok { IfOk result (λ noted. IsNotedOf hidden.now (repeats_given given.entry) inventory.now (Some playbook.now) noted.text.items noted.has_plays) }
+    ensures ok { IfOk result (λ noted. IsNotedOf (told_by sieve.now) (repeats_given given.entry) inventory.now (Some playbook.now) noted.text.items noted.has_plays) }
     ensures err { IfErr result (λ fault. spec.tells_rule fault ≡ false) }
 {
     let mut text = Vec::new(alloc);
-    match lint_text(alloc, given, inventory, playbook, hidden, &mut text) {
+    match sift_text(alloc, given, inventory, playbook, sieve, &mut text) {
         Ok(_) => Ok(Noted {
             text,
             has_plays: true,
         }),
-        Err(fault) if tells_rule(&fault) => noted_alone(alloc, given, inventory, hidden),
+        Err(fault) if tells_rule(&fault) => noted_alone(alloc, given, inventory, sieve),
         Err(fault) => Err(fault),
     }
 }
@@ -161,13 +142,13 @@ fn notes_on_one(
     alloc: Global,
     given: Texts<'_>,
     inventory: &[u8],
-    hidden: &Allowed<'_>,
+    sieve: &BesideFaults<'_>,
 ) -> Result<Vec<u8>, PlanFault>
-    ensures ok { IfOk result (λ text. IsNotedOfOne hidden.now (repeats_given given.entry) inventory.now text.items) }
+    ensures ok { IfOk result (λ text. IsNotedOfOne (told_by sieve.now) (repeats_given given.entry) inventory.now text.items) }
     ensures err { IfErr result (λ fault. spec.tells_rule fault ≡ false) }
 {
     let mut text = Vec::new(alloc);
-    match lint_fleet_text(alloc, given, inventory, hidden, &mut text) {
+    match sift_fleet_text(alloc, given, inventory, sieve, &mut text) {
         Ok(_) => Ok(text),
         Err(fault) if tells_rule(&fault) => Ok(Vec::new(alloc)),
         Err(fault) => Err(fault),

@@ -2,8 +2,10 @@
 #![tactic(auto)]
 
 mod beside;
-mod hidden;
+mod certain;
+mod needs;
 mod rule;
+mod sieve;
 mod sought;
 mod unsought;
 

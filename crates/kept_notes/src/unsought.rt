@@ -1,10 +1,12 @@
 //! What isn't looked for beside faults.
-ghost use Rattle.std.specs.Prelude.{◌≡◌, ◌++◌, IfOk, OnOk, codes};
+ghost use Rattle.std.specs.Prelude.{◌≡◌, ◌++◌, IfOk, OnOk, filter, map};
 ghost use Rattle.kept_notes.specs.Sought as spec;
-ghost use Rattle.kept_notes.specs.Sought.{kinds_unsought, later_names, unsought, unsought_line};
+ghost use Rattle.kept_notes.specs.Sought.{is_sought, kinds_unsought, later_names, unsought, unsought_line};
+ghost use Rattle.kept_notes.specs.declared.unsought.Unsought.TheVariants.{Of};
 
+use crate::needs::{Need, needing, words_of};
 use crate::sought::is_sought;
-use every_fault::Known;
+use every_fault::{KeptTexts, Known};
 use note_lines::{Kind, fleet_kinds, play_kinds};
 use std::alloc::{AllocError, Global};
 
@@ -24,19 +26,64 @@ fn name_of(one: Unsought) -> &'static str
     }
 }
 
-/// Goes on with the line that says what isn't looked for, where plays are noted or aren't.
-pub(crate) fn with_line(
+/// Goes on with the lines that say what isn't looked for, where plays are noted or aren't.
+pub(crate) fn with_lines(
     alloc: Global,
     notes: Vec<u8>,
     has_plays: bool,
-    known: Known,
+    kept: &KeptTexts,
 ) -> Result<Vec<u8>, AllocError>
-    ensures { IfOk result (λ text. text.items ≡ notes.items ++ unsought_line (unsought has_plays known)) }
+    ensures { IfOk result (λ text. text.items ≡ notes.items ++ spec.lines_behind has_plays kept.now) }
 {
-    let missed = list_unsought(alloc, has_plays, known)?;
+    let missed = list_unsought(alloc, has_plays, kept.known)?;
     let mut text = notes;
-    add_line(missed.as_slice(), &mut text)?;
+    let words = "  not looked for beside these faults: ";
+    add_line(words, missed.as_slice(), &mut text)?;
+    if has_plays {
+        add_partly(alloc, kept, &mut text)?;
+    }
     Ok(text)
+}
+
+/// Adds a line of each thing that isn't known of all steps or plays.
+fn add_partly(alloc: Global, kept: &KeptTexts, text: &mut Vec<u8>) -> Result<(), AllocError>
+    ensures { OnOk result (text.new.items ≡ text.old.items ++ spec.partly_lines kept.now) }
+{
+    let is_vague = !kept.vague.is_empty();
+    let is_unaimed = !kept.unaimed.is_empty();
+    add_partly_of(alloc, kept.known, is_vague, Need::Conditions, text)?;
+    add_partly_of(alloc, kept.known, is_unaimed, Need::Hosts, text)?;
+    add_partly_of(alloc, kept.known, is_unaimed, Need::Earlier, text)
+}
+
+/// Adds that of one thing, where it isn't known somewhere.
+fn add_partly_of(
+    alloc: Global,
+    known: Known,
+    is_lacking: bool,
+    need: Need,
+    text: &mut Vec<u8>,
+) -> Result<(), AllocError>
+    ensures { OnOk result (text.new.items ≡ text.old.items ++ spec.partly_line known is_lacking need) }
+{
+    if !is_lacking {
+        return Ok(());
+    }
+    let missed = list_partly(alloc, known, needing(need))?;
+    add_line(words_of(need), missed.as_slice(), text)
+}
+
+/// Those of these kinds for which notes are looked.
+fn list_partly(alloc: Global, known: Known, kinds: &[Kind]) -> Result<Vec<Unsought>, AllocError>
+    ensures { IfOk result (λ missed. missed.items ≡ map Of (filter (is_sought known) kinds.now)) }
+{
+    let mut missed = Vec::new(alloc);
+    for kind in kinds {
+        if is_sought(known, *kind) {
+            missed.push(Unsought::Of(*kind))?;
+        }
+    }
+    Ok(missed)
 }
 
 fn list_unsought(alloc: Global, has_plays: bool, known: Known) -> Result<Vec<Unsought>, AllocError>
@@ -73,23 +120,23 @@ fn add_unsought(known: Known, kinds: &[Kind], missed: &mut Vec<Unsought>) -> Res
     Ok(())
 }
 
-/// Adds a line of their names, where there are any.
-fn add_line(missed: &[Unsought], text: &mut Vec<u8>) -> Result<(), AllocError>
-    ensures { OnOk result (text.new.items ≡ text.old.items ++ unsought_line missed.now) }
+/// Adds a line of their names behind these words, where there are any.
+fn add_line(words: &str, missed: &[Unsought], text: &mut Vec<u8>) -> Result<(), AllocError>
+    ensures { OnOk result (text.new.items ≡ text.old.items ++ unsought_line words.now missed.now) }
 {
     let [first, later @ ..] = missed else {
         return Ok(());
     };
-    add_first(*first, text)?;
+    add_first(words, *first, text)?;
     add_later(later, text)?;
     text.extend_from_slice(b"\n")?;
     Ok(())
 }
 
-fn add_first(one: Unsought, text: &mut Vec<u8>) -> Result<(), AllocError>
-    ensures { OnOk result (text.new.items ≡ text.old.items ++ (codes "  not looked for beside these faults: " ++ spec.name_of one)) }
+fn add_first(words: &str, one: Unsought, text: &mut Vec<u8>) -> Result<(), AllocError>
+    ensures { OnOk result (text.new.items ≡ text.old.items ++ (words.now ++ spec.name_of one)) }
 {
-    text.extend_from_slice(b"  not looked for beside these faults: ")?;
+    text.extend_from_slice(words.as_bytes())?;
     text.extend_from_slice(name_of(one).as_bytes())?;
     Ok(())
 }

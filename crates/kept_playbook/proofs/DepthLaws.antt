@@ -17,7 +17,7 @@ use Rattle.std.specs.List.{filter_map}
 use Rattle.kept_playbook.specs.Conditions.{Test, has_guard, is_kept_part, parts_at, kept_parts, unguarded_parts}
 use Rattle.kept_playbook.specs.Objects.{entry, put_all, object_of, list_of, given, given_if, is_kept, unbroken, list_if_any}
 use Rattle.kept_playbook.specs.Steps as steps
-use Rattle.kept_playbook.specs.Steps.{are_good, kept_words, kept_condition, kept_conditions, known_run, kept_run, kept_entries, kept_handler, is_kept_name, kept_notify, kept_task, idle_entry}
+use Rattle.kept_playbook.specs.Steps.{are_good, kept_words, kept_condition, kept_conditions, some_entry, or_some, kept_or_some, guarded_run, known_run, kept_run, kept_entries, kept_handler, is_kept_name, kept_notify, kept_task, idle_entry}
 use Rattle.kept_playbook.specs.Plays.{has_own_name, named_own}
 
 -- each value nests at most so deep
@@ -153,16 +153,27 @@ module _ (is_bad : Test) (step : Data) (most : ℕ) (some : 1 ≤ most) (within 
       by_case true = tt
       by_case false = parts-depth is_bad (parts_at key step)
 
+  some-depth : (key : Name) → Shallow (suc most) (some_entry key ∷ [])
+  some-depth key = (omega arith, tt)
+
+  or_some-depth : (key : Name) (standing kept : List Data) → Shallow (suc most) (list_if_any key kept) → Shallow (suc most) (or_some key standing kept)
+  or_some-depth key standing (part ∷ kept) within = within
+  or_some-depth key (part ∷ standing) [] within = some-depth key
+  or_some-depth key [] [] within = tt
+
+  kept_or_some-depth : (key : Name) → Shallow (suc most) (kept_or_some is_bad key step)
+  kept_or_some-depth key = or_some-depth key (parts_at key step) (unguarded_parts is_bad key step) (condition-depth key)
+
   conditions-depth : Shallow (suc most) (kept_conditions is_bad step)
   conditions-depth =
-      let when = kept_condition is_bad when_key step in
+      let when = kept_or_some is_bad when_key step in
       let changed = kept_condition is_bad changed_key step in
-      let failed = kept_condition is_bad failed_key step in
-      let told = both (suc most) changed failed (condition-depth changed_key) (condition-depth failed_key) in
-      both (suc most) when (changed ++ failed) (condition-depth when_key) told
+      let failed = kept_or_some is_bad failed_key step in
+      let told = both (suc most) changed failed (condition-depth changed_key) (kept_or_some-depth failed_key) in
+      both (suc most) when (changed ++ failed) (kept_or_some-depth when_key) told
 
-  run_if : (guarded : Bool) → Shallow (suc most) (cond guarded (idle_entry ∷ []) (known_run is_bad step))
-  run_if true = (omega arith, tt)
+  run_if : (guarded : Bool) → Shallow (suc most) (cond guarded (guarded_run step) (known_run is_bad step))
+  run_if true = (omega arith, (omega arith, or_some-depth failed_key (parts_at failed_key step) [] tt))
   run_if false = both (suc most) (kept_words step) (kept_conditions is_bad step) (words_if (are_good (words_in step))) conditions-depth
 
   entries-depth : Shallow (suc most) (kept_entries is_bad step)

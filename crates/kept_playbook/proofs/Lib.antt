@@ -6,3 +6,4 @@ pub mod HandlerLaws
 pub mod DepthLaws
 pub mod PlayDepths
 pub mod AimLaws
+pub mod NumberLaws

@@ -58,12 +58,6 @@ knows_key is_bad step key = list_all (is_kept_part is_bad) (parts_at key step)
 abbrev pub knows_step : Test → Data → Bool
 knows_step is_bad step = knows_key is_bad step when_key && (knows_key is_bad step changed_key && knows_key is_bad step failed_key)
 
-abbrev pub knows_conditions_of : Test → Data → Bool
-knows_conditions_of is_bad play = list_all (knows_step is_bad) (tasks_in play) && list_all (knows_step is_bad) (handlers_in play)
-
-abbrev pub knows_conditions : Test → Data → Bool
-knows_conditions is_bad document = list_all (knows_conditions_of is_bad) (plays_in document)
-
 -- the texts that stand as conditions in a document
 abbrev pub texts_at : Name → Data → List (List ℕ)
 texts_at key step = filter_map as_str (parts_at key step)

@@ -5,7 +5,9 @@ pub mod Steps
 pub mod Idle
 pub mod Plays
 pub mod Texts
-pub mod Worked
 pub mod Aims
 pub mod AimedTexts
-pub mod Knowing
+pub mod Numbers
+pub mod VagueSteps
+pub mod UnaimedPlays
+pub mod Worked

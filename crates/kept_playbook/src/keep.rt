@@ -26,7 +26,8 @@ fn keep_value(alloc: Global, text: &[u8], document: &Value) -> Result<Vec<u8>, A
 /// The text of what is kept of a playbook; nothing of a text that is no JSON. Of a play whose `hosts` or `tasks` can't be read only
 /// what its steps register is there; a step whose command can't be read has idle words, and where a part of `when` that can't be
 /// read may look first whether a name has a value no condition either; of each condition the parts that can be read, and none where
-/// another may look so; and whatever else breaks a rule goes. It fails for want of memory alone.
+/// another may look so; `true` under `when` where none of its parts is left; and whatever else breaks a rule goes. It fails for want
+/// of memory alone.
 pub fn keep_playbook(alloc: Global, text: &[u8]) -> Result<Option<Vec<u8>>, AllocError>
     ensures { IfOk result (λ kept. IsKeptOf text.now (option_map (λ bytes. bytes.items) kept)) }
 {

@@ -17,7 +17,7 @@ use Rattle.step_notes.specs.declared.sort.Sort.{Sort}
 use Rattle.note_lines.specs.declared.step_path.StepPath.{StepPath}
 use Rattle.step_notes.proofs.CrowdLemmas.{foreseen_same, lacks_same}
 
-pub step_same : (is_set other : Name → Bool) → ((name : Name) → is_set name ≡ other name) → (is_left also : Ending → Name → Bool) → ((ending : Ending) (name : Name) → is_left ending name ≡ also ending name) → (crowd : Crowd) (foreseen : ℕ → Foreseen) (play : Play) (place : ℕ) (at path : StepPath) → at ≡ path → (step : Step)
+pub step_same : (is_set other : Name → Bool) → ((name : Name) → is_set name ≡ other name) → (is_left also : Ending → Name → Bool) → ((ending : Ending) (name : Name) → is_left ending name ≡ also ending name) → (crowd : Crowd) (foreseen : ℕ → ℕ → Foreseen) (play : Play) (place : ℕ) (at path : StepPath) → at ≡ path → (step : Step)
     → notes_at is_set is_left crowd foreseen play place at step ≡ notes_at other also crowd foreseen play place path step
 step_same is_set other same is_left also left crowd foreseen play place at path is step = λ i. notes_at (λ name. same name i) (λ ending name. left ending name i) crowd foreseen play place (is i) step
 

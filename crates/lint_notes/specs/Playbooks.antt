@@ -33,7 +33,7 @@ is_left_at is_left play place ending name = is_left ending name || is_left_by (t
 -- what is foreseen of its steps is told by their places, and of each on each host
 abbrev pub step_notes : (Name → Bool) → (Ending → Name → Bool) → Crowd → (ℕ → ℕ → Foreseen) → ℕ → Play → ℕ → Step → List Note
 step_notes is_earlier is_left crowd foreseen number play place step =
-    notes_at (is_set_at is_earlier play place) (is_left_at is_left play place) crowd (foreseen place) play place (path_of number play place) step
+    notes_at (is_set_at is_earlier play place) (is_left_at is_left play place) crowd foreseen play place (path_of number play place) step
 
 -- the notes on its tasks and then its handlers
 abbrev pub steps_notes : (Name → Bool) → (Ending → Name → Bool) → Crowd → (ℕ → ℕ → Foreseen) → ℕ → Play → List Note

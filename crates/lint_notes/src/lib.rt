@@ -10,4 +10,4 @@ mod scene;
 mod targets;
 mod unlimited;
 
-pub use lint::{lint_fleet_text, lint_text};
+pub use lint::{lint_fleet_text, lint_text, sift_fleet_text, sift_text};

@@ -1,8 +1,8 @@
 -- What to do about notes, by their kind.
-use Rattle.std.specs.Prelude.{ℕ, Bool, ◌&&◌, not, if◌then◌else◌, List, [], ◌++◌, codes}
+use Rattle.std.specs.Prelude.{ℕ, Bool, ◌&&◌, if◌then◌else◌, List, [], ◌++◌, codes}
 use Rattle.std.specs.List.{list_any}
 use Rattle.std.specs.Str.{bytes_eq}
-use Rattle.note_lines.specs.Kinds.{allows, kind_name}
+use Rattle.note_lines.specs.Kinds.{kind_name}
 use Rattle.note_lines.specs.Notes.{Note, kind_of}
 use Rattle.note_lines.specs.declared.kind.Kind.{Kind}
 use Rattle.note_lines.specs.declared.kind.Kind.TheVariants.{RepeatedKey, ZeroLimit, EmptyLimit, LooseLimit, EmptyGroup, GroupDown, NearKey, ValueHole, CaseHosts, GroupHost, NoHosts, DownHosts, FullGroup, UnlimitedHosts, IdleSerial, OneFailure, LocalPlay}
@@ -29,15 +29,15 @@ advice OneFailure = codes "where a batch is to bear one failure, write a max_fai
 advice LocalPlay = codes "write \"ssh\", \"--\", \"{{ inventory_hostname }}\" before the words of its steps: as it is, the same is done on this machine once for each host; where that is meant, switch the note off"
 advice UnknownName = codes "spell it as the variable or the `register`, give it to the hosts, or let an earlier step register it; a text stands in quotes, 'prod', and a number with a fraction, a list or an object is no value; or ask in `when` first whether it is defined"
 advice MissingName = codes "give it to these hosts too, or to a group that holds them all; or ask in `when` first whether it is defined"
-advice MissingResult = codes "write a field, {{ r.stdout }} as an example, where a result stands in a word; let a task of this play register it, or of an earlier play for the same hosts; or ask in `when` first whether it is defined: a handler may not run, and other plays may be for other hosts"
+advice MissingResult = codes "write a field, {{ r.stdout }} as an example, where a result stands in a word; let a task of this play register it, or of an earlier play for the same hosts; or ask in `when` first: r is defined, since a handler may not run, or r is not skipped, since a step that is skipped leaves no rc"
 advice UnknownGroup = codes "spell the group as the inventory has it, letter by letter: nobody is in a group that isn't there; where another inventory has it, switch the note off"
 advice UnknownHost = codes "spell the host as the inventory has it, letter by letter: inventory_hostname is never the name of a host that isn't there; where another inventory has it, switch the note off"
 advice FalseText = codes "a text is true unless it is empty, `false` and `no` in quotes too: write false without quotes in the inventory, or compare the name with the text that is to count, as the inventory has it"
 advice UnlikeVariable = codes "write the other side as the inventory has the variable, letter by letter, or the variable as the other side is: 15 is a number and '15' a text, true a truth value and 'true' a text, and values of two kinds are never the same; where another inventory has it so, switch the note off"
-advice WholeResult = codes "a result as a whole is always true and equals nothing: ask for a field, N.rc == 0 or N.stdout == 'a' as examples, or for its state, N is changed"
+advice WholeResult = codes "a result as a whole is always true, equals nothing, and is defined also where its step was skipped: ask for a field, N.rc == 0 or N.rc is defined as examples, or for its state, N is changed"
 advice TextHole = codes "write the name without quotes and braces, x == y as an example: a text in a condition is taken as it stands, and a hole in it isn't filled"
 advice IdleStep = codes "spell groups and values as the inventory has them, letter by letter: 15 is a number and '15' a text, which are never the same; where the step waits for another value, switch the note off"
-advice IdleState = codes "let a step before leave that state: \"ignore_errors\": true for a failure, a changed_when that can hold for a change, a when for a skip; as it is, none that registers the result does, and this step never runs"
+advice IdleState = codes "let a step before leave that state: \"ignore_errors\": true for a failure or a code other than 0, a changed_when that can hold for a change, a when for a skip; as it is, none that registers the result does, and this step never runs"
 advice ConstantCondition = codes "leave `when` out where it holds, and the step where it doesn't; names stand in it without quotes, and each text beside a name, x == 'a' or x == 'b' as an example"
 advice UnlikeValues = codes "write numbers without quotes and texts in them: `rc` is a number, `stdout` and `stderr` are texts, `changed`, `failed` and `skipped` are true or false; values of two kinds are never the same"
 advice ClashingValues = codes "write and in place of or between values that are not to be there, x != 'a' and x != 'b', and or in place of and between those that may be, x == 'a' or x == 'b': as it is, it always holds, or never"
@@ -70,57 +70,57 @@ abbrev pub is_of : Kind → Note → Bool
 is_of kind note = bytes_eq (kind_name (kind_of note)) (kind_name kind)
 
 -- a note of the kind is told
-abbrev pub tells : List ℕ → List Note → Kind → Bool
-tells allowed notes kind = not (allows allowed kind) && list_any (is_of kind) notes
+abbrev pub has_told : (Note → Bool) → List Note → Kind → Bool
+has_told tells notes kind = list_any (λ note. is_of kind note && tells note) notes
 
-abbrev pub help_of : List ℕ → List Note → Kind → List ℕ
-help_of allowed notes kind = if tells allowed notes kind then help_line kind else []
+abbrev pub help_of : (Note → Bool) → List Note → Kind → List ℕ
+help_of tells notes kind = if has_told tells notes kind then help_line kind else []
 
 -- Of each kind of which a note is told a line, in the order of the kinds: those of keys and limits, of variables and the names of hosts, of plays, of names, of what conditions ask for, of what they come to, of programs, and of what else stands in a step.
-abbrev pub limit_helps : List ℕ → List Note → List ℕ
-limit_helps allowed notes =
-    help_of allowed notes RepeatedKey
-    ++ (help_of allowed notes ZeroLimit ++ (help_of allowed notes EmptyLimit ++ (help_of allowed notes LooseLimit ++ help_of allowed notes EmptyGroup)))
+abbrev pub limit_helps : (Note → Bool) → List Note → List ℕ
+limit_helps tells notes =
+    help_of tells notes RepeatedKey
+    ++ (help_of tells notes ZeroLimit ++ (help_of tells notes EmptyLimit ++ (help_of tells notes LooseLimit ++ help_of tells notes EmptyGroup)))
 
-abbrev pub host_helps : List ℕ → List Note → List ℕ
-host_helps allowed notes =
-    help_of allowed notes GroupDown
-    ++ (help_of allowed notes NearKey ++ (help_of allowed notes ValueHole ++ (help_of allowed notes CaseHosts ++ help_of allowed notes GroupHost)))
+abbrev pub host_helps : (Note → Bool) → List Note → List ℕ
+host_helps tells notes =
+    help_of tells notes GroupDown
+    ++ (help_of tells notes NearKey ++ (help_of tells notes ValueHole ++ (help_of tells notes CaseHosts ++ help_of tells notes GroupHost)))
 
-abbrev pub play_helps : List ℕ → List Note → List ℕ
-play_helps allowed notes =
-    help_of allowed notes NoHosts
-    ++ (help_of allowed notes DownHosts ++ (help_of allowed notes FullGroup ++ (help_of allowed notes UnlimitedHosts
-    ++ (help_of allowed notes IdleSerial ++ (help_of allowed notes OneFailure ++ help_of allowed notes LocalPlay)))))
+abbrev pub play_helps : (Note → Bool) → List Note → List ℕ
+play_helps tells notes =
+    help_of tells notes NoHosts
+    ++ (help_of tells notes DownHosts ++ (help_of tells notes FullGroup ++ (help_of tells notes UnlimitedHosts
+    ++ (help_of tells notes IdleSerial ++ (help_of tells notes OneFailure ++ help_of tells notes LocalPlay)))))
 
-abbrev pub name_helps : List ℕ → List Note → List ℕ
-name_helps allowed notes =
-    help_of allowed notes UnknownName
-    ++ (help_of allowed notes MissingName ++ help_of allowed notes MissingResult)
+abbrev pub name_helps : (Note → Bool) → List Note → List ℕ
+name_helps tells notes =
+    help_of tells notes UnknownName
+    ++ (help_of tells notes MissingName ++ help_of tells notes MissingResult)
 
-abbrev pub condition_helps : List ℕ → List Note → List ℕ
-condition_helps allowed notes =
-    help_of allowed notes UnknownGroup
-    ++ (help_of allowed notes UnknownHost ++ (help_of allowed notes FalseText
-    ++ (help_of allowed notes UnlikeVariable ++ (help_of allowed notes WholeResult ++ help_of allowed notes TextHole))))
+abbrev pub condition_helps : (Note → Bool) → List Note → List ℕ
+condition_helps tells notes =
+    help_of tells notes UnknownGroup
+    ++ (help_of tells notes UnknownHost ++ (help_of tells notes FalseText
+    ++ (help_of tells notes UnlikeVariable ++ (help_of tells notes WholeResult ++ help_of tells notes TextHole))))
 
-abbrev pub idle_helps : List ℕ → List Note → List ℕ
-idle_helps allowed notes =
-    help_of allowed notes IdleStep
-    ++ (help_of allowed notes IdleState ++ (help_of allowed notes ConstantCondition
-    ++ (help_of allowed notes UnlikeValues ++ help_of allowed notes ClashingValues)))
+abbrev pub idle_helps : (Note → Bool) → List Note → List ℕ
+idle_helps tells notes =
+    help_of tells notes IdleStep
+    ++ (help_of tells notes IdleState ++ (help_of tells notes ConstantCondition
+    ++ (help_of tells notes UnlikeValues ++ help_of tells notes ClashingValues)))
 
-abbrev pub program_helps : List ℕ → List Note → List ℕ
-program_helps allowed notes =
-    help_of allowed notes ShellWord
-    ++ (help_of allowed notes BlankProgram ++ (help_of allowed notes LostQuotes ++ (help_of allowed notes LocalStep ++ help_of allowed notes FixedTarget)))
+abbrev pub program_helps : (Note → Bool) → List Note → List ℕ
+program_helps tells notes =
+    help_of tells notes ShellWord
+    ++ (help_of tells notes BlankProgram ++ (help_of tells notes LostQuotes ++ (help_of tells notes LocalStep ++ help_of tells notes FixedTarget)))
 
-abbrev pub word_helps : List ℕ → List Note → List ℕ
-word_helps allowed notes =
-    help_of allowed notes LongWord ++ (help_of allowed notes DashName ++ (help_of allowed notes IdleNotify ++ help_of allowed notes IdleHandler))
+abbrev pub word_helps : (Note → Bool) → List Note → List ℕ
+word_helps tells notes =
+    help_of tells notes LongWord ++ (help_of tells notes DashName ++ (help_of tells notes IdleNotify ++ help_of tells notes IdleHandler))
 
-abbrev pub helps : List ℕ → List Note → List ℕ
-helps allowed notes =
-    limit_helps allowed notes
-    ++ (host_helps allowed notes
-    ++ (play_helps allowed notes ++ (name_helps allowed notes ++ (condition_helps allowed notes ++ (idle_helps allowed notes ++ (program_helps allowed notes ++ word_helps allowed notes))))))
+abbrev pub helps : (Note → Bool) → List Note → List ℕ
+helps tells notes =
+    limit_helps tells notes
+    ++ (host_helps tells notes
+    ++ (play_helps tells notes ++ (name_helps tells notes ++ (condition_helps tells notes ++ (idle_helps tells notes ++ (program_helps tells notes ++ word_helps tells notes))))))

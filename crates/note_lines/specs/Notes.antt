@@ -1,5 +1,5 @@
 -- What may be noted of an inventory and a playbook.
-use Rattle.std.specs.Prelude.{ℕ, not, Option, None, Some, option_map, List, [], ◌∷◌, filter}
+use Rattle.std.specs.Prelude.{ℕ, Bool, not, Option, None, Some, option_map, List, [], ◌∷◌, filter}
 use Rattle.group_tree.specs.Names.{Name}
 use Rattle.note_lines.specs.declared.kind.Kind.{Kind}
 use Rattle.note_lines.specs.declared.kind.Kind.TheVariants as kinds
@@ -139,9 +139,13 @@ kind_of (dash_name at host) = kinds.DashName
 kind_of (idle_notify at) = kinds.IdleNotify
 kind_of (idle_handler at) = kinds.IdleHandler
 
--- those whose kinds the text doesn't switch off
-abbrev pub told : List ℕ → List Note → List Note
-told allowed notes = filter (λ note. not (allows allowed (kind_of note))) notes
+-- the text doesn't switch its kind off
+abbrev pub isnt_allowed : List ℕ → Note → Bool
+isnt_allowed allowed note = not (allows allowed (kind_of note))
+
+-- those of them that are told
+abbrev pub told : (Note → Bool) → List Note → List Note
+told = filter
 
 -- the note, where there is one
 abbrev pub noted : Option Note → List Note

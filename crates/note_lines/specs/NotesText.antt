@@ -100,8 +100,8 @@ abbrev pub count_line : ℕ → List ℕ
 count_line count = field_text (codes "notes=") count ++ codes "\n"
 
 -- a line a note that is told, how many they are, and of each kind what to do
-abbrev pub notes_text : List ℕ → List Note → List ℕ
-notes_text allowed notes = flat_map note_line (told allowed notes) ++ (count_line (length (told allowed notes)) ++ helps allowed notes)
+abbrev pub notes_text : (Note → Bool) → List Note → List ℕ
+notes_text tells notes = flat_map note_line (told tells notes) ++ (count_line (length (told tells notes)) ++ helps tells notes)
 
 -- whether there is any
 abbrev pub end_of : List Note → LintEnd

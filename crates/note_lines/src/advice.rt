@@ -51,7 +51,7 @@ fn advice(kind: Kind) -> &'static str
         Kind::MissingName =>
             "give it to these hosts too, or to a group that holds them all; or ask in `when` first whether it is defined",
         Kind::MissingResult =>
-            "write a field, {{ r.stdout }} as an example, where a result stands in a word; let a task of this play register it, or of an earlier play for the same hosts; or ask in `when` first whether it is defined: a handler may not run, and other plays may be for other hosts",
+            "write a field, {{ r.stdout }} as an example, where a result stands in a word; let a task of this play register it, or of an earlier play for the same hosts; or ask in `when` first: r is defined, since a handler may not run, or r is not skipped, since a step that is skipped leaves no rc",
         Kind::UnknownGroup =>
             "spell the group as the inventory has it, letter by letter: nobody is in a group that isn't there; where another inventory has it, switch the note off",
         Kind::UnknownHost =>
@@ -61,13 +61,13 @@ fn advice(kind: Kind) -> &'static str
         Kind::UnlikeVariable =>
             "write the other side as the inventory has the variable, letter by letter, or the variable as the other side is: 15 is a number and '15' a text, true a truth value and 'true' a text, and values of two kinds are never the same; where another inventory has it so, switch the note off",
         Kind::WholeResult =>
-            "a result as a whole is always true and equals nothing: ask for a field, N.rc == 0 or N.stdout == 'a' as examples, or for its state, N is changed",
+            "a result as a whole is always true, equals nothing, and is defined also where its step was skipped: ask for a field, N.rc == 0 or N.rc is defined as examples, or for its state, N is changed",
         Kind::TextHole =>
             "write the name without quotes and braces, x == y as an example: a text in a condition is taken as it stands, and a hole in it isn't filled",
         Kind::IdleStep =>
             "spell groups and values as the inventory has them, letter by letter: 15 is a number and '15' a text, which are never the same; where the step waits for another value, switch the note off",
         Kind::IdleState =>
-            "let a step before leave that state: \"ignore_errors\": true for a failure, a changed_when that can hold for a change, a when for a skip; as it is, none that registers the result does, and this step never runs",
+            "let a step before leave that state: \"ignore_errors\": true for a failure or a code other than 0, a changed_when that can hold for a change, a when for a skip; as it is, none that registers the result does, and this step never runs",
         Kind::ConstantCondition =>
             "leave `when` out where it holds, and the step where it doesn't; names stand in it without quotes, and each text beside a name, x == 'a' or x == 'b' as an example",
         Kind::UnlikeValues =>

@@ -5,11 +5,11 @@ ghost use Rattle.bounded_io.specs.Writing.{Writes};
 ghost use Rattle.note_lines.specs.Notes.{seen, told};
 ghost use Rattle.note_lines.specs.NotesText.{count_line, end_of, note_line, notes_text};
 
-use crate::allowed::Allowed;
 use crate::end::LintEnd;
 use crate::helps::write_helps;
 use crate::note::Note;
 use crate::notes::Notes;
+use crate::sieve::Sieve;
 use crate::writing::write_note;
 use bounded_io::{TextWriter, WriteFault};
 use recap::write_field;
@@ -17,16 +17,12 @@ use std::io::Write;
 
 /// Writes the line of the note where it is told, and says how many lines that are.
 #[tactic(auto, using(bounded_io::proofs::Pieces::pieces_of_text))]
-fn write_told<W: Write>(
-    text: &mut TextWriter<'_, W>,
-    note: &Note<'_>,
-    allowed: &Allowed<'_>,
-) -> usize
-    ensures writes { Writes W.contents text.old text.new (flat_map note_line (told allowed.now (seen note.now ∷ []))) }
-    ensures count { result ≡ length (told allowed.now (seen note.now ∷ [])) }
+fn write_told<W: Write, S: Sieve>(text: &mut TextWriter<'_, W>, note: &Note<'_>, sieve: &S) -> usize
+    ensures writes { Writes W.contents text.old text.new (flat_map note_line (told (S.tells sieve.now) (seen note.now ∷ []))) }
+    ensures count { result ≡ length (told (S.tells sieve.now) (seen note.now ∷ [])) }
     ensures few { result ≤ 1 }
 {
-    if allowed.allows(note.kind()) {
+    if !sieve.is_told(*note) {
         return 0;
     }
     write_note(text, note);
@@ -34,17 +30,17 @@ fn write_told<W: Write>(
 }
 
 /// Writes the lines of the notes that are told, and says how many they are.
-fn write_lines<W: Write>(
+fn write_lines<W: Write, S: Sieve>(
     text: &mut TextWriter<'_, W>,
     notes: &[Note<'_>],
-    allowed: &Allowed<'_>,
+    sieve: &S,
 ) -> usize
-    ensures writes { Writes W.contents text.old text.new (flat_map note_line (told allowed.now (map seen notes.now))) }
-    ensures count { result ≡ length (told allowed.now (map seen notes.now)) }
+    ensures writes { Writes W.contents text.old text.new (flat_map note_line (told (S.tells sieve.now) (map seen notes.now))) }
+    ensures count { result ≡ length (told (S.tells sieve.now) (map seen notes.now)) }
 {
     let mut count = 0;
     for note in notes {
-        count += write_told(text, note, allowed);
+        count += write_told(text, note, sieve);
     }
     count
 }
@@ -59,17 +55,17 @@ fn write_count<W: Write>(text: &mut TextWriter<'_, W>, count: u64)
 
 /// Writes the notes that are told, how many they are, and of each kind what to do; says whether there is any.
 #[tactic(auto, using(bounded_io::proofs::Pieces::pieces_of_text))]
-fn write_notes<W: Write>(
+fn write_notes<W: Write, S: Sieve>(
     text: &mut TextWriter<'_, W>,
     notes: &Notes<'_>,
-    allowed: &Allowed<'_>,
+    sieve: &S,
 ) -> LintEnd
-    ensures writes { Writes W.contents text.old text.new (notes_text allowed.now notes.now) }
-    ensures end { result ≡ end_of (told allowed.now notes.now) }
+    ensures writes { Writes W.contents text.old text.new (notes_text (S.tells sieve.now) notes.now) }
+    ensures end { result ≡ end_of (told (S.tells sieve.now) notes.now) }
 {
-    let count = write_lines(text, notes.as_slice(), allowed);
+    let count = write_lines(text, notes.as_slice(), sieve);
     write_count(text, count as u64);
-    write_helps(text, notes.as_slice(), allowed);
+    write_helps(text, notes.as_slice(), sieve);
     if count == 0 {
         LintEnd::Clean
     } else {
@@ -78,16 +74,16 @@ fn write_notes<W: Write>(
 }
 
 /// The text of the notes that are told. It takes no memory.
-pub fn send_notes<W: Write>(
+pub fn send_notes<W: Write, S: Sieve>(
     notes: &Notes<'_>,
-    allowed: &Allowed<'_>,
+    sieve: &S,
     out: &mut W,
 ) -> Result<LintEnd, WriteFault>
-    ensures text { SendsText (W.contents out.old) (W.contents out.new) (notes_text allowed.now notes.now) result }
-    ensures end { IfOk result (λ end. end ≡ end_of (told allowed.now notes.now)) }
+    ensures text { SendsText (W.contents out.old) (W.contents out.new) (notes_text (S.tells sieve.now) notes.now) result }
+    ensures end { IfOk result (λ end. end ≡ end_of (told (S.tells sieve.now) notes.now)) }
 {
     let mut text = TextWriter::new(out);
-    let end = write_notes(&mut text, notes, allowed);
+    let end = write_notes(&mut text, notes, sieve);
     match text.finish() {
         Ok(()) => Ok(end),
         Err(fault) => Err(fault),

@@ -9,6 +9,7 @@ use Rattle.planning.specs.declared.fault.PlanFault.{PlanFault}
 use Rattle.planning.specs.declared.fault.PlanFault.TheVariants as planning
 use Rattle.kept_notes.specs.Beside.{AreNotesOn, IsTrueOn}
 use Rattle.fleet_notes.specs.Repeats.{repeat_notes}
+use Rattle.note_lines.specs.Notes.{isnt_allowed}
 use Rattle.lint_notes.specs.LintTexts.{BreaksNotes}
 use Rattle.rollout.specs.LintFaults.{AreFaultless, PrintsFaults}
 use Rattle.rollout.specs.Notes.{FailsOver, IsFaultlessFor, IsRefusedSo, LosesAll, LosesNotes, SaysOf, TellsInstead, TellsLost, is_lost}
@@ -24,7 +25,7 @@ appends_after (Some before) (Some now) None text keeps appends = absurd appends
 appends_after (Some before) (Some now) (Some after) text keeps appends = subst (λ (bytes : List ℕ). after ≡ bytes ++ text) keeps appends
 
 -- nothing went out before notes failed otherwise than by breaking off
-pub kept_before : (allowed inventory : List ℕ) (playbook : Option (List ℕ)) (old mid : Option (List ℕ)) (cause : PlanFault) → is_lost cause ≡ false → IsTrueOn allowed (repeat_notes inventory playbook) inventory playbook old mid cause → Keeps old mid
+pub kept_before : (allowed inventory : List ℕ) (playbook : Option (List ℕ)) (old mid : Option (List ℕ)) (cause : PlanFault) → is_lost cause ≡ false → IsTrueOn (isnt_allowed allowed) (repeat_notes inventory playbook) inventory playbook old mid cause → Keeps old mid
 kept_before allowed inventory None old mid (planning.Read fault) none fails = fails.1
 kept_before allowed inventory None old mid (planning.Fleet fault) none fails = fails.1
 kept_before allowed inventory None old mid (planning.Playbook fault) none fails = absurd fails
@@ -41,16 +42,16 @@ module _ (allowed inventory : List ℕ) (old mid new : Option (List ℕ)) (lost 
   is_lost_fault : fault ≡ lines.Write lost
   is_lost_fault = let both : ◌≡◌ {A = Result Status Fault} (Err fault) (Err (lines.Write lost)) = tells.tells in cc
 
-  lost_of : (playbook : Option (List ℕ)) → BreaksNotes (AreNotesOn (repeat_notes inventory playbook) inventory playbook) allowed old mid lost.written → LosesNotes allowed inventory playbook old new fault
+  lost_of : (playbook : Option (List ℕ)) → BreaksNotes (AreNotesOn (repeat_notes inventory playbook) inventory playbook) (isnt_allowed allowed) old mid lost.written → LosesNotes allowed inventory playbook old new fault
   lost_of playbook breaks =
-      let broken : Option (List ℕ) → Type 0 = λ (end : Option (List ℕ)). BreaksNotes (AreNotesOn (repeat_notes inventory playbook) inventory playbook) allowed old end lost.written in
+      let broken : Option (List ℕ) → Type 0 = λ (end : Option (List ℕ)). BreaksNotes (AreNotesOn (repeat_notes inventory playbook) inventory playbook) (isnt_allowed allowed) old end lost.written in
       record { lost = lost; is = is_lost_fault; breaks = subst broken (sym tells.same) breaks }
 
-  lost_after : (playbook : Option (List ℕ)) → IsTrueOn allowed (repeat_notes inventory playbook) inventory playbook old mid (planning.Write lost) → LosesNotes allowed inventory playbook old new fault
+  lost_after : (playbook : Option (List ℕ)) → IsTrueOn (isnt_allowed allowed) (repeat_notes inventory playbook) inventory playbook old mid (planning.Write lost) → LosesNotes allowed inventory playbook old new fault
   lost_after None fails = lost_of None fails
   lost_after (Some playbook) fails = lost_of (Some playbook) fails
 
-lost_so : (allowed inventory : List ℕ) (playbook : Option (List ℕ)) (old mid new : Option (List ℕ)) (cause : PlanFault) → IsTrueOn allowed (repeat_notes inventory playbook) inventory playbook old mid cause → (fault : Fault)
+lost_so : (allowed inventory : List ℕ) (playbook : Option (List ℕ)) (old mid new : Option (List ℕ)) (cause : PlanFault) → IsTrueOn (isnt_allowed allowed) (repeat_notes inventory playbook) inventory playbook old mid cause → (fault : Fault)
     → TellsLost mid new cause (Err fault) → LosesNotes allowed inventory playbook old new fault
 lost_so allowed inventory playbook old mid new (planning.Write lost) fails fault tells = lost_after allowed inventory old mid new lost fault tells playbook fails
 lost_so allowed inventory playbook old mid new (planning.Read read) fails fault tells = absurd (let lost = tells.lost in cc)
@@ -78,14 +79,14 @@ module _ (allowed inventory : List ℕ) (playbook : Option (List ℕ)) (old mid 
       })
   all_lost_after fault keeps (inr wants) = inr (wants.0, Keeps-trans old mid new keeps wants.1)
 
-  module _ (cause : PlanFault) (fails : IsTrueOn allowed (repeat_notes inventory playbook) inventory playbook old mid cause) where
+  module _ (cause : PlanFault) (fails : IsTrueOn (isnt_allowed allowed) (repeat_notes inventory playbook) inventory playbook old mid cause) where
     says_after : (status : Status) → TellsInstead allowed inventory playbook mid new cause (Ok status) → SaysOf allowed inventory playbook old new status
     says_after status (inl lost) = absurd (let tells = lost.tells in cc)
     says_after status (inr tells) = inr (printed_after status (kept_before allowed inventory playbook old mid cause tells.0 fails) tells.1)
 
     faultless_after : (fault : Fault) → IsFaultlessFor inventory playbook mid new cause fault → AreFaultless inventory playbook × IsRefusedSo allowed inventory playbook old new fault
     faultless_after fault tells =
-        let true_of : Option (List ℕ) → Type 0 = λ (end : Option (List ℕ)). IsTrueOn allowed (repeat_notes inventory playbook) inventory playbook old end cause in
+        let true_of : Option (List ℕ) → Type 0 = λ (end : Option (List ℕ)). IsTrueOn (isnt_allowed allowed) (repeat_notes inventory playbook) inventory playbook old end cause in
         (tells.faultless, record { cause = cause; is = tells.tells; is_true = subst true_of (sym tells.same) fails })
 
     by_all : (fault : Fault) → Keeps old mid → LosesAll allowed inventory playbook mid new fault ⊎ IsFaultlessFor inventory playbook mid new cause fault → FailsOver allowed inventory playbook old new fault

@@ -6,6 +6,7 @@ use Rattle.kept_notes.specs.Beside.{AreNotesOn, IsTrueOn, WritesOn}
 use Rattle.note_lines.specs.Kinds.{are_kind_names}
 use Rattle.lint_notes.specs.LintTexts.{BreaksNotes}
 use Rattle.fleet_notes.specs.Repeats.{repeat_notes}
+use Rattle.note_lines.specs.Notes.{isnt_allowed}
 use Rattle.note_lines.specs.declared.end.LintEnd.{LintEnd}
 use Rattle.planning.specs.declared.fault.PlanFault.{PlanFault}
 use Rattle.planning.specs.declared.fault.PlanFault.TheVariants as planning
@@ -22,20 +23,20 @@ use Rattle.rollout.specs.declared.status.Status.{Status}
 -- the notes went out, and the status tells whether there are any
 pub record PrintsNotes (allowed inventory : List ℕ) (playbook : Option (List ℕ)) (old new : Option (List ℕ)) (status : Status) : Type 0 where
   pub end : LintEnd
-  pub notes : WritesOn allowed (repeat_notes inventory playbook) inventory playbook old new end
+  pub notes : WritesOn (isnt_allowed allowed) (repeat_notes inventory playbook) inventory playbook old new end
   pub tells : status ≡ status_of_notes end
 
 -- they broke off where the fault says
 pub record LosesNotes (allowed inventory : List ℕ) (playbook : Option (List ℕ)) (old new : Option (List ℕ)) (fault : Fault) : Type 0 where
   pub lost : WriteFault
   pub is : fault ≡ lines.Write lost
-  pub breaks : BreaksNotes (AreNotesOn (repeat_notes inventory playbook) inventory playbook) allowed old new lost.written
+  pub breaks : BreaksNotes (AreNotesOn (repeat_notes inventory playbook) inventory playbook) (isnt_allowed allowed) old new lost.written
 
 -- noting failed so
 pub record IsRefusedSo (allowed inventory : List ℕ) (playbook : Option (List ℕ)) (old new : Option (List ℕ)) (fault : Fault) : Type 0 where
   pub cause : PlanFault
   pub is : fault ≡ fault_of cause
-  pub is_true : IsTrueOn allowed (repeat_notes inventory playbook) inventory playbook old new cause
+  pub is_true : IsTrueOn (isnt_allowed allowed) (repeat_notes inventory playbook) inventory playbook old new cause
 
 -- the notes went out, and so the texts are accepted; or all faults of the texts did
 abbrev pub SaysOf : List ℕ → List ℕ → Option (List ℕ) → Option (List ℕ) → Option (List ℕ) → Status → Type 0

@@ -12,3 +12,5 @@ pub mod GivenLemmas
 pub mod AnyLemmas
 pub mod NameLemmas
 pub mod StateLaws
+pub mod UnknownLemmas
+pub mod WantingLemmas

@@ -1,14 +1,9 @@
 -- Hosts whose names a condition compares with the host's own, and that aren't there.
-use Rattle.std.specs.Prelude.{if◌then◌else◌, Option, None, Some, option_map, List, [], ◌∷◌, ◌++◌, codes}
+use Rattle.std.specs.Prelude.{if◌then◌else◌, Option, None, Some, List}
 use Rattle.std.specs.Option.{option_or}
 use Rattle.cond.specs.Grammar as grammar
 use Rattle.cond.specs.Grammar.{Operand, Ref, Test}
-use Rattle.cond.specs.declared.condition.Cond.{Cond}
 use Rattle.group_tree.specs.Names.{Name, is_among}
-use Rattle.play_model.specs.declared.step.Step.{Step}
-use Rattle.note_lines.specs.Notes.{Note, noted, unknown_host}
-use Rattle.step_notes.specs.Tests.{tests_if}
-use Rattle.note_lines.specs.declared.step_path.StepPath.{StepPath}
 
 -- the text, where it is none of these names
 abbrev pub unknown_name : List Name → Operand → Option Name
@@ -35,17 +30,3 @@ unknown_in hosts (grammar.defined of contrary) = None
 unknown_in hosts (grammar.equals left contrary right) = option_or (beside_own hosts left right) (beside_own hosts right left)
 unknown_in hosts (grammar.within group contrary) = None
 unknown_in hosts (grammar.alone operand) = None
-
--- the first such name of some tests
-abbrev pub first_unknown : List Name → List Test → Option Name
-first_unknown hosts [] = None
-first_unknown hosts (test ∷ tests) = option_or (unknown_in hosts test) (first_unknown hosts tests)
-
--- of the condition that stands under this key
-abbrev pub host_note : List Name → StepPath → Name → Option Cond → Option Note
-host_note hosts at key condition = option_map (unknown_host at key) (first_unknown hosts (tests_if condition))
-
-abbrev pub hosts_asked_notes : List Name → StepPath → Step → List Note
-hosts_asked_notes hosts at step =
-    noted (host_note hosts at (codes "when") step.when)
-    ++ (noted (host_note hosts at (codes "changed_when") step.changed_when) ++ noted (host_note hosts at (codes "failed_when") step.failed_when))

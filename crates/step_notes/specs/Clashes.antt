@@ -1,5 +1,5 @@
 -- Comparisons of one thing with two values, beside each other in a condition: they always hold, or never do.
-use Rattle.std.specs.Prelude.{ℕ, Bool, true, false, not, ◌&&◌, ◌||◌, nat_eq, if◌then◌else◌, Option, None, Some, List, [], ◌∷◌, ◌++◌, codes, flat_map, map, take, drop, string_bytes, box_value}
+use Rattle.std.specs.Prelude.{ℕ, Bool, true, false, not, ◌&&◌, ◌||◌, nat_eq, if◌then◌else◌, Option, None, Some, List, [], ◌∷◌, flat_map, map, take, drop, string_bytes, box_value}
 use Rattle.std.specs.Option.{option_or}
 use Rattle.cond.specs.Grammar as grammar
 use Rattle.cond.specs.Grammar.{Operand, Ref, Test}
@@ -17,8 +17,7 @@ use Rattle.group_tree.specs.Variables as variable
 use Rattle.group_tree.specs.Variables.{Scalar}
 use Rattle.text_parts.specs.declared.field.Field.{Field}
 use Rattle.text_parts.specs.declared.field.Field.TheVariants.{Rc, Stdout, Stderr, Changed, Failed, Skipped}
-use Rattle.play_model.specs.declared.step.Step.{Step}
-use Rattle.note_lines.specs.Notes.{Note, clashing_values, noted}
+use Rattle.note_lines.specs.Notes.{Note, clashing_values}
 use Rattle.step_notes.specs.Endings.{is_turned}
 use Rattle.note_lines.specs.declared.step_path.StepPath.{StepPath}
 
@@ -137,8 +136,3 @@ has_clash (Some condition) = clashes_in false (found_of condition)
 -- of the condition that stands under this key
 abbrev pub clash_note : StepPath → Name → Option Cond → Option Note
 clash_note at key condition = if has_clash condition then Some (clashing_values at key) else None
-
-abbrev pub clash_notes : StepPath → Step → List Note
-clash_notes at step =
-    noted (clash_note at (codes "when") step.when)
-    ++ (noted (clash_note at (codes "changed_when") step.changed_when) ++ noted (clash_note at (codes "failed_when") step.failed_when))

@@ -1,7 +1,8 @@
 -- How steps end, as far as a condition asks for it, and what waits for an end that no step has.
-use Rattle.std.specs.Prelude.{ℕ, Bool, true, false, not, ◌&&◌, is_some, if◌then◌else◌, Option, None, Some, option_map, List, [], ◌∷◌, take, drop, string_bytes}
+use Rattle.std.specs.Prelude.{ℕ, ℤ, pos, Bool, true, false, not, ◌&&◌, ◌||◌, is_some, if◌then◌else◌, Option, None, Some, option_map, List, [], ◌∷◌, take, drop, string_bytes}
 use Rattle.std.specs.List.{list_any}
 use Rattle.std.specs.Option.{option_or}
+use Rattle.std.specs.Ordering.{int_eq}
 use Rattle.group_tree.specs.Names.{Name}
 use Rattle.cond.specs.Grammar as grammar
 use Rattle.cond.specs.Grammar.{Operand, Ref, Test}
@@ -23,20 +24,15 @@ use Rattle.needed_results.specs.Registers.{registers}
 use Rattle.note_lines.specs.Notes.{Note, idle_state}
 use Rattle.step_notes.specs.Conditions.{never_holds}
 use Rattle.step_notes.specs.declared.ending.Ending.{Ending}
-use Rattle.step_notes.specs.declared.ending.Ending.TheVariants.{Changed, Failed, Skipped}
+use Rattle.step_notes.specs.declared.ending.Ending.TheVariants.{Changed, Failed, Skipped, NonZero}
 use Rattle.note_lines.specs.declared.step_path.StepPath.{StepPath}
 
--- The step may end so on a host that comes to later steps. One that fails takes its host out of the run, unless its errors are ignored; one without `when` is never skipped.
+-- The step may end so on a host that comes to later steps. One that fails takes its host out of the run, unless its errors are ignored, and so does a code other than 0, unless `failed_when` judges it; one without `when` is never skipped.
 abbrev pub may_end : Ending → Step → Bool
 may_end Changed step = not (never_holds step.changed_when)
 may_end Failed step = step.ignore_errors && not (never_holds step.failed_when)
 may_end Skipped step = is_some step.when
-
--- the field of a result that says whether it ended so
-abbrev pub field_of : Ending → Field
-field_of Changed = field.Changed
-field_of Failed = field.Failed
-field_of Skipped = field.Skipped
+may_end NonZero step = step.ignore_errors || is_some step.failed_when
 
 -- one of the steps registers the name and may end so
 abbrev pub leaves : Ending → Name → Step → Bool
@@ -66,12 +62,37 @@ awaited true state.Succeeded = Some Failed
 -- the same of one that asks for a field alone
 abbrev pub awaited_field : Bool → Field → Option Ending
 awaited_field true field = None
-awaited_field false field.Rc = None
+awaited_field false field.Rc = Some NonZero
 awaited_field false field.Stdout = None
 awaited_field false field.Stderr = None
 awaited_field false field.Changed = Some Changed
 awaited_field false field.Failed = Some Failed
 awaited_field false field.Skipped = Some Skipped
+
+-- the same of one that compares a code, by whether the contrary is asked for and whether the number is 0
+abbrev pub awaited_if : Bool → Bool → Option Ending
+awaited_if true true = Some NonZero
+awaited_if true false = None
+awaited_if false true = None
+awaited_if false false = Some NonZero
+
+abbrev pub awaited_code : Bool → ℤ → Option Ending
+awaited_code contrary number = awaited_if contrary (int_eq number (pos 0))
+
+abbrev pub awaited_beside : Bool → Operand → Option Ending
+awaited_beside contrary (grammar.text bytes) = None
+awaited_beside contrary (grammar.number value) = awaited_code contrary value
+awaited_beside contrary (grammar.truth value) = None
+awaited_beside contrary (grammar.ref of) = None
+
+-- of one that compares a field with this
+abbrev pub awaited_with : Bool → Field → Operand → Option Ending
+awaited_with contrary field.Rc other = awaited_beside contrary other
+awaited_with contrary field.Stdout other = None
+awaited_with contrary field.Stderr other = None
+awaited_with contrary field.Changed other = None
+awaited_with contrary field.Failed other = None
+awaited_with contrary field.Skipped other = None
 
 -- whether the contrary of the contrary is asked for
 abbrev pub is_turned : Bool → Bool → Bool
@@ -93,11 +114,26 @@ vain_operand is_vain denied (grammar.number value) = None
 vain_operand is_vain denied (grammar.truth value) = None
 vain_operand is_vain denied (grammar.ref of) = vain_ref is_vain denied of
 
+-- of a comparison of the first operand with the second
+abbrev pub vain_beside : (Ending → Name → Bool) → Bool → Ref → Operand → Option Name
+vain_beside is_vain contrary (grammar.whole name) other = None
+vain_beside is_vain contrary (grammar.part name field) other = vain_name is_vain (awaited_with contrary field other) name
+vain_beside is_vain contrary grammar.hostname other = None
+
+abbrev pub vain_side : (Ending → Name → Bool) → Bool → Operand → Operand → Option Name
+vain_side is_vain contrary (grammar.text bytes) other = None
+vain_side is_vain contrary (grammar.number value) other = None
+vain_side is_vain contrary (grammar.truth value) other = None
+vain_side is_vain contrary (grammar.ref of) other = vain_beside is_vain contrary of other
+
+abbrev pub vain_equals : (Ending → Name → Bool) → Bool → Operand → Operand → Option Name
+vain_equals is_vain contrary left right = option_or (vain_side is_vain contrary left right) (vain_side is_vain contrary right left)
+
 -- the name whose result never ends as the test waits for it, or the test behind a `not`
 abbrev pub vain_test : (Ending → Name → Bool) → Bool → Test → Option Name
 vain_test is_vain denied (grammar.stands name contrary state) = vain_name is_vain (awaited (is_turned denied contrary) state) name
 vain_test is_vain denied (grammar.defined of contrary) = None
-vain_test is_vain denied (grammar.equals left contrary right) = None
+vain_test is_vain denied (grammar.equals left contrary right) = vain_equals is_vain (is_turned denied contrary) left right
 vain_test is_vain denied (grammar.within group contrary) = None
 vain_test is_vain denied (grammar.alone operand) = vain_operand is_vain denied operand
 

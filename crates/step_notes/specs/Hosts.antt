@@ -13,6 +13,7 @@ use Rattle.step_words.specs.Lines.{fresh}
 use Rattle.missing_names.specs.Spots.{missed_at, skipped_at}
 use Rattle.note_lines.specs.Notes.{Note, down_hosts, missing_name, missing_result, no_hosts, unknown_name}
 use Rattle.step_notes.specs.declared.sort.Sort.{Sort}
+use Rattle.step_notes.specs.declared.sort.Sort.TheVariants as sort
 use Rattle.note_lines.specs.declared.step_path.StepPath.{StepPath}
 
 abbrev pub is_off : FleetView → ℕ → Bool
@@ -87,14 +88,14 @@ asking crowd missed = record {
   waiting = crowd.waiting;
 }
 
--- the same hosts before a step that may look up these names in vain on them, whatever variables they have
-abbrev pub wanting : Crowd → (ℕ → List Name) → Crowd
-wanting crowd missed = record {
-  fleet = crowd.fleet;
-  lacks = λ name host. is_among name (missed host);
-  gives = crowd.gives;
-  waiting = crowd.waiting;
-}
+-- the same hosts, where each lacks results by this
+abbrev pub wanting : Crowd → (Name → ℕ → Bool) → Crowd
+wanting crowd lacks = record { fleet = crowd.fleet; lacks = lacks; gives = crowd.gives; waiting = crowd.waiting }
+
+-- What is foreseen of a play's steps is told by their places. The step at the second place isn't known to be skipped on the host, and the task that registers the result whose code it reads is, where there is one.
+abbrev pub lacks_code : (ℕ → ℕ → Foreseen) → Option ℕ → ℕ → ℕ → Bool
+lacks_code foreseen None place host = false
+lacks_code foreseen (Some source) place host = (foreseen source host).is_skipped && not (foreseen place host).is_skipped
 
 -- each waiting host is known to skip the step, and there is one
 abbrev pub skip_all : Crowd → (ℕ → Foreseen) → Bool
@@ -108,6 +109,15 @@ asking_by crowd missed step = if has_conditions step then asking crowd missed el
 abbrev pub is_lacked : Crowd → Name → Bool
 is_lacked crowd name = list_any (crowd.lacks name) crowd.waiting
 
+-- what is missed on the first of these hosts
+abbrev pub missed_first : (ℕ → List Name) → List ℕ → List Name
+missed_first missed [] = []
+missed_first missed (host ∷ hosts) = missed host
+
+-- nobody has the name, and the first waiting host may come to look it up
+abbrev pub is_unknown_first : Crowd → (ℕ → List Name) → Name → Bool
+is_unknown_first crowd missed name = is_among name (missed_first missed crowd.waiting) && not (crowd.gives sort.Any name)
+
 -- how many they are, and which is the first
 abbrev pub lack_count : Crowd → Name → ℕ
 lack_count crowd name = count_by (crowd.lacks name) crowd.waiting
@@ -115,10 +125,10 @@ lack_count crowd name = count_by (crowd.lacks name) crowd.waiting
 abbrev pub first_lacking : Crowd → Name → Option ℕ
 first_lacking crowd name = find (crowd.lacks name) crowd.waiting
 
--- none has the name, or so many don't, of whom this one is the first
+-- none of them has the name, nor perhaps anybody, or so many don't, of whom this one is the first
 abbrev pub noted_lack : Crowd → StepPath → Name → ℕ → ℕ → Note
 noted_lack crowd at name hosts first =
-    if hosts == length crowd.waiting then unknown_name at name None else missing_name at name hosts (length crowd.waiting) (host_at crowd.fleet.hosts first)
+    if hosts == length crowd.waiting || not (crowd.gives sort.Any name) then unknown_name at name None else missing_name at name hosts (length crowd.waiting) (host_at crowd.fleet.hosts first)
 
 -- what is noted of a name that a step reads: nothing where each waiting host has it
 abbrev pub name_note : Crowd → StepPath → Name → Option Note

@@ -1,8 +1,8 @@
 -- What holds of the names that are asked about, of conditions that ask nothing, and of the values that conditions ask for.
-use Rattle.std.specs.Prelude.{◌≡◌, ℕ, Bool, true, false, ◌&&◌, ◌||◌, is_some, Some, Ok, Err, List}
+use Rattle.std.specs.Prelude.{◌≡◌, ◌⊎◌, ℕ, pos, Bool, true, false, ◌&&◌, ◌||◌, is_some, None, Some, Ok, Err, List}
 use Rattle.std.specs.List.{list_any}
 use Rattle.group_tree.specs.Names.{Name, are_distinct, is_among}
-use Rattle.group_tree.specs.Variables.{Scalar, Truth}
+use Rattle.group_tree.specs.Variables.{Scalar, Int, Truth}
 use Rattle.cond.specs.Meaning.{Environment, Value, Verdict, Registered, same_scalar, same_value, scalar_holds, value_holds}
 use Rattle.cond.specs.Trees.{verdict_of}
 use Rattle.cond.specs.declared.condition.Cond.{Cond}
@@ -10,8 +10,10 @@ use Rattle.play_model.specs.declared.step.Step.{Step}
 use Rattle.needed_results.specs.Reads.{read_before, read_behind}
 use Rattle.step_notes.specs.Hosts.{Crowd, asking, name_note}
 use Rattle.step_notes.specs.Conditions.{are_unlike, is_constant}
-use Rattle.step_notes.specs.Endings.{field_of, vain_name_of}
+use Rattle.step_notes.specs.Endings.{vain_name_of}
 use Rattle.step_notes.specs.declared.ending.Ending.{Ending}
+use Rattle.step_notes.specs.declared.ending.Ending.TheVariants as ending
+use Rattle.text_parts.specs.declared.field.Field.TheVariants as field
 use Rattle.step_notes.specs.Sorts.{is_false_text, kind_of_value}
 use Rattle.step_notes.specs.NamesRead.{is_asked, is_asked_behind, names_asked}
 use Rattle.note_lines.specs.declared.step_path.StepPath.{StepPath}
@@ -56,8 +58,15 @@ abbrev pub holds : Verdict → Bool
 holds (Ok truth) = truth
 holds (Err name) = false
 
+-- the result didn't end so: its field says so, or its code is 0; one that was skipped has none
+abbrev pub EndedOtherwise : Environment → Name → Ending → Type 0
+EndedOtherwise e name ending.Changed = e.field name field.Changed ≡ Some (Truth false)
+EndedOtherwise e name ending.Failed = e.field name field.Failed ≡ Some (Truth false)
+EndedOtherwise e name ending.Skipped = e.field name field.Skipped ≡ Some (Truth false)
+EndedOtherwise e name ending.NonZero = (e.field name field.Rc ≡ Some (Int (pos 0))) ⊎ (e.field name field.Rc ≡ None)
+
 -- where no result ended as it is said to end never, a condition that waits for such an end doesn't hold
 abbrev pub StatesInVainNeverHold : Type 0
 StatesInVainNeverHold =
-    (is_vain : Ending → Name → Bool) (e : Environment) → ((ending : Ending) (name : Name) → is_vain ending name ≡ true → e.field name (field_of ending) ≡ Some (Truth false))
+    (is_vain : Ending → Name → Bool) (e : Environment) → ((ending : Ending) (name : Name) → is_vain ending name ≡ true → EndedOtherwise e name ending)
     → (condition : Cond) → is_some (vain_name_of is_vain (Some condition)) ≡ true → holds (verdict_of e condition) ≡ false

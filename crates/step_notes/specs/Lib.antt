@@ -1,6 +1,7 @@
 pub mod Hosts
 pub mod NamesRead
 pub mod Guards
+pub mod Codes
 pub mod Results
 pub mod Conditions
 pub mod Programs
@@ -16,8 +17,10 @@ pub mod Values
 pub mod Endings
 pub mod Clashes
 pub mod InClashes
+pub mod Doubts
 pub mod Steps
 pub mod Laws
 pub mod Lacks
 pub mod Given
 pub mod Inside
+pub mod InWanting

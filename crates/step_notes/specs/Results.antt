@@ -6,6 +6,7 @@ use Rattle.text_parts.specs.Words.{Part, plain, hole, braces, whole, part, hostn
 use Rattle.play_model.specs.declared.step.Step.{Step}
 use Rattle.needed_results.specs.Reads.{read_before, read_behind}
 use Rattle.needed_results.specs.Registers.{is_registered_by}
+use Rattle.step_notes.specs.Codes.{is_coded}
 use Rattle.step_notes.specs.Guards.{guarded}
 use Rattle.step_notes.specs.NamesRead.{once_after}
 
@@ -27,9 +28,9 @@ whole_in_words words = flat_map whole_in_word words
 abbrev pub may_be_away : List Step → Step → Name → Bool
 may_be_away tasks step name = not (is_registered_by tasks name) && not (is_among name (guarded step.when))
 
--- A step before registers the name, but its result may not be there; or the name stands in a word without a field, where no result has a text.
+-- A step before registers the name, but its result may not be there; or the name stands in a word without a field, where no result has a text; or the step reads the result's code, which isn't there where its step was skipped.
 abbrev pub is_unsure : (Name → Bool) → List Step → Step → Name → Bool
-is_unsure is_set tasks step name = is_set name && (may_be_away tasks step name || is_among name (whole_in_words step.words))
+is_unsure is_set tasks step name = is_set name && ((may_be_away tasks step name || is_among name (whole_in_words step.words)) || is_coded step name)
 
 -- each once, in the order of reading
 abbrev pub names_unsure : (Name → Bool) → List Step → Step → List Name

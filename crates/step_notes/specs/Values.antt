@@ -1,23 +1,15 @@
--- Conditions that take a variable for what none of its values is, a text for what it says, a result for one of its fields, or a hole for what fills it.
-use Rattle.std.specs.Prelude.{Bool, not, ◌&&◌, ◌||◌, if◌then◌else◌, Option, None, Some, option_map, List, [], ◌∷◌, ◌++◌, codes}
+-- Conditions that take a variable for what none of its values is, a text for what it says, or a result for one of its fields.
+use Rattle.std.specs.Prelude.{Bool, not, ◌&&◌, if◌then◌else◌, Option, None, Some}
 use Rattle.std.specs.Option.{option_or}
 use Rattle.cond.specs.Grammar as grammar
 use Rattle.cond.specs.Grammar.{Operand, Ref, Test}
-use Rattle.cond.specs.declared.condition.Cond.{Cond}
+use Rattle.domains.specs.FleetViews.{FleetView}
 use Rattle.group_tree.specs.Names.{Name}
-use Rattle.needed_results.specs.Registers.{registers}
-use Rattle.play_model.specs.declared.step.Step.{Step}
 use Rattle.step_notes.specs.Conditions.{kind_of_field}
-use Rattle.note_lines.specs.Notes.{Note, false_text, noted, text_hole, unlike_variable, whole_result}
-use Rattle.step_notes.specs.Tests.{tests_if}
-use Rattle.step_notes.specs.TextHoles.{holed_in}
 use Rattle.step_notes.specs.declared.questions.ValueKind.{ValueKind}
 use Rattle.step_notes.specs.declared.questions.ValueKind.TheVariants.{Text, Number, Truth}
 use Rattle.step_notes.specs.declared.sort.Sort.{Sort}
 use Rattle.step_notes.specs.declared.sort.Sort.TheVariants as sort
-use Rattle.note_lines.specs.declared.step_path.StepPath.{StepPath}
-use Rattle.step_notes.specs.declared.values.Doubt.{Doubt}
-use Rattle.step_notes.specs.declared.values.Doubt.TheVariants.{IsFalseText, IsUnlike, IsWhole, HasHole}
 
 -- the operand's name, where it is one alone
 abbrev pub name_in_ref : Ref → Option Name
@@ -48,9 +40,11 @@ abbrev pub passing : (Name → Bool) → Option Name → Option Name
 passing test None = None
 passing test (Some name) = if test name then Some name else None
 
--- what is known of names where a condition asks: under which a result is registered, and to which the inventory gives a value of a sort
+-- what is known of names where a condition asks: which groups and hosts there are, under which names a result is registered, also for sure, and to which the inventory gives a value of a sort
 pub record Known : Type 0 where
+  pub fleet : FleetView
   pub is_result : Name → Bool
+  pub is_sure : Name → Bool
   pub gives : Sort → Name → Bool
 
 -- a variable that has a value of the sort, and is no result
@@ -60,6 +54,10 @@ is_variable known sort name = not (known.is_result name) && known.gives sort nam
 -- a result that is no variable on any host
 abbrev pub is_whole : Known → Name → Bool
 is_whole known name = known.is_result name && not (known.gives sort.Any name)
+
+-- a result that is there for sure, and no variable on any host
+abbrev pub is_sure_whole : Known → Name → Bool
+is_sure_whole known name = known.is_sure name && not (known.gives sort.Any name)
 
 -- a variable none of whose values is of this kind
 abbrev pub is_of_others : Known → ValueKind → Name → Bool
@@ -86,51 +84,10 @@ unlike_in known (grammar.equals left contrary right) = option_or (unlike_beside 
 unlike_in known (grammar.within group contrary) = None
 unlike_in known (grammar.alone operand) = None
 
--- the name whose result the test takes as a whole: that is true, and the same as nothing
+-- The name whose result the test takes as a whole: that is true, and the same as nothing. One that is sure is defined, also where its step was skipped.
 abbrev pub whole_in : Known → Test → Option Name
 whole_in known (grammar.stands name contrary state) = None
-whole_in known (grammar.defined of contrary) = None
+whole_in known (grammar.defined of contrary) = passing (is_sure_whole known) (name_in_ref of)
 whole_in known (grammar.equals left contrary right) = option_or (passing (is_whole known) (name_said left)) (passing (is_whole known) (name_said right))
 whole_in known (grammar.within group contrary) = None
 whole_in known (grammar.alone operand) = passing (is_whole known) (name_said operand)
-
-abbrev pub doubted_in : Doubt → Known → Test → Option Name
-doubted_in IsFalseText = false_in
-doubted_in IsUnlike = unlike_in
-doubted_in IsWhole = whole_in
-doubted_in HasHole = λ known. holed_in
-
--- the first such name, or text, of some tests
-abbrev pub first_doubted : Doubt → Known → List Test → Option Name
-first_doubted doubt known [] = None
-first_doubted doubt known (test ∷ tests) = option_or (doubted_in doubt known test) (first_doubted doubt known tests)
-
-abbrev pub noted_doubt : Doubt → StepPath → Name → Name → Note
-noted_doubt IsFalseText = false_text
-noted_doubt IsUnlike = unlike_variable
-noted_doubt IsWhole = whole_result
-noted_doubt HasHole = text_hole
-
--- of the condition that stands under this key
-abbrev pub doubt_note : Doubt → Known → StepPath → Name → Option Cond → Option Note
-doubt_note doubt known at key condition = option_map (noted_doubt doubt at key) (first_doubted doubt known (tests_if condition))
-
-abbrev pub doubt_notes : Known → StepPath → Name → Option Cond → List Note
-doubt_notes known at key condition =
-    noted (doubt_note IsFalseText known at key condition)
-    ++ (noted (doubt_note IsUnlike known at key condition) ++ (noted (doubt_note IsWhole known at key condition) ++ noted (doubt_note HasHole known at key condition)))
-
--- a step before registers a result under the name, or this one, where it has run
-abbrev pub is_result_of : (Name → Bool) → Option Step → Name → Bool
-is_result_of is_set None name = is_set name
-is_result_of is_set (Some step) name = is_set name || registers name step
-
-abbrev pub known_by : (Name → Bool) → (Sort → Name → Bool) → Option Step → Known
-known_by is_set gives run = record { is_result = is_result_of is_set run; gives = gives }
-
--- what judges the step's end sees its own result too
-abbrev pub value_notes : (Name → Bool) → (Sort → Name → Bool) → StepPath → Step → List Note
-value_notes is_set gives at step =
-    doubt_notes (known_by is_set gives None) at (codes "when") step.when
-    ++ (doubt_notes (known_by is_set gives (Some step)) at (codes "changed_when") step.changed_when
-    ++ doubt_notes (known_by is_set gives (Some step)) at (codes "failed_when") step.failed_when)

@@ -1,19 +1,14 @@
-//! The notes on hosts whose names a condition compares with the host's own, and that aren't there.
-ghost use Rattle.std.specs.Prelude.{◌≡◌, ◌++◌, IfOk, OnOk, option_map};
+//! Hosts whose names a condition compares with the host's own, and that aren't there.
+ghost use Rattle.std.specs.Prelude.{◌≡◌, option_map};
 ghost use Rattle.cond.specs.Trees.{written_operand};
 ghost use Rattle.group_tree.specs.Names.{is_among};
 ghost use Rattle.step_notes.specs.AskedHosts as model;
-ghost use Rattle.step_notes.specs.Inside.{said, said_all};
-ghost use Rattle.note_lines.specs.Notes.{seen};
+ghost use Rattle.step_notes.specs.Inside.{said};
 
-use crate::tests::{Said, list_tests};
-use cond::Cond;
+use crate::tests::Said;
 use cond::leaf::{Operand, Ref, Test};
 use cond::span::word_in;
 use domains::Fleet;
-use note_lines::{Note, Notes, StepPath};
-use play_model::Step;
-use std::alloc::{AllocError, Global};
 
 /// Whether a host has the name.
 #[tactic(auto, using(domains::proofs::MarkLemmas::host_known))]
@@ -51,7 +46,8 @@ fn beside_own<'c>(fleet: &Fleet, text: &'c [u8], own: Operand, other: Operand) -
     }
 }
 
-fn unknown_in<'c>(fleet: &Fleet, one: Said<'c>) -> Option<&'c str>
+/// The name that the test compares with the host's own, where no host has it.
+pub(crate) fn unknown_host<'c>(fleet: &Fleet, one: Said<'c>) -> Option<&'c str>
     ensures { option_map (λ host. host.now) result ≡ model.unknown_in fleet.now.hosts (said one.entry) }
 {
     let Test::Equals { left, right, .. } = one.test else {
@@ -61,49 +57,4 @@ fn unknown_in<'c>(fleet: &Fleet, one: Said<'c>) -> Option<&'c str>
         Some(host) => Some(host),
         None => beside_own(fleet, one.text, right, left),
     }
-}
-
-/// The first such name.
-fn first_unknown<'c>(fleet: &Fleet, tests: &[Said<'c>]) -> Option<&'c str>
-    ensures { option_map (λ host. host.now) result ≡ model.first_unknown fleet.now.hosts (said_all tests.now) }
-{
-    for one in tests {
-        if let Some(host) = unknown_in(fleet, *one) {
-            return Some(host);
-        }
-    }
-    None
-}
-
-/// What is noted of the condition that stands under this key. It fails for want of memory alone.
-fn host_note<'a>(
-    alloc: Global,
-    fleet: &Fleet,
-    at: StepPath,
-    key: &'static str,
-    condition: &'a Option<Cond>,
-) -> Result<Option<Note<'a>>, AllocError>
-    ensures { IfOk result (λ note. option_map seen note ≡ model.host_note fleet.now.hosts at key.now condition.now) }
-{
-    let tests = list_tests(alloc, condition)?;
-    match first_unknown(fleet, tests.as_slice()) {
-        Some(host) => Ok(Some(Note::UnknownHost { at, key, host })),
-        None => Ok(None),
-    }
-}
-
-/// Adds what is noted of the hosts whose names a step's conditions compare with the host's own. It fails for want of memory alone.
-pub(crate) fn note_asked_hosts<'a>(
-    alloc: Global,
-    notes: &mut Notes<'a>,
-    fleet: &Fleet,
-    at: StepPath,
-    step: &'a Step,
-) -> Result<(), AllocError>
-    ensures { OnOk result (notes.new ≡ notes.old ++ model.hosts_asked_notes fleet.now.hosts at step.now) }
-{
-    notes.add(host_note(alloc, fleet, at, "when", &step.when)?)?;
-    notes.add(host_note(alloc, fleet, at, "changed_when", &step.changed_when)?)?;
-    notes.add(host_note(alloc, fleet, at, "failed_when", &step.failed_when)?)?;
-    Ok(())
 }

@@ -2,26 +2,17 @@
 ghost use Rattle.std.specs.Prelude.{◌≡◌};
 ghost use Rattle.step_notes.specs.Inside.{AreMissed, missed_from};
 
-use crate::crowd::{Crowd, lack_note, want_note};
+use crate::crowd::{Crowd, lack_note};
 use crate::missed::{Missed, missed_on};
 use crate::stand::Stand;
 use note_lines::{Note, StepPath};
 use std::alloc::{AllocError, Global};
 
-/// What is looked up in vain.
-#[derive(Clone, Copy, Debug)]
-pub(crate) enum Want {
-    /// A name of which the host has no variable.
-    Variable,
-    /// Any name: a step before registers a result under it.
-    Result,
-}
-
 /// The hosts that wait for a play, and what a step of it misses on each.
 #[derive(Drop)]
 pub(crate) struct Askers<'a, 's> {
-    crowd: Crowd<'a, 's>,
-    stand: Stand<'a, 's>,
+    pub(crate) crowd: Crowd<'a, 's>,
+    pub(crate) stand: Stand<'a, 's>,
     sets: Vec<Missed<'a>>,
     ghost missed: { AreMissed (missed_from stand crowd.lacks.now.vars.now) crowd.lacks.now.waiting.now sets.items },
 }
@@ -30,7 +21,7 @@ impl<'a, 's> Askers<'a, 's> {
     ghost use Rattle.std.specs.Prelude.{◌≡◌, ◌<◌, IfOk, length, option_map, slice_index_or};
     ghost use Rattle.group_tree.specs.Names.{is_among};
     ghost use Rattle.step_notes.specs.Hosts as model;
-    ghost use Rattle.step_notes.specs.Inside.{asked_of, asking_of, crowd_of, missed_from, wanting_of};
+    ghost use Rattle.step_notes.specs.Inside.{asking_of, crowd_of, missed_from};
     ghost use Rattle.note_lines.specs.Notes.{seen};
 
     /// It fails for want of memory alone.
@@ -50,32 +41,29 @@ impl<'a, 's> Askers<'a, 's> {
     }
 
     /// Whether the step may look the name up in vain on the waiting host at this place.
-    fn is_missed(&self, place: usize, name: &str) -> bool
+    pub(crate) fn is_missed(&self, place: usize, name: &str) -> bool
         requires { place < length self.now.crowd.lacks.now.waiting.now }
         ensures { result ≡ is_among name.now (missed_from self.now.stand self.now.crowd.lacks.now.vars.now (slice_index_or self.now.crowd.lacks.now.waiting.now place 0)) }
     {
         self.sets[place].has(name)
     }
 
-    /// Whether it may look up there in vain what is asked for.
-    fn is_asked(&self, want: Want, place: usize, name: &str) -> bool
+    /// Whether it may look up there in vain a name of which the host has no variable.
+    fn is_asked(&self, place: usize, name: &str) -> bool
         requires { place < length self.now.crowd.lacks.now.waiting.now }
-        ensures { result ≡ (asked_of want self.now.crowd self.now.stand).lacks name.now (slice_index_or self.now.crowd.lacks.now.waiting.now place 0) }
+        ensures { result ≡ (asking_of self.now.crowd self.now.stand).lacks name.now (slice_index_or self.now.crowd.lacks.now.waiting.now place 0) }
     {
         let host = self.crowd.lacks.waiting[place];
-        match want {
-            Want::Variable => self.is_missed(place, name) && self.crowd.host_lacks(name, host),
-            Want::Result => self.is_missed(place, name),
-        }
+        self.is_missed(place, name) && self.crowd.host_lacks(name, host)
     }
 
     /// On how many of them it may.
-    fn count_asked(&self, want: Want, name: &str) -> usize
-        ensures { result ≡ model.lack_count (asked_of want self.now.crowd self.now.stand) name.now }
+    fn count_asked(&self, name: &str) -> usize
+        ensures { result ≡ model.lack_count (asking_of self.now.crowd self.now.stand) name.now }
     {
         let mut count = 0;
         for place in 0..self.crowd.lacks.waiting.len() {
-            if self.is_asked(want, place, name) {
+            if self.is_asked(place, name) {
                 count += 1;
             }
         }
@@ -83,11 +71,11 @@ impl<'a, 's> Askers<'a, 's> {
     }
 
     /// The first of these.
-    fn first_asked(&self, want: Want, name: &str) -> Option<usize>
-        ensures { result ≡ model.first_lacking (asked_of want self.now.crowd self.now.stand) name.now }
+    fn first_asked(&self, name: &str) -> Option<usize>
+        ensures { result ≡ model.first_lacking (asking_of self.now.crowd self.now.stand) name.now }
     {
         for place in 0..self.crowd.lacks.waiting.len() {
-            if self.is_asked(want, place, name) {
+            if self.is_asked(place, name) {
                 return Some(self.crowd.lacks.waiting[place]);
             }
         }
@@ -98,23 +86,10 @@ impl<'a, 's> Askers<'a, 's> {
     pub(crate) fn name_note(&self, at: StepPath, name: &'a str) -> Option<Note<'a>>
         ensures { option_map seen result ≡ model.name_note (asking_of self.now.crowd self.now.stand) at name.now }
     {
-        match self.first_asked(Want::Variable, name) {
+        match self.first_asked(name) {
             Some(first) => {
-                let count = self.count_asked(Want::Variable, name);
+                let count = self.count_asked(name);
                 Some(lack_note(&self.crowd, at, name, count, first))
-            }
-            None => None,
-        }
-    }
-
-    /// What is noted of one that a step before registers.
-    pub(crate) fn result_note(&self, at: StepPath, name: &'a str) -> Option<Note<'a>>
-        ensures { option_map seen result ≡ model.result_note (wanting_of self.now.crowd self.now.stand) at name.now }
-    {
-        match self.first_asked(Want::Result, name) {
-            Some(first) => {
-                let count = self.count_asked(Want::Result, name);
-                Some(want_note(&self.crowd, at, name, count, first))
             }
             None => None,
         }

@@ -11,8 +11,7 @@ use cond::leaf::Test;
 use cond::span::split;
 use cond::tree::Tree;
 use cond::{Cond, Part};
-use note_lines::{Note, Notes, StepPath};
-use play_model::Step;
+use note_lines::{Note, StepPath};
 use std::alloc::{AllocError, Global};
 
 /// A part of a condition: the comparison that it is by itself, if it is one, and whether comparisons in it clash.
@@ -148,8 +147,8 @@ fn has_clash(alloc: Global, condition: &Option<Cond>) -> Result<bool, AllocError
     }
 }
 
-/// What is noted of the condition that stands under this key. It fails for want of memory alone.
-fn clash_note(
+/// What is noted of comparisons in the condition that stands under this key. It fails for want of memory alone.
+pub(crate) fn clash_note(
     alloc: Global,
     at: StepPath,
     key: &'static str,
@@ -162,19 +161,4 @@ fn clash_note(
     } else {
         Ok(None)
     }
-}
-
-/// Adds what is noted of comparisons in a step's conditions. It fails for want of memory alone.
-pub(crate) fn note_clashes(
-    alloc: Global,
-    notes: &mut Notes<'_>,
-    at: StepPath,
-    step: &Step,
-) -> Result<(), AllocError>
-    ensures { OnOk result (notes.new ≡ notes.old ++ model.clash_notes at step.now) }
-{
-    notes.add(clash_note(alloc, at, "when", &step.when)?)?;
-    notes.add(clash_note(alloc, at, "changed_when", &step.changed_when)?)?;
-    notes.add(clash_note(alloc, at, "failed_when", &step.failed_when)?)?;
-    Ok(())
 }

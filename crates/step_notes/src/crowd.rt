@@ -1,15 +1,16 @@
 //! The hosts that wait for a play, and the names that they lack.
-ghost use Rattle.std.specs.Prelude.{◌≡◌, length, option_map};
+ghost use Rattle.std.specs.Prelude.{◌≡◌, None, length, option_map};
 ghost use Rattle.std.specs.List.{find};
 ghost use Rattle.step_notes.specs.Hosts as model;
 ghost use Rattle.step_notes.specs.Hosts.{noted_lack, noted_want};
 ghost use Rattle.step_notes.specs.Inside.{crowd_of};
-ghost use Rattle.note_lines.specs.Notes.{seen};
+ghost use Rattle.note_lines.specs.Notes.{seen, unknown_name};
 ghost use Rattle.step_notes.specs.Programs as programs;
 ghost use Rattle.step_notes.specs.Programs.{first_dashed, is_dashed};
 ghost use Rattle.domains.specs.Numbered.{host_at};
 
 use crate::lacks::{Lacks, host_lacks};
+use crate::sort::Sort;
 use domains::Fleet;
 use fleet_notes::byte_at;
 use group_tree::HostId;
@@ -105,6 +106,17 @@ fn missing_from<'a>(crowd: &Crowd<'a, '_>, hosts: usize, first: usize) -> Missin
     }
 }
 
+/// What is noted of a name that nobody has.
+pub(crate) fn unknown_note(at: StepPath, name: &str) -> Note<'_>
+    ensures { seen result ≡ unknown_name at name.now None }
+{
+    Note::UnknownName {
+        at,
+        name,
+        near: None,
+    }
+}
+
 /// What is noted of a name that a step reads and that so many of the waiting hosts lack, first this one.
 pub(crate) fn lack_note<'a>(
     crowd: &Crowd<'a, '_>,
@@ -115,12 +127,8 @@ pub(crate) fn lack_note<'a>(
 ) -> Note<'a>
     ensures { seen result ≡ noted_lack (crowd_of crowd.now) at name.now hosts first }
 {
-    if hosts == crowd.lacks.waiting.len() {
-        return Note::UnknownName {
-            at,
-            name,
-            near: None,
-        };
+    if hosts == crowd.lacks.waiting.len() || !crowd.lacks.given.has(Sort::Any, name) {
+        return unknown_note(at, name);
     }
     Note::MissingName {
         at,

@@ -11,6 +11,8 @@ pub enum Ending {
     Changed,
     Failed,
     Skipped,
+    /// With a code other than 0.
+    NonZero,
 }
 
 /// Whether the step may end so on a host that comes to later steps, as far as is known before it runs.
@@ -21,5 +23,6 @@ pub(crate) fn may_end(ending: Ending, step: &Step) -> bool
         Ending::Changed => !never_holds(&step.changed_when),
         Ending::Failed => step.ignore_errors && !never_holds(&step.failed_when),
         Ending::Skipped => step.when.is_some(),
+        Ending::NonZero => step.ignore_errors || step.failed_when.is_some(),
     }
 }

@@ -34,6 +34,28 @@ fn awaited_field(denied: bool, field: Field) -> Option<Ending>
         (false, Field::Changed) => Some(Ending::Changed),
         (false, Field::Failed) => Some(Ending::Failed),
         (false, Field::Skipped) => Some(Ending::Skipped),
+        (false, Field::Rc) => Some(Ending::NonZero),
+        _ => None,
+    }
+}
+
+/// The same of one that compares a code with the number.
+fn awaited_code(contrary: bool, number: i64) -> Option<Ending>
+    ensures { result ≡ model.awaited_code contrary number }
+{
+    if contrary == (number == 0) {
+        Some(Ending::NonZero)
+    } else {
+        None
+    }
+}
+
+/// Of one that compares the field with this.
+fn awaited_with(contrary: bool, field: Field, text: &[u8], other: Operand) -> Option<Ending>
+    ensures { result ≡ model.awaited_with contrary field (written_operand text.now other) }
+{
+    match (field, other) {
+        (Field::Rc, Operand::Int(number)) => awaited_code(contrary, number),
         _ => None,
     }
 }
@@ -71,6 +93,41 @@ fn vain_operand<'c>(
     }
 }
 
+/// Of a comparison of the first operand with the second.
+fn vain_side<'c>(
+    registered: &Registered<'_>,
+    contrary: bool,
+    text: &'c [u8],
+    first: Operand,
+    second: Operand,
+) -> Option<&'c str>
+    ensures { option_map (λ name. name.now) result ≡ model.vain_side (is_vain_in registered.now) contrary (written_operand text.now first) (written_operand text.now second) }
+{
+    match first {
+        Operand::Ref(Ref::Part(name, field)) => vain_name(
+            registered,
+            awaited_with(contrary, field, text, second),
+            word_in(text, name),
+        ),
+        _ => None,
+    }
+}
+
+fn vain_equals<'c>(
+    registered: &Registered<'_>,
+    contrary: bool,
+    text: &'c [u8],
+    left: Operand,
+    right: Operand,
+) -> Option<&'c str>
+    ensures { option_map (λ name. name.now) result ≡ model.vain_equals (is_vain_in registered.now) contrary (written_operand text.now left) (written_operand text.now right) }
+{
+    match vain_side(registered, contrary, text, left, right) {
+        Some(name) => Some(name),
+        None => vain_side(registered, contrary, text, right, left),
+    }
+}
+
 /// The name whose result never ends as the test waits for it, or the test behind a `not`.
 fn vain_test<'c>(
     registered: &Registered<'_>,
@@ -90,8 +147,13 @@ fn vain_test<'c>(
             awaited(denied != contrary, state),
             word_in(text, name),
         ),
+        Test::Equals {
+            contrary,
+            left,
+            right,
+        } => vain_equals(registered, denied != contrary, text, left, right),
         Test::Alone(operand) => vain_operand(registered, denied, text, operand),
-        Test::Defined { .. } | Test::Equals { .. } | Test::Within { .. } => None,
+        Test::Defined { .. } | Test::Within { .. } => None,
     }
 }
 

@@ -1,14 +1,16 @@
 //! The names under which steps registered results, and how these may have ended.
-ghost use Rattle.std.specs.Prelude.{◌≡◌, ◌&&◌, ◌||◌, false, IfOk, OnOk};
+ghost use Rattle.std.specs.Prelude.{◌≡◌, ◌&&◌, ◌||◌, true, false, IfOk, OnOk};
 ghost use Rattle.group_tree.specs.Names.{Name};
+ghost use Rattle.needed_results.specs.Needs.{tasks_before};
 ghost use Rattle.needed_results.specs.Registers as spec;
 ghost use Rattle.step_notes.specs.Endings.{leaves};
 ghost use Rattle.step_notes.specs.Inside.{has_name, is_kept, may_be};
 ghost use Rattle.step_notes.specs.declared.ending.Ending.{Ending};
 
 use crate::ending::{Ending, may_end};
+use cond::span::split;
 use indexmap::IndexSet;
-use play_model::Step;
+use play_model::{Play, Step};
 use std::alloc::{AllocError, Global};
 
 /// Names, each once, and those of results that may have ended in a way. They are lent by the plays.
@@ -18,6 +20,7 @@ pub struct Registered<'p> {
     changed: IndexSet<&'p str>,
     failed: IndexSet<&'p str>,
     skipped: IndexSet<&'p str>,
+    non_zero: IndexSet<&'p str>,
 }
 
 /// Whether the step registers its result under the name.
@@ -28,6 +31,14 @@ pub(crate) fn registers(name: &str, step: &Step) -> bool
         Some(register) => name == register.as_str(),
         None => false,
     }
+}
+
+/// Whether a task before this place of the play registers its result under the name: it is sure to be there, since a step that is skipped registers one too.
+pub(crate) fn is_sure(play: &Play, place: usize, name: &str) -> bool
+    ensures { result ≡ spec.is_registered_by (tasks_before play.now place) name.now }
+{
+    let tasks = split(play.steps(), place.min(play.tasks())).0;
+    tasks.iter().any(|task| registers(name, task))
 }
 
 /// Adds the name under which the step registers its result, if it registers it and is to be added.
@@ -57,14 +68,21 @@ impl<'p> Registered<'p> {
             changed: IndexSet::new(alloc),
             failed: IndexSet::new(alloc),
             skipped: IndexSet::new(alloc),
+            non_zero: IndexSet::new(alloc),
         }
     }
 
-    /// Whether the name is one of them.
+    /// Whether the name is one of them. Most plays register nothing: then nothing is looked up.
     pub(crate) fn has(&self, name: &str) -> bool
         ensures { result ≡ has_name self.now name.now }
     {
-        self.names.contains(name)
+        !self.names.is_empty() && self.names.contains(name)
+    }
+
+    pub(crate) fn is_empty(&self) -> bool
+        ensures { (name : Name) → result ≡ true → has_name self.now name ≡ false }
+    {
+        self.names.is_empty()
     }
 
     /// Whether a result of this name may have ended so.
@@ -75,6 +93,7 @@ impl<'p> Registered<'p> {
             Ending::Changed => self.changed.contains(name),
             Ending::Failed => self.failed.contains(name),
             Ending::Skipped => self.skipped.contains(name),
+            Ending::NonZero => self.non_zero.contains(name),
         }
     }
 
@@ -86,6 +105,7 @@ impl<'p> Registered<'p> {
         add_if(&mut self.names, true, step)?;
         add_if(&mut self.changed, may_end(Ending::Changed, step), step)?;
         add_if(&mut self.failed, may_end(Ending::Failed, step), step)?;
-        add_if(&mut self.skipped, may_end(Ending::Skipped, step), step)
+        add_if(&mut self.skipped, may_end(Ending::Skipped, step), step)?;
+        add_if(&mut self.non_zero, may_end(Ending::NonZero, step), step)
     }
 }

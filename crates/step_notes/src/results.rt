@@ -3,17 +3,18 @@ ghost use Rattle.std.specs.Prelude.{◌≡◌, ◌&&◌, ◌||◌, not, IfOk, On
 ghost use Rattle.group_tree.specs.Names.{Name, is_among};
 ghost use Rattle.needed_results.specs.Needs.{tasks_before};
 ghost use Rattle.needed_results.specs.Registers.{is_registered_by};
+ghost use Rattle.step_notes.specs.Codes.{is_coded};
 ghost use Rattle.text_parts.specs.Seen.{said};
 ghost use Rattle.step_notes.specs.Inside.{has_missed, has_name, names_of};
 ghost use Rattle.step_notes.specs.Results.{names_unsure, whole_in_part, whole_in_word, whole_in_words};
 
 use crate::asked::{Asked, add_before, add_behind};
+use crate::coded::Coded;
 use crate::guards::list_guarded;
 use crate::missed::Missed;
-use crate::registered::{Registered, registers};
+use crate::registered::{Registered, is_sure};
 use cond::Names;
-use cond::span::split;
-use play_model::{Play, Step, Words};
+use play_model::{Play, Words};
 use std::alloc::{AllocError, Global};
 use text_parts::{Part, Ref, first_word_part};
 
@@ -49,15 +50,7 @@ fn list_whole(alloc: Global, words: &Words) -> Result<Missed<'_>, AllocError>
     Ok(found)
 }
 
-/// Whether a task before this place of the play registers its result under the name: it is sure to have run.
-fn is_sure(play: &Play, place: usize, name: &str) -> bool
-    ensures { result ≡ is_registered_by (tasks_before play.now place) name.now }
-{
-    let tasks = split(play.steps(), place.min(play.tasks())).0;
-    tasks.iter().any(|task| registers(name, task))
-}
-
-/// Names that a step before registers, of whose results one may not be there, or stands where it has no text.
+/// Names that a step before registers, of whose results one may not be there, or stands where it has no text, or is one whose code the step reads.
 #[derive(Clone, Copy)]
 struct Unsure<'a, 's, 'w, 'p> {
     registered: &'s Registered<'a>,
@@ -65,15 +58,17 @@ struct Unsure<'a, 's, 'w, 'p> {
     place: usize,
     whole: &'w Missed<'p>,
     guarded: &'w Missed<'p>,
+    coded: &'w Coded<'p>,
 }
 
 impl Names for Unsure<'_, '_, '_, '_> {
     ghost holds = { λ unsure name. has_name unsure.registered.now name
-        && ((not (is_registered_by (tasks_before unsure.play.now unsure.place) name) && not (has_missed unsure.guarded.now name)) || has_missed unsure.whole.now name) };
+        && (((not (is_registered_by (tasks_before unsure.play.now unsure.place) name) && not (has_missed unsure.guarded.now name)) || has_missed unsure.whole.now name)
+        || is_coded unsure.coded.now.step.now name) };
 
     fn has(&self, name: &str) -> bool {
         let is_away = !is_sure(self.play, self.place, name) && !self.guarded.has(name);
-        self.registered.has(name) && (is_away || self.whole.has(name))
+        self.registered.has(name) && (is_away || self.whole.has(name) || self.coded.has(name))
     }
 }
 
@@ -82,10 +77,11 @@ pub(crate) fn list_unsure<'p>(
     alloc: Global,
     asked: &Asked<'_, '_>,
     play: &Play,
-    step: &'p Step,
+    coded: &Coded<'p>,
 ) -> Result<Vec<&'p str>, AllocError>
-    ensures { IfOk result (λ names. names_of names.items ≡ names_unsure (has_name asked.now.registered.now) (tasks_before play.now asked.now.stand.place) step.now) }
+    ensures { IfOk result (λ names. names_of names.items ≡ names_unsure (has_name asked.now.registered.now) (tasks_before play.now asked.now.stand.place) coded.now.step.now) }
 {
+    let step = coded.step;
     let whole = list_whole(alloc, &step.words)?;
     let guarded = list_guarded(alloc, &step.when)?;
     let unsure = Unsure {
@@ -94,6 +90,7 @@ pub(crate) fn list_unsure<'p>(
         place: asked.stand.place,
         whole: &whole,
         guarded: &guarded,
+        coded,
     };
     let mut list = Vec::new(alloc);
     let mut found = Missed::new(alloc);

@@ -1,4 +1,5 @@
-use Rattle.std.proofs.Common.{◌≡◌, ℕ, ◌||◌, ◌++◌, None, List, sym, ap, ◌∙◌, take}
+use Rattle.std.proofs.Common.{◌≡◌, ℕ, ◌||◌, ◌++◌, [], None, List, append-nil, arith, sym, ap, ◌∙◌, drop, take}
+use Rattle.std.proofs.lemmas.List.{drop_all}
 use Rattle.std.specs.Prelude.{slice_index_or}
 use Rattle.play_model.specs.declared.play.Play.{Play}
 use Rattle.needed_results.specs.Registers.{is_registered_by, is_registered_in}
@@ -6,7 +7,7 @@ use Rattle.step_notes.specs.Hosts.{Foreseen}
 use Rattle.step_notes.specs.Inside.{foreseen_in, gives, has_name, lacks_in, may_be}
 use Rattle.step_notes.specs.Endings.{is_left_by, is_left_in}
 use Rattle.note_lines.specs.Notes.{Note}
-use Rattle.lint_notes.specs.Playbooks.{play_notes}
+use Rattle.lint_notes.specs.Playbooks.{all_noted, play_notes}
 use Rattle.step_notes.proofs.AnyLemmas.{any_more}
 use Rattle.lint_notes.proofs.EachLemmas.{noted_more}
 use Rattle.lint_notes.proofs.SameLemmas.{play_same}
@@ -40,3 +41,16 @@ loop-number-preserved c =
           ∙ ap (λ b. b || is_left_by play.steps.items ending name) (c.loop-number.invariant.endings ending name)
           ∙ sym (any_more (λ (play : Play). is_left_by play.steps.items ending name) plays number play c.loop-number-test.true c.index-plays-number.is);
     }
+
+pub returns : goal.returns
+returns c =
+    let scene = c.args.scene in
+    let fleet = scene.fleet.now in
+    let foreseen : ℕ → ℕ → ℕ → Foreseen = foreseen_in scene.registry.now.fleet.now scene.registry.now.plays.now scene.vars.now in
+    let plays : List Play = c.args.plays.now in
+    let end = c.loop-number.number in
+    let notes = c.loop-number.notes in
+    let of : ℕ → Play → List Note = λ number play.
+    play_notes fleet (lacks_in scene.vars.now) (gives scene.given.now) (foreseen number) (is_registered_in (take number plays)) (is_left_in (take number plays)) (slice_index_or c.args.sizes.now number None) number play in
+    let none : drop end plays ≡ [] = drop_all end plays (omega (arith, c.loop-number-test.false)) in
+    sym (append-nil notes) ∙ ap (λ (left : List Play). notes ++ all_noted of end left) (sym none) ∙ c.loop-number.invariant.notes

@@ -31,7 +31,7 @@ loop-place-preserved c =
     c.loop-place.invariant.endings ending name ∙ ap (λ (l : List Step). left ending name || is_left_by (take place l) ending name) c.steps-steps.ensures.value in
     let now : c.note_step.new.notes ≡ c.loop-place.notes ++ step_notes first left crowd foreseen number play place step =
     c.in_ok-note_step.ensures
-    ∙ ap (λ (l : List Note). c.loop-place.notes ++ l) (step_same (has_name before) (is_set_at first play place) same (may_be before) (is_left_at left play place) alike crowd (foreseen place) play place c.of-at.result _ c.of-at.ensures step) in
+    ∙ ap (λ (l : List Note). c.loop-place.notes ++ l) (step_same (has_name before) (is_set_at first play place) same (may_be before) (is_left_at left play place) alike crowd foreseen play place c.of-at.result _ c.of-at.ensures step) in
     record {
       notes = noted_more (step_notes first left crowd foreseen number play) steps place step c.loop-place.notes c.note_step.new.notes _
           c.loop-place-test.true c.index-steps-place.is c.loop-place.invariant.notes now;

@@ -6,7 +6,7 @@ use Rattle.note_lines.proofs.told.write_lines.Given as goal
 
 abbrev pub invariant-loop-note : goal.invariant-loop-note
 invariant-loop-note g l = record {
-  writes : Writes g.W.Write.contents l.initial.text l.text (flat_map note_line (told l.allowed (map seen (take l.note-index l.notes))));
-  count : l.count ≡ length (told l.allowed (map seen (take l.note-index l.notes)));
+  writes : Writes g.W.Write.contents l.initial.text l.text (flat_map note_line (told (g.S.Sieve.tells l.sieve) (map seen (take l.note-index l.notes))));
+  count : l.count ≡ length (told (g.S.Sieve.tells l.sieve) (map seen (take l.note-index l.notes)));
   within : l.count ≤ l.note-index;
 }

@@ -4,6 +4,7 @@ use Rattle.group_tree.specs.Names.{Name, is_among}
 use Rattle.needed_results.specs.Needs.{tasks_before}
 use Rattle.needed_results.specs.Reads.{read_before, read_behind}
 use Rattle.needed_results.specs.Registers.{is_registered_by}
+use Rattle.step_notes.specs.Codes.{is_coded}
 use Rattle.step_notes.specs.Inside.{has_missed, has_name, names_of}
 use Rattle.step_notes.specs.NamesRead.{once_after}
 use Rattle.step_notes.specs.Results.{is_unsure, whole_in_words}
@@ -14,11 +15,12 @@ pub returns : goal.returns
 returns c =
     let is_set = has_name c.args.asked.now.registered.now in
     let tasks = tasks_before c.args.play.now c.args.asked.now.stand.place in
-    let step = c.args.step.now in
-    let holds : Name → Bool = λ name. is_set name && ((not (is_registered_by tasks name) && not (has_missed c.in_ok-guarded.guarded name)) || has_missed c.in_ok-whole.whole name) in
+    let step = c.args.coded.now.step.now in
+    let holds : Name → Bool = λ name.
+    is_set name && (((not (is_registered_by tasks name) && not (has_missed c.in_ok-guarded.guarded name)) || has_missed c.in_ok-whole.whole name) || is_coded step name) in
     let same : (name : Name) → holds name ≡ is_unsure is_set tasks step name = λ name.
-    ap (λ b. is_set name && ((not (is_registered_by tasks name) && not (has_missed c.in_ok-guarded.guarded name)) || b)) (c.in_ok-whole.ensures name)
-    ∙ ap (λ b. is_set name && ((not (is_registered_by tasks name) && not b) || is_among name (whole_in_words step.words))) (c.in_ok-guarded.ensures name) in
+    ap (λ b. is_set name && (((not (is_registered_by tasks name) && not (has_missed c.in_ok-guarded.guarded name)) || b) || is_coded step name)) (c.in_ok-whole.ensures name)
+    ∙ ap (λ b. is_set name && (((not (is_registered_by tasks name) && not b) || is_among name (whole_in_words step.words)) || is_coded step name)) (c.in_ok-guarded.ensures name) in
     let names = filter holds (read_before step) in
     let others = filter holds (read_behind step) in
     both_once names others (names_of c.add_before.new.list.items) (names_of c.add_behind.new.list.items)
