@@ -283,10 +283,11 @@ on_a=$(task '"register":"r","when":"inventory_hostname == \"a\""')
 uncoded() {
     noted "$1" "$pair" "[$(play "$on_a,$2" "${4:-}")]" "$3"
 }
-uncoded 'a code is read where it is compared, stands alone, or in a word' "$(task '"when":"0 != r.rc or 0 == r.rc"'),$(task '"when":"not r.rc"'),$(task '"when":["v == 2 or not (r.rc == v)"]'),{\"command\":\"echo x{{r . rc}}\"}" 'missing-result at=0/tasks/1 name=r hosts=2 of=3 host=b
+uncoded 'a code is read where it is compared, stands alone, or in a word' "$(task '"when":"0 == r.rc"'),$(task '"when":"not r.rc"'),$(task '"when":["v == 1 and not (r.rc == v)"]'),{\"command\":\"echo x{{r . rc}}\"}" 'missing-result at=0/tasks/1 name=r hosts=2 of=3 host=b
 missing-result at=0/tasks/2 name=r hosts=2 of=3 host=b
 missing-result at=0/tasks/3 name=r hosts=2 of=3 host=b
 missing-result at=0/tasks/4 name=r hosts=2 of=3 host=b'
+uncoded 'not in an alternative, nor in brackets with several tests' "$(task '"when":"inventory_hostname != \"c\" or r.rc == 0"'),$(task '"when":"v == 1 and (r.rc == 0 or v == 2)"'),$(task '"when":"not (r.rc == 0 and v == 1)"'),$(task '"changed_when":"v == 1 or r.rc == 0"')" ''
 uncoded 'or so where a step is judged' "$(task '"changed_when":"r.rc == 2"'),$(task '"failed_when":["v == 1","r.rc"]'),$(task '"register":"s","failed_when":"s.rc != r.rc"')" 'missing-result at=0/tasks/1 name=r hosts=2 of=3 host=b
 missing-result at=0/tasks/2 name=r hosts=2 of=3 host=b
 missing-result at=0/tasks/3 name=r hosts=2 of=3 host=b'
@@ -305,8 +306,7 @@ missing-result at=0/tasks/2 name=r hosts=2 of=3 host=b'
 uncoded 'nor is what is asked of another result, or of variables' "$(task '"register":"s"'),$(task '"when":"s is not skipped and s.rc == 0 and r.rc == 0"'),$(task '"when":"v is defined and r.rc == 0"')" 'missing-result at=0/tasks/2 name=r hosts=2 of=3 host=b
 missing-result at=0/tasks/3 name=r hosts=2 of=3 host=b'
 uncoded 'hosts that are known to skip the step do not count' "$(task '"when":"inventory_hostname != \"b\" and r.rc == 0"'),$(task '"when":"r.rc == 0 and inventory_hostname == \"a\""'),{\"command\":\"echo {{ r.rc }}\",\"when\":\"v == 1 and inventory_hostname != 'c'\"},$(task '"when":"inventory_hostname == \"c\" or r.rc == 0"')" 'missing-result at=0/tasks/1 name=r hosts=1 of=3 host=c
-missing-result at=0/tasks/3 name=r hosts=1 of=3 host=b
-missing-result at=0/tasks/4 name=r hosts=2 of=3 host=b'
+missing-result at=0/tasks/3 name=r hosts=1 of=3 host=b'
 uncoded 'the last that registers it counts' "$(task '"register":"r","when":"inventory_hostname == \"b\""'),{\"command\":\"echo {{ r.rc }}\"},$(task '"register":"r","when":"v == 1"'),{\"command\":\"echo {{ r.rc }}\"}" 'missing-result at=0/tasks/2 name=r hosts=2 of=3 host=a'
 noted 'whether steps before it ran or not' "$pair" "[$(play "$(task '"register":"r"')"),$(play "$(task '"register":"r"'),$on_a,{\"command\":\"echo {{ r.rc }}\"}")]" 'missing-result at=1/tasks/2 name=r hosts=2 of=3 host=b'
 noted 'of a step of an earlier play nothing is told' "$pair" "[$(play "$on_a"),$(play '{"command":"echo {{ r.rc }}"}'),$(play "$(task '"when":"r.rc == 0"'),$on_a")]" ''
@@ -323,7 +323,7 @@ noted 'a code of a name that is a variable too' "$pair" "[$(play "$(task '"regis
 uncoded 'with the result as a whole in a word it is one note' '{"command":"echo {{ r.rc }} {{ r }}"},{"command":"echo {{ r }} {{ r.rc }}","when":"inventory_hostname != \"a\""}' 'missing-result at=0/tasks/1 name=r hosts=3 of=3 host=a
 missing-result at=0/tasks/2 name=r hosts=2 of=3 host=b'
 only_a='"when":"inventory_hostname == \"a\""'
-noted 'in the order of reading' "$pair" "[$(play "$(task "\"register\":\"p\",$only_a"),$(task "\"register\":\"q\",$only_a"),$(task "\"register\":\"s\",$only_a"),$(task "\"register\":\"t\",$only_a"),{\"failed_when\":\"s.rc == 0 or p.rc == 0\",\"changed_when\":\"t.rc == 0\",\"command\":\"echo {{ q.rc }} {{ p.rc }}\",\"when\":\"p.rc == 0\"}")]" 'missing-result at=0/tasks/4 name=p hosts=2 of=3 host=b
+noted 'in the order of reading' "$pair" "[$(play "$(task "\"register\":\"p\",$only_a"),$(task "\"register\":\"q\",$only_a"),$(task "\"register\":\"s\",$only_a"),$(task "\"register\":\"t\",$only_a"),{\"failed_when\":\"s.rc == 0 and p.rc == 0\",\"changed_when\":\"t.rc == 0\",\"command\":\"echo {{ q.rc }} {{ p.rc }}\",\"when\":\"p.rc == 0\"}")]" 'missing-result at=0/tasks/4 name=p hosts=2 of=3 host=b
 missing-result at=0/tasks/4 name=q hosts=2 of=3 host=b
 missing-result at=0/tasks/4 name=t hosts=2 of=3 host=b
 missing-result at=0/tasks/4 name=s hosts=2 of=3 host=b'
@@ -1421,9 +1421,13 @@ missing-name at=0/tasks/0 name=x hosts=2 of=3 host=a"
 refused 'a step without a command registers all the same' "$one" "[$(play "{\"shell\":\"x {{ q }}\",\"register\":\"r\",\"when\":\"q\"},$(task '"when":"r.rc == 0 and rr.rc == 0"')")]" \
     "rollout: 703 UnknownKey at=0/tasks/0/shell${newline}rollout: 702 BadShape at=0/tasks/0" "unknown-name at=0/tasks/0 name=q${newline}unknown-name at=0/tasks/1 name=rr"
 refused 'of a step whose when is none the words are looked at, behind the parts of it that can be read' "$one" "[$(play '{"command":"echo {{ y }} ;","when":["y is defined","z >"],"register":"q","failed_when":"z"},{"command":"echo {{ q.rc }} {{ p }}"}')]" \
-    'rollout: 501 BadToken step=1 key=when at=2' "shell-word at=0/tasks/0 word=;${newline}unknown-name at=0/tasks/1 name=p"
+    'rollout: 501 BadToken step=1 key=when at=2' "shell-word at=0/tasks/0 word=;${newline}unknown-name at=0/tasks/1 name=p${newline}missing-result at=0/tasks/1 name=q hosts=1 of=1 host=a"
 refused 'and so are its other conditions; what some hosts have is not told of it, nor that its condition asks nothing' "$three" "[$(play '{"command":"echo {{ vv }} {{ x }}","when":[true,"x >"],"changed_when":"q"},{"command":"echo {{ x }}","when":true}')]" \
     'rollout: 501 BadToken step=1 key=when at=2' "unknown-name at=0/tasks/0 name=vv${newline}unknown-name at=0/tasks/0 name=q${newline}missing-name at=0/tasks/1 name=x hosts=2 of=3 host=a${newline}constant-condition at=0/tasks/1"
+refused 'a step whose failed_when is none may have left any code' "$one" "[$(play "$(task '"register":"r","failed_when":"r.rc > 1"'),$(task '"when":"r.rc == 1"')")]" \
+    'rollout: 501 BadToken step=1 key=failed_when at=5' ''
+refused 'and so may one of which nothing but that there are conditions is kept' "$one" "[$(play "$(task '"register":"r","failed_when":false,"when":"x is defind"'),$(task '"when":"r.rc == 1"')")]" \
+    'rollout: 502 Unexpected step=1 key=when at=5' ''
 lacking='"command":"echo {{ w }}"'
 for key in '"when"' '"when":true,"changed_when"' '"when":true,"failed_when"'; do
     for condition in '"x >"' '[true,"x >"]' '"x is defind"' '["x == 0 and"]'; do

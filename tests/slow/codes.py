@@ -1,6 +1,6 @@
 """Codes that aren't there: which results' codes a step reads without asking for anything else of these, and on which hosts there is none, since the step that registers the result is skipped."""
 
-from conditions import tests_in
+from conditions import Contrary, tests_in
 from missing import is_known_not_to_hold
 from rules import turned
 from words import Ref, parts
@@ -39,7 +39,24 @@ def hosts_without_code(name, steps, count, place, waiting, outset_of):
 
 
 def _codes_in(trees):
-    return {name for name, what in _asked(trees) if what == "rc"}
+    """Only tests that have to hold whatever else does count: in an alternative another may decide before."""
+    tests = [test for tree in trees or [] for test in (tests_in(tree) if turned("lint-codes-in-alternatives") else _joint_in(tree))]
+    return {name for test in tests for name, what in _asked_by(test) if what == "rc"}
+
+
+def _joint_in(tree):
+    """The tests of a condition that all have to hold, or of which the contrary has to: those that `and` joins, or the condition itself."""
+    parts_of_it = tree[1] if isinstance(tree, tuple) and tree[0] == "and" else [tree]
+    return [test for part in parts_of_it for test in _alone(part)]
+
+
+def _alone(part):
+    """The test that a part is, or the contrary of which it is; nothing where it is brackets with several, or the contrary of a contrary."""
+    if isinstance(part, tuple) and part[0] == "not" and not isinstance(part, Contrary):
+        part = part[1]
+    if isinstance(part, Contrary):
+        part = part[1]
+    return [] if isinstance(part, tuple) and part[0] in ("or", "and", "not") else tests_in(part)
 
 
 def _codes_in_words(words):

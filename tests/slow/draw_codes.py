@@ -5,21 +5,29 @@ from json_draw import Members
 RESULTS = ["code", "code", "code", "made", "v"]
 # When a step is run: on some hosts by their names, groups or variables, on none or all, or where a result says so.
 WHENS = [
-    "inventory_hostname == '{0}'", "inventory_hostname == '{0}'", "inventory_hostname != '{0}'", "inventory_hostname != '{0}'", "'{0}' in group_names", "'{0}' not in group_names", "v == 1", "v is defined", "w is not defined",
+    "inventory_hostname == '{0}'", "inventory_hostname == '{0}'", "inventory_hostname != '{0}'", "inventory_hostname != '{0}'", "'{0}' in group_names", "'{0}' not in group_names", "v == 1",
+    "v is defined", "w is not defined",
     "inventory_hostname == '{0}' or '{1}' in group_names", "inventory_hostname != '{0}' and inventory_hostname != '{1}'", "false", "true", False, "v == 'a' or v == 'nothing'", "{2} is changed",
     "inventory_hostname != '{0}' and {2}.rc == 0", "{2} is skipped or inventory_hostname == '{0}'", "{2} is defined and inventory_hostname != '{0}'", "{2}.rc == 0",
 ]
 # What reads a code, alone, compared, on either side, deeper, beside another one, and what reads none.
 READS = [
-    "{0}.rc == 0", "{0}.rc == 0", "0 == {0}.rc", "{0}.rc != 5", "not {0}.rc", "{0}.rc", "not ({0}.rc == 1 or {0}.rc == 2)", "{0}.rc == {1}.rc", "{1}.rc == {0}.rc", "v == 1 and {0}.rc == 0", "{0}.rc == v",
+    "{0}.rc == 0", "{0}.rc == 0", "0 == {0}.rc", "{0}.rc != 5", "not {0}.rc", "{0}.rc", "not ({0}.rc == 1 or {0}.rc == 2)", "{0}.rc == {1}.rc", "{1}.rc == {0}.rc", "v == 1 and {0}.rc == 0",
+    "{0}.rc == v",
     "inventory_hostname == 'H0' or {0}.rc == 0", "{0}.rc == 0 and {1}.rc == 0", "{0}.stdout == ''", "{0} is changed", "{0}.rc is defined",
 ]
 # What keeps a code from being told, of its own result or of another one.
 GUARDS = [
-    "{0} is not skipped", "{0} is skipped", "{0} is succeeded", "not {0} is failed", "{0} is changed", "{0} is defined", "{0} is defined", "{0} is not defined", "{0} is defined and {0}.rc == 0", "{0}.rc is defined", "{0}.stdout is defined", "{0}.skipped is not defined", "{0}", "not {0}",
-    "{0} == 1", "'a' != {0}", "{0}.stdout", "{0}.stderr != 'x'", "{0}.changed", "false == {0}.failed", "not {0}.skipped", "{0}.stdout == {1}.stderr", "{0}.stdout != ''", "{0}.stderr", "{0}.stdout == 'x' or {0}.stderr == ''", "{1} is not skipped", "{1}.rc is defined", "{1}",
+    "{0} is not skipped", "{0} is skipped", "{0} is succeeded", "not {0} is failed", "{0} is changed", "{0} is defined", "{0} is defined", "{0} is not defined", "{0} is defined and {0}.rc == 0",
+    "{0}.rc is defined", "{0}.stdout is defined", "{0}.skipped is not defined", "{0}", "not {0}",
+    "{0} is defined", "{0} is defined and v is defined", "{0} is not defined or {0}.rc == 0", "{0} is defined and {0}.rc != 5",
+    "{0} == 1", "'a' != {0}", "{0}.stdout", "{0}.stderr != 'x'", "{0}.changed", "false == {0}.failed", "not {0}.skipped", "{0}.stdout == {1}.stderr", "{0}.stdout != ''", "{0}.stderr",
+    "{0}.stdout == 'x' or {0}.stderr == ''", "{1} is not skipped", "{1}.rc is defined", "{1}",
 ]
-WORDS = ["true", "true", "echo {{{{ {0}.rc }}}}", "echo {{{{ {0}.rc }}}}", "echo x{{{{{0}.rc}}}}y {{{{ {1}.rc }}}}", "echo {{{{ {0}.stdout }}}}", "echo {{{{ {0}.rc }}}} {{{{ {0} }}}}", "echo {{{{ {0}.rc }}}} {{{{ {1} }}}}", "echo {{{{ {1} }}}} {{{{ {0}.rc }}}}", "ssh -- {{{{ inventory_hostname }}}} {{{{ {0}.rc }}}}"]
+WORDS = [
+    "true", "true", "echo {{{{ {0}.rc }}}}", "echo {{{{ {0}.rc }}}}", "echo x{{{{{0}.rc}}}}y {{{{ {1}.rc }}}}", "echo {{{{ {0}.stdout }}}}", "echo {{{{ {0}.rc }}}} {{{{ {0} }}}}",
+    "echo {{{{ {0}.rc }}}} {{{{ {1} }}}}", "echo {{{{ {1} }}}} {{{{ {0}.rc }}}}", "ssh -- {{{{ inventory_hostname }}}} {{{{ {0}.rc }}}}",
+]
 
 
 def with_codes(random, play, names):

@@ -187,9 +187,9 @@ def draw_linted(seed, number):
     value = [with_awaited_states(Random(f"{seed}/states/{number}/{place}"), play) for place, play in enumerate(value)]
     value = [with_codes(Random(f"{seed}/codes/{number}/{place}"), play, names) for place, play in enumerate(value)]
     value = [*value, play_for(own_racks, parts)] if parts else value
-    value = [*value, *_quiet_play(Random(f"{seed}/quiet/{number}"))]
     value = [_with_like_results(own, play) for play in value] if is_like else value
     value = [_with_switched_steps(switching, play) for play in value] if is_switched else value
+    value = value if spoiled or sparing else [*value, *_quiet_play(Random(f"{seed}/quiet/{number}"))]
     if "playbook" in spoiled:
         value = spoiled_playbook(random, value)
     if "playbook" in sparing:
@@ -402,7 +402,7 @@ def _saying_nothing(random, play):
 
 def _quiet_play(random):
     """In few cases a play more that says nothing of its hosts, and bears few failures."""
-    if random.random() > 0.02:
+    if random.random() > 0.2:
         return []
     return [Members([("hosts", "all"), *random.choice([[], [("serial", random.choice([2, 5, "50%"]))]]), ("max_fail_percentage", random.choice([1, 10, 30])), ("tasks", [Members([("command", "uptime")])])])]
 

@@ -246,6 +246,7 @@ NOTES = {
     "lint-handlers-hide-codes": "Nor of a task above such a handler.",
     "lint-who-is-skipped-reads-no-code": "Hosts on which the step that reads a code is known to be skipped don't count.",
     "lint-codes-in-words": "A code in a word is read.",
+    "lint-codes-in-alternatives": "A code in an alternative of a condition isn't told: another may decide before it.",
     "lint-codes-alone-are-read": "And so is one that stands alone in a condition.",
     "lint-compared-codes-are-read": "Or is compared.",
     "lint-codes-on-either-side-are-read": "On either side of the sign.",

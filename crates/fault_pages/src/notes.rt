@@ -357,7 +357,7 @@ it as one of them; and so is a variable that says `false`, or is an empty text, 
 ";
 
 pub(crate) const OF_WHOLE_RESULT: &str = "\
-whole-result at=PATH key=KEY name=N: the condition under KEY asks just whether N is true, or compares N with something, and N is a result as a whole: a step before registers it, and no group or host of the inventory has a variable N; or it asks whether N is defined, and a task before the step in its play, or the step itself where it is judged, registers N
+whole-result at=PATH key=KEY name=N: no group or host of the inventory has a variable N; the condition under KEY asks just whether N is true, or compares N with something, and a step before registers N; or it asks whether N is defined, and a task before the step in its play, or the step itself where it is judged, registers N
 
 ```
 $ echo '[{\"hosts\": \"rack1\", \"tasks\": [{\"command\": \"needs-restart {{ inventory_hostname }}\", \"register\": \"check\", \"failed_when\": \"check.rc == 2\"},' \\

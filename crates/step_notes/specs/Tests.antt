@@ -44,3 +44,30 @@ tests_of condition = all_of (tests_by_part (string_bytes condition.text) conditi
 abbrev pub tests_if : Option Cond → List Test
 tests_if None = []
 tests_if (Some condition) = tests_of condition
+
+-- Those of them that all have to hold: each is a part of its own, or stands between `and`s.
+abbrev pub joint_step : List ℕ → Tree-F (List Test) → List Test
+joint_step text (tree.Either parts) = []
+joint_step text (tree.Both parts) = []
+joint_step text (tree.Negated part) = []
+joint_step text (tree.Leaf test) = written text test ∷ []
+joint_step text (tree.Denied test) = written text test ∷ []
+
+abbrev pub joint_in_tree : List ℕ → Tree → List Test
+joint_in_tree text = fold-Tree (List Test) (joint_step text)
+
+abbrev pub joint_in_part : List ℕ → List Tree → Part → List Test
+joint_in_part text trees (part.Test denied bytes test) = written text test ∷ []
+joint_in_part text trees (part.Trees bytes count) = all_of (map (joint_in_tree text) trees)
+
+abbrev pub joint_by_part : List ℕ → List Tree → List Part → List (List Test)
+joint_by_part text trees [] = []
+joint_by_part text trees (part ∷ parts) =
+    joint_in_part (take (bytes_of part) text) (take (trees_of part) trees) part ∷ joint_by_part (drop (bytes_of part) text) (drop (trees_of part) trees) parts
+
+abbrev pub joint_of : Cond → List Test
+joint_of condition = all_of (joint_by_part (string_bytes condition.text) condition.trees.items condition.parts.items)
+
+abbrev pub joint_if : Option Cond → List Test
+joint_if None = []
+joint_if (Some condition) = joint_of condition

@@ -19,6 +19,7 @@ mod giving;
 mod guards;
 mod idle;
 mod idle_states;
+mod joint;
 mod known;
 mod lack;
 mod lacks;

@@ -88,7 +88,7 @@ fn add_in_tree<'c>(text: &'c [u8], tree: &Tree, tests: &mut Vec<Said<'c>>) -> Re
     }
 }
 
-fn add<'c>(test: Said<'c>, tests: &mut Vec<Said<'c>>) -> Result<(), AllocError>
+pub(crate) fn add<'c>(test: Said<'c>, tests: &mut Vec<Said<'c>>) -> Result<(), AllocError>
     ensures { OnOk result (said_all tests.new.items ≡ said_all tests.old.items ++ said test.entry ∷ []) }
 {
     tests.push(test)?;
