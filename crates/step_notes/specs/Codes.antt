@@ -8,7 +8,9 @@ use Rattle.group_tree.specs.Names.{Name, is_among}
 use Rattle.needed_results.specs.Registers.{registers}
 use Rattle.play_model.specs.declared.play.Play.{Play}
 use Rattle.play_model.specs.declared.step.Step.{Step}
-use Rattle.step_notes.specs.Tests.{joint_if, tests_if}
+use Rattle.step_notes.specs.Tests.{tests_reached}
+use Rattle.step_notes.specs.declared.tests.Reach.{Reach}
+use Rattle.step_notes.specs.declared.tests.Reach.TheVariants.{All, Joint}
 use Rattle.step_notes.specs.declared.codes.Asking.{Asking}
 use Rattle.step_notes.specs.declared.codes.Asking.TheVariants.{Code, Other}
 use Rattle.text_parts.specs.Words.{Part, plain, hole, braces, parts_of}
@@ -60,12 +62,12 @@ abbrev pub asked_by : Asking → List Test → List Name
 asked_by asking tests = flat_map (asked_in_test asking) tests
 
 -- A code counts where the test has to hold, whatever else does; anything else that is asked for guards it wherever it stands.
-abbrev pub tests_for : Asking → Option Cond → List Test
-tests_for Code condition = joint_if condition
-tests_for Other condition = tests_if condition
+abbrev pub reach_of : Asking → Reach
+reach_of Code = Joint
+reach_of Other = All
 
 abbrev pub asked_in : Asking → Option Cond → List Name
-asked_in asking condition = asked_by asking (tests_for asking condition)
+asked_in asking condition = asked_by asking (tests_reached (reach_of asking) condition)
 
 abbrev pub coded_in_part : Part → List Name
 coded_in_part (plain text) = []

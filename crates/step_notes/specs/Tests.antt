@@ -10,64 +10,47 @@ use Rattle.cond.specs.declared.tree.Tree.{Tree}
 use Rattle.cond.specs.declared.tree.Tree.TheOpen.{Tree-F}
 use Rattle.cond.specs.declared.tree.Tree.TheOpen as tree
 use Rattle.cond.specs.declared.tree.Tree.TheFolds.{fold-Tree}
+use Rattle.step_notes.specs.declared.tests.Reach.{Reach}
+use Rattle.step_notes.specs.declared.tests.Reach.TheVariants.{All, Joint}
 
 -- lists, one behind the other
 abbrev pub all_of : List (List Test) → List Test
 all_of lists = flat_map (λ tests. tests) lists
 
--- one level, with the tests of those below it
-abbrev pub tests_step : List ℕ → Tree-F (List Test) → List Test
-tests_step text (tree.Either parts) = all_of parts.items
-tests_step text (tree.Both parts) = all_of parts.items
-tests_step text (tree.Negated part) = box_value part
-tests_step text (tree.Leaf test) = written text test ∷ []
-tests_step text (tree.Denied test) = written text test ∷ []
+-- one level, with the tests of those below it; those behind brackets with several and behind contraries count just where all do
+abbrev pub tests_step : Reach → List ℕ → Tree-F (List Test) → List Test
+tests_step All text (tree.Either parts) = all_of parts.items
+tests_step All text (tree.Both parts) = all_of parts.items
+tests_step All text (tree.Negated part) = box_value part
+tests_step All text (tree.Leaf test) = written text test ∷ []
+tests_step All text (tree.Denied test) = written text test ∷ []
+tests_step Joint text (tree.Either parts) = []
+tests_step Joint text (tree.Both parts) = []
+tests_step Joint text (tree.Negated part) = []
+tests_step Joint text (tree.Leaf test) = written text test ∷ []
+tests_step Joint text (tree.Denied test) = written text test ∷ []
 
-abbrev pub tests_in_tree : List ℕ → Tree → List Test
-tests_in_tree text = fold-Tree (List Test) (tests_step text)
+abbrev pub tests_in_tree : Reach → List ℕ → Tree → List Test
+tests_in_tree reach text = fold-Tree (List Test) (tests_step reach text)
 
 -- in a part of this text, with these trees
-abbrev pub tests_in_part : List ℕ → List Tree → Part → List Test
-tests_in_part text trees (part.Test denied bytes test) = written text test ∷ []
-tests_in_part text trees (part.Trees bytes count) = all_of (map (tests_in_tree text) trees)
+abbrev pub tests_in_part : Reach → List ℕ → List Tree → Part → List Test
+tests_in_part reach text trees (part.Test denied bytes test) = written text test ∷ []
+tests_in_part reach text trees (part.Trees bytes count) = all_of (map (tests_in_tree reach text) trees)
 
 -- in each part; their texts stand one behind the other, and so do their trees
-abbrev pub tests_by_part : List ℕ → List Tree → List Part → List (List Test)
-tests_by_part text trees [] = []
-tests_by_part text trees (part ∷ parts) =
-    tests_in_part (take (bytes_of part) text) (take (trees_of part) trees) part ∷ tests_by_part (drop (bytes_of part) text) (drop (trees_of part) trees) parts
+abbrev pub tests_by_part : Reach → List ℕ → List Tree → List Part → List (List Test)
+tests_by_part reach text trees [] = []
+tests_by_part reach text trees (part ∷ parts) =
+    tests_in_part reach (take (bytes_of part) text) (take (trees_of part) trees) part ∷ tests_by_part reach (drop (bytes_of part) text) (drop (trees_of part) trees) parts
 
-abbrev pub tests_of : Cond → List Test
-tests_of condition = all_of (tests_by_part (string_bytes condition.text) condition.trees.items condition.parts.items)
+abbrev pub tests_of : Reach → Cond → List Test
+tests_of reach condition = all_of (tests_by_part reach (string_bytes condition.text) condition.trees.items condition.parts.items)
 
 -- where there is a condition
+abbrev pub tests_reached : Reach → Option Cond → List Test
+tests_reached reach None = []
+tests_reached reach (Some condition) = tests_of reach condition
+
 abbrev pub tests_if : Option Cond → List Test
-tests_if None = []
-tests_if (Some condition) = tests_of condition
-
--- Those of them that all have to hold: each is a part of its own, or stands between `and`s.
-abbrev pub joint_step : List ℕ → Tree-F (List Test) → List Test
-joint_step text (tree.Either parts) = []
-joint_step text (tree.Both parts) = []
-joint_step text (tree.Negated part) = []
-joint_step text (tree.Leaf test) = written text test ∷ []
-joint_step text (tree.Denied test) = written text test ∷ []
-
-abbrev pub joint_in_tree : List ℕ → Tree → List Test
-joint_in_tree text = fold-Tree (List Test) (joint_step text)
-
-abbrev pub joint_in_part : List ℕ → List Tree → Part → List Test
-joint_in_part text trees (part.Test denied bytes test) = written text test ∷ []
-joint_in_part text trees (part.Trees bytes count) = all_of (map (joint_in_tree text) trees)
-
-abbrev pub joint_by_part : List ℕ → List Tree → List Part → List (List Test)
-joint_by_part text trees [] = []
-joint_by_part text trees (part ∷ parts) =
-    joint_in_part (take (bytes_of part) text) (take (trees_of part) trees) part ∷ joint_by_part (drop (bytes_of part) text) (drop (trees_of part) trees) parts
-
-abbrev pub joint_of : Cond → List Test
-joint_of condition = all_of (joint_by_part (string_bytes condition.text) condition.trees.items condition.parts.items)
-
-abbrev pub joint_if : Option Cond → List Test
-joint_if None = []
-joint_if (Some condition) = joint_of condition
+tests_if = tests_reached All

@@ -7,9 +7,8 @@ ghost use Rattle.step_notes.specs.Codes.{asked_by, asked_in, asked_if, coded_in_
 ghost use Rattle.step_notes.specs.Inside.{has_missed, said, said_all};
 ghost use Rattle.text_parts.specs.Seen as seen;
 
-use crate::joint::list_joint;
 use crate::missed::Missed;
-use crate::tests::{Said, list_tests};
+use crate::tests::{Reach, Said, list_reached};
 use cond::leaf::{Operand, Ref, Test};
 use cond::span::word_in;
 use cond::{Cond, Field};
@@ -129,17 +128,12 @@ fn add_tests<'c>(
     Ok(())
 }
 
-/// The tests of the condition that count for that.
-fn list_for<'c>(
-    alloc: Global,
-    asking: Asking,
-    condition: &'c Option<Cond>,
-) -> Result<Vec<Said<'c>>, AllocError>
-    ensures { IfOk result (λ tests. said_all tests.items ≡ model.tests_for asking condition.now) }
+fn reach_of(asking: Asking) -> Reach
+    ensures { result ≡ model.reach_of asking }
 {
     match asking {
-        Asking::Code => list_joint(alloc, condition),
-        Asking::Other => list_tests(alloc, condition),
+        Asking::Code => Reach::Joint,
+        Asking::Other => Reach::All,
     }
 }
 
@@ -151,7 +145,7 @@ pub(crate) fn list_asked_in<'c>(
 ) -> Result<Missed<'c>, AllocError>
     ensures { IfOk result (λ found. (name : Name) → has_missed found name ≡ is_among name (asked_in asking condition.now)) }
 {
-    let tests = list_for(alloc, asking, condition)?;
+    let tests = list_reached(alloc, reach_of(asking), condition)?;
     let mut found = Missed::new(alloc);
     add_tests(asking, tests.as_slice(), &mut found)?;
     Ok(found)

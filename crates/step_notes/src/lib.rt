@@ -19,7 +19,6 @@ mod giving;
 mod guards;
 mod idle;
 mod idle_states;
-mod joint;
 mod known;
 mod lack;
 mod lacks;
