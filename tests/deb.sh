@@ -76,7 +76,7 @@ share=./usr/share
     echo "-rw-r--r-- root/root $share/bash-completion/completions/rollout"
     echo "-rw-r--r-- root/root $share/zsh/vendor-completions/_rollout"
     echo "-rw-r--r-- root/root $share/fish/vendor_completions.d/rollout.fish"
-    find README.md docs bench/README.md tests/*/README.md examples -type f ! -perm -100 | sed "s|^|-rw-r--r-- root/root $share/doc/rollout/|"
+    find *.md LICENSE* docs bench/README.md tests/*/README.md examples -type f ! -perm -100 | sed "s|^|-rw-r--r-- root/root $share/doc/rollout/|"
     find examples -type f -perm -100 | sed "s|^|-rwxr-xr-x root/root $share/doc/rollout/|"
 } | LC_ALL=C sort >"$work/expected"
 dpkg-deb -c "$work/one/$package" | awk '{ print $1, $2, $6 }' >"$work/all"

@@ -33,7 +33,7 @@ each() {
     "$1" 644 completions/_rollout share/zsh/site-functions/_rollout
     "$1" 644 completions/rollout.fish share/fish/vendor_completions.d/rollout.fish
     # All pages and pictures, so that their links lead somewhere.
-    for file in README.md docs/* bench/README.md tests/*/README.md examples/* examples/*/*; do
+    for file in *.md LICENSE* docs/* bench/README.md tests/*/README.md examples/* examples/*/*; do
         mode=644
         [ ! -x "$file" ] || mode=755
         [ ! -f "$file" ] || "$1" "$mode" "$file" "share/doc/rollout/$file"

@@ -84,7 +84,7 @@ holds 'make install' put_in
     echo "644 $stage/$share/fish/vendor_completions.d/rollout.fish"
     echo "644 $stage/$share/doc/rollout/installed"
     # Scripts among the examples may be run where they stand.
-    find README.md docs bench/README.md tests/*/README.md examples -type f ! -perm -100 | sed "s|^|644 $stage/$share/doc/rollout/|"
+    find *.md LICENSE* docs bench/README.md tests/*/README.md examples -type f ! -perm -100 | sed "s|^|644 $stage/$share/doc/rollout/|"
     find examples -type f -perm -100 | sed "s|^|755 $stage/$share/doc/rollout/|"
 } | LC_ALL=C sort >"$work/expected"
 find "$stage" -type f -exec stat -c '%a %n' {} + | LC_ALL=C sort >"$work/found"
@@ -195,7 +195,7 @@ refuses 'a program that is not there' '`make` proves and builds it' put_in "PROG
 refuses 'a folder in place of the program' '`make` proves and builds it' put_in "PROGRAM=$work"
 # A tree in which `make look` built a program, and `make` none.
 mkdir -p "$work/tree/tests" "$work/tree/crates/rollout/out/look"
-cp -R Makefile README.md docs man completions examples "$work/tree"
+cp -R Makefile *.md LICENSE* docs man completions examples "$work/tree"
 cp tests/install.sh "$work/tree/tests"
 cp "$rollout" "$work/tree/crates/rollout/out/look/rollout"
 refuses 'the program of make look' '`make` proves and builds it' make -C "$work/tree" install "DESTDIR=$stage"

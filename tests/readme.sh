@@ -1,5 +1,5 @@
 #!/bin/bash
-# Runs the lines of README.md, docs/, the README.md of examples/ and its folders, and bench/README.md that begin with `$ `, at the top of the repository, and compares what each
+# Runs the lines of README.md and the pages beside it, docs/, the README.md of examples/ and its folders, and bench/README.md that begin with `$ `, at the top of the repository, and compares what each
 # prints, both outputs together, with the lines behind it, up to the next `$ ` or the end of the block (fenced, or indented by four
 # blanks). A command that ends in a backslash goes on in the next line. `rollout` is the built program, or ROLLOUT; the commands of one block run in
 # one shell. A block whose first line is a comment `# needs NAME` is run only where NAME is among the script's words, as in
@@ -152,7 +152,7 @@ check_links() {
 cmp -s docs/two-racks.svg "$work/two-racks.svg" && judge yes || judge no 'docs/two-racks.svg: the program draws another picture'
 
 # shellcheck disable=SC2086
-for page in ${PAGES:-README.md docs/*.md examples/README.md examples/*/README.md bench/README.md}; do
+for page in ${PAGES:-*.md docs/*.md examples/README.md examples/*/README.md bench/README.md}; do
     run_page "$page"
     check_links "$page"
 done
