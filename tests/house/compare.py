@@ -22,8 +22,6 @@ HANDLES = "Handles allowed: Threads, Wait, Processes.\n"
 MAY_NAME_THE_HANDLE = ("crates/rollout/src/main.rt", "crates/roll_core/src/history.rt")
 # Numbers of papers, theorems and issues; the repository stands alone.
 CITES = re.compile(r"(?<!\w)(?:R(?:1[0-6]|[1-9])|T[1-5]|D(?:1[0-9]|2[01]|[1-9])|W(?:1[0-9]|2[01]|[1-9])|[Dd]ocument 0[1-4]|[Ii]ssue #?\d+)(?!\w)")
-# What ran at some time, under the names of that time.
-HISTORY = "docs/TRIED.md"
 # Faults of what has no form in JSON: of bad words, expectations and plans that are checked.
 NOT_IN_JSON = {"901", "907", "908", "909"}
 # Scripts that others share, or that a target of the Makefile is for.
@@ -71,6 +69,9 @@ def compare_made_parts(count):
                 count.row(all(cells), f"{path}: the row '{cells[0]}' of {name} has an empty cell")
             for line in re.findall(r"^- .*", body, re.M):
                 count.row(re.match(r"- \S+: \S", line), f"{path}: of {line[2:]} in {name} nothing is said")
+    for line in pages[made.EDITS].split("\n")[1:-1]:
+        cells = line.split("\t")
+        count.row(all(cells) and re.fullmatch(r"\d{4}-\d\d-\d\d", cells[-1]), f"{made.EDITS}: the row of {cells[1]} in {cells[0]} lacks who refused it, the goal, or the date")
 
 
 def compare_entries(count):
@@ -183,18 +184,18 @@ def compare_rules(count):
 
 
 def compare_promises(count):
-    """README has a row of promises for each command; each call that carries one is public, in the file that stands beside it."""
-    rows = made.rows_of(section(tree.read("README.md"), "What is promised, by command"))
+    """PROVED has a row of promises for each command; each call that carries one is public, in the file that stands beside it."""
+    rows = made.rows_of(section(tree.read("docs/PROVED.md"), "What is promised, by command"))
     of = {re.match(r"`(\w+)`", cells[0])[1] for cells in rows if cells[0].startswith("`")}
     for path in tree.found("crates/rollout/src/commands/*.rt"):
         for command in re.findall(r"^//! The command `(\w+)`", tree.read(path), re.M):
-            count.row(command in of, f"README.md: no promise of `{command}`")
+            count.row(command in of, f"docs/PROVED.md: no promise of `{command}`")
     for cells in rows:
         calls = [(name, path) for files, names in places_in(cells[-1]) for name in names for path in files]
-        count.row(calls, f"README.md: no call carries the promise of {cells[0]}")
+        count.row(calls, f"docs/PROVED.md: no call carries the promise of {cells[0]}")
         for name, path in calls:
             holds = stands(path) and re.search(rf"^\s*pub fn {name}\b", tree.read(path), re.M)
-            count.row(holds, f"README.md: no public function {name} in {path}")
+            count.row(holds, f"docs/PROVED.md: no public function {name} in {path}")
 
 
 def has_code(name):
@@ -323,8 +324,6 @@ def compare_counts(count, crates):
     """Numbers of crates, bugs and rules in running text."""
     right = {"crates": len(crates), "bugs": len(tree.bugs()), "rules": len(tree.rules())}
     for path in tree.pages():
-        if path == HISTORY:
-            continue
         text = made.PART.sub("", tree.read(path))
         for line in text.split("\n"):
             if not line.startswith("|"):
@@ -337,8 +336,6 @@ def compare_paths(count):
     targets, named = tree.targets(), set()
     for path in tree.pages():
         text = tree.read(path)
-        if path == HISTORY:
-            continue
         for name in sorted(set(re.findall(r"(?<![\w/.-])((?:crates|tests|bench|docs|examples|man|completions|\.ci)/[\w*./-]*[\w*/])", text))):
             if "/out" not in name:
                 count.row(stands(name), f"{path}: no file {name}")
@@ -372,7 +369,7 @@ def compare_links(count):
 def compare_files_of_crates(count, crates):
     """A file named as `src/..` or `specs/..` stands in a crate that the same line or its heading names."""
     for path in tree.pages():
-        if path in (HISTORY, "docs/DEFINITIONS.md"):
+        if path == "docs/DEFINITIONS.md":
             continue
         heading, before = [], []
         for line in tree.read(path).split("\n"):
@@ -401,7 +398,7 @@ def compare_names(count, crates, named):
         if os.path.isfile(os.path.join(tree.TOP, path)) and not path.endswith(".md"):
             words.update(re.findall(r"\w+", tree.read(path)))
     for path in tree.pages():
-        if path in (HISTORY, "docs/FROM_ANSIBLE.md"):
+        if path == "docs/FROM_ANSIBLE.md":
             continue
         text = made.PART.sub("", tree.read(path))
         if path == "docs/GATE.md":
@@ -449,18 +446,18 @@ def compare_folders(count):
 
 
 def compare_trusted(count, crates):
-    """README says of each ported library that a crate stands on that it is trusted, and of no other."""
-    trusted = re.search(r"^\*\*Trusted\*\*:(?:.+\n)+", tree.read("README.md"), re.M)
+    """PROVED says of each ported library that a crate stands on that it is trusted, and of no other."""
+    trusted = re.search(r"^\*\*Trusted\*\*:(?:.+\n)+", tree.read("docs/PROVED.md"), re.M)
     trusted = set(ticks(trusted[0])) if trusted else set()
     ported = {below for name in crates for below in crates[name]} - set(crates)
     for name in sorted(ported | trusted):
-        count.row(name in ported and name in trusted, f"README.md: {name} is " + ("trusted, and no crate stands on it" if name in trusted else "not among what is trusted"))
+        count.row(name in ported and name in trusted, f"docs/PROVED.md: {name} is " + ("trusted, and no crate stands on it" if name in trusted else "not among what is trusted"))
 
 
 def compare_texts(count):
     """HANDLES is its line, and no text cites a paper or an issue by number."""
     count.row(tree.read("HANDLES") == HANDLES, "HANDLES is not its exact line")
-    for path in tree.found("**/*.rt", "**/*.antt", "**/*.md", "**/*.edit", "**/*.sh", "**/*.py", "man/*", "completions/*"):
+    for path in tree.found("**/*.rt", "**/*.antt", "**/*.md", "**/*.edit", "tests/*.tsv", "**/*.sh", "**/*.py", "man/*", "completions/*"):
         if path.startswith("tests/house/"):
             continue
         cite = CITES.search(tree.read(path))

@@ -50,13 +50,6 @@ def page_of(part):
     return path, next(body for _, name, body, _ in made.PART.findall(tree.read(path)) if name == part)
 
 
-def row_in(part, place=3):
-    """A row of a made part, with its page."""
-    path, body = page_of(part)
-    head = body.split("\n|--")[0].split("\n")[-1]
-    return path, [line for line in body.split("\n") if line.startswith("| ") and line != head][place] + "\n"
-
-
 def a_crate_left_out_of_architecture(copy):
     path, body = page_of("crates")
     copy.change(path, re.search(r"^- `\w+`: .*\n", body, re.M)[0], "")
@@ -111,8 +104,8 @@ def a_public_name_without_a_reason(copy):
 
 
 def a_command_without_a_promise(copy):
-    said = compare.section(tree.read("README.md"), "What is promised, by command")
-    copy.change("README.md", re.search(r"^\| `rehearse` \|.*\n", said, re.M)[0], "")
+    said = compare.section(tree.read("docs/PROVED.md"), "What is promised, by command")
+    copy.change("docs/PROVED.md", re.search(r"^\| `rehearse` \|.*\n", said, re.M)[0], "")
 
 
 def a_crate_that_proved_names_nowhere(copy):
@@ -138,7 +131,7 @@ def a_count_of_bugs_off_by_one(copy):
 
 
 def a_function_renamed(copy):
-    said = compare.section(tree.read("README.md"), "What is promised, by command")
+    said = compare.section(tree.read("docs/PROVED.md"), "What is promised, by command")
     name, crate = re.search(r"`(\w+)` in `crates/(\w+)/", said).groups()
     changed = False
     for path in tree.found(f"crates/{crate}/src/**/*.rt"):
@@ -172,9 +165,8 @@ def a_row_without_an_edit(copy):
 
 
 def an_edit_that_nobody_tried(copy):
-    path, row = row_in("edits")
-    cells = made.cells_of(row)
-    copy.change(path, row, "| " + " | ".join([*cells[:2], "", ""]) + " |\n")
+    row = tree.read(made.EDITS).split("\n")[3]
+    copy.change(made.EDITS, row, "\t".join(row.split("\t")[:2]) + "\t\t\t")
 
 
 def an_edit_that_fits_no_more(copy):

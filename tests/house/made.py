@@ -16,7 +16,8 @@ import sys
 import explained
 import tree
 
-MAN, FAULTS = "man/rollout.1", "docs/FAULTS.md"
+MAN, FAULTS, EDITS = "man/rollout.1", "docs/FAULTS.md", "tests/edits.tsv"
+EDIT_COLUMNS = ["crate", "edit", "refused by", "goal of", "tried"]
 PART = re.compile(r"(<!-- made by `make pages`: (\w+) -->\n)(.*?)(<!-- end of \2 -->\n)", re.S)
 MOST_EDITS, MOST_ROOMS = 80, 20
 
@@ -36,10 +37,6 @@ def rows_of(text):
     lines = text.split("\n")
     rows = [cells_of(line) for at, line in enumerate(lines) if line.startswith("|") and at + 1 < len(lines) and not lines[at + 1].startswith("|--") and not line.startswith("|--")]
     return [row for row in rows if row]
-
-
-def in_words(name):
-    return name.replace("_", " ")
 
 
 def made_crates(_said):
@@ -65,29 +62,17 @@ def made_families(said):
     return "".join([f"- **{family}**: {about.get(family, '')}".rstrip() + "\n" for family in families] + [f"- `{name}`\n" for name in lost])
 
 
-def made_edits(said):
-    """Each crate's edits, with the files that they change."""
-    known, alone = {}, {}
-    crate = ""
-    for line in said.split("\n"):
-        heading = re.match(r"### `(\w+)`", line)
-        crate = heading[1] if heading else crate
-        cells = cells_of(line) if line.startswith("| ") else []
-        if len(cells) == 4 and cells[0] != "Wrong body":
-            known[crate, cells[0]] = cells[2:]
-            alone.setdefault(cells[0], []).append(cells[2:])
-    edits, parts = tree.edits(), []
-    for crate in tree.crates():
-        rows = []
-        for (of, name), (_, pairs) in edits.items():
-            if of == crate:
-                words = in_words(name)
-                moved = alone.get(words, [])
-                told = known.get((crate, words)) or (moved[0] if len(moved) == 1 else ["", ""])
-                rows.append((words, ", ".join(f"`{file}`" for file in dict.fromkeys(file for file, _, _ in pairs)), *told))
-        if rows:
-            parts.append(f"### `{crate}`\n\n" + table(("Wrong body", "Put into", "Refused by", "Date"), rows))
-    return "\n".join(parts)
+def made_edits():
+    """Each edit with who refused it, of which function a goal failed (`-` if nobody wrote that down), and when."""
+    rows = [line.split("\t") for line in tree.read(EDITS).split("\n")[1:] if line]
+    known, alone = {(crate, name): said for crate, name, *said in rows}, {}
+    for _, name, *said in rows:
+        alone.setdefault(name, []).append(said)
+    lines = [EDIT_COLUMNS]
+    for crate, name in sorted(tree.edits()):
+        moved = alone.get(name, [])
+        lines.append([crate, name, *(known.get((crate, name)) or (moved[0] if len(moved) == 1 else ["", "", ""]))])
+    return "".join("\t".join(cells) + "\n" for cells in lines)
 
 
 def made_edit_counts(_said):
@@ -143,7 +128,7 @@ def made_chain(_said):
     return f"{len(chain)} of them: " + ", ".join(f"`{name}`" for name in chain) + ".\n"
 
 
-MAKERS = {"families": made_families, "crates": made_crates, "chain": made_chain, "edits": made_edits, "edit_counts": made_edit_counts, "bugs": made_bugs, "rules": made_rules}
+MAKERS = {"families": made_families, "crates": made_crates, "chain": made_chain, "edit_counts": made_edit_counts, "bugs": made_bugs, "rules": made_rules}
 
 
 def statuses_of_page():
@@ -190,7 +175,7 @@ def made_pages():
     # A part is made once, from all that was said in parts of its name.
     bodies = {name: MAKERS[name](said[name]) for name in said if name in MAKERS}
     made = {path: PART.sub(lambda part: part[1] + "\n" + bodies.get(part[2], part[3]).strip("\n") + "\n\n" + part[4], text) for path, text in texts.items()}
-    return {**{path: text for path, text in made.items() if PART.search(text)}, MAN: made_man(), **explained.made_files()}, parts
+    return {**{path: text for path, text in made.items() if PART.search(text)}, MAN: made_man(), EDITS: made_edits(), **explained.made_files()}, parts
 
 
 def main():

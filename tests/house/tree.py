@@ -8,7 +8,7 @@ import sys
 from sources import items_of
 
 TOP = os.path.dirname(os.path.dirname(os.path.dirname(os.path.abspath(__file__))))
-PAGES = ["README.md", "docs/*.md", "examples/README.md", "examples/*/README.md", "bench/README.md", "tests/*/README.md"]
+PAGES = ["*.md", "docs/*.md", "examples/README.md", "examples/*/README.md", "bench/README.md", "tests/*/README.md"]
 
 
 def read(path):

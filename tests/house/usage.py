@@ -221,16 +221,10 @@ def compare_lines(count, usage, by):
 
 
 def compare_readme(count, usage, by):
-    """README's first list has each command but help; each option but those of help and version is named there, and each that stands in a line of the program is one of it."""
-    text = tree.read(README)
-    listed = set(re.findall(r"^- `(\w+)` ", text[: text.index("\n## ")], re.M))
-    for command in sorted(listed | usage.options.keys() - {TOP, "help"}):
-        count.row(command in listed and command in usage.options, f"{README}: {command} is " + ("no command of " + by if command in listed else "not in the first list"))
-    named = {word for said in re.findall(r"`([^`\n]+)`", text) for word in re.findall(r"(?<!\S)--?\w[\w-]*", said)}
-    for command, forms in usage.forms.items():
-        for names in forms:
-            if command != TOP and "--help" not in names:
-                count.row(named & set(names), f"{README}: {' or '.join(names)} of {command} isn't named")
+    """README shows each command but help, and each option that stands in a line of the program on these pages is one of it."""
+    shown = set(re.findall(r"(?<![\w/-])rollout ([a-z]+)", tree.read(README)))
+    for command in sorted(usage.options.keys() - {TOP, "help"}):
+        count.row(command in shown, f"{README}: {command} isn't shown")
     for path in (README, FORMATS, "docs/DURING_AND_AFTER.md", "docs/FROM_ANSIBLE.md"):
         for command, words in re.findall(r"(?<![\w/-])rollout (\w+)((?: +[^\s|<>;`&()]+)*)", tree.read(path)):
             if command in usage.options:
