@@ -74,6 +74,9 @@ same() {
     fi
 }
 
+# Behind each byte, or behind each so many.
+step=$(fewer 1 9)
+
 # answered WORDS: what the program answers with nothing in its way; the two outputs are kept.
 answered() {
     run "$@"
@@ -85,7 +88,7 @@ answered() {
 # output_broken WORDS: standard output takes fewer bytes than there are.
 output_broken() {
     answered "$@"
-    for room in $(seq 0 $(($(wc -c <"$work/out.whole") - 1))); do
+    for room in $(seq 0 "$step" $(($(wc -c <"$work/out.whole") - 1))); do
         breaking OUT_ROOM="$room" "$@"
         head -c "$room" "$work/out.whole" >"$work/out.expected"
         echo "rollout: 904 Write written=$room" >"$work/errors.expected"
@@ -96,7 +99,7 @@ output_broken() {
 # report_broken WORDS: standard error takes fewer bytes than the fault has; the status tells it nevertheless.
 report_broken() {
     answered "$@"
-    for room in $(seq 0 $(($(wc -c <"$work/errors.whole") - 1))); do
+    for room in $(seq 0 "$step" $(($(wc -c <"$work/errors.whole") - 1))); do
         breaking ERROR_ROOM="$room" "$@"
         : >"$work/out.expected"
         head -c "$room" "$work/errors.whole" >"$work/errors.expected"
@@ -109,7 +112,7 @@ input_broken() {
     name=$1
     size=$2
     shift 2
-    for room in $(seq 0 "$size"); do
+    for room in $(seq 0 "$step" "$size"); do
         breaking IN_ROOM="$room" "$@"
         : >"$work/out.expected"
         echo "rollout: 902 File name=$name" >"$work/errors.expected"
@@ -122,7 +125,7 @@ input_broken() {
 session_broken() {
     lines=$input
     files=$(($(wc -c <"$1") + $(wc -c <"$2")))
-    for room in $(seq 1 "$(wc -c <"$lines")"); do
+    for room in $(seq 1 "$step" "$(wc -c <"$lines")"); do
         head -c "$room" "$lines" >"$work/part"
         head -n "$(wc -l <"$work/part")" "$work/part" >"$work/whole"
         input=$work/whole
@@ -139,7 +142,7 @@ session_broken() {
 journal_broken() {
     files=$1
     shift
-    for room in $(seq 1 "$(wc -c <"$work/journal")"); do
+    for room in $(seq 1 "$step" "$(wc -c <"$work/journal")"); do
         breaking IN_ROOM="$((files + room))" "$@" --from "$work/journal"
         : >"$work/out.expected"
         echo "rollout: 902 File name=$work/journal" >"$work/errors.expected"

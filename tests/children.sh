@@ -7,12 +7,8 @@
 
 # What may pass behind the program's own time: 0.1 s until its end is seen, 0.2 s in which an end of its outputs is waited for, and the rest for a busy machine;
 # twice that where 64 share a few processors.
-allowed=1500
-fleets='1 5 64'
-if [ -n "${UNPROVED:-}" ]; then
-    allowed=30000
-    fleets='1 5 16'
-fi
+allowed=$(fewer 1500 30000)
+fleets=$(fewer '1 5 64' 4)
 NUMBERS=$work/kept/numbers
 export NUMBERS
 minute=60000

@@ -17,9 +17,7 @@ fi
 
 # ---- files that are spoiled, beside the slow program
 
-spoiled=400
-[ -z "${UNPROVED:-}" ] || spoiled=100
-counting python3 "$helpers/spoiled.py" "$rollout" "${SEED:-}" "${CASES:-$spoiled}"
+counting python3 "$helpers/spoiled.py" "$rollout" "${SEED:-}" "${CASES:-$(fewer 400 50)}"
 
 # ---- pipes
 
@@ -105,8 +103,7 @@ sized() {
         printf '%s' "$text"
     }
 }
-count=20000
-[ -z "${UNPROVED:-}" ] || count=10000
+count=$(fewer 20000 10000)
 sized $count a b >"$work/before.json"
 sized $count a b c >"$work/after.json"
 blocks=$(((count + 8191) / 8192))
@@ -274,9 +271,8 @@ cut() {
         done
     done
 }
-each=1
-far=40
-[ -z "${UNPROVED:-}" ] || each=20 far=100
+each=$(fewer 1 40)
+far=$(fewer 40 200)
 printf '%s' "$racks" >"$work/two.json"
 printf '[{"hosts":"all","tasks":[{"command":{"argv":["sh","-c","test {{ inventory_hostname }} != a"]}}]}]' >"$work/fails.json"
 cut $each run "$work/two.json" "$work/fails.json"
@@ -402,8 +398,7 @@ fi
 # In each run the racks have room for one host, and the programs of a host write into a file of its run.
 printf '{"all":{"children":{"r1":{"vars":{"max_down":1},"hosts":{"a":null,"b":null}},"r2":{"vars":{"max_down":1},"hosts":{"c":null,"d":null}}}}}' >"$work/racks.json"
 printf '[{"hosts":"all","tasks":[{"command":{"argv":["sh","-c","echo $0 >>notes","{{ inventory_hostname }}"]}},{"command":"true"}]}]' >"$work/notes.json"
-runs=200
-[ -z "${UNPROVED:-}" ] || runs=50
+runs=$(fewer 200 20)
 began=$(date +%s)
 for number in $(seq $runs); do
     mkdir "$work/run$number"

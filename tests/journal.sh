@@ -6,16 +6,16 @@ helpers=$top/tests/journal
 
 cc -shared -fPIC -O1 -o "$work/disk.so" "$helpers/disk.c" -ldl || exit 1
 mkdir "$work/kept"
-counting python3 "$helpers/kept.py" "$rollout" "$work/kept" "$work/disk.so" "${SEED:-1}" "${DRAWN_JOURNALS:-60}" "${KILLED_JOURNALS:-20}"
+counting python3 "$helpers/kept.py" "$rollout" "$work/kept" "$work/disk.so" "${SEED:-1}" "${DRAWN_JOURNALS:-$(fewer 60 10)}" "${KILLED_JOURNALS:-$(fewer 20 5)}"
 
 # ---- runs that break off and go on
 
-counting python3 "$helpers/resumed.py" "$rollout" "$work/kept" "$work/disk.so" "${SEED:-1}" "${RESUMED_RUNS:-60}"
+counting python3 "$helpers/resumed.py" "$rollout" "$work/kept" "$work/disk.so" "${SEED:-1}" "${RESUMED_RUNS:-$(fewer 60 10)}"
 
 # ---- killed at each moment, and gone on with: MOMENTS=300 tries all of them
 
 cc -O1 -o "$work/note" "$helpers/note.c" || exit 1
-counting python3 "$helpers/moments.py" "$rollout" "$work/kept" "$work/disk.so" "$work/note" "${SEED:-1}" "${MOMENTS:-30}"
+counting python3 "$helpers/moments.py" "$rollout" "$work/kept" "$work/disk.so" "$work/note" "${SEED:-1}" "${MOMENTS:-$(fewer 30 8)}"
 
 # ---- files that are there already
 

@@ -479,5 +479,5 @@ MISFITS
 )
 [ "$misfits" = 'None []' ] && pass || fail "the schema takes what is none, or refuses what is one: $misfits"
 
-counting python3 "$top/tests/slow/formed.py" "$rollout" "${SEED:-}" "${CASES:-300}"
+counting python3 "$top/tests/slow/formed.py" "$rollout" "${SEED:-}" "${CASES:-$(fewer 300 40)}"
 finish

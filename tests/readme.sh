@@ -18,6 +18,20 @@ trap 'rm -rf "$work"' EXIT
 passed=0
 failed=0
 
+# Examples write below /tmp. Where a mount is allowed they have one of their own: neither another run of this nor a file of that name is in their way.
+apart=()
+case $top:$rollout in
+/tmp/* | *:/tmp/*) ;;
+*)
+    if unshare -m mount --bind /var/tmp /tmp 2>/dev/null; then
+        rmdir "$work"
+        work=$(mktemp -d -p /var/tmp)
+        mkdir -m 1777 "$work/tmp"
+        apart=(unshare -m sh -c 'mount --bind "$0" /tmp && exec "$@"' "$work/tmp")
+    fi
+    ;;
+esac
+
 if [ ! -x "$rollout" ]; then
     echo "FAILED: $rollout isn't built"
     echo '0 passed, 1 failed'
@@ -83,7 +97,7 @@ run_block() {
         echo "left out on a program without proofs: $page:$first, of want of memory"
         return
     fi
-    timeout "${LIMIT:-120}" bash "$work/shell" "$work" "$top"
+    timeout "${LIMIT:-120}" "${apart[@]}" bash "$work/shell" "$work" "$top"
     for ((index = 0; index < count; index++)); do
         # a substitution drops the empty lines at the end
         if [ "$(cat "$work/expected.$index")" = "$(cat "$work/printed.$index" 2>&1)" ]; then

@@ -51,8 +51,7 @@ with() {
 }
 
 # Where `xargs` comes through with as many at once, each host is updated.
-count=256
-[ -z "${UNPROVED:-}" ] || count=40
+count=$(fewer 256 40)
 hosts $count >"$work/hosts.json"
 all $count "ok=1 $updated" finished >"$work/all"
 seq $count >"$work/numbers"

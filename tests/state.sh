@@ -230,5 +230,5 @@ check 'no inventory' 1 '' "rollout: 902 File name=$work/nosuch$newline"
 
 written HEAD2 'play: a b d' 'open: a d' 'closed: updated:a failed:d' 'held: b' 'end held'
 counting python3 "$reader" try "$rollout" "$work/racks.json" "$work/journal"
-counting python3 "$reader" draw "$rollout" 1 300
+counting python3 "$reader" draw "$rollout" 1 "$(fewer 300 40)"
 finish

@@ -4,7 +4,8 @@
 #     make test
 #
 # They run on the program that `make` proved and built, or where that isn't there, on the one that `make look` built without proofs. What that can't tell is
-# left out, and said: it stops at checks of its own, is slower, and has other memory. Fewer cases are drawn than in the gate: `DRAWN=5000 NOTED=304 make test` draws as many.
+# left out, and said: it stops at checks of its own, is ten times as slow, and has other memory. Fewer cases are tried than in the gate, and fewer still without proofs: `DRAWN=5000 NOTED=304 make test`
+# draws as many.
 set -u
 top=$(cd "$(dirname "$0")/.." && pwd)
 cd "$top" || exit 1
@@ -20,8 +21,8 @@ if [ ! -x "$ROLLOUT" ]; then
     ROLLOUT=$top/crates/rollout/out/look/rollout
     UNPROVED=yes
     export UNPROVED
-    drawn=500
-    noted=40
+    drawn=150
+    noted=12
     scripts=$(echo " $scripts " | sed 's/ memory / /; s/ workers / /')
     left="$left memory workers"
     if [ ! -x "$ROLLOUT" ]; then

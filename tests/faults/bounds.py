@@ -6,9 +6,9 @@ from itertools import combinations
 from rows import Row
 
 
-def _row(what, faults, inventory=None, playbook=None, count=None):
+def _row(what, faults, inventory=None, playbook=None, count=None, is_large=False):
     texts = {key: json.dumps(value).encode() for key, value in (("inventory", inventory), ("playbook", playbook)) if value is not None}
-    return Row(what, faults=[(fault, list(helps)) for fault, *helps in faults], count=count, **texts)
+    return Row(what, faults=[(fault, list(helps)) for fault, *helps in faults], count=count, is_large=is_large, **texts)
 
 
 def _chain(levels, name=lambda level: f"g{level}"):
@@ -54,10 +54,10 @@ def _inventories():
     yield _row("a name that stood before, 33 levels deep", [("102 TwicePlaced group=33", "g2"), DEEP], _chain(33, lambda level: "g2" if level == 33 else f"g{level}"))
     yield _row("1,025 groups", [MANY], {f"g{place}": None for place in range(1024)})
     yield _row("1,025 groups, 33 levels deep", [DEEP, MANY], {**_chain(33), **{f"t{place}": None for place in range(1000)}})
-    yield _row("16,385 host rows", [MANY], {f"g{place}": {"hosts": {f"h{host}": None for host in range(count)}} for place, count in enumerate((4096, 4096, 4096, 4096, 1))})
+    yield _row("16,385 host rows", [MANY], {f"g{place}": {"hosts": {f"h{host}": None for host in range(count)}} for place, count in enumerate((4096, 4096, 4096, 4096, 1))}, is_large=True)
     crossing = {"vars": {"max_down": 0}, "hosts": {"h0": {"down": True}}}
     many = {"all": {"hosts": {f"h{place}": None for place in range(4097)}}, "p": crossing, "q": crossing}
-    yield _row("4,097 hosts, of which alone it is told", [("303 TooManyHosts", "4096")], many)
+    yield _row("4,097 hosts, of which alone it is told", [("303 TooManyHosts", "4096")], many, is_large=True)
     yield _row("a name of 256 letters", [(f"101 BadName name={'n' * 256}", "255")], {"n" * 256: None})
     yield _row("a limit that is a long text", [("204 BadLimit at=g/vars/max_down", "..", "65535")], {"g": {"vars": {"max_down": "9" * 5000}}})
     yield _row("a key that is a long text, with letters beyond ASCII", [(f"203 UnknownKey at=g/{'??' * 3000}", "vars")], {"g": {"\u00e9" * 3000: None}})

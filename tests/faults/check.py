@@ -11,7 +11,7 @@ from multiprocessing import Pool
 from pathlib import Path
 
 from bounds import bounds
-from rows import read_rows, wrong
+from rows import UNPROVED, read_rows, wrong
 from worked import worked
 
 LEAST_ROWS = 120
@@ -24,7 +24,9 @@ def main(program):
     program = os.path.abspath(program)
     written = [row for path in sorted(Path(__file__).resolve().parent.glob("*.rows")) for row in read_rows(path)]
     table = [*written, *bounds()]
-    rows = [*table, *worked()]
+    rows = [row for row in (*table, *worked()) if not (UNPROVED and row.is_large)]
+    if UNPROVED:
+        print("left out on a program without proofs: faults of the largest files")
     failed = 0
     with Pool(len(os.sched_getaffinity(0))) as pool:
         for row, found in zip(rows, pool.imap(_try, [(program, row) for row in rows], chunksize=4)):

@@ -1,6 +1,7 @@
 """Wrong files and the faults that are told of them: how rows are written, and what a row asks of the built program."""
 
 import json
+import os
 import re
 import subprocess
 from dataclasses import dataclass, field
@@ -15,14 +16,15 @@ FLEET = json.dumps(
 )
 HANDLERS = [{"name": "restart-web", "command": "restart-web"}]
 MOST_TOLD = 100
-# A call with the largest files takes seconds; another one that never ends is told.
-LONGEST_CALL = 300
+UNPROVED = bool(os.environ.get("UNPROVED"))
+# A call that never ends is told. One with the largest files takes seconds, and without proofs minutes: these rows are then left out.
+LONGEST_CALL = 900 if UNPROVED else 300
 
 
 @dataclass
 class Row:
     """Two texts, of which the second may be missing; each fault of them, with what the line that helps has to have; and steps that are written as such lines advise. Where `count` is more, just
-    the first faults stand there."""
+    the first faults stand there. A large one is left to the proved program."""
 
     what: str
     inventory: bytes = FLEET.encode()
@@ -30,6 +32,7 @@ class Row:
     faults: list = field(default_factory=list)
     advised: list = field(default_factory=list)
     count: int | None = None
+    is_large: bool = False
 
 
 def read_rows(path):
