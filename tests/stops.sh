@@ -3,7 +3,6 @@
 # crates/rollout/out/rollout.
 . "$(dirname "$0")/common.sh"
 . "$top/tests/programs/steps.sh"
-limit=60
 
 # ---- a file that stops the run
 

@@ -66,7 +66,7 @@ class Case:
 
     def ended(self, *more, **environment):
         run = self.start(*more, **environment)
-        out, errors = run.communicate(timeout=60)
+        out, errors = run.communicate(timeout=300)
         return run.returncode, out.decode(), errors.decode()
 
     def kept(self, place=2):

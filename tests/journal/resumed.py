@@ -48,7 +48,7 @@ class Rolled(Case):
 
     def resume(self, *more, **environment):
         return subprocess.run(
-            self.words("--resume", self.paths[2], *more), stdin=subprocess.DEVNULL, capture_output=True, env={**os.environ, "NOTED": self.paths[3], **environment}, timeout=60
+            self.words("--resume", self.paths[2], *more), stdin=subprocess.DEVNULL, capture_output=True, env={**os.environ, "NOTED": self.paths[3], **environment}, timeout=300
         )
 
     def clear(self):

@@ -52,7 +52,7 @@ class Roll:
     def ended(self, *more, **environment):
         """Its status and its errors; what was killed alone leaves programs that hold the errors open."""
         run = self.start(*more, **environment)
-        run.wait(timeout=60)
+        run.wait(timeout=300)
         os.set_blocking(run.stderr.fileno(), False)
         errors = run.stderr.read() or b""
         run.stderr.close()

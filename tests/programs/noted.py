@@ -219,7 +219,7 @@ class Cases:
         (self.folder / "stop").unlink(missing_ok=True)
         done = subprocess.run(
             [self.rollout, "run", "inventory", "playbook", "--forks", str(forks), *words],
-            cwd=self.folder, env={**os.environ, **failing}, stdin=subprocess.DEVNULL, capture_output=True, timeout=60, check=False,
+            cwd=self.folder, env={**os.environ, **failing}, stdin=subprocess.DEVNULL, capture_output=True, timeout=300, check=False,
         )
         return notes.read_text().splitlines(), (done.stdout.decode(), done.returncode), done.stderr.decode().splitlines()
 

@@ -289,7 +289,7 @@ class Sweeps:
             environment.update(FAIL=sweep.call, FAIL_HOW=str(sweep.how), FAILED="failed", **room, **{"PRELOAD" if under.exists() else "LD_PRELOAD": library})
             words = [str(under), *words] if under.exists() else words
         with open("/dev/full" if sweep.full else place / "out", "wb") as out:
-            done = subprocess.run(words, cwd=place, env=environment, stdin=subprocess.DEVNULL, stdout=out, stderr=subprocess.PIPE, timeout=120, check=False)
+            done = subprocess.run(words, cwd=place, env=environment, stdin=subprocess.DEVNULL, stdout=out, stderr=subprocess.PIPE, timeout=300, check=False)
         notes, failed = place / "notes", place / "failed"
         ran = Ran(
             done.returncode,

@@ -9,7 +9,7 @@ from commands import Said
 from linting import KINDS
 from telling import in_order, timeless
 
-LONGEST_RUN = 60
+LONGEST_RUN = 300
 
 
 def call(program, case, folder, before=None):
