@@ -7,7 +7,7 @@
 
 # What may pass behind the program's own time: 0.1 s until its end is seen, 0.2 s in which an end of its outputs is waited for, and the rest for a busy machine;
 # twice that where 64 share a few processors.
-allowed=$(fewer 1500 120000)
+allowed=$(fewer 1500 400000)
 fleets=$(fewer '1 5 64' 4)
 NUMBERS=$work/kept/numbers
 export NUMBERS
