@@ -72,7 +72,9 @@ holds 'once more it is the same' cmp "$work/one/$package" "$work/two/$package"
 share=./usr/share
 {
     echo '-rwxr-xr-x root/root ./usr/bin/rollout'
+    echo '-rwxr-xr-x root/root ./usr/bin/rollout-supervise'
     echo "-rw-r--r-- root/root $share/man/man1/rollout.1.gz"
+    echo "-rw-r--r-- root/root $share/man/man1/rollout-supervise.1.gz"
     echo "-rw-r--r-- root/root $share/bash-completion/completions/rollout"
     echo "-rw-r--r-- root/root $share/zsh/vendor-completions/_rollout"
     echo "-rw-r--r-- root/root $share/fish/vendor_completions.d/rollout.fish"

@@ -1,7 +1,7 @@
 #!/bin/sh
 # What stands in examples/ for others to use: the questions of a build server pass on the forty hosts and find each of some broken changes; the jobs of GitLab and GitHub are YAML
-# and call them; a roll of the night begins only where the one before has ended well; Ansible's inventories and playbooks are brought over; and lines of
-# docs/FROM_ANSIBLE.md in the place of Ansible's are taken. It needs Python 3.11; PyYAML and ansible-inventory are asked where they are.
+# and call them; rolls as jobs, as a service of systemd and by night, of which one begins only where the one before has ended well; Ansible's inventories and playbooks are brought over; and lines of
+# docs/FROM_ANSIBLE.md in the place of Ansible's are taken. It needs Python 3.11; PyYAML, systemd-analyze and ansible-inventory are asked where they are.
 . "$(dirname "$0")/common.sh"
 cd "$top" || exit 1
 case $rollout in /*) ;; *) rollout=$top/$rollout ;; esac
@@ -144,6 +144,52 @@ JOB
 else
     echo 'left out: no PyYAML'
 fi
+
+# ---- a roll as a job, and as a service
+
+mkdir -p "$work/srv" "$work/rolls" "$work/bin"
+ln -sf "$rollout" "$work/bin/rollout"
+ln -s "$top/bin/rollout-supervise" "$work/bin"
+printf '{"all":{"hosts":{"a":null,"b":null}}}' >"$work/srv/fleet.json"
+printf '[{"hosts":"all","serial":1,"tasks":[{"command":"true"}]}]' >"$work/srv/roll.json"
+# rolls WHAT COMMAND: a shell runs it to its end, and prints a recap, or states, that have an end with all well
+rolls() {
+    echo "$2" | sed "s|/srv/fleet|$work/srv|; s|/var/lib/rolls|$work/rolls|" >"$work/command"
+    (cd "$work/srv" && unset ROLLOUT && PATH=$work/bin:$PATH sh -e "$work/command") >"$work/said" 2>&1 </dev/null
+    status=$?
+    [ "$status" -eq 0 ] && [ "$(tail -n 1 "$work/said")" = 'end finished' ] && pass || fail "$1: status $status, $(tail -n 3 "$work/said")"
+}
+if python3 -c 'import yaml' 2>/dev/null; then
+    cat >"$work/rolls.py" <<'ROLLS'
+import yaml
+gitlab, github = (yaml.safe_load(open(f"examples/build-server/roll-{name}.yml"))["jobs" if name == "github" else "roll-fleet"] for name in ("gitlab-ci", "github"))
+assert gitlab["resource_group"] == "fleet"
+steps = [step["run"] for step in github["roll-fleet"]["steps"] if "run" in step]
+print("\n".join(gitlab["script"] + gitlab["after_script"] + steps))
+ROLLS
+    python3 "$work/rolls.py" >"$work/commands"
+    [ "$(grep -c '' "$work/commands")" -eq 4 ] && pass || fail 'the jobs that roll have other commands than two each'
+    export CI_JOB_ID=7 ROLL="$work/rolls/8-1"
+    while IFS= read -r line; do
+        rolls "a job: $line" "$line"
+    done <"$work/commands"
+else
+    echo 'left out: no PyYAML'
+fi
+unit=examples/systemd/rollout@.service
+if command -v systemd-analyze >/dev/null; then
+    sed "s|/usr/local/bin|$top/bin|" "$unit" >"$work/rollout@fleet.service"
+    systemd-analyze verify --man=no "$work/rollout@fleet.service" >"$work/said" 2>&1 && [ ! -s "$work/said" ] && pass || fail "the service: $(head -n 3 "$work/said")"
+else
+    echo 'left out: no systemd-analyze'
+fi
+# As systemd reads them: `$NAME` is parted at blanks, `${NAME}` isn't.
+{
+    echo "JOURNAL=--journal=$work/rolls/fleet.journal"
+    grep '^[A-Z]*=' examples/systemd/fleet.conf
+} | sed "s/=\(.*\)/='\1'/" >"$work/conf"
+rolls 'the service' "$(cat "$work/conf")$newline$(sed -n 's|^ExecStart=/usr/local/bin/||p' "$unit" | sed 's/\(\${[A-Z]*}\)/"\1"/g')"
+rolls 'the journal of the service' "rollout state fleet.json $work/rolls/fleet.journal"
 
 # ---- a roll of the night
 

@@ -1,5 +1,5 @@
 #!/bin/sh
-# Installs the program that `make` proved and built, with its manual page, completions, pages and examples, and takes that away again.
+# Installs the program that `make` proved and built and bin/rollout-supervise, with their manual pages, completions, pages and examples, and takes that away again.
 #
 #     make install
 #     make install PREFIX=/opt/rollout DESTDIR=/tmp/stage
@@ -28,7 +28,9 @@ trap 'exit 130' INT TERM
 # each CALL: calls it with the mode, the file, and its place below PREFIX, of all that is installed.
 each() {
     "$1" 755 "$program" bin/rollout
+    "$1" 755 bin/rollout-supervise bin/rollout-supervise
     "$1" 644 man/rollout.1 share/man/man1/rollout.1
+    "$1" 644 man/rollout-supervise.1 share/man/man1/rollout-supervise.1
     "$1" 644 completions/rollout.bash share/bash-completion/completions/rollout
     "$1" 644 completions/_rollout share/zsh/site-functions/_rollout
     "$1" 644 completions/rollout.fish share/fish/vendor_completions.d/rollout.fish

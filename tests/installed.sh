@@ -46,19 +46,21 @@ else
     cat "$work/said"
 fi
 
-# ---- the manual page is drawn, without a warning
+# ---- the manual pages are drawn, without a warning
 
 : >"$work/expected"
-if has groff; then
-    groff -man -ww -Tutf8 -z man/rollout.1 >"$work/found" 2>&1
-    same 'groff draws the manual page'
-fi
-if has mandoc; then
-    mandoc -T lint -W warning man/rollout.1 >"$work/found" 2>&1
-    same 'mandoc draws the manual page'
-fi
-LC_ALL=C grep -n '[^ -~]' man/rollout.1 >"$work/found"
-same 'the manual page has no character but those that each system draws'
+for page in man/rollout.1 man/rollout-supervise.1; do
+    if has groff; then
+        groff -man -ww -Tutf8 -z $page >"$work/found" 2>&1
+        same "groff draws $page"
+    fi
+    if has mandoc; then
+        mandoc -T lint -W warning $page >"$work/found" 2>&1
+        same "mandoc draws $page"
+    fi
+    LC_ALL=C grep -n '[^ -~]' $page >"$work/found"
+    same "$page has no character but those that each system draws"
+done
 
 # ---- installing
 
@@ -78,7 +80,9 @@ written() {
 holds 'make install' put_in
 {
     echo "755 $stage/usr/local/bin/rollout"
+    echo "755 $stage/usr/local/bin/rollout-supervise"
     echo "644 $stage/$share/man/man1/rollout.1"
+    echo "644 $stage/$share/man/man1/rollout-supervise.1"
     echo "644 $stage/$share/bash-completion/completions/rollout"
     echo "644 $stage/$share/zsh/site-functions/_rollout"
     echo "644 $stage/$share/fish/vendor_completions.d/rollout.fish"
@@ -95,7 +99,8 @@ same 'each folder may be read by all'
 sed -n "s|^file |$stage|p" "$stage/$share/doc/rollout/installed" | LC_ALL=C sort >"$work/expected"
 find "$stage" -type f ! -name installed | LC_ALL=C sort >"$work/found"
 same 'the list of what is installed'
-for pair in "$rollout|usr/local/bin/rollout" "man/rollout.1|$share/man/man1/rollout.1" "completions/rollout.bash|$share/bash-completion/completions/rollout" \
+for pair in "$rollout|usr/local/bin/rollout" "bin/rollout-supervise|usr/local/bin/rollout-supervise" "man/rollout.1|$share/man/man1/rollout.1" \
+    "man/rollout-supervise.1|$share/man/man1/rollout-supervise.1" "completions/rollout.bash|$share/bash-completion/completions/rollout" \
     "completions/_rollout|$share/zsh/site-functions/_rollout" "completions/rollout.fish|$share/fish/vendor_completions.d/rollout.fish"; do
     holds "installed as it is: ${pair#*|}" cmp "${pair%|*}" "$stage/${pair#*|}"
 done
@@ -171,6 +176,7 @@ same 'make uninstall leaves nothing'
 rm -rf "$stage"
 holds 'make install below a PREFIX with a blank' put_in 'PREFIX=/opt/my tools/'
 holds 'the program below that PREFIX' "$stage/opt/my tools/bin/rollout" --version
+holds 'the script below that PREFIX, which runs the program next to it' env -u ROLLOUT "$stage/opt/my tools/bin/rollout-supervise" run --help
 holds 'make uninstall below that PREFIX' take_out 'PREFIX=/opt/my tools'
 written >"$work/found"
 same 'make uninstall below a PREFIX leaves nothing'
@@ -195,7 +201,7 @@ refuses 'a program that is not there' '`make` proves and builds it' put_in "PROG
 refuses 'a folder in place of the program' '`make` proves and builds it' put_in "PROGRAM=$work"
 # A tree in which `make look` built a program, and `make` none.
 mkdir -p "$work/tree/tests" "$work/tree/crates/rollout/out/look"
-cp -R Makefile *.md LICENSE* docs man completions examples "$work/tree"
+cp -R Makefile *.md LICENSE* bin docs man completions examples "$work/tree"
 cp tests/install.sh "$work/tree/tests"
 cp "$rollout" "$work/tree/crates/rollout/out/look/rollout"
 refuses 'the program of make look' '`make` proves and builds it' make -C "$work/tree" install "DESTDIR=$stage"

@@ -22,7 +22,7 @@ share=$tree/usr/share
 PREFIX=/usr DESTDIR=$tree sh tests/install.sh install >"$work/said"
 # Debian has its own list of what is installed, manual pages packed, and a folder of its own for what zsh completes.
 rm "$share/doc/rollout/installed"
-gzip -9n "$share/man/man1/rollout.1"
+gzip -9n "$share/man/man1/rollout.1" "$share/man/man1/rollout-supervise.1"
 mv "$share/zsh/site-functions" "$share/zsh/vendor-completions"
 
 version=$("$PROGRAM" --version)
@@ -37,7 +37,7 @@ Architecture: amd64
 Maintainer: $MAINTAINER
 Installed-Size: $(find "$tree/usr" -type f -printf '%s\n' | awk '{ bytes += $1 } END { print int((bytes + 1023) / 1024) }')
 Depends: libc6${library:+ (>= ${library#GLIBC_})}, libgcc-s1
-Suggests: openssh-client, ansible-core, python3-yaml
+Suggests: openssh-client, procps, ansible-core, python3-yaml
 Section: admin
 Priority: optional
 Description: updates a fleet of hosts batch by batch, within its limits

@@ -82,6 +82,9 @@ ends() {
     check "${shell:-sh}: $1" "$2" "$3" "$4"
     [ -z "$(ls -A "$TMPDIR")" ] && pass || fail "$1: $(ls "$TMPDIR") is left"
 }
+gone_by_itself() {
+    [ "$(programs)" -eq 0 ]
+}
 # gone WHAT: no process of the run is left
 gone() {
     [ "$(programs)" -eq 0 ] && pass || fail "${shell:-sh}: $1: $(programs) processes are left"
@@ -121,7 +124,8 @@ as_run() {
     fi
 }
 printf '[{"hosts":"all","tasks":[{"command":"test {{ inventory_hostname }} != b"}]}]' >"$work/it fails.json"
-as_run 'a run that finishes' "$top/examples/two-racks.json" "$top/examples/everywhere.json"
+as_run 'a run that finishes' "$work/three.json" "$top/examples/everywhere.json"
+as_run 'a run that is blocked' "$top/examples/two-racks.json" "$top/examples/everywhere.json"
 as_run 'a run with a failure, and blanks in a name' --forks 2 "$work/three.json" "$work/it fails.json" --quiet
 as_run 'a run that is held' "$top/examples/two-racks.json" "$top/examples/roll-anywhere.json"
 as_run 'a batch that fails' "$work/three.json" "$work/it fails.json" --forks=1
@@ -220,6 +224,17 @@ comes says "HUP: $stops"
 send HUP
 touch "$work/go"
 ends 'HUP twice' 1 "$stopped" "rollout-supervise: HUP: $stops${newline}rollout: 917 Stopped$newline"
+
+# Where the script itself is killed after a signal, the stop file stays: the run ends after its batch all the same.
+start run "$work/three.json" "$work/play.json"
+send TERM
+comes says "TERM: $stops"
+send KILL
+wait "$runner" 2>/dev/null
+touch "$work/go"
+comes gone_by_itself
+printf '%s' "$stopped" | cmp -s - "$work/out" && pass || fail "the script is killed: $(cat "$work/out")"
+rm -r "$TMPDIR"/*
 
 # A stop file of one's own is made, whatever its name, and stays.
 for word in --stop-file "--stop-file=$work/a stop"; do

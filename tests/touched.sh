@@ -77,7 +77,7 @@ if [ -n "$build" ] || [ ! -x "$program" ]; then
     part 'program'
 fi
 
-scripts='cli inventories playbooks words check expect lint explain broken memory programs children services stops telling noted rehearsal drawn readme examples deb installed completions house'
+scripts='cli inventories playbooks words check expect lint explain broken memory programs children services stops supervise telling noted rehearsal drawn readme examples deb installed completions house'
 case " $names " in *' roll_core '* | *' ticket_line '*) scripts="$scripts once" ;; esac
 case " $names " in *' pool_tests '*) scripts="$scripts workers" ;; esac
 sh tests/gate.sh $scripts >"$work/scripts" 2>&1
