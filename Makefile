@@ -43,7 +43,7 @@ look:
 test:
 	@sh tests/test.sh
 
-# The program that `make` built, its manual page, completions, pages and examples. `make install`, `make install PREFIX=/opt/rollout DESTDIR=/tmp/stage`. What the
+# The program that `make` built and bin/rollout-supervise, their manual pages, completions, pages and examples. `make install`, `make install PREFIX=/opt/rollout DESTDIR=/tmp/stage`. What the
 # environment has of PREFIX and PROGRAM is another's.
 install uninstall: export PREFIX = /usr/local
 install deb: export PROGRAM = crates/rollout/out/rollout

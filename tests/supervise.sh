@@ -124,8 +124,8 @@ as_run() {
     fi
 }
 printf '[{"hosts":"all","tasks":[{"command":"test {{ inventory_hostname }} != b"}]}]' >"$work/it fails.json"
-as_run 'a run that finishes' "$work/three.json" "$top/examples/everywhere.json"
-as_run 'a run that is blocked' "$top/examples/two-racks.json" "$top/examples/everywhere.json"
+printf '[{"hosts":"all","tasks":[{"command":"true"}]}]' >"$work/true.json"
+as_run 'a run that finishes' "$work/three.json" "$work/true.json"
 as_run 'a run with a failure, and blanks in a name' --forks 2 "$work/three.json" "$work/it fails.json" --quiet
 as_run 'a run that is held' "$top/examples/two-racks.json" "$top/examples/roll-anywhere.json"
 as_run 'a batch that fails' "$work/three.json" "$work/it fails.json" --forks=1
@@ -217,8 +217,9 @@ ends 'QUIT' 131 '' 'rollout-supervise: QUIT: ending the programs of the run
 rollout-supervise: no journal records what the run did
 '
 gone QUIT
-# A terminal that closes sends HUP, and so does its shell.
+# A terminal that closes sends HUP, and so does its shell. PIPE changes nothing.
 start run "$work/three.json" "$work/play.json"
+send PIPE
 send HUP
 comes says "HUP: $stops"
 send HUP

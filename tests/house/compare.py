@@ -336,7 +336,7 @@ def compare_paths(count):
     targets, named = tree.targets(), set()
     for path in tree.pages():
         text = tree.read(path)
-        for name in sorted(set(re.findall(r"(?<![\w/.-])((?:crates|tests|bench|docs|examples|man|completions|\.ci)/[\w*./-]*[\w*/])", text))):
+        for name in sorted(set(re.findall(r"(?<![\w/.-])((?:crates|tests|bench|bin|docs|examples|man|completions|\.ci)/[\w*./-]*[\w*/])", text))):
             if "/out" not in name:
                 count.row(stands(name), f"{path}: no file {name}")
         for target in sorted(set(re.findall(r"`make ([a-z_]+)", text) + re.findall(r"^(?:    |\$ )make ([a-z_]+)", text, re.M))):
@@ -457,7 +457,7 @@ def compare_trusted(count, crates):
 def compare_texts(count):
     """HANDLES is its line, and no text cites a paper or an issue by number."""
     count.row(tree.read("HANDLES") == HANDLES, "HANDLES is not its exact line")
-    for path in tree.found("**/*.rt", "**/*.antt", "**/*.md", "**/*.edit", "tests/*.tsv", "**/*.sh", "**/*.py", "man/*", "completions/*"):
+    for path in tree.found("**/*.rt", "**/*.antt", "**/*.md", "**/*.edit", "tests/*.tsv", "**/*.sh", "**/*.py", "bin/*", "man/*", "completions/*"):
         if path.startswith("tests/house/"):
             continue
         cite = CITES.search(tree.read(path))
