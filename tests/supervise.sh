@@ -16,7 +16,7 @@ here=${0%/*}
 [ "$1" != stubborn ] || trap '' TERM
 ps -o sid= -o pgid= -p $$ >>"$here/begun"
 [ "$1" != apart ] || exec timeout 300 sleep 300
-while [ ! -e "$here/go" ]; do sleep 0.1; done
+while [ -d "$here" ] && [ ! -e "$here/go" ]; do sleep 0.1; done
 SH
 chmod +x "$work/step"
 printf '{"all":{"hosts":{"a":null,"b":null,"c":null}}}' >"$work/three.json"
@@ -324,7 +324,7 @@ fi
 cat >"$work/at_terminal" <<'SH'
 trap : INT
 sh "$HERE/noting"
-while [ ! -e "$HERE/seen" ]; do sleep 0.1; done
+while [ -d "$HERE" ] && [ ! -e "$HERE/seen" ]; do sleep 0.1; done
 SH
 cat >"$work/noting" <<'SH'
 trap : HUP INT
