@@ -1,5 +1,0 @@
-pub mod Splits
-pub mod Words
-pub mod Patterns
-pub mod Parts
-pub mod Laws
