@@ -470,9 +470,9 @@ fi
 # ---- texts that are asked for, and bad lines
 
 run --version
-check 'the version' 0 "rollout 0.1.0$newline" ''
+check 'the version' 0 "rollout 0.2.0$newline" ''
 run -V
-check 'the version by its letter' 0 "rollout 0.1.0$newline" ''
+check 'the version by its letter' 0 "rollout 0.2.0$newline" ''
 
 help='Updates a fleet batch by batch, with no group losing more hosts at once than it may
 
