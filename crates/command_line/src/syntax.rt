@@ -43,7 +43,7 @@ fn rollout<'a>(alloc: Global) -> Result<Command<'a>, AllocError>
 {
     Command::new(alloc, "rollout")
         .bin_name("rollout")?
-        .version("0.1.0")
+        .version("0.2.0")
         .about(
             "Updates a fleet batch by batch, with no group losing more hosts at once than it may",
         )
