@@ -1,6 +1,8 @@
 #!/bin/sh
 # Runs under bin/rollout-supervise: what it passes on, and what real signals to it do, in a pipe under each shell that is here, as the first process of a container, and at a terminal, which is
 # tmux's, or that of `script` if there is no tmux (TERMINAL=script chooses it).
+# Whoever starts this may ignore signals, and no shell can trap one that was ignored when it started.
+[ -n "${SIGNALS:-}" ] || exec env --default-signal=HUP,INT,QUIT,TERM SIGNALS=default sh "$0" "$@"
 . "$(dirname "$0")/common.sh"
 case $rollout in /*) ;; *) rollout=$top/$rollout ;; esac
 supervise=$top/bin/rollout-supervise
