@@ -1,4 +1,4 @@
-# Completes the words of rollout in fish: commands, options and their values, the numbers of faults, the kinds of notes, files, those of JSON first, and the names of an inventory that stands before
+# Completes the words of rollout in fish: commands, options and their values, the numbers of faults, the lint rules, files, those of JSON first, and the names of an inventory that stands before
 # the cursor, for which it needs grep and awk.
 # `make install` puts it into share/fish/vendor_completions.d, where fish finds it if that share is its own or stands in XDG_DATA_DIRS; without that:
 # source completions/rollout.fish
@@ -25,7 +25,7 @@ function __rollout_files
             printf '%s\n' $word
         else if test $word = --
             set ends 1
-        else if test $words[2] = run; and contains -- $word --forks --stop-file --journal --resume --mended
+        else if test $words[2] = run; and contains -- $word --forks --stop-file --journal --lock-file --resume --mended
             set wants 1
         else if test $words[2] = plan; and contains -- $word --failing --color --picture --expect --from --mended
             set wants 1
@@ -70,9 +70,9 @@ function __rollout_hosts
         }')
 end
 
-# The kinds of notes of lint.
-function __rollout_kinds
-    string split ' ' 'repeated-key zero-limit empty-limit loose-limit empty-group group-down near-key value-hole case-hosts group-host no-hosts down-hosts full-group unlimited-hosts idle-serial one-failure local-play unknown-name missing-name missing-result unknown-group unknown-host false-text unlike-variable whole-result text-hole idle-step idle-state constant-condition unlike-values clashing-values shell-word blank-program lost-quotes local-step fixed-target long-word dash-name idle-notify idle-handler'
+# The rules of lint.
+function __rollout_rules
+    string split ' ' 'repeated-key near-key group-down zero-limit empty-limit loose-limit unfilled-placeholder no-hosts unlimited-hosts local-command undefined-name unknown-group idle-step idle-handler changed-guard shell-word dash-name long-word down-hosts one-failure'
 end
 
 # The numbers of faults, with their names.
@@ -127,7 +127,8 @@ complete -c rollout -n '__rollout_of run' -l journal -r -F -d 'Keeps in this new
 complete -c rollout -n '__rollout_of run' -l resume -r -F -d 'Goes on with the run of this journal, which broke off, and keeps it there'
 complete -c rollout -n '__rollout_of run' -l mended -x -a '(__rollout_hosts)' -d 'These hosts and groups, parted by commas, are up by now, though the inventory or the journal has them as down'
 complete -c rollout -n '__rollout_of run' -l changed-inputs -d 'Beside --resume the inputs may be others than those with which the run began'
-complete -c rollout -n '__rollout_of run' -l lock -d "Holds the lock of the inventory's file, as --journal does: a second such run is refused meanwhile"
+complete -c rollout -n '__rollout_of run' -l lock-file -r -F -d 'Lock this file, made if missing, instead of the inventory, to keep a second run out'
+complete -c rollout -n '__rollout_of run' -l no-lock -d "Lock nothing: another run of the inventory isn't kept out"
 complete -c rollout -n '__rollout_of run' -l strict -d 'Runs nothing where a step may look for a name that has no value on a host'
 complete -c rollout -n '__rollout_of run' -l json -d 'Prints it, and a fault, as JSON'
 complete -c rollout -n '__rollout_of run' -s h -l help -d 'Print help'
@@ -145,11 +146,11 @@ complete -c rollout -n '__rollout_of state' -s h -l help -d 'Print help'
 
 complete -c rollout -n '__rollout_of check' -s h -l help -d 'Print help'
 
-complete -c rollout -n '__rollout_of lint' -l allow -x -a "(__rollout_names (__rollout_kinds))" -d 'These kinds of notes, parted by commas, are not told'
+complete -c rollout -n '__rollout_of lint' -l allow -x -a "(__rollout_names (__rollout_rules))" -d 'These kinds of notes, parted by commas, are not told'
 complete -c rollout -n '__rollout_of lint' -s h -l help -d 'Print help'
 
 complete -c rollout -n '__rollout_of explain' -s h -l help -d 'Print help'
-complete -c rollout -n '__rollout_lacks 1 explain' -k -a '(__rollout_faults; __rollout_kinds)'
+complete -c rollout -n '__rollout_lacks 1 explain' -k -a '(__rollout_faults; __rollout_rules)'
 
 complete -c rollout -n '__rollout_lacks 2 plan run rehearse check lint' -k -a '(__fish_complete_suffix .json)'
 complete -c rollout -n '__rollout_lacks 1 state' -k -a '(__fish_complete_suffix .json)'

@@ -576,7 +576,8 @@ Options:
       --resume <JOURNAL>  Goes on with the run of this journal, which broke off, and keeps it there
       --mended <HOSTS>    These hosts and groups, parted by commas, are up by now, though the inventory or the journal has them as down
       --changed-inputs    Beside --resume the inputs may be others than those with which the run began
-      --lock              Holds the lock of the inventory'\''s file, as --journal does: a second such run is refused meanwhile
+      --lock-file <FILE>  Lock this file, made if missing, instead of the inventory, to keep a second run out
+      --no-lock           Lock nothing: another run of the inventory isn'\''t kept out
       --strict            Runs nothing where a step may look for a name that has no value on a host
       --json              Prints it, and a fault, as JSON
   -h, --help              Print help
@@ -793,7 +794,8 @@ read_by 'run --stop-file --journal a b' a
 read_by 'run --journal --resume a b' a
 read_by 'run --resume --journal a b' a
 read_by 'run --mended --changed-inputs a b' a
-read_by 'run --lock --stop-file --lock a --lock b' a
+read_by 'run --no-lock --stop-file --no-lock a --no-lock b' a
+read_by 'run --lock-file --no-lock a --lock-file=c b' a
 read_by 'run --resume --resume --mended --mended a b --changed-inputs --' a
 read_by 'plan --failing --course --course a b' a
 read_by 'plan --picture --failing a b' a
@@ -810,7 +812,7 @@ read_by 'limits --expect hosts=1 --expect=limited=1 a' a
 read_by 'plan --words a --color never b --words' a
 read_by 'plan a --expect batches=1 b' a
 read_by 'check a b c' a
-read_by 'run --strict a b --lock --strict' a
+read_by 'run --strict a b --no-lock --strict' a
 read_by 'check -- --words b c' --words
 read_by 'state --changed-inputs --changed-inputs a b' a
 read_by 'state -- --changed-inputs b' --changed-inputs
@@ -827,8 +829,8 @@ for words in 'limits -v a --verbose' 'plan --words a --color never b --words -v'
     helped "$words"
 done
 bad 'run --journal --resume c a b' 'rollout run [OPTIONS] <INV> <PLAY>' "unexpected argument 'b' found"
-bad 'run a b --lock=1' 'rollout run --lock <INV> <PLAY>' "unexpected value '1' for '--lock' found; no more were expected"
-bad 'run -- a b --lock' 'rollout run [OPTIONS] <INV> <PLAY>' "unexpected argument '--lock' found"
+bad 'run a b --no-lock=1' 'rollout run --no-lock <INV> <PLAY>' "unexpected value '1' for '--no-lock' found; no more were expected"
+bad 'run -- a b --no-lock' 'rollout run [OPTIONS] <INV> <PLAY>' "unexpected argument '--no-lock' found"
 bad 'limits -- a --from c' 'rollout limits [OPTIONS] <INV>' "unexpected argument '--from' found"
 bad 'rehearse -- a b --from c' 'rollout rehearse [OPTIONS] <INV> <PLAY>' "unexpected argument '--from' found"
 bad 'state -- a b --changed-inputs' 'rollout state [OPTIONS] <INV> <JOURNAL>' "unexpected argument '--changed-inputs' found"

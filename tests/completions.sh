@@ -80,11 +80,11 @@ fish | rollout run --forks=6<Tab> | /--forks=6/--forks=60/--forks=61/--forks=62/
 all | rollout explain 20<Tab> | /201/202/203/204/205
 all | rollout explain 8<Tab> | rollout explain 822 _
 all | rollout explain 301 3<Tab> | rollout explain 301 3_
-all | rollout explain un<Tab> | /unknown-group/unknown-host/unknown-name/unlike-values/unlike-variable/unlimited-hosts
-all | rollout explain unknown-n<Tab> | rollout explain unknown-name _
-all | rollout explain idle-<Tab> | /idle-handler/idle-notify/idle-serial/idle-state/idle-step
-all | rollout explain missing-<Tab> | /missing-name/missing-result
-all | rollout explain idle-serial z<Tab> | rollout explain idle-serial z_
+all | rollout explain un<Tab> | /undefined-name/unfilled-placeholder/unknown-group/unlimited-hosts
+all | rollout explain unk<Tab> | rollout explain unknown-group _
+all | rollout explain idle-<Tab> | /idle-handler/idle-step
+all | rollout explain lo<Tab> | /local-command/long-word/loose-limit
+all | rollout explain idle-step z<Tab> | rollout explain idle-step z_
 all | rollout explain qx<Tab> | rollout explain qx_
 all | rollout lint --allow no-h<Tab> i<Tab> | rollout lint --allow no-hosts inv.json _
 all | rollout lint --allow loo<Tab> i<Tab> | rollout lint --allow loose-limit inv.json _

@@ -65,9 +65,9 @@ whose='LOST|rollout: |missing'
 changed 'a higher limit' fleet.json '/"db": {/{n;s/1 }/2 }/}' 'rollout: 907 Unexpected name=db expected=1 found=2
 LOST: the limits: status 1'
 changed 'a variable that a row has by another name' fleet.json 's/"balancer": "lb2/"balencer": "lb2/' \
-    'missing-name at=0/tasks/0 name=balancer hosts=15 of=38 host=web16
-missing-name at=0/tasks/1 name=balancer hosts=15 of=38 host=web16
-missing-name at=0/handlers/3 name=balancer hosts=15 of=38 host=web16
+    'undefined-name at=0/tasks/0 name=balancer hosts=15 of=38 host=web16
+undefined-name at=0/tasks/1 name=balancer hosts=15 of=38 host=web16
+undefined-name at=0/handlers/3 name=balancer hosts=15 of=38 host=web16
 LOST: something is probably not meant'
 # Of 38 hosts two at once are 19 batches, and one of two is more than 25 %.
 changed 'a smaller first batch' roll.json 's/"10%"/"5%"/' 'rollout: 907 Unexpected name=batches most=10 found=19

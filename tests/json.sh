@@ -239,7 +239,7 @@ if "$rollout" help run | grep -q -e --strict; then
 fi
 refused 'nobody is mended by that name' '"number":304,"kind":"NoSuchName","name":"b"' run --json "$inventory" "$playbook" --mended b
 if command -v flock >/dev/null; then
-    flock "$inventory" "$rollout" run --json --lock "$inventory" "$playbook" >"$work/out" 2>"$work/errors"
+    flock "$inventory" "$rollout" run --json "$inventory" "$playbook" >"$work/out" 2>"$work/errors"
     status=$?
     check 'another run holds the inventory' 1 '' '{"fault":{"number":918,"kind":"Locked"}}'"$newline"
 fi
@@ -255,7 +255,7 @@ broken_off() {
     fault=$2
     shift 2
     run run --json "$inventory" "$playbook" "$@"
-    check "$what" 1 "{\"plays\":[{\"play\":1,\"boundaries\":[{\"answer\":{\"batches\":1,\"bound\":{\"kind\":\"one-host\"}},\"held\":[],\"open\":null}],\"hosts\":[$(host a 0 0 0 0 0 waiting)],\"end\":{\"kind\":\"fault\"}}]}$newline" "{\"fault\":{$fault}}$newline"
+    check "$what" 6 "{\"plays\":[{\"play\":1,\"boundaries\":[{\"answer\":{\"batches\":1,\"bound\":{\"kind\":\"one-host\"}},\"held\":[],\"open\":null}],\"hosts\":[$(host a 0 0 0 0 0 waiting)],\"end\":{\"kind\":\"fault\"}}]}$newline" "{\"fault\":{$fault}}$newline"
     fits "$what" recap "$work/out"
     fits "$what" fault "$work/errors"
 }

@@ -189,7 +189,7 @@ resume_refused() {
 broken_off() {
     case $status,$(cat "$work/errors") in
     '5,rollout: memory') true ;;
-    "1,rollout: 911 JournalWrite") [ -e kept ] || [ ! -s out ] ;;
+    "6,rollout: 911 JournalWrite") [ -e kept ] || [ ! -s out ] ;;
     *) false ;;
     esac
 }
@@ -245,7 +245,7 @@ printf 'batch 1: b x\n' >"$work/plan.txt"
 each_refused check "$work/racks.json" "$work/held.json" "$work/plan.txt"
 each_refused lint "$work/racks.json"
 each_refused lint "$work/racks.json" "$work/held.json"
-each_refused lint "$work/racks.json" "$work/held.json" --allow 'missing-name,down-hosts'
+each_refused lint "$work/racks.json" "$work/held.json" --allow 'undefined-name,down-hosts'
 printf '[{"hosts":["eu","r1:d"],"tasks":[{"command":"echo {{ v }}","when":"v is defined","notify":"h"},{"command":"make it","register":"r"},{"command":"echo {{ r.stdout }}{{ n }}"}],"handlers":[{"name":"h","command":"true"}]},{"hosts":"d","tasks":[{"command":"true","when":"r is changed"}]}]' >"$work/worded.json"
 fronts=yes
 each_refused plan "$work/racks.json" "$work/worded.json" --words
@@ -281,7 +281,7 @@ run_refused "$work/few.json" "$work/twice.json" --forks 1
 printf '[{"hosts":"all","on_blocked":"hold","tasks":[{"command":{"argv":["sh","-c","echo + $0 0 1 >>notes; test $0 = d; code=$?; echo - $0 0 1 $code >>notes; exit $code","{{ inventory_hostname }}"]}}]}]' >"$work/holding.json"
 run_refused "$work/racks.json" "$work/holding.json" --forks 2
 run_refused "$work/racks.json" "$work/holding.json" --forks 2 --journal kept
-run_refused "$work/racks.json" "$work/holding.json" --forks 2 --journal kept --mended e --lock
+run_refused "$work/racks.json" "$work/holding.json" --forks 2 --journal kept --mended e --lock-file held
 # It broke off in a line of its journal, while a batch was open.
 printf '{"eu":{"vars":{"max_down":2},"children":{"r1":{"vars":{"max_down":1},"hosts":{"a":null,"b":null}},"r2":{"hosts":{"d":null,"e":null}}}}}' >"$work/even.json"
 printf '[{"hosts":"all","serial":1,"tasks":[{"command":{"argv":["sh","-c","echo + $0 0 1 >>notes","{{ inventory_hostname }}"]}}]}]' >"$work/each.json"

@@ -352,7 +352,7 @@ check 'no journal' 1 '' "rollout: 902 File name=journal$newline"
 written one HEAD
 ln -s journal link
 run run inventory one --resume link
-check 'a link' 1 '' "rollout: 911 JournalWrite$newline"
+check 'a link' 6 '' "rollout: 911 JournalWrite$newline"
 [ ! -e ran ] && pass || fail 'a link is gone on with'
 # A pipe waits for its writer, and can't be added to.
 mkfifo pipe
@@ -361,7 +361,7 @@ timeout 1 "$rollout" run inventory one --resume pipe >out 2>errors
 cat journal >pipe &
 run run inventory one --resume pipe
 wait
-check 'a pipe' 1 '' "rollout: 911 JournalWrite$newline"
+check 'a pipe' 6 '' "rollout: 911 JournalWrite$newline"
 [ ! -e ran ] && pass || fail 'a pipe is gone on with'
 
 # held FILE: goes on while somebody else holds the lock of a file

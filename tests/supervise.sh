@@ -168,7 +168,7 @@ one_signal() {
     send "$1"
     comes says "rollout-supervise: $1: "
     touch "$work/go"
-    ends "one $1" 1 "$stopped" "rollout-supervise: $1: $stops${newline}rollout: 917 Stopped$newline"
+    ends "one $1" 6 "$stopped" "rollout-supervise: $1: $stops${newline}rollout: 917 Stopped$newline"
     gone "one $1"
 }
 # two_signals NAME NAME STATUS [PLAY]: all programs end at once, and what is told says how to resume
@@ -226,7 +226,7 @@ send HUP
 comes says "HUP: $stops"
 send HUP
 touch "$work/go"
-ends 'HUP twice' 1 "$stopped" "rollout-supervise: HUP: $stops${newline}rollout: 917 Stopped$newline"
+ends 'HUP twice' 6 "$stopped" "rollout-supervise: HUP: $stops${newline}rollout: 917 Stopped$newline"
 
 # Where the script itself is killed after a signal, the stop file stays: the run ends after its batch all the same.
 start run "$work/three.json" "$work/play.json"
@@ -245,7 +245,7 @@ for word in --stop-file "--stop-file=$work/a stop"; do
     send TERM
     comes says TERM:
     touch "$work/go"
-    ends "the stop file of $word" 1 "$stopped" "rollout-supervise: TERM: $stops; remove $work/a stop before the next run${newline}rollout: 917 Stopped$newline"
+    ends "the stop file of $word" 6 "$stopped" "rollout-supervise: TERM: $stops; remove $work/a stop before the next run${newline}rollout: 917 Stopped$newline"
     [ -f "$work/a stop" ] && [ ! -s "$work/a stop" ] && pass || fail "$word: the stop file is not there"
     rm -f "$work/a stop"
 done
@@ -265,13 +265,13 @@ cp "$work/three.json" "$odd/-i.json"
 plays "$odd/p l.json" plain
 (
     cd "$odd" || exit 1
-    start run --journal "$odd/the journal" --lock --forks 2 -- -i.json "$odd/p l.json"
+    start run --journal "$odd/the journal" --no-lock --forks 2 -- -i.json "$odd/p l.json"
     send QUIT
     comes has_ended
     sed '1,/^rollout-supervise: repair /d; s/ --mended HOSTS / --mended a /' "$work/errors" >"$work/resume"
     touch "$work/go"
     PATH=$work/bin:$PATH sh "$work/resume" >"$work/out" 2>"$work/errors" </dev/null
-    grep -q -- ' --lock --forks 2 -- -i.json ' "$work/resume" && [ "$(tail -n 1 "$work/out")" = 'end finished' ]
+    grep -q -- ' --no-lock --forks 2 -- -i.json ' "$work/resume" && [ "$(tail -n 1 "$work/out")" = 'end finished' ]
 ) && pass || fail "the line that resumes: $(cat "$work/resume" "$work/errors")"
 
 # Nobody reads what it says: it goes on all the same.

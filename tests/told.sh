@@ -279,7 +279,7 @@ quiet 'blocked' 3 '' "$work/full.json" "$work/true.json"
 quiet 'all of a batch failed' 4 '' "$work/five.json" "$work/by-one.json"
 quiet 'too many failed' 4 '' "$work/five.json" "$work/no-failure.json"
 quiet 'a name without a value' 4 '' "$work/one.json" "$work/gone.json"
-quiet 'stopped' 1 "rollout: 917 Stopped$newline" "$work/one.json" "$work/true.json" --stop-file /dev/null
+quiet 'stopped' 6 "rollout: 917 Stopped$newline" "$work/one.json" "$work/true.json" --stop-file /dev/null
 run run "$work/one.json" "$work/none.json"
 check 'no such playbook' 1 '' "rollout: 902 File name=$work/none.json$newline"
 run run -v "$work/one.json" "$work/none.json"

@@ -80,7 +80,7 @@ def to_the_end(roll):
     """Goes on at once, and then with all that are down, until everybody is updated; where no line of the journal was left, nothing has begun."""
     if not journal.bodies_of(roll.kept()):
         status, errors = roll.ended("--resume", roll.journal)
-        return [status != 1 and f"no journal, and status {status}", roll.noted() and "no journal, and programs began"]
+        return [status != 6 and f"no journal, and status {status}", roll.noted() and "no journal, and programs began"]
     wrongs = go_on(roll)
     for _ in range(3):
         roll.settle()
@@ -99,7 +99,7 @@ def broken_off(roll, kind, *how):
     if kind == "call":
         at, does, power = how
         status, errors = roll.ended("--journal", roll.journal, **roll.disk(at, does))
-        wanted = ((1,), b"rollout: 911 JournalWrite\n") if does in ("fail", "full") else ((-9,), b"")
+        wanted = ((6,), b"rollout: 911 JournalWrite\n") if does in ("fail", "full") else ((-9,), b"")
         wrongs = [status not in wanted[0] and f"status {status}", not errors.startswith(wanted[1]) and f"{errors}"]
         if power is not None:
             roll.settle()

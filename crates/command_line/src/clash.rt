@@ -58,7 +58,7 @@ impl Clash {
             }
             Clash::NoColor => "error: --color has the values auto, always and never\n",
             Clash::NoEntry => {
-                "error: explain goes with the number of a fault, as 302, or a kind of notes: repeated-key, zero-limit, empty-limit, loose-limit, empty-group, group-down, near-key, value-hole, case-hosts, group-host, no-hosts, down-hosts, full-group, unlimited-hosts, idle-serial, one-failure, local-play, unknown-name, missing-name, missing-result, unknown-group, unknown-host, false-text, unlike-variable, whole-result, text-hole, idle-step, idle-state, constant-condition, unlike-values, clashing-values, shell-word, blank-program, lost-quotes, local-step, fixed-target, long-word, dash-name, idle-notify, idle-handler\n"
+                "error: explain goes with the number of a fault, as 302, or a kind of notes: repeated-key, near-key, group-down, zero-limit, empty-limit, loose-limit, unfilled-placeholder, no-hosts, unlimited-hosts, local-command, undefined-name, unknown-group, idle-step, idle-handler, changed-guard, shell-word, dash-name, long-word, down-hosts, one-failure\n"
             }
         }
     }

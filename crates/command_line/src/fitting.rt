@@ -19,7 +19,8 @@ pub(crate) const OF_RUN: &[OptionName] = &[
     OptionName::Resume,
     OptionName::Mended,
     OptionName::ChangedInputs,
-    OptionName::Lock,
+    OptionName::LockFile,
+    OptionName::NoLock,
     OptionName::Strict,
     OptionName::Json,
 ];

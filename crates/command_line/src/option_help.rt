@@ -48,9 +48,10 @@ impl OptionName {
             OptionName::Strict => {
                 "Runs nothing where a step may look for a name that has no value on a host"
             }
-            OptionName::Lock => {
-                "Holds the lock of the inventory's file, as --journal does: a second such run is refused meanwhile"
+            OptionName::LockFile => {
+                "Lock this file, made if missing, instead of the inventory, to keep a second run out"
             }
+            OptionName::NoLock => "Lock nothing: another run of the inventory isn't kept out",
             other => other.help_of_others(),
         }
     }

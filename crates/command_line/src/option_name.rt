@@ -18,8 +18,9 @@ pub(crate) enum OptionName {
     Groups,
     Journal,
     Json,
-    Lock,
+    LockFile,
     Mended,
+    NoLock,
     Picture,
     Quiet,
     Resume,
@@ -45,8 +46,9 @@ impl OptionName {
             OptionName::Groups => "--groups",
             OptionName::Journal => "--journal",
             OptionName::Json => "--json",
-            OptionName::Lock => "--lock",
+            OptionName::LockFile => "--lock-file",
             OptionName::Mended => "--mended",
+            OptionName::NoLock => "--no-lock",
             OptionName::Picture => "--picture",
             OptionName::Quiet => "--quiet",
             OptionName::Resume => "--resume",
@@ -75,6 +77,7 @@ impl OptionName {
             | OptionName::Failing
             | OptionName::From
             | OptionName::Journal
+            | OptionName::LockFile
             | OptionName::Mended
             | OptionName::Picture
             | OptionName::Resume
@@ -83,7 +86,7 @@ impl OptionName {
             | OptionName::Course
             | OptionName::Groups
             | OptionName::Json
-            | OptionName::Lock
+            | OptionName::NoLock
             | OptionName::Quiet
             | OptionName::Strict
             | OptionName::Verbose
