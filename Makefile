@@ -35,7 +35,7 @@ pages:
 drifts:
 	@python3 tests/house/drifts.py
 
-# The program without proofs, in a minute and a half, for a look at it.
+# The program without proofs, in some four minutes, for a look at it.
 look:
 	@python3 tests/look.py
 

@@ -1,4 +1,4 @@
-# Completes the words of rollout in bash: commands, options and their values, the numbers of faults, the kinds of notes, files, and the names of an inventory that stands before the cursor. It
+# Completes the words of rollout in bash: commands, options and their values, the numbers of faults, the lint rules, files, and the names of an inventory that stands before the cursor. It
 # needs bash 4.4 or a later one, and for names grep and awk.
 # `make install` puts it where bash-completion finds it; without that: source completions/rollout.bash
 
@@ -103,7 +103,7 @@ _rollout_files() {
 
 _rollout() {
     local words kept redirects current command options most files=0 inventory='' ends='' wants='' option='' i
-    local kinds='repeated-key zero-limit empty-limit loose-limit empty-group group-down near-key value-hole case-hosts group-host no-hosts down-hosts full-group unlimited-hosts idle-serial one-failure local-play unknown-name missing-name missing-result unknown-group unknown-host false-text unlike-variable whole-result text-hole idle-step idle-state constant-condition unlike-values clashing-values shell-word blank-program lost-quotes local-step fixed-target long-word dash-name idle-notify idle-handler'
+    local rules='repeated-key near-key group-down zero-limit empty-limit loose-limit unfilled-placeholder no-hosts unlimited-hosts local-command undefined-name unknown-group idle-step idle-handler changed-guard shell-word dash-name long-word down-hosts one-failure'
     local IFS=$' \t\n'
     COMPREPLY=()
     _rollout_words
@@ -121,10 +121,10 @@ _rollout() {
     fi
     command=${words[1]}
     case $command in
-    limits) most=1 options=(--expect --from --mended --changed-inputs --json -v --verbose -h --help) ;;
-    plan) most=2 options=(--course --failing --groups --color --picture --words --expect --from --mended --changed-inputs --json -v --verbose -h --help) ;;
-    run) most=2 options=(--forks -v --verbose --quiet --stop-file --journal --resume --mended --changed-inputs --lock --strict --json -h --help) ;;
-    rehearse) most=2 options=(--strict --from --mended --changed-inputs --json -v --verbose -h --help) ;;
+    limits) most=1 options=(--expect --from --up --changed-inputs --json -v --verbose -h --help) ;;
+    plan) most=2 options=(--course --failing --groups --color --picture --words --expect --from --up --changed-inputs --json -v --verbose -h --help) ;;
+    run) most=2 options=(--forks -v --verbose --quiet --stop-file --journal --resume --up --changed-inputs --lock-file --no-lock --strict --json -h --help) ;;
+    rehearse) most=2 options=(--strict --from --up --changed-inputs --json -v --verbose -h --help) ;;
     state) most=2 options=(--changed-inputs -h --help) ;;
     check) most=3 options=(-h --help) ;;
     lint) most=2 options=(--allow -h --help) ;;
@@ -144,12 +144,12 @@ _rollout() {
             [[ $files -gt 1 ]] || inventory=${words[i]}
         elif [[ ${words[i]} == -- ]]; then
             ends=yes
-        elif [[ " ${options[*]} " == *" ${words[i]} "* && ${words[i]} == --@(forks|stop-file|journal|resume|mended|failing|color|picture|expect|allow|from) ]]; then
+        elif [[ " ${options[*]} " == *" ${words[i]} "* && ${words[i]} == --@(forks|stop-file|journal|lock-file|resume|up|failing|color|picture|expect|allow|from) ]]; then
             wants=${words[i]}
         fi
     done
     # The value may stand in the word of its option.
-    if [[ -z $ends$wants && " ${options[*]} " == *" ${current%%=*} "* && $current == --@(forks|stop-file|journal|resume|mended|failing|color|picture|expect|allow|from)=* ]]; then
+    if [[ -z $ends$wants && " ${options[*]} " == *" ${current%%=*} "* && $current == --@(forks|stop-file|journal|lock-file|resume|up|failing|color|picture|expect|allow|from)=* ]]; then
         wants=${current%%=*}
         option=$wants=
         current=${current#*=}
@@ -159,13 +159,13 @@ _rollout() {
         compopt -o nosort 2>/dev/null
         _rollout_offer {1..64}
         ;;
-    --stop-file | --journal | --resume | --from) _rollout_files ;;
+    --stop-file | --journal | --lock-file | --resume | --from) _rollout_files ;;
     --picture) _rollout_files '*.svg' ;;
     --color) _rollout_offer always never auto ;;
     --allow)
-        _rollout_list $kinds
+        _rollout_list $rules
         ;;
-    --failing | --mended)
+    --failing | --up)
         [[ $files -eq 0 ]] || _rollout_list $(_rollout_hosts "$inventory")
         ;;
     --expect) ;;
@@ -175,7 +175,7 @@ _rollout() {
         elif [[ $command == check && $files -eq 2 || $command == state && $files -eq 1 ]]; then
             _rollout_files
         elif [[ $command == explain ]]; then
-            [[ $files -gt 0 ]] || _rollout_offer 101 102 103 104 201 202 203 204 205 301 302 303 304 501 502 503 504 602 701 702 703 704 705 706 707 708 709 822 901 902 903 904 906 907 908 909 910 911 912 913 914 915 916 917 918 $kinds
+            [[ $files -gt 0 ]] || _rollout_offer 101 102 103 104 201 202 203 204 205 301 302 303 304 501 502 503 504 602 701 702 703 704 705 706 707 708 709 822 901 902 903 904 906 907 908 909 910 911 912 913 914 915 916 917 918 919 $rules
         elif [[ $files -lt $most ]]; then
             _rollout_files '*.json'
         fi

@@ -1,4 +1,4 @@
-# Completes the words of rollout in fish: commands, options and their values, the numbers of faults, the kinds of notes, files, those of JSON first, and the names of an inventory that stands before
+# Completes the words of rollout in fish: commands, options and their values, the numbers of faults, the lint rules, files, those of JSON first, and the names of an inventory that stands before
 # the cursor, for which it needs grep and awk.
 # `make install` puts it into share/fish/vendor_completions.d, where fish finds it if that share is its own or stands in XDG_DATA_DIRS; without that:
 # source completions/rollout.fish
@@ -25,15 +25,15 @@ function __rollout_files
             printf '%s\n' $word
         else if test $word = --
             set ends 1
-        else if test $words[2] = run; and contains -- $word --forks --stop-file --journal --resume --mended
+        else if test $words[2] = run; and contains -- $word --forks --stop-file --journal --lock-file --resume --up
             set wants 1
-        else if test $words[2] = plan; and contains -- $word --failing --color --picture --expect --from --mended
+        else if test $words[2] = plan; and contains -- $word --failing --color --picture --expect --from --up
             set wants 1
-        else if test $words[2] = limits; and contains -- $word --expect --from --mended
+        else if test $words[2] = limits; and contains -- $word --expect --from --up
             set wants 1
         else if test $words[2] = lint; and test $word = --allow
             set wants 1
-        else if test $words[2] = rehearse; and contains -- $word --from --mended
+        else if test $words[2] = rehearse; and contains -- $word --from --up
             set wants 1
         end
     end
@@ -70,9 +70,9 @@ function __rollout_hosts
         }')
 end
 
-# The kinds of notes of lint.
-function __rollout_kinds
-    string split ' ' 'repeated-key zero-limit empty-limit loose-limit empty-group group-down near-key value-hole case-hosts group-host no-hosts down-hosts full-group unlimited-hosts idle-serial one-failure local-play unknown-name missing-name missing-result unknown-group unknown-host false-text unlike-variable whole-result text-hole idle-step idle-state constant-condition unlike-values clashing-values shell-word blank-program lost-quotes local-step fixed-target long-word dash-name idle-notify idle-handler'
+# The rules of lint.
+function __rollout_rules
+    string split ' ' 'repeated-key near-key group-down zero-limit empty-limit loose-limit unfilled-placeholder no-hosts unlimited-hosts local-command undefined-name unknown-group idle-step idle-handler changed-guard shell-word dash-name long-word down-hosts one-failure'
 end
 
 # The numbers of faults, with their names.
@@ -80,7 +80,7 @@ function __rollout_faults
     string replace : \t 101:BadName 102:TwicePlaced 103:TooDeep 104:TooMany 201:NotJson 202:BadShape 203:UnknownKey 204:BadLimit 205:BadDown 301:NotNested 302:StartOver \
         303:TooManyHosts 304:NoSuchName 501:BadToken 502:Unexpected 503:TooDeep 504:TooLong 602:BadBraces 701:NotJson 702:BadShape 703:UnknownKey 704:NoSuchHandler \
         705:TwiceHandler 706:BadSerial 707:BadPercent 708:ManyPlays 709:TooManySteps 822:Mixed 901:BadLine 902:File 903:InputTooLarge 904:Write 906:LongLine 907:Unexpected \
-        908:BadPlan 909:BadList 910:JournalThere 911:JournalWrite 912:BadJournal 913:OtherInputs 914:NeedsResult 915:NoValue 916:ChildrenIgnored 917:Stopped 918:Locked
+        908:BadPlan 909:BadList 910:JournalThere 911:JournalWrite 912:BadJournal 913:OtherInputs 914:NeedsResult 915:NoValue 916:ChildrenIgnored 917:Stopped 918:Locked 919:OutputIsInput
 end
 
 complete -c rollout -f
@@ -98,7 +98,7 @@ complete -c rollout -n __rollout_of -a help -d 'Prints the help of the program, 
 
 complete -c rollout -n '__rollout_of limits' -l expect -x -d "Ends with status 1 where a number isn't as this list says: NAME=NUMBER or NAME<=NUMBER, parted by commas"
 complete -c rollout -n '__rollout_of limits' -l from -r -F -d 'Begins where the run of this journal stands, as --resume would have it go on'
-complete -c rollout -n '__rollout_of limits' -l mended -x -a '(__rollout_hosts)' -d 'Beside --from these hosts and groups, parted by commas, are up by now'
+complete -c rollout -n '__rollout_of limits' -l up -x -a '(__rollout_hosts)' -d 'Beside --from these hosts and groups, parted by commas, are up by now'
 complete -c rollout -n '__rollout_of limits' -l changed-inputs -d 'The inputs may be others than those with which the run of the journal began'
 complete -c rollout -n '__rollout_of limits' -l json -d 'Prints it, and a fault, as JSON'
 complete -c rollout -n '__rollout_of limits' -s v -l verbose -d 'Tells more on standard error: which hosts are left out, and behind a refusal what was expected'
@@ -113,7 +113,7 @@ complete -c rollout -n '__rollout_of plan' -l picture -r -F -d 'Writes the cours
 complete -c rollout -n '__rollout_of plan' -l words -d 'Prints in its place which words each step would run on which host'
 complete -c rollout -n '__rollout_of plan' -l expect -x -d "Ends with status 1 where a number isn't as this list says: NAME=NUMBER or NAME<=NUMBER, parted by commas"
 complete -c rollout -n '__rollout_of plan' -l from -r -F -d 'Begins where the run of this journal stands, as --resume would have it go on'
-complete -c rollout -n '__rollout_of plan' -l mended -x -a '(__rollout_hosts)' -d 'Beside --from these hosts and groups, parted by commas, are up by now'
+complete -c rollout -n '__rollout_of plan' -l up -x -a '(__rollout_hosts)' -d 'Beside --from these hosts and groups, parted by commas, are up by now'
 complete -c rollout -n '__rollout_of plan' -l changed-inputs -d 'The inputs may be others than those with which the run of the journal began'
 complete -c rollout -n '__rollout_of plan' -l json -d 'Prints it, and a fault, as JSON'
 complete -c rollout -n '__rollout_of plan' -s v -l verbose -d 'Tells more on standard error: which hosts are left out, and behind a refusal what was expected'
@@ -125,16 +125,17 @@ complete -c rollout -n '__rollout_of run' -l quiet -d 'Tells nothing unasked, al
 complete -c rollout -n '__rollout_of run' -l stop-file -r -F -d 'Ends the run before the next batch once this file is there'
 complete -c rollout -n '__rollout_of run' -l journal -r -F -d 'Keeps in this new file what becomes of each host, before and behind each batch'
 complete -c rollout -n '__rollout_of run' -l resume -r -F -d 'Goes on with the run of this journal, which broke off, and keeps it there'
-complete -c rollout -n '__rollout_of run' -l mended -x -a '(__rollout_hosts)' -d 'These hosts and groups, parted by commas, are up by now, though the inventory or the journal has them as down'
+complete -c rollout -n '__rollout_of run' -l up -x -a '(__rollout_hosts)' -d 'These hosts and groups, parted by commas, are up by now, though the inventory or the journal has them as down'
 complete -c rollout -n '__rollout_of run' -l changed-inputs -d 'Beside --resume the inputs may be others than those with which the run began'
-complete -c rollout -n '__rollout_of run' -l lock -d "Holds the lock of the inventory's file, as --journal does: a second such run is refused meanwhile"
+complete -c rollout -n '__rollout_of run' -l lock-file -r -F -d 'Lock this file, made if missing, instead of the inventory, to keep a second run out'
+complete -c rollout -n '__rollout_of run' -l no-lock -d "Lock nothing: another run of the inventory isn't kept out"
 complete -c rollout -n '__rollout_of run' -l strict -d 'Runs nothing where a step may look for a name that has no value on a host'
 complete -c rollout -n '__rollout_of run' -l json -d 'Prints it, and a fault, as JSON'
 complete -c rollout -n '__rollout_of run' -s h -l help -d 'Print help'
 
 complete -c rollout -n '__rollout_of rehearse' -l strict -d 'Ends with status 1 where a command was refused'
 complete -c rollout -n '__rollout_of rehearse' -l from -r -F -d 'Begins where the run of this journal stands, as --resume would have it go on'
-complete -c rollout -n '__rollout_of rehearse' -l mended -x -a '(__rollout_hosts)' -d 'Beside --from these hosts and groups, parted by commas, are up by now'
+complete -c rollout -n '__rollout_of rehearse' -l up -x -a '(__rollout_hosts)' -d 'Beside --from these hosts and groups, parted by commas, are up by now'
 complete -c rollout -n '__rollout_of rehearse' -l changed-inputs -d 'The inputs may be others than those with which the run of the journal began'
 complete -c rollout -n '__rollout_of rehearse' -l json -d 'Prints it, and a fault, as JSON'
 complete -c rollout -n '__rollout_of rehearse' -s v -l verbose -d 'Tells more on standard error: which hosts are left out, and behind a refusal what was expected'
@@ -145,11 +146,11 @@ complete -c rollout -n '__rollout_of state' -s h -l help -d 'Print help'
 
 complete -c rollout -n '__rollout_of check' -s h -l help -d 'Print help'
 
-complete -c rollout -n '__rollout_of lint' -l allow -x -a "(__rollout_names (__rollout_kinds))" -d 'These kinds of notes, parted by commas, are not told'
+complete -c rollout -n '__rollout_of lint' -l allow -x -a "(__rollout_names (__rollout_rules))" -d 'These kinds of notes, parted by commas, are not told'
 complete -c rollout -n '__rollout_of lint' -s h -l help -d 'Print help'
 
 complete -c rollout -n '__rollout_of explain' -s h -l help -d 'Print help'
-complete -c rollout -n '__rollout_lacks 1 explain' -k -a '(__rollout_faults; __rollout_kinds)'
+complete -c rollout -n '__rollout_lacks 1 explain' -k -a '(__rollout_faults; __rollout_rules)'
 
 complete -c rollout -n '__rollout_lacks 2 plan run rehearse check lint' -k -a '(__fish_complete_suffix .json)'
 complete -c rollout -n '__rollout_lacks 1 state' -k -a '(__fish_complete_suffix .json)'

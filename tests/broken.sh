@@ -3,6 +3,7 @@
 # isn't tried again. What went out before a break is what would have gone out, and the fault tells how much that was. It needs a C compiler and
 # crates/rollout/out/rollout.
 . "$(dirname "$0")/common.sh"
+quietly
 
 cat >"$work/break.c" <<'C'
 #define _GNU_SOURCE
@@ -168,8 +169,8 @@ each_broken() {
     output_broken limits "$work/racks.json"
     output_broken plan "$work/racks.json" "$work/all.json"
     output_broken limits "$work/racks.json" --from "$work/journal"
-    output_broken plan "$work/racks.json" "$work/all.json" --from "$work/journal" --mended d
-    output_broken plan "$work/racks.json" "$work/all.json" --from "$work/journal" --mended all --course --failing b
+    output_broken plan "$work/racks.json" "$work/all.json" --from "$work/journal" --up d
+    output_broken plan "$work/racks.json" "$work/all.json" --from "$work/journal" --up all --course --failing b
     journal_broken "$size" limits "$work/racks.json"
     journal_broken "$((size + $(wc -c <"$work/all.json")))" plan "$work/racks.json" "$work/all.json"
     output_broken --version

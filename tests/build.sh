@@ -61,8 +61,8 @@ said=$began
 count=0
 proved=
 all=$(echo $names | wc -w)
-echo "$all crates to prove, with $(nproc) processors; what an earlier run proved on this machine is kept. Where nothing was, it takes most of an hour with four"
-echo 'processors. `make look` builds the program without proofs in a minute and a half.'
+echo "$all crates to prove, with $(nproc) processors; what an earlier run proved on this machine is kept. Where nothing was, it takes up to two hours with four"
+echo 'processors. `make look` builds the program without proofs in four minutes.'
 cd "$copy" || exit 1
 {
     while sleep 2; do echo 'a while'; done &

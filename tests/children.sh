@@ -3,6 +3,7 @@
 # program's end, at 1, 5 and 64 forks, and keeps all that the program wrote, byte by byte. And ten thousand programs that write to their last moment, of which no
 # byte is lost. It needs a C compiler and crates/rollout/out/rollout.
 . "$(dirname "$0")/common.sh"
+quietly
 . "$top/tests/programs/steps.sh"
 
 # What may pass behind the program's own time: 0.1 s until its end is seen, 0.2 s in which an end of its outputs is waited for, and the rest for a busy machine;

@@ -271,7 +271,7 @@ rolled() {
     printf '%s' "$3" >"$work/inventory.json"
     printf '%s' "$4" >"$work/playbook.json"
     for forks in 1 7; do
-        run run "$work/inventory.json" "$work/playbook.json" --forks $forks
+        run run --quiet "$work/inventory.json" "$work/playbook.json" --forks $forks
         check "$1, $forks at once" "$2" "$5$newline" ''
     done
 }
@@ -504,7 +504,8 @@ Exit status:
   3  hosts wait in a group that has no room
   4  a batch ended the run: too many of its hosts have failed, or all
   5  want of memory
-  6  by its journal a run was broken off
+  6  a run ended before its plays did: stopped, interrupted, or its journal is not written
+  7  a run goes on, by its journal
 '
 for word in --help -h help; do
     run $word
@@ -520,7 +521,7 @@ Arguments:
 Options:
       --expect <LIST>   Ends with status 1 where a number isn'\''t as this list says: NAME=NUMBER or NAME<=NUMBER, parted by commas
       --from <JOURNAL>  Begins where the run of this journal stands, as --resume would have it go on
-      --mended <HOSTS>  Beside --from these hosts and groups, parted by commas, are up by now
+      --up <HOSTS>      Beside --from these hosts and groups, parted by commas, are up by now
       --changed-inputs  The inputs may be others than those with which the run of the journal began
       --json            Prints it, and a fault, as JSON
   -v, --verbose         Tells more on standard error: which hosts are left out, and behind a refusal what was expected
@@ -548,7 +549,7 @@ Options:
       --words            Prints in its place which words each step would run on which host
       --expect <LIST>    Ends with status 1 where a number isn'\''t as this list says: NAME=NUMBER or NAME<=NUMBER, parted by commas
       --from <JOURNAL>   Begins where the run of this journal stands, as --resume would have it go on
-      --mended <HOSTS>   Beside --from these hosts and groups, parted by commas, are up by now
+      --up <HOSTS>       Beside --from these hosts and groups, parted by commas, are up by now
       --changed-inputs   The inputs may be others than those with which the run of the journal began
       --json             Prints it, and a fault, as JSON
   -v, --verbose          Tells more on standard error: which hosts are left out, and behind a refusal what was expected
@@ -574,9 +575,10 @@ Options:
       --stop-file <FILE>  Ends the run before the next batch once this file is there
       --journal <FILE>    Keeps in this new file what becomes of each host, before and behind each batch
       --resume <JOURNAL>  Goes on with the run of this journal, which broke off, and keeps it there
-      --mended <HOSTS>    These hosts and groups, parted by commas, are up by now, though the inventory or the journal has them as down
+      --up <HOSTS>        These hosts and groups, parted by commas, are up by now, though the inventory or the journal has them as down
       --changed-inputs    Beside --resume the inputs may be others than those with which the run began
-      --lock              Holds the lock of the inventory'\''s file, as --journal does: a second such run is refused meanwhile
+      --lock-file <FILE>  Lock this file, made if missing, instead of the inventory, to keep a second run out
+      --no-lock           Lock nothing: another run of the inventory isn'\''t kept out
       --strict            Runs nothing where a step may look for a name that has no value on a host
       --json              Prints it, and a fault, as JSON
   -h, --help              Print help
@@ -597,7 +599,7 @@ Arguments:
 Options:
       --strict          Ends with status 1 where a command was refused
       --from <JOURNAL>  Begins where the run of this journal stands, as --resume would have it go on
-      --mended <HOSTS>  Beside --from these hosts and groups, parted by commas, are up by now
+      --up <HOSTS>      Beside --from these hosts and groups, parted by commas, are up by now
       --changed-inputs  The inputs may be others than those with which the run of the journal began
       --json            Prints it, and a fault, as JSON
   -v, --verbose         Tells more on standard error: which hosts are left out, and behind a refusal what was expected
@@ -722,8 +724,8 @@ lacks stop-file FILE 'run a b'
 lacks journal FILE 'run a b'
 lacks resume JOURNAL 'run a b'
 lacks resume JOURNAL 'run a b --resume c'
-lacks mended HOSTS 'run a b'
-lacks mended HOSTS 'run a b --resume c'
+lacks up HOSTS 'run a b'
+lacks up HOSTS 'run a b --resume c'
 lacks failing HOSTS 'plan a b --course'
 lacks color WHEN 'plan a b'
 lacks picture FILE 'plan a b'
@@ -733,7 +735,7 @@ lacks from JOURNAL 'limits a'
 lacks expect LIST 'limits a'
 lacks expect LIST 'plan a b --expect batches=1'
 # The word behind such an option is its value, so nothing is left for the last one.
-lacks mended HOSTS 'limits a --from --mended'
+lacks up HOSTS 'limits a --from --up'
 lacks journal FILE 'run a b --resume --journal'
 
 # apart WHY WORDS: options that don't go together
@@ -741,7 +743,7 @@ apart() {
     run $2
     check "the line '$2'" 1 '' "rollout: 901 BadLine${newline}error: $1$newline"
 }
-for words in '--changed-inputs' '--mended c --changed-inputs'; do
+for words in '--changed-inputs' '--up c --changed-inputs'; do
     apart '--changed-inputs goes with --resume, with --from and with state' "run a b $words"
 done
 for words in '--resume c --journal d' '--journal d --resume c' '--journal=d --resume=c'; do
@@ -750,12 +752,12 @@ done
 for words in '--failing c' '--failing c --from d'; do
     apart '--failing goes with --course' "plan a b $words"
 done
-for words in 'plan a b --mended c' 'plan a b --course --mended c' 'rehearse a b --mended c' 'limits a --mended c'; do
-    apart '--mended goes with run, and else with --from' "$words"
+for words in 'plan a b --up c' 'plan a b --course --up c' 'rehearse a b --up c' 'limits a --up c'; do
+    apart '--up goes with run, and else with --from' "$words"
 done
 for words in 'plan a b' 'rehearse a b' 'limits a'; do
     apart '--changed-inputs goes with --resume, with --from and with state' "$words --changed-inputs"
-    apart '--changed-inputs goes with --resume, with --from and with state' "$words --mended=c --changed-inputs"
+    apart '--changed-inputs goes with --resume, with --from and with state' "$words --up=c --changed-inputs"
 done
 for words in '--from c --groups' '--from c --picture d' '--course --groups --from c' '--groups --picture d --from=c'; do
     apart "--from doesn't go with --groups and --picture" "plan a b $words"
@@ -773,14 +775,14 @@ for words in '--expect hosts=1' '--from c'; do
     apart "--json doesn't go with --groups, --picture, --from, --expect and --words" "limits a $words --json"
 done
 apart "--json doesn't go with --groups, --picture, --from, --expect and --words" 'rehearse a b --json --from c'
-for words in '--resume c' '--mended c'; do
-    apart "--strict of a run doesn't go with --resume and --mended" "run a b --strict $words"
+for words in '--resume c' '--up c'; do
+    apart "--strict of a run doesn't go with --resume and --up" "run a b --strict $words"
 done
 for words in --color= --color=red '--color Always' '--groups --color on'; do
     apart '--color has the values auto, always and never' "plan a b $words"
 done
 # Where several rules are broken, the first is told.
-apart '--failing goes with --course' 'plan a b --failing c --mended d --json --words'
+apart '--failing goes with --course' 'plan a b --failing c --up d --json --words'
 apart "--from doesn't go with --groups and --picture" 'plan a b --json --color red --from c --groups'
 
 # read_by WORDS NAME: the words are a line, by which this file is missing
@@ -792,25 +794,26 @@ read_by 'run --journal --stop-file a b' a
 read_by 'run --stop-file --journal a b' a
 read_by 'run --journal --resume a b' a
 read_by 'run --resume --journal a b' a
-read_by 'run --mended --changed-inputs a b' a
-read_by 'run --lock --stop-file --lock a --lock b' a
-read_by 'run --resume --resume --mended --mended a b --changed-inputs --' a
+read_by 'run --up --changed-inputs a b' a
+read_by 'run --no-lock --stop-file --no-lock a --no-lock b' a
+read_by "run --lock-file --no-lock a --lock-file=$work/c b" a
+read_by 'run --resume --resume --up --up a b --changed-inputs --' a
 read_by 'plan --failing --course --course a b' a
 read_by 'plan --picture --failing a b' a
 read_by 'plan --picture --groups a b' a
 read_by 'plan a b --color=always' a
 read_by 'plan --color never --color=auto a b --color always' a
 read_by 'plan --from --groups a b' a
-read_by 'plan --from --mended --mended --from a b' a
+read_by 'plan --from --up --up --from a b' a
 read_by 'rehearse --from --strict a b --strict' a
 read_by 'limits --from --changed-inputs a' a
-read_by 'limits --from=b --mended= --changed-inputs --changed-inputs a' a
+read_by 'limits --from=b --up= --changed-inputs --changed-inputs a' a
 read_by 'limits -- --from' --from
 read_by 'limits --expect hosts=1 --expect=limited=1 a' a
 read_by 'plan --words a --color never b --words' a
 read_by 'plan a --expect batches=1 b' a
 read_by 'check a b c' a
-read_by 'run --strict a b --lock --strict' a
+read_by 'run --strict a b --no-lock --strict' a
 read_by 'check -- --words b c' --words
 read_by 'state --changed-inputs --changed-inputs a b' a
 read_by 'state -- --changed-inputs b' --changed-inputs
@@ -827,13 +830,13 @@ for words in 'limits -v a --verbose' 'plan --words a --color never b --words -v'
     helped "$words"
 done
 bad 'run --journal --resume c a b' 'rollout run [OPTIONS] <INV> <PLAY>' "unexpected argument 'b' found"
-bad 'run a b --lock=1' 'rollout run --lock <INV> <PLAY>' "unexpected value '1' for '--lock' found; no more were expected"
-bad 'run -- a b --lock' 'rollout run [OPTIONS] <INV> <PLAY>' "unexpected argument '--lock' found"
+bad 'run a b --no-lock=1' 'rollout run --no-lock <INV> <PLAY>' "unexpected value '1' for '--no-lock' found; no more were expected"
+bad 'run -- a b --no-lock' 'rollout run [OPTIONS] <INV> <PLAY>' "unexpected argument '--no-lock' found"
 bad 'limits -- a --from c' 'rollout limits [OPTIONS] <INV>' "unexpected argument '--from' found"
 bad 'rehearse -- a b --from c' 'rollout rehearse [OPTIONS] <INV> <PLAY>' "unexpected argument '--from' found"
 bad 'state -- a b --changed-inputs' 'rollout state [OPTIONS] <INV> <JOURNAL>' "unexpected argument '--changed-inputs' found"
 bad 'state a b --from c' 'rollout state <INV> <JOURNAL>' "unexpected argument '--from' found"
-bad 'state a b --mended c' 'rollout state <INV> <JOURNAL>' "unexpected argument '--mended' found"
+bad 'state a b --up c' 'rollout state <INV> <JOURNAL>' "unexpected argument '--up' found"
 bad 'run a b --from c' 'rollout run <INV> <PLAY>' "unexpected argument '--from' found"
 bad 'run -- a b --journal c' 'rollout run [OPTIONS] <INV> <PLAY>' "unexpected argument '--journal' found"
 bad 'run -- a b --stop-file c' 'rollout run [OPTIONS] <INV> <PLAY>' "unexpected argument '--stop-file' found"

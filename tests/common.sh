@@ -53,10 +53,18 @@ counting() {
     failed=$((failed + $2))
 }
 
-# Runs the program; `input` is its standard input.
+# From here on each `run` is given --quiet, which -v overrides: for scripts that are not about what is told of a failed run. `built` is the program itself.
+built=$rollout
+quietly() {
+    ${CC:-cc} -O1 -static -DPROGRAM="\"$rollout\"" -o "$work/quiet" "$top/tests/programs/quiet.c" || fail 'no C compiler made the helpers'
+    rollout=$work/quiet
+}
+
+# Runs the program, for `limit` seconds at most where that is set; `input` is its standard input.
 input=/dev/null
+limit=
 run() {
-    "$rollout" "$@" <"$input" >"$work/out" 2>"$work/errors"
+    ${limit:+timeout -k 5 "$limit"} "$rollout" "$@" <"$input" >"$work/out" 2>"$work/errors"
     status=$?
 }
 

@@ -67,10 +67,10 @@ all | rollout plan inv.json play.json --failing web<Tab> | /web/web1/web2
 all | rollout plan inv.json play.json --failing <Tab> | /all/d1/store/web/web1/web2
 all | rollout plan inv.json --failing n<Tab> | rollout plan inv.json --failing n_
 all | rollout plan notes.txt --failing w<Tab> | rollout plan notes.txt --failing w_
-all | rollout run inv.json --mended=web1,d<Tab> p<Tab> | rollout run inv.json --mended=web1,d1 play.json _
-all | rollout rehearse "two words.json" --mended d<Tab> p<Tab> | rollout rehearse "two words.json" --mended d1 play.json _
-all | rollout limits two\ words.json --mended s<Tab> --j<Tab> | rollout limits two\ words.json --mended store --json _
-all | rollout plan sub/deep.json --mended web1,web2,w<Tab> p<Tab> | rollout plan sub/deep.json --mended web1,web2,web play.json _
+all | rollout run inv.json --up=web1,d<Tab> p<Tab> | rollout run inv.json --up=web1,d1 play.json _
+all | rollout rehearse "two words.json" --up d<Tab> p<Tab> | rollout rehearse "two words.json" --up d1 play.json _
+all | rollout limits two\ words.json --up s<Tab> --j<Tab> | rollout limits two\ words.json --up store --json _
+all | rollout plan sub/deep.json --up web1,web2,w<Tab> p<Tab> | rollout plan sub/deep.json --up web1,web2,web play.json _
 all | rollout plan --course --failing web1 inv.json p<Tab> | rollout plan --course --failing web1 inv.json play.json _
 all | rollout plan --color <Tab> | /always/auto/never
 all | rollout plan --color n<Tab>i<Tab> | rollout plan --color never inv.json _
@@ -80,11 +80,11 @@ fish | rollout run --forks=6<Tab> | /--forks=6/--forks=60/--forks=61/--forks=62/
 all | rollout explain 20<Tab> | /201/202/203/204/205
 all | rollout explain 8<Tab> | rollout explain 822 _
 all | rollout explain 301 3<Tab> | rollout explain 301 3_
-all | rollout explain un<Tab> | /unknown-group/unknown-host/unknown-name/unlike-values/unlike-variable/unlimited-hosts
-all | rollout explain unknown-n<Tab> | rollout explain unknown-name _
-all | rollout explain idle-<Tab> | /idle-handler/idle-notify/idle-serial/idle-state/idle-step
-all | rollout explain missing-<Tab> | /missing-name/missing-result
-all | rollout explain idle-serial z<Tab> | rollout explain idle-serial z_
+all | rollout explain un<Tab> | /undefined-name/unfilled-placeholder/unknown-group/unlimited-hosts
+all | rollout explain unk<Tab> | rollout explain unknown-group _
+all | rollout explain idle-<Tab> | /idle-handler/idle-step
+all | rollout explain lo<Tab> | /local-command/long-word/loose-limit
+all | rollout explain idle-step z<Tab> | rollout explain idle-step z_
 all | rollout explain qx<Tab> | rollout explain qx_
 all | rollout lint --allow no-h<Tab> i<Tab> | rollout lint --allow no-hosts inv.json _
 all | rollout lint --allow loo<Tab> i<Tab> | rollout lint --allow loose-limit inv.json _
@@ -116,7 +116,7 @@ all | rollout run inv.json > notes.txt p<Tab> | rollout run inv.json > notes.txt
 KEYS
 } >"$work/rows"
 # A few of them, where a shell is asked once more.
-grep '^all | rollout \(pl<\|run --journal=n\|explain 20\|lint --allow=no-hosts,sh\|run inv.json --mended\|limits tw\|run 2>\)' "$work/rows" >"$work/few"
+grep '^all | rollout \(pl<\|run --journal=n\|explain 20\|lint --allow=no-hosts,sh\|run inv.json --up\|limits tw\|run 2>\)' "$work/rows" >"$work/few"
 
 # ---- each shell, all at once
 

@@ -2,6 +2,7 @@
 # What a run would open to its end, as `plan --course` prints it before anything runs: worked courses in full text. Drawn ones stand in tests/drawn.sh, beside the slow program and beside
 # runs. It needs crates/rollout/out/rollout and Python.
 . "$(dirname "$0")/common.sh"
+quietly
 
 # course WHAT STATUS INVENTORY PLAYBOOK TEXT WORD..: the two texts have this course, and it ends so.
 course() {

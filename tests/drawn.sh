@@ -16,6 +16,9 @@ if [ ! -x "$rollout" ]; then
     echo '0 passed, 1 failed'
     exit 1
 fi
+# What is told of a failed run without options is telling.sh's.
+${CC:-cc} -O1 -static -DPROGRAM="\"$rollout\"" -o "$work/quiet" "$top/tests/programs/quiet.c" || exit 1
+rollout=$work/quiet
 
 # counted SCRIPT WORDS: runs a script of tests/slow whose last line is its count, and adds that.
 counted() {

@@ -61,13 +61,13 @@ changed() {
     cmp -s "$forty/$2" "$work/changed/$2" && fail "$1: nothing is changed"
     told "$1" 1 "$4" asks "$work/changed/fleet.json" "$work/changed/roll.json" "$work/changed/expected"
 }
-whose='LOST|rollout: |missing'
+whose='LOST|rollout: |missing|undefined'
 changed 'a higher limit' fleet.json '/"db": {/{n;s/1 }/2 }/}' 'rollout: 907 Unexpected name=db expected=1 found=2
 LOST: the limits: status 1'
 changed 'a variable that a row has by another name' fleet.json 's/"balancer": "lb2/"balencer": "lb2/' \
-    'missing-name at=0/tasks/0 name=balancer hosts=15 of=38 host=web16
-missing-name at=0/tasks/1 name=balancer hosts=15 of=38 host=web16
-missing-name at=0/handlers/3 name=balancer hosts=15 of=38 host=web16
+    'undefined-name at=0/tasks/0 name=balancer hosts=15 of=38 host=web16
+undefined-name at=0/tasks/1 name=balancer hosts=15 of=38 host=web16
+undefined-name at=0/handlers/3 name=balancer hosts=15 of=38 host=web16
 LOST: something is probably not meant'
 # Of 38 hosts two at once are 19 batches, and one of two is more than 25 %.
 changed 'a smaller first batch' roll.json 's/"10%"/"5%"/' 'rollout: 907 Unexpected name=batches most=10 found=19
@@ -81,8 +81,7 @@ LOST: one failure, of web12: status 4
 LOST: one failure, of web22: status 4
 LOST: one failure, of db2: status 4'
 # Two of its rack are down, which is as many as may be.
-changed 'one host more that is down' fleet.json 's/"worker3": null/"worker3": { "down": true }/' 'LOST: something is probably not meant
-LOST: the plan: status 3
+changed 'one host more that is down' fleet.json 's/"worker3": null/"worker3": { "down": true }/' 'LOST: the plan: status 3
 LOST: the plan that was agreed on: status 1
 LOST: the course: status 3'
 changed 'a host more' fleet.json 's/"web30": null/&, "web31": null/' 'rollout: 907 Unexpected name=hosts expected=40 found=41
@@ -219,7 +218,7 @@ web10 state=held
 worker4 state=off
 end held' night
 rm "$work/state/web07.broken"
-"$rollout" run --resume "$work"/nights/*.journal --mended web07 $forty/fleet.json "$work/night.json" >"$work/said" 2>&1
+"$rollout" run --resume "$work"/nights/*.journal --up web07 $forty/fleet.json "$work/night.json" >"$work/said" 2>&1
 sleep 1
 whose=''
 told 'a night behind one that went on, and ended well' 0 '' night

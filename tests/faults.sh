@@ -20,19 +20,19 @@ without_help() {
 
 run lint "$inventory" "$playbook"
 without_help
-check 'faults of both files' 1 "$down$newline$when${newline}faults=2${newline}notes=0$newline" ''
-run lint "$inventory" "$playbook" --allow no-hosts,unknown-name
+check 'faults of both files' 1 "$down$newline$when${newline}faults=2$newline" ''
+run lint "$inventory" "$playbook" --allow no-hosts,undefined-name
 without_help
-check 'kinds of notes that are switched off switch no fault off' 1 "$down$newline$when${newline}faults=2${newline}notes=0$newline" ''
+check 'rules that are suppressed suppress no fault' 1 "$down$newline$when${newline}faults=2$newline" ''
 run lint "$inventory"
 without_help
-check 'the inventory alone' 1 "$down${newline}faults=1${newline}notes=0$newline" ''
+check 'the inventory alone' 1 "$down${newline}faults=1$newline" ''
 
 # A pipe is read once: lint helps all the same, and the others say nothing behind the fault.
 cat "$inventory" | "$rollout" lint /dev/stdin "$playbook" >"$work/out" 2>"$work/errors"
 status=$?
 without_help
-check 'an inventory from a pipe' 1 "$down$newline$when${newline}faults=2${newline}notes=0$newline" ''
+check 'an inventory from a pipe' 1 "$down$newline$when${newline}faults=2$newline" ''
 [ "$helped" -eq 2 ] && pass || fail "an inventory from a pipe: $helped lines help"
 cat "$inventory" | "$rollout" plan -v /dev/stdin "$playbook" >"$work/out" 2>"$work/errors"
 status=$?
@@ -56,7 +56,7 @@ for names in 'alpah alpha' 'omgea omega' 'wbe web' 'zooo zoo'; do
     set -- $names
     printf '[{"hosts": "%s", "tasks": [{"command": "true"}]}]' "$1" >"$work/pattern.json"
     run plan -v "$work/names.json" "$work/pattern.json"
-    [ "$status" -eq 1 ] && [ "$(head -n 1 "$work/errors")" = "rollout: 304 NoSuchName name=$1" ] && sed -n 2p "$work/errors" | grep -q "^  0/hosts, \"$1\": did you mean $2?" && pass || fail "a name close to $2: $(cat "$work/errors")"
+    [ "$status" -eq 1 ] && [ "$(head -n 1 "$work/errors")" = "rollout: 304 NoSuchName name=$1" ] && sed -n 2p "$work/errors" | grep -q "^  0/hosts \"$1\": did you mean $2?" && pass || fail "a name close to $2: $(cat "$work/errors")"
 done
 
 # What keeps a file from being read goes to standard error, alone.

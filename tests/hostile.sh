@@ -3,6 +3,7 @@
 # they are read; outputs that take a byte at a time, don't block or end behind any byte; limits of file size; many runs side by side. What is said is right, or a fault that is true, and no signal
 # ends the program. It needs a C compiler, Python 3 and crates/rollout/out/rollout. `SEED=7 CASES=30000 sh tests/hostile.sh` spoils the files of other cases.
 . "$(dirname "$0")/common.sh"
+quietly
 . "$top/tests/programs/steps.sh"
 helpers=$top/tests/hostile
 
@@ -395,7 +396,7 @@ fi
 
 # ---- side by side
 
-# In each run the racks have room for one host, and the programs of a host write into a file of its run.
+# Without locks. In each run the racks have room for one host, and the programs of a host write into a file of its run.
 printf '{"all":{"children":{"r1":{"vars":{"max_down":1},"hosts":{"a":null,"b":null}},"r2":{"vars":{"max_down":1},"hosts":{"c":null,"d":null}}}}}' >"$work/racks.json"
 printf '[{"hosts":"all","tasks":[{"command":{"argv":["sh","-c","echo $0 >>notes","{{ inventory_hostname }}"]}},{"command":"true"}]}]' >"$work/notes.json"
 runs=$(fewer 200 20)
@@ -404,7 +405,7 @@ for number in $(seq $runs); do
     mkdir "$work/run$number"
     (
         cd "$work/run$number" || exit 1
-        timeout -k 5 "$limit" "$rollout" run "$work/racks.json" "$work/notes.json" --forks 8 </dev/null >out 2>errors
+        timeout -k 5 "$limit" "$rollout" run "$work/racks.json" "$work/notes.json" --no-lock --forks 8 </dev/null >out 2>errors
         echo $? >status
     ) &
 done
@@ -425,4 +426,18 @@ end finished
 " ''
     [ "$(cat "$work/notes")" = "a${newline}b${newline}c${newline}d" ] && pass || fail "run $number of $runs side by side: its programs wrote $(tr '\n' ' ' <"$work/notes")"
 done
+
+# As many with the lock that each run takes: all of a fleet of which one host may be down go through or are refused, and no two hosts are ever at work at once.
+printf '{"all":{"vars":{"max_down":1},"hosts":{"a":null,"b":null}}}' >"$work/one_at_once.json"
+printf '[{"hosts":"all","tasks":[{"command":{"argv":["sh","-c","mkdir %s || echo two >>%s; sleep 0.05; rmdir %s"]}}]}]' "$work/busy" "$work/twice" "$work/busy" >"$work/alone.json"
+for number in $(seq $runs); do
+    (
+        cd "$work/run$number" || exit 1
+        timeout -k 5 "$limit" "$rollout" run "$work/one_at_once.json" "$work/alone.json" </dev/null >out 2>errors
+        echo "$? $(cat errors)" >status
+    ) &
+done
+wait
+cat "$work"/run*/status | sort | uniq -c >"$work/ends"
+[ ! -e "$work/twice" ] && grep -q '^ *[0-9]* 0 $' "$work/ends" && [ "$(grep -cv '^ *[0-9]* \(0 \|1 rollout: 918 Locked\)$' "$work/ends")" -eq 0 ] && pass || fail "locked runs side by side: $(cat "$work/ends" "$work/twice" 2>&1)"
 finish

@@ -241,18 +241,18 @@ listed() {
     echo 'rollout run --stop-file -- inv.json p>play.json'
     echo 'rollout run --journal n>notes.txt'
     echo 'rollout run --journal -- inv.json p>play.json'
-    echo 'rollout run --lock --mended a --resume n>notes.txt'
-    echo 'rollout run --lock --mended a --resume notes.txt inv.json p>play.json'
+    echo 'rollout run --no-lock --up a --resume n>notes.txt'
+    echo 'rollout run --no-lock --up a --resume notes.txt inv.json p>play.json'
     echo 'rollout limits --from n>notes.txt'
-    echo 'rollout limits --from notes.txt --mended a i>inv.json'
+    echo 'rollout limits --from notes.txt --up a i>inv.json'
     echo 'rollout limits --changed-inputs --from notes.txt inv.json p>'
     echo 'rollout plan --from n>notes.txt'
-    echo 'rollout plan --course --from notes.txt --mended a inv.json p>play.json'
+    echo 'rollout plan --course --from notes.txt --up a inv.json p>play.json'
     echo 'rollout plan --groups --color >always/auto/never'
     echo 'rollout plan --groups --color a>always/auto'
     echo 'rollout plan --color always inv.json p>play.json'
     echo 'rollout rehearse --from n>notes.txt'
-    echo 'rollout rehearse --mended a --strict inv.json p>play.json'
+    echo 'rollout rehearse --up a --strict inv.json p>play.json'
     echo 'rollout state --changed-inputs i>inv.json'
     echo 'rollout limits --expect a i>inv.json'
     echo 'rollout plan --words --expect a inv.json p>play.json'
@@ -263,7 +263,7 @@ listed() {
     echo 'rollout lint i>inv.json'
     echo 'rollout lint --allow a inv.json p>play.json'
     echo 'rollout lint inv.json play.json i>'
-    echo 'rollout lint --allow >repeated-key/zero-limit/empty-limit/loose-limit/empty-group/group-down/near-key/value-hole/case-hosts/group-host/no-hosts/down-hosts/full-group/unlimited-hosts/idle-serial/one-failure/local-play/unknown-name/missing-name/missing-result/unknown-group/unknown-host/false-text/unlike-variable/whole-result/text-hole/idle-step/idle-state/constant-condition/unlike-values/clashing-values/shell-word/blank-program/lost-quotes/local-step/fixed-target/long-word/dash-name/idle-notify/idle-handler'
+    echo 'rollout lint --allow >repeated-key/near-key/group-down/zero-limit/empty-limit/loose-limit/unfilled-placeholder/no-hosts/unlimited-hosts/local-command/undefined-name/unknown-group/idle-step/idle-handler/changed-guard/shell-word/dash-name/long-word/down-hosts/one-failure'
     echo 'rollout lint inv.json --allow n>near-key/no-hosts'
     echo 'rollout explain qx>'
     echo 'rollout explain d>down-hosts/dash-name'
@@ -340,7 +340,7 @@ rollout limits --from=no>notes.txt
 rollout plan --color=a>always auto
 rollout lint --allow=n>near-key no-hosts
 rollout lint --allow=shell-word,n>shell-word,near-key shell-word,no-hosts
-rollout lint --allow no-hosts,shell-word:d>down-hosts dash-name
+rollout lint --allow no-hosts,shell-word:d>dash-name down-hosts
 rollout run --from=no>
 rollout limits a:>b.json
 rollout limits a:b>b.json

@@ -2,6 +2,7 @@
 # Runs that are kept in a journal: what it says is what the recap says; a run that is killed at any moment, whose disk fails or that loses its power leaves a journal in which nobody is
 # lost, and goes on to its end; and a file that is there already is not touched. It needs a C compiler, Python 3 and crates/rollout/out/rollout.
 . "$(dirname "$0")/common.sh"
+quietly
 helpers=$top/tests/journal
 
 cc -shared -fPIC -O1 -o "$work/disk.so" "$helpers/disk.c" -ldl || exit 1
@@ -35,7 +36,7 @@ done
 
 # A link to nothing is there too, and is not followed; it is seen when the plays begin.
 unopened() {
-    [ ! -e "$work/began" ] && [ "$status" -eq 1 ] && [ "$(tail -n 1 "$work/out")" = 'end fault' ] && [ "$(cat "$work/errors")" = 'rollout: 911 JournalWrite' ] && ! grep -q '^open:' "$work/out" && pass || fail "$1"
+    [ ! -e "$work/began" ] && [ "$status" -eq 6 ] && [ "$(tail -n 1 "$work/out")" = 'end fault' ] && [ "$(cat "$work/errors")" = 'rollout: 911 JournalWrite' ] && ! grep -q '^open:' "$work/out" && pass || fail "$1"
 }
 ln -s nowhere lost
 run run "$work/racks.json" "$work/play.json" --journal lost
@@ -51,8 +52,8 @@ run run "$work/racks.json" "$work/play.json" --journal ''
 unopened 'no name'
 # A run that begins with hosts that are mended makes its journal first: where it can't, nothing is printed.
 for name in lost none/journal file/ ''; do
-    run run "$work/racks.json" "$work/play.json" --mended a --journal "$name"
-    check "a run with hosts that are mended, and the journal '$name'" 1 '' "rollout: 911 JournalWrite$newline"
+    run run "$work/racks.json" "$work/play.json" --up a --journal "$name"
+    check "a run with hosts that are mended, and the journal '$name'" 6 '' "rollout: 911 JournalWrite$newline"
     [ ! -e "$work/began" ] && [ ! -e nowhere ] && pass || fail "something was started without a journal: '$name'"
 done
 mkdir unsynced
@@ -81,11 +82,11 @@ done
 run run "$work/racks.json" "$work/play.json" --journal=first --journal second
 [ "$status" -eq 0 ] && [ -e second ] && [ ! -e first ] && pass || fail 'the last journal counts'
 run run "$work/racks.json" "$work/play.json" --stop-file file --journal stopped
-[ "$status" -eq 1 ] && [ "$(cat "$work/errors")" = 'rollout: 917 Stopped' ] && [ "$(sed 's/^[0-9]* [0-9]* //; s/:.*//' stopped | tail -n 1)" = play ] && pass || fail 'a run that is stopped ends its journal'
+[ "$status" -eq 6 ] && [ "$(cat "$work/errors")" = 'rollout: 917 Stopped' ] && [ "$(sed 's/^[0-9]* [0-9]* //; s/:.*//' stopped | tail -n 1)" = play ] && pass || fail 'a run that is stopped ends its journal'
 run run -v "$work/racks.json" "$work/play.json" --journal told
 [ "$status" -eq 0 ] && grep -q 'open: ' "$work/errors" && [ "$(sed 's/^[0-9]* [0-9]* //' told)" = "$(sed 's/^[0-9]* [0-9]* //' second)" ] && pass || fail 'with -v another journal is kept'
 
-# ---- two runs at once: --journal and --lock hold the inventory's lock
+# ---- two runs at once: each run holds the inventory's lock
 
 # held WORD..: runs the program while another holds the inventory's lock
 held() {
@@ -98,17 +99,19 @@ with open(sys.argv[1]) as file:
 rm -f "$work/began"
 held run "$work/racks.json" "$work/play.json" --journal locked
 check 'another run holds the inventory' 1 '' "rollout: 918 Locked$newline"
-held run "$work/racks.json" "$work/play.json" --lock
+held run "$work/racks.json" "$work/play.json"
 check 'another run holds the inventory, of a run without a journal' 1 '' "rollout: 918 Locked$newline"
-held run "$work/racks.json" "$work/play.json" --lock --mended a
+held run "$work/racks.json" "$work/play.json" --up a
 check 'another run holds the inventory, of a run that begins with hosts that are mended' 1 '' "rollout: 918 Locked$newline"
-held run "$work/racks.json" "$work/play.json" --lock --journal second
+held run "$work/racks.json" "$work/play.json" --journal second
 check 'a journal that is there goes first' 1 '' "rollout: 910 JournalThere$newline"
-held run "$work/racks.json" "$work/none.json" --lock
+held run "$work/racks.json" "$work/none.json"
 check 'before the files are read' 1 '' "rollout: 918 Locked$newline"
 [ ! -e locked ] && [ ! -e "$work/began" ] && pass || fail 'a run that is locked out made its journal, or started something'
-held run "$work/racks.json" "$work/play.json"
-[ "$status" -eq 0 ] && pass || fail 'a run without a journal asks for a lock'
+held run "$work/racks.json" "$work/play.json" --no-lock
+[ "$status" -eq 0 ] && pass || fail 'a run that is to lock nothing asks for a lock'
+held run "$work/racks.json" "$work/play.json" --lock-file another
+[ "$status" -eq 0 ] && [ -e another ] && [ ! -s another ] && pass || fail 'another file is locked in place of the inventory, and made'
 for words in "limits $work/racks.json" "rehearse $work/racks.json $work/play.json" "state $work/racks.json second"; do
     held $words
     [ "$status" -eq 0 ] && pass || fail "it asks for a lock: $words"
@@ -119,39 +122,42 @@ held plan "$work/racks.json" "$work/play.json"
 printf '[{"hosts":"a","tasks":[{"command":{"argv":["python3","-c","import fcntl\\ntry:\\n    fcntl.flock(open(\\"%s\\"), fcntl.LOCK_EX | fcntl.LOCK_NB)\\nexcept BlockingIOError:\\n    pass\\nelse:\\n    exit(1)"]}}]}]' "$work/racks.json" >"$work/asking.json"
 run run "$work/racks.json" "$work/asking.json" --journal asking
 [ "$status" -eq 0 ] && pass || fail 'the lock is not held while programs run'
-run run "$work/racks.json" "$work/asking.json" --lock
-check 'a run that asks for the lock alone' 0 'boundary 1: plan batches=1 bound=group eu waiting=1 room=3
+run run "$work/racks.json" "$work/asking.json"
+check 'a run without a journal' 0 'boundary 1: plan batches=1 bound=group eu waiting=1 room=3
 open: a
 boundary 2: plan batches=0 bound=nothing
 a ok=1 changed=1 failed=0 skipped=0 ignored=0 state=updated
 end finished
 ' ''
-run run "$work/racks.json" "$work/asking.json" --lock --mended a
+run run "$work/racks.json" "$work/asking.json" --up a
 [ "$status" -eq 0 ] && pass || fail 'the lock is not held by a run that begins with hosts that are mended'
-run run "$work/racks.json" "$work/asking.json"
-[ "$status" -eq 4 ] && pass || fail 'the lock is held without a journal'
+run run "$work/racks.json" "$work/asking.json" --no-lock
+[ "$status" -eq 4 ] && pass || fail 'the lock is held by a run that is to lock nothing'
+run run "$work/racks.json" "$work/asking.json" --lock-file "$work/racks.json"
+[ "$status" -eq 0 ] && pass || fail 'the lock file is not locked'
+run run "$work/racks.json" "$work/play.json" --lock-file /no/such/folder/file
+check 'a lock file that can not be had' 1 '' "rollout: 902 File name=/no/such/folder/file$newline"
 # A pipe has no lock, and is read once; with -v that is said.
-unlocked="note: the inventory's file has no lock: another run of it is not kept out"
-for words in '--journal piped' --lock '--lock --quiet' '-v --journal told-piped' '-v --lock' '-v --quiet --lock --mended a' -v; do
+unlocked="note: the inventory has no lock: another run of it is not kept out"
+for words in '--journal piped' --quiet '-v --journal told-piped' -v '-v --quiet --up a' '-v --no-lock' '-v --lock-file another'; do
     cat "$work/racks.json" >pipe &
     run run pipe "$work/play.json" $words
     wait
     case $words in
-    -v) said='' ;;
+    *lock*) said='' ;;
     -v*) said=$unlocked ;;
     *) said='' ;;
     esac
     [ "$status" -eq 0 ] && [ "$(grep '^note: ' "$work/errors")" = "$said" ] && pass || fail "an inventory from a pipe with $words: $(cat "$work/errors")"
 done
 [ -e piped ] && [ -e told-piped ] && pass || fail 'an inventory from a pipe, without a journal'
-[ "$(head -n 1 "$work/errors" | cut -d ' ' -f 1)" != note: ] && pass || fail 'a run that asks for no lock has a note of it'
 # At a terminal it is said unasked, and not with --quiet.
 seen() {
     python3 -c 'import os, pty, subprocess, sys
 upper, lower = pty.openpty()
 with open(sys.argv[1], "rb") as inventory:
     text = inventory.read()
-subprocess.run([*sys.argv[2:], "--lock"], input=text, stdout=subprocess.DEVNULL, stderr=lower)
+subprocess.run(sys.argv[2:], input=text, stdout=subprocess.DEVNULL, stderr=lower)
 os.close(lower)
 said = b""
 try:
@@ -159,10 +165,10 @@ try:
         said += more
 except OSError:
     pass
-sys.stdout.buffer.write(said.partition(b"\r\n")[0])' "$work/racks.json" "$rollout" run /dev/stdin "$work/play.json" "$@"
+sys.stdout.buffer.write(said.partition(b"\r\n")[0])' "$work/racks.json" "$built" run /dev/stdin "$work/play.json" "$@"
 }
 [ "$(seen)" = "$unlocked" ] && [ -z "$(seen --quiet)" ] && [ "$(seen --quiet -v)" = "$unlocked" ] && pass || fail "at a terminal: $(seen)"
-run run "$work/racks.json" "$work/play.json" -v --lock
+run run "$work/racks.json" "$work/play.json" -v
 [ "$status" -eq 0 ] && ! grep -q '^note: ' "$work/errors" && pass || fail 'a lock that is held is told as none'
 
 # A run that has a journal holds the lock of that too, whatever its inventory is: its program asks for a resume with a copy of the inventory, and from a pipe.
@@ -174,7 +180,7 @@ for inventory in "$2" copy.json /dev/stdin; do
 done
 SCRIPT
 printf '[{"hosts":"a","tasks":[{"command":{"argv":["sh","meanwhile.sh","%s","%s"]}}]}]' "$rollout" "$work/racks.json" >meanwhile.json
-for words in '' '--mended b'; do
+for words in '' '--up b'; do
     rm -f meanwhile meanwhile.out meanwhile.errors meanwhile.status
     run run "$work/racks.json" meanwhile.json --journal meanwhile $words
     [ "$status" -eq 0 ] && [ "$(tr '\n' ' ' <meanwhile.status)" = '1 1 1 ' ] && [ ! -s meanwhile.out ] && [ "$(sort -u meanwhile.errors)" = 'rollout: 918 Locked' ] && pass || fail "a resume beside a run that goes on: $(cat meanwhile.status meanwhile.errors)"

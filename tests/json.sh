@@ -2,6 +2,7 @@
 # What `--json` prints of limits, plans, courses, runs, rehearsals and faults: worked texts, whole; the same with `jq`, where that is; what goes out beside it; and drawn ones beside the slow program, each held
 # against docs/rollout.schema.json. CASES says how many, 300 if it doesn't, and SEED which. It needs crates/rollout/out/rollout and Python.
 . "$(dirname "$0")/common.sh"
+quietly
 
 inventory=$work/inventory.json
 playbook=$work/playbook.json
@@ -128,12 +129,12 @@ told 'it goes on with its second play, where nobody waits any more' 2 recap "{\"
 for journal in killed again; do
     cp "$top/examples/killed.journal" "$work/$journal"
 done
-run run "$top/examples/two-racks.json" "$top/examples/roll-anywhere.json" --resume "$work/killed" --mended web2
+run run "$top/examples/two-racks.json" "$top/examples/roll-anywhere.json" --resume "$work/killed" --up web2
 rest='{"answer":{"batches":2,"bound":{"kind":"group","group":"web","waiting":2,"room":1}},"held":["web4"],"open":["web2"]},{"answer":{"batches":0,"bound":{"kind":"nothing"}},"held":["web3"],"open":null}'
-told 'a run that was killed goes on' 4 recap "{\"plays\":[{\"play\":1,\"boundaries\":[$rest],\"hosts\":[$(host web1 0 0 0 0 0 updated),$(host web2 1 1 1 0 0 failed),$(host web3 0 0 0 0 0 held),$(host web4 0 0 0 0 0 held),$(host web5 0 0 0 0 0 off)],\"end\":{\"kind\":\"all-failed\"}}]}" run "$top/examples/two-racks.json" "$top/examples/roll-anywhere.json" --resume "$work/again" --mended web2 --json
+told 'a run that was killed goes on' 4 recap "{\"plays\":[{\"play\":1,\"boundaries\":[$rest],\"hosts\":[$(host web1 0 0 0 0 0 updated),$(host web2 1 1 1 0 0 failed),$(host web3 0 0 0 0 0 held),$(host web4 0 0 0 0 0 held),$(host web5 0 0 0 0 0 off)],\"end\":{\"kind\":\"all-failed\"}}]}" run "$top/examples/two-racks.json" "$top/examples/roll-anywhere.json" --resume "$work/again" --up web2 --json
 cmp -s "$work/killed" "$work/again" && pass || fail 'it leaves another journal than without --json'
 texts '{"all":{"hosts":{"a":{"down":true}}}}' "[$(play "$true")]"
-told 'a host that is up though the inventory has it as down' 0 recap "{\"plays\":[{\"play\":1,\"boundaries\":[$opened,$nothing],\"hosts\":[$(host a 1 1 0 0 0 updated)],\"end\":{\"kind\":\"finished\"}}]}" run "$inventory" --json "$playbook" --mended a
+told 'a host that is up though the inventory has it as down' 0 recap "{\"plays\":[{\"play\":1,\"boundaries\":[$opened,$nothing],\"hosts\":[$(host a 1 1 0 0 0 updated)],\"end\":{\"kind\":\"finished\"}}]}" run "$inventory" --json "$playbook" --up a
 
 # ---- what stands beside it
 
@@ -237,9 +238,9 @@ if "$rollout" help run | grep -q -e --strict; then
     refused 'one of a second play' '"number":915,"kind":"NoValue","play":2,"step":2,"host":"a","name":"x"' run --json --strict "$inventory" "$playbook"
     texts "$one" "[$(play "$true")]"
 fi
-refused 'nobody is mended by that name' '"number":304,"kind":"NoSuchName","name":"b"' run --json "$inventory" "$playbook" --mended b
+refused 'nobody is mended by that name' '"number":304,"kind":"NoSuchName","name":"b"' run --json "$inventory" "$playbook" --up b
 if command -v flock >/dev/null; then
-    flock "$inventory" "$rollout" run --json --lock "$inventory" "$playbook" >"$work/out" 2>"$work/errors"
+    flock "$inventory" "$rollout" run --json "$inventory" "$playbook" >"$work/out" 2>"$work/errors"
     status=$?
     check 'another run holds the inventory' 1 '' '{"fault":{"number":918,"kind":"Locked"}}'"$newline"
 fi
@@ -255,7 +256,7 @@ broken_off() {
     fault=$2
     shift 2
     run run --json "$inventory" "$playbook" "$@"
-    check "$what" 1 "{\"plays\":[{\"play\":1,\"boundaries\":[{\"answer\":{\"batches\":1,\"bound\":{\"kind\":\"one-host\"}},\"held\":[],\"open\":null}],\"hosts\":[$(host a 0 0 0 0 0 waiting)],\"end\":{\"kind\":\"fault\"}}]}$newline" "{\"fault\":{$fault}}$newline"
+    check "$what" 6 "{\"plays\":[{\"play\":1,\"boundaries\":[{\"answer\":{\"batches\":1,\"bound\":{\"kind\":\"one-host\"}},\"held\":[],\"open\":null}],\"hosts\":[$(host a 0 0 0 0 0 waiting)],\"end\":{\"kind\":\"fault\"}}]}$newline" "{\"fault\":{$fault}}$newline"
     fits "$what" recap "$work/out"
     fits "$what" fault "$work/errors"
 }

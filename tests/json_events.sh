@@ -128,7 +128,7 @@ python3 "$helpers/events.py" "$work/errors" >"$work/told" && grep -qx 'descripto
 # ---- who is told nothing, or lines
 
 printf '[{"hosts":"all","tasks":[{"command":"false"}]}]' >"$work/play.json"
-run run --json "$work/one.json" "$work/play.json"
+run run --json --quiet "$work/one.json" "$work/play.json"
 [ "$status" -eq 4 ] && [ ! -s "$work/errors" ] && pass || fail 'nobody asks for events'
 run run --json -v --quiet "$work/one.json" "$work/play.json"
 [ "$status" -eq 4 ] && grep -q '^{"event":"ends",' "$work/errors" && pass || fail 'events beside --quiet'

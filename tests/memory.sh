@@ -6,6 +6,7 @@
 # Those of the tests too that hold whatever one allocation is refused. It needs a C compiler, Python 3, crates/rollout/out/rollout, and
 # what rt ci (or rt test) leaves in the out/ of each crate named below. Those that left nothing are passed over, but where ALL_BUILT is set.
 . "$(dirname "$0")/common.sh"
+quietly
 helpers=$top/tests/programs
 
 cat >"$work/refuse.c" <<'C'
@@ -175,7 +176,7 @@ resume_refused() {
         fi && pass || fail "allocation $number: the journal doesn't go on"
         "$rollout" state "$1" kept 2>/dev/null | sed -n 's/ state=updated$/ /p' >updated
         rm -f notes
-        run run "$@" --resume kept --mended all
+        run run "$@" --resume kept --up all
         "$rollout" state "$1" kept >states 2>&1
         [ "$status" -eq 0 ] && ! grep -v 'state=updated$' states | grep -qv '^end finished$' && ! { [ -e notes ] && grep -qFf updated notes; } && pass || fail "allocation $number: the rest ends with $status"
         number=$((number + 1))
@@ -189,14 +190,14 @@ resume_refused() {
 broken_off() {
     case $status,$(cat "$work/errors") in
     '5,rollout: memory') true ;;
-    "1,rollout: 911 JournalWrite") [ -e kept ] || [ ! -s out ] ;;
+    "6,rollout: 911 JournalWrite") [ -e kept ] || [ ! -s out ] ;;
     *) false ;;
     esac
 }
 
 # Whether only the journal's last line was not taken: the run had ended by then.
 last_unkept() {
-    [ "$status" -eq 1 ] && cmp -s "$work/out" "$work/out.answered"
+    [ "$status" -eq 6 ] && cmp -s "$work/out" "$work/out.answered"
 }
 
 # kept_so INVENTORY: of a run of one play, whom the journal tells to have been in a closed batch ended as the recap has it, and whom the recap tells to have been in one is told so, or runs.
@@ -219,9 +220,9 @@ begins_so() {
 each_refused limits "$top/examples/two-regions.json"
 each_refused limits "$top/examples/crossing-racks.json"
 each_refused state "$top/examples/two-racks.json" "$top/examples/killed.journal"
-each_refused limits "$top/examples/two-racks.json" --from "$top/examples/killed.journal" --mended web2
-each_refused plan "$top/examples/two-racks.json" "$top/examples/roll-anywhere.json" --from "$top/examples/killed.journal" --mended web2
-each_refused plan "$top/examples/two-racks.json" "$top/examples/roll-anywhere.json" --from "$top/examples/killed.journal" --mended web2,web5 --course --failing web3
+each_refused limits "$top/examples/two-racks.json" --from "$top/examples/killed.journal" --up web2
+each_refused plan "$top/examples/two-racks.json" "$top/examples/roll-anywhere.json" --from "$top/examples/killed.journal" --up web2
+each_refused plan "$top/examples/two-racks.json" "$top/examples/roll-anywhere.json" --from "$top/examples/killed.journal" --up web2,web5 --course --failing web3
 each_refused plan "$top/examples/two-racks.json" "$top/examples/two-plays.json" --from "$top/examples/two-plays.journal"
 each_refused plan "$top/examples/two-racks.json" "$top/examples/restart-web.json"
 each_refused plan "$top/examples/two-racks.json" "$top/examples/restart-web.json" --groups
@@ -245,7 +246,7 @@ printf 'batch 1: b x\n' >"$work/plan.txt"
 each_refused check "$work/racks.json" "$work/held.json" "$work/plan.txt"
 each_refused lint "$work/racks.json"
 each_refused lint "$work/racks.json" "$work/held.json"
-each_refused lint "$work/racks.json" "$work/held.json" --allow 'missing-name,down-hosts'
+each_refused lint "$work/racks.json" "$work/held.json" --allow 'undefined-name,down-hosts'
 printf '[{"hosts":["eu","r1:d"],"tasks":[{"command":"echo {{ v }}","when":"v is defined","notify":"h"},{"command":"make it","register":"r"},{"command":"echo {{ r.stdout }}{{ n }}"}],"handlers":[{"name":"h","command":"true"}]},{"hosts":"d","tasks":[{"command":"true","when":"r is changed"}]}]' >"$work/worded.json"
 fronts=yes
 each_refused plan "$work/racks.json" "$work/worded.json" --words
@@ -281,7 +282,7 @@ run_refused "$work/few.json" "$work/twice.json" --forks 1
 printf '[{"hosts":"all","on_blocked":"hold","tasks":[{"command":{"argv":["sh","-c","echo + $0 0 1 >>notes; test $0 = d; code=$?; echo - $0 0 1 $code >>notes; exit $code","{{ inventory_hostname }}"]}}]}]' >"$work/holding.json"
 run_refused "$work/racks.json" "$work/holding.json" --forks 2
 run_refused "$work/racks.json" "$work/holding.json" --forks 2 --journal kept
-run_refused "$work/racks.json" "$work/holding.json" --forks 2 --journal kept --mended e --lock
+run_refused "$work/racks.json" "$work/holding.json" --forks 2 --journal kept --up e --lock-file held
 # It broke off in a line of its journal, while a batch was open.
 printf '{"eu":{"vars":{"max_down":2},"children":{"r1":{"vars":{"max_down":1},"hosts":{"a":null,"b":null}},"r2":{"hosts":{"d":null,"e":null}}}}}' >"$work/even.json"
 printf '[{"hosts":"all","serial":1,"tasks":[{"command":{"argv":["sh","-c","echo + $0 0 1 >>notes","{{ inventory_hostname }}"]}}]}]' >"$work/each.json"
@@ -292,7 +293,7 @@ from entries import head, line
 inventory, playbook = (open(name, "rb").read() for name in sys.argv[2:])
 sys.stdout.buffer.write(b"".join(map(line, [head(inventory, playbook, 1), "play: a b d e", "open: a", "closed: updated:a", "open: d"])) + line("closed: updated:d")[:-1])
 PYTHON
-resume_refused "$work/even.json" "$work/each.json" --forks 2 --mended b
+resume_refused "$work/even.json" "$work/each.json" --forks 2 --up b
 printf '[{"hosts":"a","tasks":[{"command":"/no/such/program"}]}]' >"$work/absent.json"
 run_refused "$work/few.json" "$work/absent.json"
 
@@ -338,7 +339,7 @@ printf 'plan\nadvance a d\nshow\nadvance b b\nundo\n\nadvance\nplan\nundo\nundo\
 rehearsal_refused "$work/few.json" "$work/twice.json"
 rehearsal_refused "$work/racks.json" "$work/held.json"
 printf 'plan\nadvance web2\nshow\nundo\nadvance\nfail web3\nfinish\nhosts web\nundo\njump\n' >"$work/commands"
-rehearsal_refused "$top/examples/two-racks.json" "$top/examples/roll-anywhere.json" --from "$top/examples/killed.journal" --mended web2,web5
+rehearsal_refused "$top/examples/two-racks.json" "$top/examples/roll-anywhere.json" --from "$top/examples/killed.journal" --up web2,web5
 input=$top/examples/two-regions.json
 each_refused
 input=/dev/null

@@ -2,6 +2,7 @@
 # `limits`, `plan`, `plan --course` and `rehearse` from a journal: what a run that broke off would go on with, in full text; that a run which goes on does just that; and what refuses it.
 # `tests/slow/outlook.py` draws more. It needs Python and crates/rollout/out/rollout.
 . "$(dirname "$0")/common.sh"
+quietly
 
 cd "$work" || exit 1
 # A row that may lose two hosts, with two racks: r1 may lose one, r2 two; e is down.
@@ -62,24 +63,24 @@ hosts=5 limited=3' limits inventory --from journal
 told 0 'row members=5 down=1 limit=2 room=1
 r1 members=3 down=0 limit=1 room=1
 r2 members=2 down=1 limit=2 room=1
-hosts=5 limited=3' limits inventory --from journal --mended b
+hosts=5 limited=3' limits inventory --from journal --up b
 told 0 'row members=5 down=0 limit=2 room=2
 r1 members=3 down=0 limit=1 room=1
 r2 members=2 down=0 limit=2 room=2
-hosts=5 limited=3' limits --mended r1 --from=journal inventory --mended=e,a
+hosts=5 limited=3' limits --up r1 --from=journal inventory --up=e,a
 told 3 'blocked group=row waiting=2' plan inventory one --from journal
 told 0 'plan batches=3 bound=group row waiting=3 room=1
 batch 1: b
 batch 2: c
-batch 3: d' plan inventory one --from journal --mended b
+batch 3: d' plan inventory one --from journal --up b
 told 0 'plan batches=2 bound=group row waiting=4 room=2
 batch 1: b d
-batch 2: c e' plan --mended b inventory --from nosuch one --mended=e --from=journal
+batch 2: c e' plan --up b inventory --from nosuch one --up=e --from=journal
 # Who is left out is not said.
 told 0 'plan batches=3 bound=group row waiting=3 room=1
 batch 1: b
 batch 2: c
-batch 3: d' plan -v inventory one --from journal --mended b
+batch 3: d' plan -v inventory one --from journal --up b
 told 0 'boundary 1: plan batches=3 bound=group row waiting=3 room=1
 open: b
 boundary 2: plan batches=2 bound=group row waiting=2 room=1
@@ -88,17 +89,17 @@ boundary 3: plan batches=1 bound=group row waiting=1 room=1
 open: d
 boundary 4: plan batches=0 bound=nothing
 end finished
-batches=3' plan inventory one --from journal --course --mended b
+batches=3' plan inventory one --from journal --course --up b
 told 3 'boundary 1: blocked group=r1 waiting=1
 end blocked group=r1
-batches=0' plan --course inventory one --from journal --mended e
+batches=0' plan --course inventory one --from journal --up e
 told 2 'boundary 1: plan batches=2 bound=group row waiting=4 room=2
 open: b d
 boundary 2: plan batches=1 bound=group row waiting=2 room=2
 open: c e
 boundary 3: plan batches=0 bound=nothing
 end finished
-batches=2' plan --course inventory one --from journal --mended b,e --failing c
+batches=2' plan --course inventory one --from journal --up b,e --failing c
 # Who is down by the journal is not touched, be it named or not.
 told 3 'boundary 1: blocked group=row waiting=2
 end blocked group=row
@@ -130,7 +131,7 @@ end all-failed
 undone
 nothing to undo
 nothing to undo
-nothing to undo' rehearse inventory one --from journal --mended b
+nothing to undo' rehearse inventory one --from journal --up b
 typed 'fail d' finish show
 told 0 'refused 832 Over
 refused 832 Over
@@ -152,16 +153,16 @@ input=/dev/null
 
 # A run that goes on does just what was foreseen.
 cp journal kept-journal
-run plan --course inventory one --from journal --mended b,e
+run plan --course inventory one --from journal --up b,e
 sed '$d' out >foreseen
-run run inventory one --resume journal --mended b,e
+run run inventory one --resume journal --up b,e
 grep -v ' state=' out | cmp -s - foreseen && [ "$status" -eq 0 ] && pass || fail "another course: $(cat out)"
 rm ran
 # Then all is over, and a run that goes on has nothing left.
 told 0 'row members=5 down=1 limit=2 room=1
 r1 members=3 down=0 limit=1 room=1
 r2 members=2 down=1 limit=2 room=1
-hosts=5 limited=3' limits inventory --from kept-journal --mended b
+hosts=5 limited=3' limits inventory --from kept-journal --up b
 told 0 'row members=5 down=0 limit=2 room=2
 r1 members=3 down=0 limit=1 room=1
 r2 members=2 down=0 limit=2 room=2
@@ -184,14 +185,14 @@ boundary 2: plan batches=1 bound=group row waiting=1 room=1
 open: c
 boundary 3: plan batches=0 bound=nothing
 end finished
-batches=2' plan --course inventory one --from journal --mended c
+batches=2' plan --course inventory one --from journal --up c
 told 0 'boundary 1: plan batches=2 bound=group row waiting=3 room=2
 open: a c
 boundary 2: plan batches=1 bound=group row waiting=1 room=2
 open: b
 boundary 3: plan batches=0 bound=nothing
 end finished
-batches=2' plan --course inventory one --from journal --mended c,a
+batches=2' plan --course inventory one --from journal --up c,a
 cp kept-inventory inventory
 
 # ---- of several plays, in the second
@@ -224,7 +225,7 @@ boundary 3: plan batches=1 bound=group row waiting=1 room=1
 open: c
 boundary 4: plan batches=0 bound=nothing
 end finished
-batches=7' plan --course inventory three --from journal --mended a
+batches=7' plan --course inventory three --from journal --up a
 # The sizes begin anew, and d fails in the play in which its batch comes first.
 told 2 'play 2
 boundary 1: plan batches=5 bound=serial waiting=5 size=1
@@ -246,7 +247,7 @@ boundary 3: plan batches=1 bound=group row waiting=1 room=1
 open: c
 boundary 4: plan batches=0 bound=nothing
 end finished
-batches=7' plan --course inventory three --from journal --mended all --failing d
+batches=7' plan --course inventory three --from journal --up all --failing d
 # With a down r1 has no room, and the row has it for one host more.
 typed plan finish show
 told 0 'plan batches=2 bound=group row waiting=2 room=1
@@ -259,7 +260,7 @@ b held
 c held
 d updated
 e updated
-end held' rehearse inventory three --from journal --mended e
+end held' rehearse inventory three --from journal --up e
 input=/dev/null
 
 # Behind a play that has finished the next one is planned, and where none has begun the first.
@@ -305,23 +306,23 @@ hosts=5 limited=3' limits low --from journal --changed-inputs
 refused '302 StartOver group=row down=2 limit=1' plan low one --from journal --changed-inputs
 refused '302 StartOver group=row down=2 limit=1' plan --course low one --from journal --changed-inputs
 refused '302 StartOver group=row down=2 limit=1' rehearse low one --from journal --changed-inputs
-told 3 'blocked group=row waiting=3' plan low one --from journal --changed-inputs --mended b
+told 3 'blocked group=row waiting=3' plan low one --from journal --changed-inputs --up b
 
 # ---- what refuses it, in its order
 
-refused '304 NoSuchName name=z' limits inventory --from journal --mended a,z
-refused '304 NoSuchName name=z' plan inventory one --from journal --mended z
-refused '304 NoSuchName name=z' rehearse inventory one --from journal --mended z
+refused '304 NoSuchName name=z' limits inventory --from journal --up a,z
+refused '304 NoSuchName name=z' plan inventory one --from journal --up z
+refused '304 NoSuchName name=z' rehearse inventory one --from journal --up z
 refused '304 NoSuchName name=z' plan --course inventory one --from journal --failing b,z
 refused '302 StartOver group=row down=2 limit=1' plan --course low one --from journal --changed-inputs --failing z
-refused '304 NoSuchName name=y' plan --course low one --from journal --changed-inputs --failing z --mended y
+refused '304 NoSuchName name=y' plan --course low one --from journal --changed-inputs --failing z --up y
 refused '902 File name=nosuch' limits inventory --from nosuch
-refused '902 File name=nosuch' plan inventory one --from nosuch --mended z
+refused '902 File name=nosuch' plan inventory one --from nosuch --up z
 refused '902 File name=nosuch' rehearse inventory one --from nosuch
 refused '902 File name=nobody' plan nobody one --from nosuch
 refused '902 File name=nobody' plan inventory nobody --from nosuch
 refused '701 NotJson' plan inventory journal --from journal
-refused '201 NotJson' limits journal --from journal --mended z
+refused '201 NotJson' limits journal --from journal --up z
 printf '%s' '[{"hosts":"a","tasks":[{"command":"true","register":"r"}]},{"hosts":"a","tasks":[{"command":"echo {{ r.rc }}"}]}]' >needs
 written needs HEAD 'play: a' 'open: a' 'closed: updated:a' 'end finished'
 refused '914 NeedsResult name=r' plan inventory needs --from journal
@@ -353,7 +354,7 @@ for words in 'limits inventory' 'plan inventory one' 'plan --course inventory on
         python3 -c 'import fcntl, subprocess, sys
 with open(sys.argv[1]) as file:
     fcntl.flock(file, fcntl.LOCK_EX)
-    sys.exit(subprocess.call(sys.argv[2:]))' "$file" "$rollout" $words --from link --mended b </dev/null >out 2>errors
+    sys.exit(subprocess.call(sys.argv[2:]))' "$file" "$rollout" $words --from link --up b </dev/null >out 2>errors
         [ "$?" -eq 0 ] && [ ! -s errors ] && pass || fail "$words asks for a lock of the $file: $(cat errors)"
     done
 done

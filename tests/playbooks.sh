@@ -2,6 +2,7 @@
 # Worked playbooks: which of several faults `plan` tells, and where it stands; what accepted ones make of the hosts; the largest playbooks, and the
 # least that are too large. It needs crates/rollout/out/rollout.
 . "$(dirname "$0")/common.sh"
+quietly
 
 # four hosts in no limited group
 fleet='{"all":{"hosts":{"a":null,"b":null}},"web":{"hosts":{"x":null}},"db":{"hosts":{"y":null}}}'

@@ -4,6 +4,7 @@
 # what the programs wrote down of their begins and ends (tests/programs/kept.py), which is shown to tell false ones. It needs a C compiler, Python 3 and
 # crates/rollout/out/rollout. While that has no command `run`, all is passed over.
 . "$(dirname "$0")/common.sh"
+quietly
 . "$top/tests/programs/steps.sh"
 
 # ---- outputs: their first 65,536 bytes are kept

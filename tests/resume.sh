@@ -3,6 +3,7 @@
 # refuses it. tests/journal.sh kills runs and has them go on.
 # It needs Python and crates/rollout/out/rollout.
 . "$(dirname "$0")/common.sh"
+quietly
 
 cd "$work" || exit 1
 # A row that may lose two hosts, with two racks: r1 may lose one, r2 two.
@@ -80,7 +81,7 @@ b ok=1 changed=1 failed=0 skipped=0 ignored=0 state=updated
 c ok=1 changed=1 failed=0 skipped=0 ignored=0 state=updated
 d ok=1 changed=1 failed=0 skipped=0 ignored=0 state=updated
 e ok=1 changed=1 failed=0 skipped=0 ignored=0 state=updated
-end finished' 'b c d e ' one --mended b,e
+end finished' 'b c d e ' one --up b,e
 added 'the journal of a run that goes on' 'resumed: b e' 'again: b c d e' 'open: b d' 'closed: updated:b updated:d' 'open: c e' 'closed: updated:c updated:e' 'end finished'
 
 went 'a run that is over has nothing left' 0 'a ok=0 changed=0 failed=0 skipped=0 ignored=0 state=updated
@@ -101,7 +102,7 @@ b ok=1 changed=1 failed=0 skipped=0 ignored=0 state=updated
 c ok=1 changed=1 failed=0 skipped=0 ignored=0 state=updated
 d ok=0 changed=0 failed=0 skipped=0 ignored=0 state=updated
 e ok=0 changed=0 failed=0 skipped=0 ignored=0 state=off
-end finished' 'a b c ' one --mended=a
+end finished' 'a b c ' one --up=a
 
 written one HEAD
 printf '20 1234 play: a b' >>journal
@@ -113,7 +114,7 @@ run run inventory two --resume journal
 [ "$status" -eq 0 ] && [ "$(head -n 1 out)" = 'play 2' ] && [ "$(sort ran | tr '\n' ' ')" = 'a b c d ' ] && pass || fail "the next play comes under its own number: $(cat out)"
 
 written two HEAD 'play: a b' 'open: a' 'closed: failed:a' 'open: b'
-run run inventory two --resume journal --mended=all
+run run inventory two --resume journal --up=all
 [ "$status" -eq 0 ] && [ "$(grep -c '^play' out)" = 2 ] && [ "$(sort ran | tr '\n' ' ')" = 'a b c d e ' ] && pass || fail "all are up by now: $(cat out)"
 
 # A host that failed in an earlier play gets no more than the play that goes on, and the later ones.
@@ -128,7 +129,7 @@ b ok=1 changed=1 failed=0 skipped=0 ignored=0 state=updated
 c ok=1 changed=1 failed=0 skipped=0 ignored=0 state=updated
 d ok=1 changed=1 failed=0 skipped=0 ignored=0 state=updated
 e ok=0 changed=0 failed=0 skipped=0 ignored=0 state=off
-end finished' 'a b c d ' two --mended a,b
+end finished' 'a b c d ' two --up a,b
 added 'and its journal has no earlier one' 'resumed: a b' 'again: a b c d' 'open: a' 'closed: updated:a' 'open: b' 'closed: updated:b' 'open: c' 'closed: updated:c' 'open: d' 'closed: updated:d' 'end finished'
 
 # ---- who was at work when it broke off, and stays down
@@ -163,17 +164,17 @@ said() {
 }
 written one HEAD 'play: a b' 'open: a'
 said 'why it is none that went well' 'a halted
-next: mend what is down; then go on, by --resume JOURNAL --mended NAMES, or without a journal, what is still down marked ("down": true), by a narrower "hosts" (docs/DURING_AND_AFTER.md)' inventory one --resume journal
+next: mend what is down; then go on, by --resume JOURNAL --up NAMES, or without a journal, what is still down marked ("down": true), by a narrower "hosts" (docs/DURING_AND_AFTER.md)' inventory one --resume journal
 
 # ---- who is mended is not told to stay down
 
 cp kept-inventory inventory
 written one HEAD 'play: a b c d' 'open: a b'
-said 'who is off and was not mended is left out' 'note: e is down and stays down: 1 host of the play is left out' inventory one --resume journal --mended a,b
+said 'who is off and was not mended is left out' 'note: e is down and stays down: 1 host of the play is left out' inventory one --resume journal --up a,b
 written one HEAD 'play: a b c d' 'open: a b'
-said 'who was mended is not' '' inventory one --resume journal --mended a,b,e
-said 'nor in a run that begins so' '' inventory one --mended e
-said 'who is not among them is' 'note: e is down and stays down: 1 host of the play is left out' inventory one --mended d
+said 'who was mended is not' '' inventory one --resume journal --up a,b,e
+said 'nor in a run that begins so' '' inventory one --up e
+said 'who is not among them is' 'note: e is down and stays down: 1 host of the play is left out' inventory one --up d
 
 # ---- what is told of plays behind others
 
@@ -182,19 +183,19 @@ written fails HEAD 'play: a b c d' 'open: a d' 'closed: updated:a updated:d' 'op
 said 'in which play a host failed, and nothing of the plays before' 'play 2
 d failed in play 2 at step 1: rc=7
 e off from the start
-next: mend what is down; then go on, by --resume JOURNAL --mended NAMES, or without a journal, what is still down marked ("down": true), by a narrower "hosts" (docs/DURING_AND_AFTER.md)' inventory fails --resume journal
+next: mend what is down; then go on, by --resume JOURNAL --up NAMES, or without a journal, what is still down marked ("down": true), by a narrower "hosts" (docs/DURING_AND_AFTER.md)' inventory fails --resume journal
 mkfifo pipe
 written one HEAD 'play: a b c d' 'open: a' 'closed: updated:a'
 cat inventory >pipe &
 run run pipe one -v --resume journal
 wait
-[ "$(head -n 1 errors)" = "note: the inventory's file has no lock: another run of it is not kept out" ] && pass || fail "an inventory from a pipe has no lock: $(cat errors)"
+[ "$(head -n 1 errors)" = 'note: the inventory has no lock: another run of it is not kept out' ] && pass || fail "an inventory from a pipe has no lock: $(cat errors)"
 rm -f pipe ran
 
 # ---- runs that begin, though hosts are up by now that the inventory has as down
 
 rm -f journal ran
-run run inventory one --mended e --journal journal
+run run inventory one --up e --journal journal
 check 'who is mended is up, and waits' 0 'boundary 1: plan batches=3 bound=group row waiting=5 room=2
 open: a d
 boundary 2: plan batches=2 bound=group row waiting=3 room=2
@@ -221,11 +222,11 @@ end finished
 ' ''
 mv journal kept-journal
 rm -f ran
-run run inventory one --mended e
+run run inventory one --up e
 check 'the same without a journal' 0 "$(cat out)$newline" ''
 [ "$(sort ran | tr '\n' ' ')" = 'a b c d e ' ] && pass || fail "other hosts ran: $(cat ran)"
 rm -f journal
-run run inventory two --mended e --journal journal
+run run inventory two --up e --journal journal
 run state inventory journal
 [ "$status" -eq 0 ] && [ "$(tail -n 1 out)" = 'end finished' ] && pass || fail "a run of two plays that begins so is read back: $status, $(cat out errors)"
 # It breaks off in its second batch.
@@ -253,12 +254,12 @@ b ok=1 changed=1 failed=0 skipped=0 ignored=0 state=updated
 c ok=1 changed=1 failed=0 skipped=0 ignored=0 state=updated
 d ok=0 changed=0 failed=0 skipped=0 ignored=0 state=updated
 e ok=1 changed=1 failed=0 skipped=0 ignored=0 state=updated
-end finished' 'b c e ' one --mended e,b
+end finished' 'b c e ' one --up e,b
 rm -f journal ran
-run run inventory one --mended all --journal journal
+run run inventory one --up all --journal journal
 [ "$status" -eq 0 ] && [ "$(sort ran | tr '\n' ' ')" = 'a b c d e ' ] && sed 's/^[0-9]* [0-9]* //' journal | grep -qx 'resumed: a b c d e' && pass || fail "a group that is mended: $(cat out journal)"
 rm -f journal ran
-run run inventory one --mended '' --journal journal
+run run inventory one --up '' --journal journal
 [ "$status" -eq 0 ] && [ "$(sort ran | tr '\n' ' ')" = 'a b c d ' ] && sed 's/^[0-9]* [0-9]* //' journal | grep -qx 'resumed:' && pass || fail "nobody is mended: $(cat out journal)"
 # begun WHAT FAULT INVENTORY WORD ..: nothing begins, and no journal is made.
 begun() {
@@ -271,9 +272,9 @@ begun() {
     check "$what" 1 '' "rollout: $fault$newline"
     [ ! -e journal ] && [ ! -e ran ] && pass || fail "$what: a journal was made, or something was started"
 }
-begun 'a name that nothing has, of a run that begins' '304 NoSuchName name=z' inventory --mended e,z
+begun 'a name that nothing has, of a run that begins' '304 NoSuchName name=z' inventory --up e,z
 printf '%s' '{"row":{"vars":{"max_down":0},"hosts":{"a":null,"e":{"down":true}}}}' >over
-begun 'the inventory itself may not start over its limit' '302 StartOver group=row down=1 limit=0' over --mended e
+begun 'the inventory itself may not start over its limit' '302 StartOver group=row down=1 limit=0' over --up e
 rm -f over
 
 # ---- what refuses it
@@ -288,15 +289,15 @@ run run inventory one --resume journal --changed-inputs
 [ "$status" -eq 0 ] || [ "$status" -eq 3 ] && pass || fail 'other inputs are meant'
 cp kept-inventory inventory
 written one HEAD 'play: a b' 'open: a'
-refused 'a name that nothing has' '304 NoSuchName name=z' one --mended a,z
+refused 'a name that nothing has' '304 NoSuchName name=z' one --up a,z
 printf '20 1234 play: a b' >>journal
-refused 'a line that broke off stays where nothing goes on' '304 NoSuchName name=z' one --mended a,z
+refused 'a line that broke off stays where nothing goes on' '304 NoSuchName name=z' one --up a,z
 printf '%s' '{"row":{"hosts":{"a":null,"c":null}}}' >inventory
 refused 'another inventory, before a host that it lacks' '913 OtherInputs' one
 refused 'a host that is there no more' '912 BadJournal line=2' one --changed-inputs
 printf '%s' '{"row":{"hosts":{"a":null,"b":{"down":true}}}}' >inventory
 refused 'a host that waited, and is marked as down now' '912 BadJournal line=2' one --changed-inputs
-refused 'also where it is mended' '912 BadJournal line=2' one --changed-inputs --mended b
+refused 'also where it is mended' '912 BadJournal line=2' one --changed-inputs --up b
 printf '%s' '{"row":{"vars":{"max_down":0},"hosts":{"a":null,"b":null}}}' >inventory
 refused 'a limit that is lower now' '302 StartOver group=row down=1 limit=0' one --changed-inputs
 cp kept-inventory inventory
@@ -310,17 +311,17 @@ written one HEAD 'play: a' 'open: b'
 refused 'a line that no run writes' '912 BadJournal line=3' one
 : >journal
 refused 'an empty file' '912 BadJournal line=1' one
-refused 'a name that nothing has, before an empty file' '304 NoSuchName name=z' one --mended z
+refused 'a name that nothing has, before an empty file' '304 NoSuchName name=z' one --up z
 printf '%s' '[{"hosts":"a","tasks":[{"command":"true","register":"r"}]},{"hosts":"a","tasks":[{"command":"echo {{ r.rc }}"}]}]' >needs
 written needs HEAD 'play: a' 'open: a' 'closed: updated:a' 'end finished'
 refused 'a step reads what an earlier play registered' '914 NeedsResult name=r' needs
 written needs HEAD 'play: a' 'open: a'
-run run inventory needs --resume journal --mended a
+run run inventory needs --resume journal --up a
 [ "$status" -eq 0 ] && pass || fail "the play that registers it goes on: $(cat errors)"
 # Who was updated in the play that goes on doesn't run it again: what it registered is gone.
 printf '%s' '[{"hosts":"a:b","serial":1,"tasks":[{"command":"true","register":"r"}]},{"hosts":"a:b","tasks":[{"command":{"argv":["sh","-c","echo {{ inventory_hostname }} >>ran"]},"when":"r is changed"}]}]' >later
 written later HEAD 'play: a b' 'open: a' 'closed: updated:a' 'open: b'
-refused 'a later play reads what the play that goes on registered' '914 NeedsResult name=r' later --mended b
+refused 'a later play reads what the play that goes on registered' '914 NeedsResult name=r' later --up b
 refused 'before a group is told to be over its limit' '914 NeedsResult name=r' later
 printf '%s' '[{"hosts":"a:b","serial":1,"tasks":[{"command":"true","register":"r"}]}]' >short
 written short HEAD 'play: a b' 'open: a' 'closed: updated:a' 'open: b'
@@ -339,10 +340,10 @@ open: b
 a ok=1 changed=1 failed=0 skipped=0 ignored=0 state=updated
 b ok=1 changed=1 failed=0 skipped=0 ignored=0 state=updated
 e ok=0 changed=0 failed=0 skipped=0 ignored=0 state=off
-end finished' 'a b ' later --mended a,b
+end finished' 'a b ' later --up a,b
 printf '%s' '[{"hosts":"a:b","tasks":[{"command":"true","register":"r"}]},{"hosts":"a:b","tasks":[{"command":"true","register":"r"},{"command":"true","when":"r is changed"}]}]' >own
 written own HEAD 'play: a b' 'open: a' 'closed: updated:a' 'open: b'
-run run inventory own --resume journal --mended b
+run run inventory own --resume journal --up b
 [ "$status" -eq 0 ] && pass || fail "what a play registers itself it may read: $(cat out errors)"
 rm -f ran
 rm journal
@@ -352,7 +353,7 @@ check 'no journal' 1 '' "rollout: 902 File name=journal$newline"
 written one HEAD
 ln -s journal link
 run run inventory one --resume link
-check 'a link' 1 '' "rollout: 911 JournalWrite$newline"
+check 'a link' 6 '' "rollout: 911 JournalWrite$newline"
 [ ! -e ran ] && pass || fail 'a link is gone on with'
 # A pipe waits for its writer, and can't be added to.
 mkfifo pipe
@@ -361,7 +362,7 @@ timeout 1 "$rollout" run inventory one --resume pipe >out 2>errors
 cat journal >pipe &
 run run inventory one --resume pipe
 wait
-check 'a pipe' 1 '' "rollout: 911 JournalWrite$newline"
+check 'a pipe' 6 '' "rollout: 911 JournalWrite$newline"
 [ ! -e ran ] && pass || fail 'a pipe is gone on with'
 
 # held FILE: goes on while somebody else holds the lock of a file

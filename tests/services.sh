@@ -22,16 +22,17 @@ beside descriptors sh -c 'ulimit -n 6; exec "$@"' sh "$rollout" run -v "$work/on
 # Of 22 descriptors 16 are open already: there is room for one of two programs of eleven seconds, though the limit allows two.
 printf '[{"hosts":"all","tasks":[{"command":"sleep 11"}]}]' >"$work/long.json"
 hosts 2 >"$work/two.json"
-beside turns sh -c 'ulimit -n 22; exec "$@"' sh "$act" opens 13 becomes "$rollout" run "$work/two.json" "$work/long.json" --forks 2
+beside turns sh -c 'ulimit -n 22; exec "$@"' sh "$act" opens 12 becomes "$rollout" run "$work/two.json" "$work/long.json" --forks 2
 # The limit of processes counts all that a user runs, threads too, and doesn't hold root: it is asked of a user that nobody is.
 someone=$((50000 + $$ % 10000))
 as_user() {
     printf 'setpriv --reuid=%d --regid=%d --clear-groups' "$1" "$1"
 }
 cp "$rollout" "$work/rollout"
+cp "$work/one.json" "$work/few.json"
 as_others=yes
 if $(as_user $someone) true 2>/dev/null; then
-    beside processes prlimit --nproc=2 $(as_user $((someone + 1))) "$work/rollout" run -v "$work/one.json" "$work/true.json" --forks 1
+    beside processes prlimit --nproc=2 $(as_user $((someone + 1))) "$work/rollout" run -v "$work/few.json" "$work/true.json" --forks 1
 else
     as_others=
     echo 'left out without the right to be another user: few processes'

@@ -41,6 +41,39 @@ written 'end finished'
 cut -d ' ' -f 1,2 "$work/journal" | tr '\n' ' ' >"$work/journal.front"
 if cmp -s "$work/summed" "$work/journal.front"; then pass; else fail 'a line worked by hand'; fi
 
+# A run holds the lock of its journal for as long as it goes on.
+printf '[{"hosts":"all","tasks":[{"command":{"argv":["sh","-c","until [ -e %s ]; do sleep 0.1; done"]}}]}]' "$work/go" >"$work/going.json"
+"$rollout" run --journal "$work/going" "$work/racks.json" "$work/going.json" >/dev/null 2>&1 &
+runner=$!
+until grep -q ' open: ' "$work/going" 2>/dev/null; do sleep 0.1; done
+run state "$work/racks.json" "$work/going"
+check 'a run that goes on' 7 'a state=running
+b state=waiting
+c state=waiting
+d state=running
+e state=waiting
+end running
+' ''
+cp "$work/going" "$work/copied"
+run state "$work/racks.json" "$work/copied"
+check 'a copy of its journal has no lock' 6 'a state=running
+b state=waiting
+c state=waiting
+d state=running
+e state=waiting
+end broken-off
+' ''
+: >"$work/go"
+wait "$runner"
+run state "$work/racks.json" "$work/going"
+check 'and once it has ended' 0 'a state=updated
+b state=updated
+c state=updated
+d state=updated
+e state=updated
+end finished
+' ''
+
 told 'nothing has begun' 6 'end broken-off' HEAD
 told 'a play began: all wait' 6 'a state=waiting
 b state=waiting

@@ -2,6 +2,7 @@
 # Runs that a file stops between two batches: at each boundary, whatever kind of file it is, and in each way of naming it. It needs a C compiler and
 # crates/rollout/out/rollout.
 . "$(dirname "$0")/common.sh"
+quietly
 . "$top/tests/programs/steps.sh"
 
 # ---- a file that stops the run
@@ -37,7 +38,7 @@ stops() {
     if [ "$boundary" -eq 6 ]; then
         check "$what" 0 "$(stopped_at 6)$newline" ''
     else
-        check "$what" 1 "$(stopped_at "$boundary")$newline" "rollout: 917 Stopped$newline"
+        check "$what" 6 "$(stopped_at "$boundary")$newline" "rollout: 917 Stopped$newline"
     fi
     rm -rf "$stop"
 }
@@ -74,10 +75,17 @@ ln -s "$work" "$stop"
 stops 'a link to a folder' 1 --stop-file "$stop"
 ln -s "$work/none" "$stop"
 stops 'a link to nothing' 6 --stop-file "$stop"
+# One that could never be seen is refused before anything is read.
+unseen() {
+    run run "$work/five.json" "$work/none.json" --stop-file "$2"
+    check "$1" 1 '' "rollout: 902 File name=$2$newline"
+}
 ln -s stop "$stop"
-stops 'a link to itself' 6 --stop-file "$stop"
-stops 'a file in a folder that is not there' 6 --stop-file "$work/none/stop"
-stops 'a file below a file' 6 --stop-file "$work/one.json/stop"
+unseen 'a link to itself' "$stop"
+rm "$stop"
+unseen 'a file in a folder that is not there' "$work/none/stop"
+unseen 'a file below a file' "$work/one.json/stop"
+unseen 'a file without a name' ''
 : >"$work/kept/a stop"
 stops 'a file with a blank in its name' 1 --stop-file "$work/kept/a stop"
 : >"$work/kept/-v"
@@ -93,9 +101,9 @@ stops 'the last of two' 1 --stop-file "$work/none" --stop-file "$stop"
 stops 'the last of two, which is not there' 6 --stop-file "$stop" --stop-file="$work/none"
 : >"$stop"
 run run --stop-file "$stop" "$work/five.json" "$work/play.json"
-check 'behind the word run' 1 "$(stopped_at 1)$newline" "rollout: 917 Stopped$newline"
+check 'behind the word run' 6 "$(stopped_at 1)$newline" "rollout: 917 Stopped$newline"
 run run "$work/five.json" --stop-file "$stop" "$work/play.json" --
-check 'between the inputs' 1 "$(stopped_at 1)$newline" "rollout: 917 Stopped$newline"
+check 'between the inputs' 6 "$(stopped_at 1)$newline" "rollout: 917 Stopped$newline"
 run run "$work/five.json" -- "$work/play.json" --stop-file "$stop"
 [ "$status" -eq 1 ] && [ ! -s "$work/out" ] && [ "$(head -n 1 "$work/errors")" = 'rollout: 901 BadLine' ] && pass || fail 'a file behind the dashes'
 run run "$work/five.json" "$work/play.json" --stop-file
@@ -107,11 +115,11 @@ check 'an input that is not there comes first' 1 '' "rollout: 902 File name=$wor
 
 # It is told of, and what is told before stays.
 verbose "$work/five.json" "$work/play.json" --stop-file "$stop"
-check 'stopped and told of' 1 "$(stopped_at 1)$newline" "rollout: 917 Stopped$newline"
+check 'stopped and told of' 6 "$(stopped_at 1)$newline" "rollout: 917 Stopped$newline"
 rm -f "$stop"
 one_by_one "test {{ inventory_hostname }} != b || : >$stop"
 verbose "$work/five.json" "$work/play.json" --stop-file "$stop"
-check 'stopped and told of, behind two batches' 1 "$(stopped_at 3)$newline" "waiting=4 at=N open: a
+check 'stopped and told of, behind two batches' 6 "$(stopped_at 3)$newline" "waiting=4 at=N open: a
 $(begun a 1)
 a step=1 changed rc=0 ms=N name=
 $(closed 1 0 0)
@@ -126,7 +134,7 @@ rm -f "$stop"
 # A step of a batch that is open isn't broken off, and a host that failed before is down.
 printf '[{"hosts":"all","serial":2,"tasks":[{"command":{"argv":%s}},{"command":{"argv":["test","{{ inventory_hostname }}","!=","d"]}}]}]' "$(shell ": >$stop")" >"$work/play.json"
 run run "$work/five.json" "$work/play.json" --stop-file "$stop"
-check 'the steps of the open batch are done' 1 "boundary 1: plan batches=3 bound=serial waiting=5 size=2
+check 'the steps of the open batch are done' 6 "boundary 1: plan batches=3 bound=serial waiting=5 size=2
 open: a d
 boundary 2: plan batches=2 bound=serial waiting=3 size=2
 a ok=2 changed=2 failed=0 skipped=0 ignored=0 state=updated
@@ -154,7 +162,7 @@ boundary=2
 for host in a b c d; do
     in_second "$host"
     run run "$work/five.json" "$work/play.json" --stop-file "$stop"
-    check "the second play is stopped at boundary $boundary" 1 "$first_play$(stopped_at "$boundary")$newline" "rollout: 917 Stopped$newline"
+    check "the second play is stopped at boundary $boundary" 6 "$first_play$(stopped_at "$boundary")$newline" "rollout: 917 Stopped$newline"
     rm -f "$stop"
     boundary=$((boundary + 1))
 done
@@ -164,7 +172,7 @@ check 'the second play has finished' 0 "$first_play$(stopped_at 6)$newline" ''
 rm -f "$stop"
 printf '[{"hosts":"all","tasks":[{"command":{"argv":["touch","%s"]}}]},{"hosts":"all","serial":1,"tasks":[{"command":"true"}]}]' "$stop" >"$work/play.json"
 run run "$work/five.json" "$work/play.json" --stop-file "$stop"
-check 'stopped between two plays' 1 "$first_play$(stopped_at 1)$newline" "rollout: 917 Stopped$newline"
+check 'stopped between two plays' 6 "$first_play$(stopped_at 1)$newline" "rollout: 917 Stopped$newline"
 rm -f "$stop"
 
 # Where no batch would be opened nothing is asked: there is no host that waits, or none that may go down.

@@ -5,6 +5,7 @@
 [ -n "${SIGNALS:-}" ] || exec env --default-signal=HUP,INT,QUIT,TERM SIGNALS=default sh "$0" "$@"
 . "$(dirname "$0")/common.sh"
 case $rollout in /*) ;; *) rollout=$top/$rollout ;; esac
+quietly
 supervise=$top/bin/rollout-supervise
 mkdir "$work/temporary" "$work/bin" "$work/bare"
 ln -s "$rollout" "$work/bin/rollout"
@@ -168,7 +169,7 @@ one_signal() {
     send "$1"
     comes says "rollout-supervise: $1: "
     touch "$work/go"
-    ends "one $1" 1 "$stopped" "rollout-supervise: $1: $stops${newline}rollout: 917 Stopped$newline"
+    ends "one $1" 6 "$stopped" "rollout-supervise: $1: $stops${newline}rollout: 917 Stopped$newline"
     gone "one $1"
 }
 # two_signals NAME NAME STATUS [PLAY]: all programs end at once, and what is told says how to resume
@@ -182,7 +183,7 @@ two_signals() {
 rollout-supervise: $2: ending the programs of the run
 $in_batch
 $repair
-rollout run --resume $work/journal --mended HOSTS --forks 2 $work/three.json $play
+rollout run --resume $work/journal --up HOSTS --forks 2 $work/three.json $play
 "
     gone "$1 and then $2"
 }
@@ -193,7 +194,7 @@ killed() {
     ends "rollout is killed by $1" $((128 + $2)) '' "rollout-supervise: rollout was killed by signal $2: ending its programs
 $in_batch
 $repair
-rollout run --resume $work/journal --mended HOSTS -v $work/three.json $work/play.json
+rollout run --resume $work/journal --up HOSTS -v $work/three.json $work/play.json
 "
     gone "rollout is killed by $1"
 }
@@ -226,7 +227,7 @@ send HUP
 comes says "HUP: $stops"
 send HUP
 touch "$work/go"
-ends 'HUP twice' 1 "$stopped" "rollout-supervise: HUP: $stops${newline}rollout: 917 Stopped$newline"
+ends 'HUP twice' 6 "$stopped" "rollout-supervise: HUP: $stops${newline}rollout: 917 Stopped$newline"
 
 # Where the script itself is killed after a signal, the stop file stays: the run ends after its batch all the same.
 start run "$work/three.json" "$work/play.json"
@@ -245,11 +246,11 @@ for word in --stop-file "--stop-file=$work/a stop"; do
     send TERM
     comes says TERM:
     touch "$work/go"
-    ends "the stop file of $word" 1 "$stopped" "rollout-supervise: TERM: $stops; remove $work/a stop before the next run${newline}rollout: 917 Stopped$newline"
+    ends "the stop file of $word" 6 "$stopped" "rollout-supervise: TERM: $stops; remove $work/a stop before the next run${newline}rollout: 917 Stopped$newline"
     [ -f "$work/a stop" ] && [ ! -s "$work/a stop" ] && pass || fail "$word: the stop file is not there"
     rm -f "$work/a stop"
 done
-start run --stop-file "$work/none/stop" --journal "$work/journal" "$work/three.json" "$work/play.json"
+start run --stop-file /proc/stop --journal "$work/journal" "$work/three.json" "$work/play.json"
 send TERM
 comes says 'TERM: '
 says "rollout-supervise: TERM: the stop file cannot be made; $waits" && pass || fail "a stop file that can't be made: $(cat "$work/errors")"
@@ -265,13 +266,13 @@ cp "$work/three.json" "$odd/-i.json"
 plays "$odd/p l.json" plain
 (
     cd "$odd" || exit 1
-    start run --journal "$odd/the journal" --lock --forks 2 -- -i.json "$odd/p l.json"
+    start run --journal "$odd/the journal" --no-lock --forks 2 -- -i.json "$odd/p l.json"
     send QUIT
     comes has_ended
-    sed '1,/^rollout-supervise: repair /d; s/ --mended HOSTS / --mended a /' "$work/errors" >"$work/resume"
+    sed '1,/^rollout-supervise: repair /d; s/ --up HOSTS / --up a /' "$work/errors" >"$work/resume"
     touch "$work/go"
     PATH=$work/bin:$PATH sh "$work/resume" >"$work/out" 2>"$work/errors" </dev/null
-    grep -q -- ' --lock --forks 2 -- -i.json ' "$work/resume" && [ "$(tail -n 1 "$work/out")" = 'end finished' ]
+    grep -q -- ' --no-lock --forks 2 -- -i.json ' "$work/resume" && [ "$(tail -n 1 "$work/out")" = 'end finished' ]
 ) && pass || fail "the line that resumes: $(cat "$work/resume" "$work/errors")"
 
 # Nobody reads what it says: it goes on all the same.
@@ -285,7 +286,7 @@ send TERM
 touch "$work/go"
 comes has_ended
 wait "$runner"
-[ $? -eq 1 ] && printf '%s' "$stopped" | cmp -s - "$work/out" && pass || fail "a pipe that nobody reads: $(cat "$work/out")"
+[ $? -eq 6 ] && printf '%s' "$stopped" | cmp -s - "$work/out" && pass || fail "a pipe that nobody reads: $(cat "$work/out")"
 
 # ---- as the first process of a container
 
@@ -383,21 +384,21 @@ at_terminal() {
     interrupts
     comes shows "rollout-supervise: INT: $stops"
     touch "$work/go"
-    noted 'Ctrl-C' 1
+    noted 'Ctrl-C' 6
     printf '%s' "$stopped" | cmp -s - "$work/out" && pass || fail 'at a terminal: Ctrl-C: another recap'
     closes 2>/dev/null
     opened
     interrupts
     comes shows "rollout-supervise: INT: $stops"
     interrupts
-    comes shows "rollout run --resume $work/journal --mended HOSTS $work/three.json $work/play.json"
+    comes shows "rollout run --resume $work/journal --up HOSTS $work/three.json $work/play.json"
     noted 'Ctrl-C twice' 130
     closes 2>/dev/null
     opened
     closes 2>/dev/null
     comes stops_itself
     touch "$work/go"
-    noted 'a terminal that closes' 1
+    noted 'a terminal that closes' 6
     printf '%s' "$stopped" | cmp -s - "$work/out" && pass || fail 'at a terminal that closes: another recap'
 }
 if [ "$TERMINAL" = none ]; then

@@ -13,7 +13,7 @@ cp "$work/errors" "$work/before"
 grep ' state=\(running\|failed\|halted\|off\)$' "$work/out" >"$work/down"
 [ "$(cut -d ' ' -f 1 "$work/down" | paste -sd ' ' -)" = 'b d e' ] && pass || fail 'other hosts are down'
 for to in full closed; do
-    for flag in '' -v; do
+    for flag in --quiet '' -v; do
         : >"$work/errors"
         case $to in
             full) timeout -k 5 "$limit" "$rollout" run $flag "$work/down.json" "$work/play.json" --forks 1 </dev/null >/dev/full 2>"$work/errors" ;;
@@ -23,10 +23,13 @@ for to in full closed; do
         : >"$work/out"
         timeless
         wanted="rollout: 904 Write written=0$newline"
-        [ -z "$flag" ] || wanted="$(cat "$work/before")$newline$wanted"
+        cp "$work/down" "$work/down.here"
+        case $flag in
+            --quiet) : >"$work/down.here" ;;
+            -v) wanted="$(cat "$work/before")$newline$wanted" ;;
+            *) wanted="b step=1 failed rc=1 ms=N name=$newline$wanted" ;;
+        esac
         check "an output that is $to ${flag}" 1 '' "$wanted"
-        [ -n "$flag" ] || : >"$work/down.here"
-        [ -z "$flag" ] || cp "$work/down" "$work/down.here"
         grep ' state=' "$work/behind" | cmp -s - "$work/down.here" && pass || fail "an output that is $to ${flag}: behind the fault stands $(head -n 3 "$work/behind" | tr '\n' '|')"
     done
 done
@@ -94,6 +97,52 @@ unstarted_for 'a link to itself' 'Too many levels of symbolic links (os error 40
 unstarted_for 'a name that is too long' 'File name too long (os error 36)' "[\"/$(printf '%0300d' 0)\"]"
 unstarted_for 'a script without a first line' 'Exec format error (os error 8) (a script needs a first line with #!)' "[\"$work/bare\"]"
 unstarted_for 'an empty file' 'Exec format error (os error 8) (a script needs a first line with #!)' "[\"$work/empty\"]"
+
+# ---- what a log has without options
+
+# logged WHAT LINES WORDS: these lines come of a program that fails, before the summary
+logged() {
+    printf '[{"hosts":"all","tasks":[{"name":"x","command":{"argv":%s}}]}]' "$3" >"$work/play.json"
+    run run "$work/one.json" "$work/play.json"
+    timeless
+    : >"$work/out"
+    check "$1, in a log" 4 '' "$2$newline"
+}
+failing='a step=1 failed rc=1 ms=N name=x'
+logged 'the last line of errors' "$failing
+  a stderr: two" '["sh","-c","echo out; echo one >&2; echo two >&2; exit 1"]'
+logged 'blank lines behind it' "$failing
+  a stderr: two" '["sh","-c","printf \"one\\ntwo \\t\\n\\n \\n\" >&2; exit 1"]'
+logged 'no line feed behind it' "$failing
+  a stderr: one" '["sh","-c","printf one >&2; exit 1"]'
+logged 'errors of blanks alone' "$failing
+  a stdout: out" '["sh","-c","echo first; echo out; echo >&2; exit 1"]'
+logged 'an output alone' "$failing
+  a stdout: out" '["sh","-c","echo out; exit 1"]'
+logged 'no output' "$failing" '["false"]'
+logged 'characters that would move a terminal' "$failing
+  a stderr: ?[1mbold?" '["sh","-c","printf \"\\033[1mbold\\342\\200\\256\" >&2; exit 1"]'
+logged '300 bytes' "$failing
+  a stderr: $(printf '%0300d' 0)" "[\"sh\",\"-c\",\"echo $(printf '%0300d' 0) >&2; exit 1\"]"
+logged 'more of them' "$failing
+  a stderr: $(printf '%0300d' 0)" "[\"sh\",\"-c\",\"echo $(printf '%0301d' 0) >&2; exit 1\"]"
+logged 'no half a character' "$failing
+  a stderr: $(printf '%0299d' 0)" "[\"sh\",\"-c\",\"echo $(printf '%0299d' 0)é >&2; exit 1\"]"
+logged 'no such program' 'a step=1 failed not-started ms=N name=x
+  a error: /no/such: No such file or directory (os error 2)' '["/no/such"]'
+logged 'a signal' 'a step=1 failed rc=-1 signal=9 ms=N name=x' "$(words "$act" raise 9)"
+# With --json the object that -v has.
+printf '[{"hosts":"all","tasks":[{"command":{"argv":["sh","-c","echo one; echo two; exit 3"]}}]}]' >"$work/play.json"
+run run --json "$work/one.json" "$work/play.json"
+sed 's/"ms":[0-9]*/"ms":0/' "$work/errors" | head -n 1 >"$work/lines"
+echo '{"event":"ends","host":"a","step":1,"verdict":"failed","rc":3,"ms":0,"stdout":["one","two"]}' >"$work/wanted"
+cmp -s "$work/lines" "$work/wanted" && pass || fail "an object in a log: $(cat "$work/lines")"
+# What is no failure isn't told: hosts that are left out, names that may be options, failures that are ignored.
+printf '{"all":{"hosts":{"-a":null,"b":{"down":true},"c":null}}}' >"$work/quiet.json"
+printf '[{"hosts":"all","tasks":[{"command":{"argv":["true","{{ inventory_hostname }}"]}},{"command":"false","ignore_errors":true}]}]' >"$work/play.json"
+run run "$work/quiet.json" "$work/play.json"
+: >"$work/out"
+check 'a run without a failure, in a log' 0 '' ''
 
 # ---- names that begin with a dash
 

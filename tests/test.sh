@@ -1,5 +1,5 @@
 #!/bin/sh
-# The scripts that need the program alone, side by side, in a few minutes: the second command of whoever cloned this.
+# The scripts that need the program alone, side by side: the second command of whoever cloned this.
 #
 #     make test
 #
@@ -26,7 +26,7 @@ if [ ! -x "$ROLLOUT" ]; then
     scripts=$(echo " $scripts " | sed 's/ memory / /; s/ workers / /')
     left="$left memory workers"
     if [ ! -x "$ROLLOUT" ]; then
-        echo 'FAILED: there is no program: `make look` builds one in a minute and a half, `make` proves and builds it'
+        echo 'FAILED: there is no program: `make look` builds one in four minutes, `make` proves and builds it'
         echo '0 passed, 1 failed'
         exit 1
     fi

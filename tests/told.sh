@@ -145,7 +145,7 @@ output failed at step 6 (by its output): rc=0, judged by failed_when
 permission failed at step 10 (starts): not started
 when failed at step 2 (when): gone has no value
 word failed at step 3 (word): filled has no value
-next: mend what is down; then go on, by --resume JOURNAL --mended NAMES, or without a journal, what is still down marked ("down": true), by a narrower "hosts" (docs/DURING_AND_AFTER.md)
+next: mend what is down; then go on, by --resume JOURNAL --up NAMES, or without a journal, what is still down marked ("down": true), by a narrower "hosts" (docs/DURING_AND_AFTER.md)
 REASONS
 LC_ALL=C sort "$work/told" >"$work/told.sorted"
 for forks in 1 5 64; do
@@ -242,24 +242,20 @@ awk '
 
 # ---- what goes where
 
-# Without a terminal and without an option standard error has nothing, or a fault's line; and with `-v` standard output has the same.
+# With --quiet standard error has nothing, or a fault's line; without options failures, and what follows the recap, as `-v` has them. Standard output is the same.
 printf '{"all":{"vars":{"max_down":1},"hosts":{"a":{"down":true},"b":null}}}' >"$work/full.json"
 printf '[{"hosts":"all","serial":1,"tasks":[{"command":{"argv":["test","{{ inventory_hostname }}","!=","b"]}}]}]' >"$work/by-one.json"
 printf '[{"hosts":"all","tasks":[{"command":{"argv":["test","{{ inventory_hostname }}","!=","b"]}}]}]' >"$work/at-once.json"
 printf '[{"hosts":"all","max_fail_percentage":0,"tasks":[{"command":{"argv":["test","{{ inventory_hostname }}","!=","b"]}}]}]' >"$work/no-failure.json"
 printf '[{"hosts":"all","on_blocked":"hold","tasks":[{"command":"true"}]}]' >"$work/hold.json"
 printf '[{"hosts":"all","tasks":[{"command":"true","when":"gone"}]}]' >"$work/gone.json"
-# quiet WHAT STATUS ERRORS WORD..: what such a run has on standard error, as a file and as a pipe, with an option to be quiet and without it
+# quiet WHAT STATUS ERRORS WORD..: what such a run has on standard error, with an option to be quiet, with -v and without either, as a file and as a pipe
 quiet() {
     what=$1 want=$2 line=$3
     shift 3
-    run run "$@"
-    cp "$work/out" "$work/plain.out"
-    check "$what" "$want" "$(cat "$work/out")$newline" "$line"
-    { timeout -k 5 "$limit" "$rollout" run "$@" 2>&1 >"$work/out" </dev/null; } | cat >"$work/errors"
-    cmp -s "$work/out" "$work/plain.out" && [ "$(cat "$work/errors")" = "${line%"$newline"}" ] && pass || fail "$what, to a pipe"
     run run --quiet "$@"
-    check "$what, asked to be quiet" "$want" "$(cat "$work/plain.out")$newline" "$line"
+    cp "$work/out" "$work/plain.out"
+    check "$what, asked to be quiet" "$want" "$(cat "$work/out")$newline" "$line"
     run run -v "$@"
     [ "$status" -eq "$want" ] && cmp -s "$work/out" "$work/plain.out" && pass || fail "$what, with -v: another recap"
     grep -q "$(printf '[\033\r]')" "$work/errors" && fail "$what, with -v: what is told would move a terminal about" || pass
@@ -271,6 +267,16 @@ quiet() {
     cp "$work/errors.loud" "$work/errors"
     timeless
     cmp -s "$work/both" "$work/errors" || [ "$(LC_ALL=C sort "$work/both")" = "$(LC_ALL=C sort "$work/errors")" ] && pass || fail "$what: -v doesn't go before --quiet"
+    grep ' failed \|^rollout: ' "$work/errors" | LC_ALL=C sort >"$work/failures"
+    cp "$work/behind" "$work/behind.loud"
+    run run "$@"
+    failures_alone "$what"
+    { timeout -k 5 "$limit" "$rollout" run "$@" 2>&1 >"$work/out" </dev/null; } | cat >"$work/errors"
+    failures_alone "$what, to a pipe"
+}
+failures_alone() {
+    timeless
+    LC_ALL=C sort "$work/errors" | cmp -s - "$work/failures" && cmp -s "$work/behind" "$work/behind.loud" && cmp -s "$work/out" "$work/plain.out" && pass || fail "$1: $(cat "$work/timeless")"
 }
 quiet 'finished' 0 '' "$work/one.json" "$work/true.json"
 quiet 'finished, with a failed host' 2 '' "$work/five.json" "$work/at-once.json"
@@ -279,7 +285,7 @@ quiet 'blocked' 3 '' "$work/full.json" "$work/true.json"
 quiet 'all of a batch failed' 4 '' "$work/five.json" "$work/by-one.json"
 quiet 'too many failed' 4 '' "$work/five.json" "$work/no-failure.json"
 quiet 'a name without a value' 4 '' "$work/one.json" "$work/gone.json"
-quiet 'stopped' 1 "rollout: 917 Stopped$newline" "$work/one.json" "$work/true.json" --stop-file /dev/null
+quiet 'stopped' 6 "rollout: 917 Stopped$newline" "$work/one.json" "$work/true.json" --stop-file /dev/null
 run run "$work/one.json" "$work/none.json"
 check 'no such playbook' 1 '' "rollout: 902 File name=$work/none.json$newline"
 run run -v "$work/one.json" "$work/none.json"
@@ -317,7 +323,7 @@ verbose "$work/twelve.json" "$work/play.json"
 [ "$(head -n 1 "$work/errors")" = 'note: h00 h01 are down and stay down: 2 hosts of the plays are left out' ] && pass || fail "two plays leave hosts out: $(head -n 1 "$work/errors")"
 
 # follows WHAT STATUS LINES INVENTORY PLAYBOOK WORD..: these lines follow the recap of such a run, at each number of forks
-next='next: mend what is down; then go on, by --resume JOURNAL --mended NAMES, or without a journal, what is still down marked ("down": true), by a narrower "hosts" (docs/DURING_AND_AFTER.md)'
+next='next: mend what is down; then go on, by --resume JOURNAL --up NAMES, or without a journal, what is still down marked ("down": true), by a narrower "hosts" (docs/DURING_AND_AFTER.md)'
 follows() {
     what=$1 want=$2 lines=$3
     shift 3
@@ -349,18 +355,18 @@ stop=$work/kept/stop
 printf '[{"hosts":"all","serial":4,"tasks":[{"command":{"argv":["touch","%s"]}}]}]' "$stop" >"$work/play.json"
 verbose "$work/five.json" "$work/play.json" --stop-file "$stop"
 rm -f "$stop"
-[ "$status" -eq 1 ] && [ "$(cat "$work/behind")" = "b waits${newline}d waits${newline}next: go on, by --resume JOURNAL, or without a journal by a narrower \"hosts\" (docs/DURING_AND_AFTER.md)" ] && pass ||
+[ "$status" -eq 6 ] && [ "$(cat "$work/behind")" = "b waits${newline}d waits${newline}next: go on, by --resume JOURNAL, or without a journal by a narrower \"hosts\" (docs/DURING_AND_AFTER.md)" ] && pass ||
     fail "a run that its file ended: behind it stands $(tr '\n' '|' <"$work/behind")"
 # Of several plays the one that it broke off has what counts, whether anybody failed in it or not.
 printf '[{"hosts":"all","tasks":[{"command":{"argv":["touch","%s"]}}]},{"hosts":"all","tasks":[{"command":"true"}]}]' "$stop" >"$work/play.json"
 verbose "$work/one.json" "$work/play.json" --stop-file "$stop"
 rm -f "$stop"
-[ "$status" -eq 1 ] && [ "$(cat "$work/behind")" = "a waits${newline}next: go on, by --resume JOURNAL, or without a journal by a narrower \"hosts\" (docs/DURING_AND_AFTER.md)" ] && pass ||
+[ "$status" -eq 6 ] && [ "$(cat "$work/behind")" = "a waits${newline}next: go on, by --resume JOURNAL, or without a journal by a narrower \"hosts\" (docs/DURING_AND_AFTER.md)" ] && pass ||
     fail "a second play that its file ended: behind it stands $(tr '\n' '|' <"$work/behind")"
 hosts 3 >"$work/three.json"
 printf '[{"hosts":"all","tasks":[{"command":"true"}]},{"hosts":"all","serial":2,"tasks":[{"command":{"argv":["touch","%s"]}},{"command":{"argv":["test","{{ inventory_hostname }}","!=","h0000"]}}]}]' "$stop" >"$work/play.json"
 verbose "$work/three.json" "$work/play.json" --stop-file "$stop"
 rm -f "$stop"
-[ "$status" -eq 1 ] && [ "$(cat "$work/behind")" = "h0000 failed in play 2 at step 2: rc=1${newline}h0001 waits$newline$next" ] && pass ||
+[ "$status" -eq 6 ] && [ "$(cat "$work/behind")" = "h0000 failed in play 2 at step 2: rc=1${newline}h0001 waits$newline$next" ] && pass ||
     fail "a host failed in a second play that its file ended: behind it stands $(tr '\n' '|' <"$work/behind")"
 finish

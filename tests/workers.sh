@@ -5,6 +5,7 @@
 # It needs a C compiler, crates/rollout/out/rollout, and crates/pool_tests/out/pool_tests_tests, which rt ci (or rt test) leaves. Where that isn't there its rows are passed
 # over, but where ALL_BUILT is set.
 . "$(dirname "$0")/common.sh"
+quietly
 
 cat >"$work/refuse.c" <<'C'
 #define _GNU_SOURCE

@@ -6,7 +6,7 @@
 # EXPECTED has lines NAME=VALUE, empty ones, and ones that begin with `#`. It stands beside the two files and is changed with them, so that whoever reads a change sees what
 # it does to the fleet. A question of `limits`, `batches` or `plan` whose line is missing isn't asked, and that is said.
 #
-#     allow         kinds of notes that are meant, parted by commas
+#     allow         lint rules whose warnings are intended, comma-separated
 #     limits        what the table of limits has to say, as `--expect` reads it
 #     batches       what the plan has to say, as `--expect` reads it
 #     plan          the file of the plan that was agreed on, from the folder of EXPECTED; `rollout plan` makes it

@@ -26,7 +26,7 @@ if [ -n "$last" ]; then
     if [ "$status" -ne 0 ]; then
         echo "not begun: the run before goes on, or has ended with status $status"
         echo "$stand" | grep -v ' state=updated$'
-        echo "next: mend what is down, then rollout run --resume $last --mended HOSTS $inventory $playbook"
+        echo "next: mend what is down, then rollout run --resume $last --up HOSTS $inventory $playbook"
         exit 1
     fi
 fi

@@ -38,11 +38,11 @@ def _codings():
 def _breaks():
     """Texts whose lines end as those of Windows do, or go wrong far from their line's ends."""
     texts = (
-        (b'{"web": null,\r\n}\r\n', "it goes wrong at <here>, line 2, column 1: <here>}; no comma stands behind the last one"),
-        (b'{"web": {\r\n\r\n', 'it ends too early, at line 1, column 10: {"web": {<here>'),
-        (b'["' + b"a" * 97 + b'", b' + b"c" * 97 + b"]", "it goes wrong at <here>, line 1, column 103: " + "a" * 37 + '", <here>b' + "c" * 39),
-        (b'\n\n["' + b"a" * 97 + b'" "' + b"b" * 97 + b'"]', "line 3, column 102: " + "a" * 38 + '" <here>"' + "b" * 39 + "; a comma or a colon is missing before it"),
-        (b'{"web": "M\xfcller"}', 'it goes wrong at <here>, line 1, column 11: {"web": "M<here>?ller"}'),
+        (b'{"web": null,\r\n}\r\n', "line 2, column 1: <here>}: remove the comma before it"),
+        (b'{"web": {\r\n\r\n', 'line 1, column 10: {"web": {<here>: the file ends here; close what is open'),
+        (b'["' + b"a" * 97 + b'", b' + b"c" * 97 + b"]", "line 1, column 103: " + "a" * 27 + '", <here>b' + "c" * 29),
+        (b'\n\n["' + b"a" * 97 + b'" "' + b"b" * 97 + b'"]', "line 3, column 102: " + "a" * 28 + '" <here>"' + "b" * 29 + ": a comma or a colon is missing before it"),
+        (b'{"web": "M\xfcller"}', 'line 1, column 11: {"web": "M<here>?ller"}'),
     )
     for text, told in texts:
         yield Row("an inventory that goes wrong", inventory=text, faults=[("201 NotJson", [told])])
@@ -95,8 +95,7 @@ def _playbooks():
         yield _row(f"{count} faults of a playbook", told, playbook=[_play([{**TRUE, "when": "a > 1"}] * count)])
     both = [(f"205 BadDown at=g/hosts/h{place:02}/down", "true") for place in range(60)] + [(f"702 BadShape at=0/tasks/{place}", "command") for place in range(60)]
     hosts = {f"h{place:02}": {"down": 1} for place in range(60)}
-    both += [("304 NoSuchName name=web", "name")]
-    yield _row("a hundred of both files, of 121", both, {"g": {"hosts": hosts}}, [_play([None] * 60)])
+    yield _row("a hundred of both files, of 120", both, {"g": {"hosts": hosts}}, [_play([None] * 60)])
     names = [f"n{place}" for place in range(120)]
     yield _row("names of patterns, of 120", [(f"304 NoSuchName name={name}", "name") for name in names], playbook=[{"hosts": names, "tasks": [TRUE]}])
 

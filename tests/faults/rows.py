@@ -79,13 +79,12 @@ def wrong(program, row, folder):
     counted = [line for line in lines[of_faults[0] :] if not line.startswith("  ")]
     wanted = [f"rollout: {fault}" for fault, _ in row.faults[:MOST_TOLD]]
     found = [f"  {line}" for line in _lines_that_differ(wanted, told)]
-    # What may be noted behind the faults tests/lint.sh and the drawn cases show; here it is counted.
-    ends = [f"faults={row.count or len(row.faults)}", *([*counted[1:-2], f"notes={len(counted) - 3}"] if len(counted) > 2 else []), ""]
+    ends = [f"faults={row.count or len(row.faults)}", ""]
     if counted != ends or lint.returncode != 1 or lint.stderr:
         found.append(f"it ends with {counted}, status {lint.returncode}, standard error {lint.stderr[:100]!r}")
     for (fault, wants), line in zip(row.faults, helps):
-        if not re.fullmatch(r"  [!-~][ -~]{0,299}", line):
-            found.append(f"{fault}: {line!r} is no line of two blanks and 1 to 300 bytes of printable ASCII")
+        if not re.fullmatch(r"  [!-~][ -~]{0,139}", line):
+            found.append(f"{fault}: {line!r} is no line of two blanks and 1 to 140 bytes of printable ASCII")
         found += [f"{fault}: {want!r} isn't in {line!r}" for want in wants if want not in line]
     for playbook in row.advised:
         found += _refused(program, folder, playbook)

@@ -166,7 +166,7 @@ def named_pipes(rows, folder, files):
         ("an inventory and a journal", "state", (inventory, journal), (0, states + b"end finished\n", b"")),
         ("a journal that stops before its last byte", "state", (inventory, journal[:-1]), (6, states + b"end broken-off\n", b"")),
         ("a journal that stops in its first line", "state", (inventory, journal[:99]), (1, b"", b"rollout: 912 BadJournal line=1\n")),
-        ("two named pipes that are looked through", "lint --allow=local-play", (inventory, playbook), (0, b"notes=0\n", b"")),
+        ("two named pipes that are looked through", "lint --allow=local-command", (inventory, playbook), (0, b"notes=0\n", b"")),
     ):
         pipes = [folder / f"{number}.pipe" for number in range(len(texts))]
         for pipe, text in zip(pipes, texts):

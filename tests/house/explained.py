@@ -1,6 +1,6 @@
 #!/usr/bin/env python3
 """What `rollout explain WORD` prints of each fault, by its number, cut out of docs/FAULTS.md, and of each kind of `lint`'s notes, by its name, cut out of docs/NOTES.md: `make pages` makes
-files of the crate fault_pages from them, and tests/house.sh compares these.
+files of the crate hints from them, and tests/house.sh compares these.
 
 The entry of a word is its row of the page's table, as `NUMBER NAME: what it says in short` or `KIND key=value ..: when it stands`, and below it what stands under the heading to which the row leads,
 up to the next heading. A heading that is of several faults is the entry of each.
@@ -10,8 +10,8 @@ import re
 
 import tree
 
-FAULTS, NOTES, KINDS = "docs/FAULTS.md", "docs/NOTES.md", "crates/note_lines/src/kind.rt"
-CRATE = "crates/fault_pages"
+FAULTS, NOTES, KINDS = "docs/FAULTS.md", "docs/NOTES.md", "crates/note_lines/src/rows.rt"
+CRATE = "crates/hints"
 ROW = re.compile(r"^\| \[([\w-]+)\]\(#([\w-]+)\) \| ([^|]+) \| (.*) \|$", re.M)
 
 
@@ -23,8 +23,8 @@ def entries_of(page):
 
 
 def kinds():
-    """The names of the kinds of notes, as the program has them."""
-    return re.findall(r'Kind::\w+ => "([\w-]+)"', tree.read(KINDS))
+    """The names of the lint rules, as the program has them."""
+    return re.findall(r'Kind::\w+ => (?:warning|info)\(\s*"([\w-]+)"', tree.read("crates/note_lines/src/rows.rt"))
 
 
 def bodies_of(text):
@@ -43,20 +43,14 @@ def bodies_of(text):
 
 def made_files():
     """The texts of the crate's files."""
-    of_faults, of_notes = entries_of(FAULTS), entries_of(NOTES)
-    groups = groups_of(of_faults, of_notes)
-    return {
-        f"{CRATE}/src/entries.rt": made_table(groups),
-        f"{CRATE}/src/faults.rt": made_texts(FAULTS, "each fault", of_faults),
-        f"{CRATE}/src/notes.rt": made_texts(NOTES, "each kind of `lint`'s notes", of_notes),
-        f"{CRATE}/specs/Listed.antt": made_list(groups),
-    }
+    groups = groups_of(entries_of(FAULTS), entries_of(NOTES))
+    return {f"{CRATE}/src/entries.rt": made_table(groups), f"{CRATE}/specs/Listed.antt": made_list(groups)}
 
 
 def groups_of(of_faults, of_notes):
-    """The words that have an entry, group by group: a look-up of all at once would be more than the prover goes through."""
+    """The entries by their words, group by group: a look-up of all at once would be more than the prover goes through."""
     faults = [("inventories", "faults of inventories and fleets", "123"), ("playbooks", "faults of playbooks", "567"), ("commands", "faults of commands", "89")]
-    return [*((name, what, "faults", [word for word in of_faults if word[0] in digits]) for name, what, digits in faults), ("kinds", "kinds of notes", "notes", [*of_notes])]
+    return [*((name, what, {word: entry for word, entry in of_faults.items() if word[0] in digits}) for name, what, digits in faults), ("kinds", "kinds of notes", of_notes)]
 
 
 def made_table(groups):
@@ -69,21 +63,19 @@ fn entry_of_{name}<'p>(word: &str) -> Option<&'p str>
     ensures listed {{ is_some result ≡ listed.is_of_{name} word.now }}
 {{
     match word {{
-{"".join(f'        "{word}" => Some({module}::{constant(word)}),{chr(10)}' for word in words)}        _ => None,
+{"".join(f'        "{word}" => Some({chr(10)}            "{quoted(entry)}",{chr(10)}        ),{chr(10)}' for word, entry in entries.items())}        _ => None,
     }}
 }}
-""" for name, what, module, words in groups)
+""" for name, what, entries in groups)
     first = "".join(f"""    if let Some(entry) = entry_of_{name}(word) {{
         return Some(entry);
     }}
 """ for name, *_ in groups[:-1])
     return f"""//! The entries of docs/FAULTS.md and docs/NOTES.md by their words. `make pages` makes this file from those pages.
 ghost use Rattle.std.specs.Prelude.{{◌≡◌, IfSome, is_some}};
-ghost use Rattle.fault_pages.specs.Entries.{{IsEntryOf}};
-ghost use Rattle.fault_pages.specs.Listed as listed;
-ghost use Rattle.fault_pages.specs.Listed.{{has_entry}};
-
-use crate::{{faults, notes}};
+ghost use Rattle.hints.specs.Entries.{{IsEntryOf}};
+ghost use Rattle.hints.specs.Listed as listed;
+ghost use Rattle.hints.specs.Listed.{{has_entry}};
 
 /// The entry of the fault whose number is written so, or of the kind of notes that has this name. It begins with the word.
 pub fn entry_of<'p>(word: &str) -> Option<&'p str>
@@ -95,16 +87,10 @@ pub fn entry_of<'p>(word: &str) -> Option<&'p str>
 {own}"""
 
 
-def made_texts(page, whom, entries):
-    """The texts of a page's entries."""
-    texts = "".join(f'\npub(crate) const {constant(word)}: &str = "\\\n{quoted(entry)}";\n' for word, entry in entries.items())
-    return f"//! What {page} says of {whom}. `make pages` makes this file from that page.\n{texts}"
-
-
 def made_list(groups):
     """The definition of what has an entry."""
     head = ["-- What docs/FAULTS.md and docs/NOTES.md have entries of. `make pages` makes this file from those pages.", "use Rattle.std.specs.Prelude.{ℕ, Bool, ◌||◌, List, [], ◌∷◌, codes}", "use Rattle.std.specs.List.{list_any}", "use Rattle.std.specs.Str.{bytes_eq}"]
-    own = [line for name, what, _, words in groups for line in ["", f"-- {what}", f"unfoldable pub is_of_{name} : List ℕ → Bool", f"is_of_{name} word = list_any (bytes_eq word) (", *listed(words)]]
+    own = [line for name, what, words in groups for line in ["", f"-- {what}", f"unfoldable pub is_of_{name} : List ℕ → Bool", f"is_of_{name} word = list_any (bytes_eq word) (", *listed(words)]]
     names = [f"is_of_{name} word" for name, *_ in groups]
     return "\n".join([*head, *own, "", "-- the word is one of those that have an entry", "abbrev pub has_entry : List ℕ → Bool", f"has_entry word = {' || ('.join(names[:-1])} || {names[-1]}{')' * (len(names) - 2)}", ""])
 
@@ -121,11 +107,6 @@ def listed(words):
     return [*lines, f"{line} [])"]
 
 
-def constant(word):
-    """The name of the constant that is a word's entry."""
-    return "OF_" + word.upper().replace("-", "_")
-
-
 def quoted(text):
     """A text as it stands between the quotes of a string."""
-    return text.replace("\\", "\\\\").replace('"', '\\"')
+    return text.replace("\\", "\\\\").replace('"', '\\"').replace("\n", "\\n")

@@ -4,7 +4,7 @@
     <!-- made by `make pages`: NAME -->
     <!-- end of NAME -->
 
-of a page, the exit statuses, faults and kinds of notes of the man page, which are those of FAULTS and NOTES, and what `rollout explain` prints of each of them, in files of the crate fault_pages. Words that only somebody who tried it can say (who refused an edit, which row told a bug) are taken over from the rows that stand there, wherever in
+of a page, the exit statuses, faults and kinds of notes of the man page, which are those of FAULTS and NOTES, and what `rollout explain` prints of each of them, in files of the crate hints. Words that only somebody who tried it can say (who refused an edit, which row told a bug) are taken over from the rows that stand there, wherever in
 the made parts of the pages a row of that name is, so that they follow an edit to another crate. What nobody said yet is left empty, and tests/house.sh asks for it.
 
     make pages

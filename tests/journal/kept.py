@@ -220,7 +220,7 @@ def at_each_call():
             if os.path.exists(case.paths[4]) or case.noted()[0]:
                 wrongs.append(wrong_in_states(case, case.kept(4), hosts))
             if does == "fail":
-                wrongs.append((status != 1 or errors != "rollout: 911 JournalWrite\n") and f"status {status} {errors!r}")
+                wrongs.append((status != 6 or errors != "rollout: 911 JournalWrite\n") and f"status {status} {errors!r}")
                 # What the recap has as opened is on the disk, but for nothing.
                 recap = {host for names in re.findall(r"^open:(.*)$", out, re.M) for host in names.split()}
                 states = journal.states_of(kept, hosts) if kept else {}

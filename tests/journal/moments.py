@@ -64,7 +64,7 @@ def go_on(roll, mended=(), wanted=(0, 2, 3, 4), **environment):
     down = {host for host, state in states.items() if state in DOWN} - set(mended)
     for host in mended:
         roll.add("mended", host)
-    status, errors = roll.ended("--resume", roll.journal, *(["--mended", ",".join(mended)] if mended else []), **environment)
+    status, errors = roll.ended("--resume", roll.journal, *(["--up", ",".join(mended)] if mended else []), **environment)
     worked = {host for word, host in roll.noted()[told:] if word == "began"}
     whole = before[: before.rfind(b"\n") + 1]
     return [
@@ -99,7 +99,7 @@ def broken_off(roll, kind, *how):
     if kind == "call":
         at, does, power = how
         status, errors = roll.ended("--journal", roll.journal, **roll.disk(at, does))
-        wanted = ((1,), b"rollout: 911 JournalWrite\n") if does in ("fail", "full") else ((-9,), b"")
+        wanted = ((6,), b"rollout: 911 JournalWrite\n") if does in ("fail", "full") else ((-9,), b"")
         wrongs = [status not in wanted[0] and f"status {status}", not errors.startswith(wanted[1]) and f"{errors}"]
         if power is not None:
             roll.settle()
@@ -130,7 +130,7 @@ def try_moment(work):
             first, at, does, power = how
             wrongs = broken_off(roll, "call", first, "short_kill", 1)
             roll.settle()
-            wanted = (1,) if does in ("fail", "full") else (-9,)
+            wanted = (6,) if does in ("fail", "full") else (-9,)
             wrongs += go_on(roll, wanted=wanted, **roll.disk(at, does))
             if power is not None:
                 roll.settle()

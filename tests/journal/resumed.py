@@ -158,7 +158,7 @@ def resumed(count):
                 mended_at.append((now, host))
                 case.off.discard(host)
             told = len(case.stamps())
-            more = ("--mended", ",".join(mended)) if mended else ()
+            more = ("--up", ",".join(mended)) if mended else ()
             ran = case.resume(*more, "--forks", str(draw.choice([1, 3, 64])))
             after = case.kept()
             whole_before = before[: before.rfind(b"\n") + 1]

@@ -254,7 +254,7 @@ class Cases:
         fault = told_wrong(told, noted, printed[0]) if printed == first else f"it printed {printed[0]!r}"
         self.judge(number, "told of", fault)
         forks, start = own.choice(FORKS), own.randrange(1, 2 + sum(line.startswith("+") for line in noted))
-        self.judge(number, f"stopped, {forks} forks", self.wrong_in_broken(known, first, (1, "rollout: 917 Stopped"), self.run(forks, "--stop-file", "stop")))
+        self.judge(number, f"stopped, {forks} forks", self.wrong_in_broken(known, first, (6, "rollout: 917 Stopped"), self.run(forks, "--stop-file", "stop")))
         memory = self.run(forks, LD_PRELOAD=self.fail, FAIL="posix_spawn", FAIL_AT=str(start), FAIL_HOW="12")
         self.judge(number, f"no memory for start {start}, {forks} forks", self.wrong_in_broken(known, first, (5, "rollout: memory"), memory))
 
@@ -265,7 +265,7 @@ class Cases:
             if status != broken[0] or told != [broken[1]] or not recap.endswith("end fault\n"):
                 return f"it printed {recap!r}, status {status}, and told {told}"
             self.broken += 1
-            if status == 1 and " state=running\n" in recap:
+            if status == 6 and " state=running\n" in recap:
                 return f"it was stopped, and a host is at work: {recap!r}"
         return kept.wrong_in(known, recap, noted)
 

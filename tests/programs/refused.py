@@ -252,7 +252,7 @@ class Sweep:
         return "\n".join([*"".join(parts[: int(play)]).splitlines(), *lines, *sorted(down), "end fault", ""])
 
     def judge_stop(self, ran):
-        return self.judge_broken(ran, 1, "rollout: 917 Stopped\n", 0, at_boundary=True)
+        return self.judge_broken(ran, 6, "rollout: 917 Stopped\n", 0, at_boundary=True)
 
 
 class Sweeps:

@@ -1,13 +1,9 @@
 # What the scripts share that run programs: the helpers made, and plays of one host or of many. Where the program has no command `run`, all is passed over.
 helpers=$top/tests/programs
 
-# Runs the program, which is not to hang.
+# The program is not to hang.
 limit=120
 [ -z "${UNPROVED:-}" ] || limit=600
-run() {
-    timeout -k 5 "$limit" "$rollout" "$@" <"$input" >"$work/out" 2>"$work/errors"
-    status=$?
-}
 
 printf '{"all":{"hosts":{"a":null}}}' >"$work/one.json"
 printf '[{"hosts":"all","tasks":[{"command":"true"}]}]' >"$work/true.json"

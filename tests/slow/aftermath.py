@@ -8,7 +8,7 @@ from texts import as_text
 
 MOST_NAMED = 10
 NEXT = ' by a narrower "hosts" (docs/DURING_AND_AFTER.md)'
-MENDING = 'mend what is down; then go on, by --resume JOURNAL --mended NAMES, or without a journal, what is still down marked ("down": true),'
+MENDING = 'mend what is down; then go on, by --resume JOURNAL --up NAMES, or without a journal, what is still down marked ("down": true),'
 
 
 def left_out(fleet, targets):

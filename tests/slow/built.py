@@ -10,6 +10,8 @@ from linting import KINDS
 from telling import in_order, timeless
 
 LONGEST_RUN = 300
+# What stands behind the hints of `lint`.
+TRAILER = "  `rollout explain KIND` has an example; `--allow KIND,..` suppresses a rule\n"
 
 
 def call(program, case, folder, before=None):
@@ -27,17 +29,20 @@ def call(program, case, folder, before=None):
 
 
 def unexplained(out):
-    """What `lint` says, without what to do about notes: a line for each kind that is told, in their order, behind their number. Where these aren't the kinds, the whole text stays as it is."""
-    advice = re.compile(r"^  ([a-z-]+): [!-~][ -~]{0,299}; `explain \1` says more, `--allow \1` switches it off\n", re.M)
+    """What `lint` says, without the hints behind the number of warnings: a line for each rule that is told, in their order, and one that names `explain` and `--allow`. Where these aren't the lines, the whole output stays
+    as it is."""
+    hint = re.compile(r"^  ([a-z-]+): [!-~][ -~]{0,139}\n", re.M)
     front, counted, behind = out.partition("\nnotes=") if "\nnotes=" in out else ("", "", out)
     told = set(re.findall(r"^([a-z-]+) ", front, re.M))
-    shown = [match[1] for match in advice.finditer(behind)]
-    return front + counted + advice.sub("", behind) if shown == [kind for kind in KINDS if kind in told] else out
+    number, _, hints = behind.partition("\n")
+    shown = [match[1] for match in hint.finditer(hints)]
+    is_right = told and shown == [kind for kind in KINDS if kind in told] and hint.sub("", hints) == TRAILER
+    return f"{front}{counted}{number}\n" if is_right else out
 
 
 def unhelped(out):
-    """What `lint` says, without the line that helps behind each fault: two blanks, and 1 to 300 bytes of printable ASCII. Where one isn't so, or isn't there, the whole text stays as it is."""
-    text, count = re.subn(r"^(rollout: .*\n)  [!-~][ -~]{0,299}\n", r"\1", out, flags=re.M)
+    """What `lint` says, without the line that helps behind each fault: two blanks, and 1 to 140 bytes of printable ASCII. Where one isn't so, or isn't there, the whole text stays as it is."""
+    text, count = re.subn(r"^(rollout: .*\n)  [ -~]{1,140}\n", r"\1", out, flags=re.M)
     return text if count == len(re.findall(r"^rollout: ", out, re.M)) else out
 
 

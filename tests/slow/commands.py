@@ -6,7 +6,7 @@ from answers import Lines
 from checking import judged, read_batches
 from course import next_boundary
 from entries import digest
-from every import every_fault, fault_lines, has_plays, looked_at
+from every import every_fault, fault_lines
 from expecting import number_in_plan, number_in_table, read_expectations, unmet
 from facts import accepted, coursed, gone_on, planned, plays_before, ran, status_of_plan, targeted, went_on
 from faults import Fault
@@ -15,8 +15,7 @@ from foreseen import foreseen_text
 from foretold import foretold
 from inventory import read_inventory
 from json_answers import Objects
-from known import known_of, unread_of
-from linting import lines_beside_faults, lint_lines, read_allowed
+from linting import lint_lines, read_allowed
 from missing import first_missed
 from planning import start
 from plays import recaps, status_of
@@ -120,20 +119,18 @@ def check(inventory, playbook, text):
 
 
 def lint(inventory, playbook=None, allowed=()):
-    """Every fault of the inventory, and of the playbook where there is one; behind them, or alone where there is none, what is accepted and probably not meant, but for kinds of notes that are
-    allowed."""
+    """Every fault of the inventory, and of the playbook where there is one; where there is none, what is accepted and probably a mistake, but for rules that are suppressed."""
     faults = every_fault(inventory, playbook)
     if faults:
-        found = key_notes(inventory, playbook), looked_at(inventory, playbook)
-        beside = [] if turned("notes-beside-faults") else lines_beside_faults(*found, allowed, known_of(inventory, playbook), unread_of(inventory, playbook), has_plays(inventory, playbook))
-        return Said("".join(fault_lines(faults)) + as_text(beside), "", 0 if turned("faults-make-status-one") else 1)
+        return Said("".join(fault_lines(faults)), "", 0 if turned("faults-make-status-one") else 1)
     fleet, plays, targets = (Fleet(read_inventory(inventory)), [], []) if playbook is None else accepted(inventory, playbook)
     lines, count = lint_lines(key_notes(inventory, playbook), fleet, plays, targets, allowed)
-    return Said(as_text([*lines, f"notes={count}"]), "", 1 if count and not turned("lint-notes-make-status-one") else 0)
+    makes_one = bool(lines) if turned("lint-infos-make-no-status") else count > 0
+    return Said(as_text([*lines, f"notes={count}"]), "", 1 if makes_one and not turned("lint-notes-make-status-one") else 0)
 
 
 def check_line(words):
-    """Refuses what of a line of words is refused before any file is read: a list of expectations, or of kinds of notes, that is none."""
+    """Refuses what of a line of words is refused before any file is read: a list of expectations, or of lint rules, that is none."""
     if not turned("expect-lists-before-files"):
         expected_in(words)
     if not turned("lint-lists-before-files"):
@@ -147,7 +144,7 @@ def expected_in(words):
 
 
 def allowed_in(words):
-    """The kinds of notes that a line of words switches off."""
+    """The lint rules that a line of words suppresses."""
     lists = _values_behind("--allow", words)
     return read_allowed(",".join(lists[-1:] if turned("lint-all-lists-count") else lists))
 
@@ -172,8 +169,8 @@ def names_to_fail(words):
 
 
 def mended_names(words):
-    """The names that `--mended` gives."""
-    return _names_behind("--mended", words)
+    """The names that `--up` gives."""
+    return _names_behind("--up", words)
 
 
 def _names_behind(option, words):

@@ -29,8 +29,8 @@ def draw_faulty(seed, number):
 
 
 def _unknown(random):
-    """Right files but for names in patterns, some at several places."""
-    inventory = write(draw_right_inventory(random, down=0), random)
+    """Right files but for names in patterns, some at several places, and groups that start over their limits in some."""
+    inventory = write(draw_right_inventory(random, down=random.choice([0, 0, 0.9]), limited=random.choice([0, 0.9])), random)
     names = [*names_in(inventory)[:4], "nobody", "x*", "y", "caf\u00e9", "ca\u00fd"]
     plays = draw_right_playbook(random, names, RunStyle([]), random.choice([1, 2, 3]))
     named = [Members((key, ":".join(random.choices(names, k=random.choice([1, 2, 4]))) if key == "hosts" else part) for key, part in play) for play in plays]

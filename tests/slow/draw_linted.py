@@ -1,8 +1,6 @@
-"""Drawn inventories and plays of which `lint` has something to note: names that some hosts have, all or none, and some ask for behind a guard; results that are read before and behind the step that registers them; handlers that
-nobody notifies; words of a shell; groups of which no host may be down, and variables of groups that are nearly keys; hosts that are alike, or begin with a dash; programs here and elsewhere, words
-that are too long, and conditions that ask nothing, or for values and groups that nobody has; comparisons of values of two kinds; plays that say nothing of their hosts, and keys that stand more than
-once; names that are nearly others, results of other plays and of handlers, and limits above the number of hosts; texts that say no, and variables that are compared with what is of another kind; results
-that are asked for as a whole, and codes of steps that are skipped; and what waits, asks or compares in vain. And files with faults, of which what is kept has such notes."""
+"""Drawn inventories and plays of which `lint` has something to say: names that some hosts have, all or none, and some ask for behind a guard; results that are read before and behind the step that registers them; handlers that
+no task notifies; words of a shell; limits at which no host may be down, or above the number of hosts; variables of groups that are nearly keys; hosts whose names begin with a dash; programs here and elsewhere, words that are too
+long, and conditions for values and groups that no host has; keys that stand more than once; names that are nearly others, results of other plays and of handlers. And some files with faults, beside which nothing is told."""
 
 import re
 from copy import deepcopy
@@ -10,17 +8,17 @@ from random import Random
 from string import ascii_letters
 
 from cases import INVENTORY, MISSING, PLAYBOOK, Case, names_in
-from draw_codes import with_codes
+from draw_asked import with_asked_in_vain
 from draw_conditions import draw_condition
 from draw_inventory import draw_right as draw_right_inventory
+from draw_local import local_plays, with_shared_variables
 from draw_playbook import draw_right as draw_right_playbook
 from draw_refused import spoiled_inventory, spoiled_playbook
-from draw_spared import spared_inventory, spared_playbook, with_comparisons
 from draw_steps import AnyStyle
-from draw_vain import more_racks, play_for, with_awaited_states, with_holes
 from json_draw import Members, write
-from linting import KINDS, SHELL_WORDS
+from linting import KINDS, SEVERITIES, WARNING
 from mutate import mutate
+from step_notes import SHELL_WORDS
 
 NAMES = ["v", "v", "w", "w", "flag", "tier", "x", "_n", "r", "r", "q", "nowhere", "max_down", "down", "inventory_hostname"]
 KEYS = [
@@ -33,7 +31,7 @@ DOWNS = ["dwon", "donw", "odwn", "down1", "xdown", "own", "don", "dow", "d\u00f6
 # Names that are like each other, for variables and results, and what reads one.
 LIKE = ["version", "versions", "Version", "release", "releases", "relaese", "port", "ports", "Port", "flags", "tier1", "teir", "found", "count", "counts"]
 READS = ["{0}", "{0}.rc == 0", "{0} is changed", "{0} is defined and {0}.rc == 0", "{0} == 'nothing'", "not ({0}.stdout == '')", "inventory_hostname == 'a' or {0}.failed"]
-ALIKE = ["A", "a", "B", "C1", "c1", "H0", "Web", "wEB", "WEB", "-a", "-A", "--", "-", "A.b", "a_b"]
+MORE_HOSTS = ["A", "a", "B", "C1", "H0", "Web", "-a", "-A", "--", "-", "a_b"]
 PROGRAMS = ["ssh", "ssh", "/usr/bin/ssh", "./ssh", "sssh", "ssh/x", "Ssh", "{{ v }}", "{{ v }}/ssh", "true", "rsync"]
 PLAIN = ["true", "false", "1 == 1", "'a' != \"b\"", "not (true and 0)", "1 or ''", "'g' in group_names", "inventory_hostname", "inventory_hostname == 'a'", "true or 'g' not in group_names", "x is defined"]
 GUARDS = [
@@ -52,38 +50,18 @@ UNLIKE = [
     "{0}.rc == {0}.stdout", "{0}.skipped == inventory_hostname", "{0} == 1 or not ({1}.rc == 'a' and {0})", "{0}.stdout == inventory_hostname", "{0}.rc == {1}", "'1' == {0}", "{0}.failed != false",
     "{0}.rc == -1", "inventory_hostname == {0}.rc",
 ]
-# Names that conditions ask for alone, or compare; what they may be given, of one kind or of several; and such conditions.
-SWITCHES = ["debug", "reboot", "port", "release", "v", "w"]
-SAID = [
-    ["false", "No", "0", "off", "NULL", "none", "N", "f", "faLse", "n", "FALSE", "oFF"], ["true", "", "nope", "false ", " no", "00", "f\u00e4lse", "o", "False", "yes"], ["15", "80", "1.2", "true", "0"],
-    [0, 1, 15, 80, -1], [True, False], [15, "15", True], ["off", False, 0], [None, [], 1.5, "no"],
-]
-SWITCHED = [
-    "{0}", "not {0}", "({0}) and {1}", "not ({0} or {1})", "{0} is defined and {0}", "'g' in group_names or {0}", "{0} == 1 or {1}", "{0} and {1} != 'a'", "true or {0}", "{0} is changed or not {1}",
-    "{0}.rc or {1}", "{0} == '15'", "15 != {0}", "{0} == true", "false == {0}", "{0} != 'true' or {1} == 15", "{0} == {1}", "{0}.rc == {1}", "{1} != {0}.stdout", "{0}.failed == {1} or {1} == {0}.stderr",
-    "inventory_hostname == {0}", "not ({0} == 1 and {1} == '1')", "{0} and {1} == 15", "{0} == 15 and {1}", "'nogroup' in group_names or {0} or {1} == true", "{0}.skipped != {1}", "inventory_hostname and {0}",
-]
-# Names of results, of which some are variables too, and conditions that take one for one of its fields, or only look so.
-RESULTS = ["done", "done", "said", "said", "debug", "port", "v", "x"]
-WHOLE = [
-    "{0}", "not {0}", "{0} == 'changed'", "0 == {0}", "{0} != {1}", "{1} == {0}", "{0} is changed", "{0}.rc == 0", "{0} is defined and {0}", "({1}.stdout or {0}) and {1}", "inventory_hostname == {0}",
-    "{1}.rc == 1 or {0}.failed", "true or {0} == {1}.stdout", "{0} is defined or {0} is failed", "not ({1}.rc != 0 and {0} != true)", "{0} and {1}", "{1} == 1 or {0}.changed",
-    "{0} is defined", "{0} is not defined", "{0} is not defined or {1}", "{0}.rc is defined", "{0}.stdout is not defined or {1} is defined", "{1} == 'x' or {0} is defined", "not ({0} is defined) or {1}",
-    "{0} is defined and {1} is changed", "{0}.rc is defined and {0}.rc == 0 or {1} != 1",
-]
 # What a member that is lost may be, and keys that show how keys are printed.
 LOST = [None, 1, "x", [], Members(), Members([("x", 1), ("x", 2)]), [Members([("y", 1), ("y", 2)]), Members([("z", [Members([("", 1), ("", 2)])])])]]
-ODD_KEYS = ["", "a/b", "caf\u00e9", "a\tb", "\x1b[2J", "\x7f", "\u2028", "\U0001f600", "0", "name=x", "k" * 255, "k" * 256, "\u00e9" * 128]
+ODD_KEYS = ["", "a/b", "caf\u00e9", "a\tb", "\x1b[2J", "\x7f", "\u2028", "\U0001f600", "0", "name=x", "k" * 255, "k" * 256, "k" * 256, "\u00e9" * 128, "\u00e9" * 128]
 HOSTNAMES = ["inventory_hostnam", "inventory_hostnames", "Inventory_Hostname", "inventroy_hostname", "inventory_host", "ansible_hostname", "hostname"]
 # Scripts, whole and torn, what stands before them, and what is for a shell.
 SCRIPTS = ["systemctl restart web", "a b", "a c", "'systemctl restart web'", "\"a b\"", "{{ v }}", "{{ v }} x", "a{b c", "a {{ v }}", "uptime", "\ta", " 'a b'", "a\tb", "a\u00a0b"]
 OPTIONS = ["-c", "-c", "-lc", "-ec", "-xc", "-C", "--c", "-cx", "c", "-e"]
 EXPANDED = ["$HOME", "a$HOME/b", "${HOME}", "$(date)", "$1", "$", "$$x", "${1}", "$ {x}", "~/x", "~x", "a~/x", "$HOME x", "~/a b", "$\u00e9", "${{ v }}", "$_x", "{$x", "'$x'"]
 BLANKS = ["systemctl restart", " true", "{{ v }} x", "a\tb", "ssh -n", "/opt/my app/x", "a\u00a0b", "x{ y"]
-NEVER = [False, "false", "not true", "True", "not false", ["r is failed", False], [True, "not True"], "false and r", "not not false", "0", [], ["'a' == 'b'", "true"]]
 HELD = ["{{ v }}", "x{{ v }}", "{% if x %}", "a{#b", "{ {", "{x}", "}}", "{", "{{", "plain"]
 WORDS = ["a", "--", "--", "-", "-n", "x=1", ">&2", "2>", "a;", "|a", "{", "}}", "$v", "*", *SHELL_WORDS]
-BAD = ["shell-words", "Shell-Word", "shell_word", "all", "unknown-name=v", "caf\u00e9", "no-hosts idle-handler", "-", "\x1b[2J", "\u00a0no-hosts"]
+BAD = ["shell-words", "Shell-Word", "shell_word", "all", "dash-name=v", "caf\u00e9", "no-hosts idle-handler", "-", "\x1b[2J", "\u00a0no-hosts"]
 
 
 class LintedStyle(AnyStyle):
@@ -139,64 +117,30 @@ def _part(random):
 
 
 def draw_linted(seed, number):
-    """The inventory and the playbook of this number that notes are made of. One pair in two is spoiled at several places, in one file or in both."""
+    """The inventory and the playbook of this number. A few pairs are spoiled at several places, in one file or in both."""
     random = Random(f"{seed}/linted/{number}")
-    value = draw_right_inventory(random, crossing=0.01, down=random.choice([0, 0, 0.1, 0.3, 0.9]), limited=random.choice([0.2, 0.5]), dense=random.random() < 0.25)
+    value = draw_right_inventory(random, crossing=0.01, down=random.choice([0, 0, 0.1, 0.2, 0.6]), limited=random.choice([0.2, 0.5]), dense=random.random() < 0.25)
     value = _with_names(value, random)
-    value = mutate(value, random) if random.random() < 0.03 else value
-    inventory = write(value, random)
-    names = names_in(inventory)
-    spoiled = random.choice([(), (), (), ("inventory",), ("playbook",), ("inventory", "playbook")])
-    if "inventory" in spoiled:
-        value = spoiled_inventory(random, value)
-        inventory = write(value, random)
+    names = names_in(write(value, random))
+    spoiled = random.choice([("inventory",), ("playbook",), ("inventory", "playbook")]) if random.random() < 0.08 else ()
+    value = spoiled_inventory(random, value) if "inventory" in spoiled else value
+    value = mutate(value, random) if random.random() < 0.02 else value
     own = Random(f"{seed}/like/{number}")
-    if own.random() < 0.3:
-        value = _with_held_holes(value, own)
-        value = Members([*value, *((name, random_group) for name, random_group in _more_groups(value, own))]) if isinstance(value, Members) else value
-        inventory = write(value, own)
+    value = _with_held_holes(value, own) if own.random() < 0.3 else value
     is_like = own.random() < 0.3
-    if is_like:
-        value = _with_like_names(value, own)
-        inventory = write(value, own)
-    switching = Random(f"{seed}/switches/{number}")
-    is_switched = switching.random() < 0.35
-    if is_switched:
-        value = _with_switches(value, switching, {name: switching.choice(SAID) for name in SWITCHES})
-        inventory = write(value, switching)
-    own_racks = Random(f"{seed}/racks/{number}")
-    racks, parts = more_racks(own_racks)
-    if racks and isinstance(value, Members):
-        value = Members([*value, *((name, body) for name, body in racks if name not in value.names())])
-        inventory = write(value, own_racks)
-    spared = Random(f"{seed}/spared/{number}")
-    sparing = spared.choice([("inventory",), ("playbook",), ("inventory", "playbook")]) if not spoiled and spared.random() < 0.55 else ()
-    if "inventory" in sparing:
-        value = spared_inventory(spared, value)
-        inventory = write(value, spared)
-    inventory = _written(Random(f"{seed}/keys/{number}"), value, inventory)
-    value = draw_right_playbook(random, names, LintedStyle(), random.choice([1, 1, 2, 3, 4]))
-    value = [_with_ends_of_options(Random(f"{seed}/options/{number}/{place}"), play) for place, play in enumerate(value)]
-    value = [_saying_nothing(Random(f"{seed}/nothing/{number}/{place}"), play) for place, play in enumerate(value)]
-    value = [_with_a_long_target(Random(f"{seed}/target/{number}/{place}"), play) for place, play in enumerate(value)]
-    value = [_with_scripts(Random(f"{seed}/scripts/{number}/{place}"), play) for place, play in enumerate(value)]
-    value = [_with_near_names(Random(f"{seed}/near/{number}/{place}"), play) for place, play in enumerate(value)]
-    value = [_with_whole_results(Random(f"{seed}/whole/{number}/{place}"), play) for place, play in enumerate(value)]
-    value = [with_holes(Random(f"{seed}/holes/{number}/{place}"), play) for place, play in enumerate(value)]
-    value = [with_comparisons(Random(f"{seed}/compared/{number}/{place}"), play) for place, play in enumerate(value)]
-    value = [with_awaited_states(Random(f"{seed}/states/{number}/{place}"), play) for place, play in enumerate(value)]
-    value = [with_codes(Random(f"{seed}/codes/{number}/{place}"), play, names) for place, play in enumerate(value)]
-    value = [*value, play_for(own_racks, parts)] if parts else value
-    value = [_with_like_results(own, play) for play in value] if is_like else value
-    value = [_with_switched_steps(switching, play) for play in value] if is_switched else value
-    value = value if spoiled or sparing else [*value, *_quiet_play(Random(f"{seed}/quiet/{number}"))]
-    if "playbook" in spoiled:
-        value = spoiled_playbook(random, value)
-    if "playbook" in sparing:
-        value = spared_playbook(spared, value)
-    value = mutate(value, random) if random.random() < 0.03 else value
-    playbook = _written(Random(f"{seed}/keys/{number}/playbook"), value, write(value, random))
-    words = ["lint", INVENTORY, *([] if random.random() < 0.15 else [PLAYBOOK])]
+    value = _with_like_names(value, own) if is_like else value
+    local = Random(f"{seed}/local/{number}")
+    value = with_shared_variables(local, value) if local.random() < 0.7 else value
+    inventory = _written(Random(f"{seed}/keys/{number}"), value, write(value, random))
+    plays = draw_right_playbook(random, names, LintedStyle(), random.choice([1, 1, 2, 3]))
+    for what, change in CHANGES.items():
+        plays = [change(Random(f"{seed}/{what}/{number}/{place}"), play) for place, play in enumerate(plays)]
+    plays = [_with_like_results(own, play) for play in plays] if is_like else plays
+    plays = [*plays, *local_plays(local, names), *_quiet_play(Random(f"{seed}/quiet/{number}"))]
+    plays = spoiled_playbook(random, plays) if "playbook" in spoiled else plays
+    plays = mutate(plays, random) if random.random() < 0.02 else plays
+    playbook = _written(Random(f"{seed}/keys/{number}/playbook"), plays, write(plays, random))
+    words = ["lint", INVENTORY, *([] if random.random() < 0.12 else [PLAYBOOK])]
     if random.random() < 0.05:
         words[random.randrange(1, len(words))] = random.choice(MISSING)
     return Case((*words, *_lists(random)), inventory, playbook)
@@ -223,76 +167,6 @@ def _with_like_names(value, random, key=None):
     return found
 
 
-def _with_switches(value, random, said, key=None):
-    """The same inventory, in which groups and hosts have variables that conditions ask for, each mostly of one kind."""
-    if not isinstance(value, Members):
-        return value
-    found = Members((name, _with_switches(below, random, said, name)) for name, below in value)
-    if key == "vars":
-        return _switching(found, random, said, 0.5)
-    if key == "hosts":
-        return Members((name, _switching(given, random, said, 0.2)) for name, given in found)
-    return found
-
-
-def _switching(given, random, said, chance):
-    if random.random() > chance or not (given is None or isinstance(given, Members)):
-        return given
-    held = given or Members([])
-    names = [name for name in random.sample(SWITCHES, random.choice([1, 1, 2, 3])) if name not in held.names()]
-    return Members([*held, *((name, random.choice(said[name])) for name in names)])
-
-
-def _with_switched_steps(random, play):
-    """The same play with a few steps more that ask for such variables; some register their names, a handler too."""
-    steps = [_switched_step(random) for _ in range(random.choice([1, 2, 3, 4]))]
-    handlers = [Members([("name", "switched"), *_switched_step(random)])] if random.random() < 0.3 else []
-    steps = [Members([*step, ("notify", "switched")]) if handlers and random.random() < 0.6 else step for step in steps]
-    is_first = random.random() < 0.5
-    held = Members((key, ([*steps, *part] if is_first else [*part, *steps]) if key == "tasks" else part) for key, part in play if key != "handlers")
-    return Members([*held, ("handlers", [*handlers, *(dict(play).get("handlers") or [])])])
-
-
-def _switched_step(random):
-    words = ("command", random.choice(["true", "ssh {{ inventory_hostname }}", "ssh -- {{ inventory_hostname }} reboot"]))
-    result = [("register", random.choice(SWITCHES))] if random.random() < 0.25 else []
-    keys = random.choice([["when"], ["when"], ["when", "changed_when"], ["failed_when"], ["when", "changed_when", "failed_when"], ["changed_when", "failed_when"]])
-    return Members([words, *result, *((key, _switched(random)) for key in keys)])
-
-
-def _switched(random):
-    """A condition, or a list of several, that asks for these names."""
-    texts = [random.choice(SWITCHED).format(*random.choices(SWITCHES, k=2)) for _ in range(random.choice([1, 1, 1, 2, 3]))]
-    return texts if len(texts) > 1 or random.random() < 0.2 else texts[0]
-
-
-def _with_whole_results(random, play):
-    """The same play, in some of which a few steps more register results and ask for them, also for their own, before they run and behind; a handler too."""
-    if random.random() < 0.85:
-        return play
-    steps = [_whole_step(random) for _ in range(random.choice([1, 2, 3, 4]))]
-    handlers = [Members([("name", name), *_whole_step(random)]) for name in ("whole", "whole again")] if random.random() < 0.3 else []
-    steps = [Members([*step, ("notify", "whole")]) if handlers and random.random() < 0.6 else step for step in steps]
-    if handlers and random.random() < 0.5:
-        handlers = _handing_on(random)
-    held = Members((key, [*part, *steps] if key == "tasks" else part) for key, part in play if key != "handlers")
-    return Members([*held, ("handlers", [*handlers, *(dict(play).get("handlers") or [])])])
-
-
-def _handing_on(random):
-    """Two handlers, of which the second asks whether there is a result of the first."""
-    asked = (random.choice(["when", "changed_when", "failed_when"]), random.choice(["handed is defined", "handed is not defined or v == 1", "handed.rc is defined"]))
-    return [Members([("name", "whole"), ("command", "true"), ("register", "handed")]), Members([("name", "whole again"), ("command", "true"), asked])]
-
-
-def _whole_step(random):
-    own = random.choice(RESULTS)
-    result = [("register", own)] if random.random() < 0.6 else []
-    keys = random.choice([[], ["when"], ["changed_when"], ["failed_when"], ["when", "failed_when"], ["when", "changed_when", "failed_when"]])
-    texts = {key: random.choice(WHOLE).format(*random.choices([own, *RESULTS], k=2)) for key in keys}
-    return Members([("command", random.choice(["true", "ssh -- {{ inventory_hostname }}"])), *result, *((key, [text] if random.random() < 0.2 else text) for key, text in texts.items())])
-
-
 def _with_held_holes(value, random, key=None):
     """The same inventory, in which some variables of groups and hosts have values with holes."""
     if not isinstance(value, Members):
@@ -311,14 +185,6 @@ def _with_held(given, random):
     held = given or Members([])
     names = [name for name in random.sample(["v", "url", "max-down", "Down", "maxdown"], random.choice([1, 2])) if name not in held.names()]
     return Members([*held, *((name, random.choice(HELD)) for name in names)])
-
-
-def _more_groups(value, random):
-    """Groups more, of which some have the name of a host, or no hosts."""
-    names = [name for name in random.sample(["ungrouped", "Ungrouped", "none", "a", "H0", "below"], random.choice([1, 2, 3])) if name not in value.names()]
-    hosts = [None, Members([]), Members([("hosts", None)]), Members([("children", Members([("under", None)]))]), Members([("hosts", Members([("a", None)]))])]
-    given = random.sample(hosts, len(names))
-    return zip(names, given)
 
 
 def _with_variables(given, random, chance):
@@ -363,7 +229,7 @@ def _written(random, value, text):
     """The text of a value; of some another one, in which keys stand more than once. What is lost of them is mostly what wasn't there before, so that the value stays what it is."""
     value = deepcopy(value)
     objects = _objects(value)
-    if random.random() < 0.85 or not objects:
+    if random.random() < 0.8 or not objects:
         return text
     for _ in range(random.choice([1, 1, 2, 3])):
         members = random.choice(objects)
@@ -408,15 +274,11 @@ def _quiet_play(random):
 
 
 def _with_scripts(random, play):
-    """The same play, in some of which a few steps more give programs scripts, words for a shell, or names with blanks, and some never change."""
+    """The same play, in some of which a few steps more give programs scripts, words for a shell, or names with blanks."""
     if random.random() < 0.8:
         return play
     steps = [_with_script(random) for _ in range(random.choice([1, 1, 2, 3]))]
-    handlers = [Members([("name", "told"), ("command", "true")])] if random.random() < 0.4 else []
-    if handlers:
-        steps.append(Members([*_with_script(random), ("changed_when", random.choice(NEVER)), *([("notify", "told")] if random.random() < 0.7 else [])]))
-    held = Members((key, [*part, *steps] if key == "tasks" else part) for key, part in play if key != "handlers")
-    return Members([*held, ("handlers", [*handlers, *(dict(play).get("handlers") or [])])])
+    return Members((key, [*part, *steps] if key == "tasks" else part) for key, part in play)
 
 
 def _with_near_names(random, play):
@@ -427,6 +289,20 @@ def _with_near_names(random, play):
     names = [f"version_{place}{letter}" for place in "12" for letter in ascii_letters] if kind < 0.015 else random.sample(HOSTNAMES, 2)
     steps = [Members([("command", " ".join(f"{{{{ {name} }}}}" for name in ["v", *names]))]), *(Members([("command", "true"), ("register", name)]) for name in ["version_1", "version_2"])]
     return Members((key, [*part, *steps] if key == "tasks" else part) for key, part in play)
+
+
+def _with_results_of_handlers(random, play):
+    """The same play, in some of which handlers more register results, and a last one, or steps of the next play, read these."""
+    if random.random() < 0.85:
+        return play
+    names = ["told", "said"]
+    told = [Members([("name", f"{name} {place}"), ("command", "true"), ("register", name)]) for place, name in enumerate(names)]
+    one, other = random.sample(names, 2)
+    when = random.choice([f"{one}.rc == 0", f"{one} is defined and {one}.rc == 0", f"{one}.stdout is defined", f"{one} is failed or {other} is defined", "true"])
+    last = Members([("name", "last"), ("command", f"echo {{{{ {other}.rc }}}} {{{{ {one}.stdout }}}}"), ("when", when)])
+    tasks = Members([("command", "true"), ("notify", [*(dict(step)["name"] for step in told), "last"])])
+    held = Members((key, [*part, tasks] if key == "tasks" else part) for key, part in play if key != "handlers")
+    return Members([*held, ("handlers", [*(dict(play).get("handlers") or []), *told, last])])
 
 
 def _with_script(random):
@@ -466,7 +342,7 @@ def _with_names(value, random, key=None):
     if key == "hosts":
         found = _with_keys(found)
     if key == "hosts" and random.random() < 0.4:
-        names = [name for name in random.sample(ALIKE, random.choice([1, 1, 2, 3])) if name not in found.names()]
+        names = [name for name in random.sample(MORE_HOSTS, random.choice([1, 1, 2, 3])) if name not in found.names()]
         return Members([*found, *((name, None) for name in names)])
     return found
 
@@ -483,15 +359,29 @@ def _with_key(given, random):
     return given if name == "down" or name in held.names() else Members([*held, (name, random.choice([1, "x", True, None]))])
 
 
+# How plays are changed one after the other, each with the name by which its chances are drawn.
+CHANGES = {
+    "options": _with_ends_of_options, "nothing": _saying_nothing, "target": _with_a_long_target, "scripts": _with_scripts, "near": _with_near_names, "asked": with_asked_in_vain, "results": _with_results_of_handlers,
+}
+
+
 def _lists(random):
-    """The words that switch kinds of notes off: no list, one, or several."""
+    """The words that suppress rules: no list, one, or several; in some all rules but those of infos."""
+    if random.random() < 0.08:
+        return ["--allow", ",".join(kind for kind, severity in SEVERITIES.items() if severity == WARNING or random.random() < 0.1)]
     words = []
     for _ in range(random.choice([0, 0, 0, 1, 1, 2, 3])):
-        names = random.choices(KINDS, k=random.choice([1, 1, 2, 3, 5]))
-        if random.random() < 0.09:
+        names = random.choices(KINDS, k=random.choice([1, 1, 2, 3]))
+        if random.random() < 0.07:
             names.insert(random.randint(0, len(names)), random.choice(BAD))
         value = random.choice([",", ",", ":", ", ", ",,", " ,\t", "\n:\r"]).join(names) + random.choice(["", "", "", ",", " "])
         if random.random() < 0.04:
             value = random.choice(["", ",", " : ,"])
         words += [f"--allow={value}"] if random.random() < 0.4 else ["--allow", value]
     return words
+
+
+# How plays are changed one after the other, each with the name by which its chances are drawn.
+CHANGES = {
+    "options": _with_ends_of_options, "nothing": _saying_nothing, "target": _with_a_long_target, "scripts": _with_scripts, "near": _with_near_names, "asked": with_asked_in_vain, "results": _with_results_of_handlers,
+}

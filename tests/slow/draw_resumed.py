@@ -153,5 +153,5 @@ def _mended(random, case, unknown):
     for part in (names[:cut], names[cut:]):
         if part or random.random() < 0.05:
             value = random.choice([",", ",", ", ", ":"]).join(part)
-            words += [f"--mended={value}"] if random.random() < 0.3 else ["--mended", value]
+            words += [f"--up={value}"] if random.random() < 0.3 else ["--up", value]
     return words

@@ -59,7 +59,7 @@ def _try(work):
     except Unmodelled:
         return number, None
     is_kept = random.random() < 0.7
-    words = ["run", INVENTORY, PLAYBOOK, "--mended", ",".join(names), *(["--journal", JOURNAL] if is_kept else []), *random.choice([[], ["--forks", "1"], ["--lock"]])]
+    words = ["run", INVENTORY, PLAYBOOK, "--up", ",".join(names), *(["--journal", JOURNAL] if is_kept else []), *random.choice([[], ["--forks", "1"], ["--no-lock"]])]
     with tempfile.TemporaryDirectory() as folder:
         (Path(folder) / INVENTORY).write_bytes(inventory)
         (Path(folder) / PLAYBOOK).write_bytes(playbook)

@@ -107,7 +107,7 @@ def ask_all(trial, random_, text, names):
     inventory, playbook = trial.inventory, trial.playbook
     takes_others = random_.random() < 0.2
     asked = inventory, playbook, text, names, takes_others
-    words = ["--from", "journal", "--mended", names, *(["--changed-inputs"] if takes_others else [])]
+    words = ["--from", "journal", "--up", names, *(["--changed-inputs"] if takes_others else [])]
     trial.ask(text, ["limits", "inventory.json", *words], lambda: limits_from(inventory, text, names, takes_others))
     files = ["inventory.json", "playbook.json"]
     trial.ask(text, ["plan", *files, *words], lambda: plan_from(*asked))
@@ -149,7 +149,7 @@ def main(words):
             if words[0] == "draw":
                 ask_all(trial, random_, text, names)
             else:
-                went = ["run", "inventory.json", "playbook.json", "--quiet", "--resume", "journal", "--mended", names]
+                went = ["run", "inventory.json", "playbook.json", "--quiet", "--resume", "journal", "--up", names]
                 trial.ask(text, went, lambda: without_batches(course_from(inventory, playbook, text, names)))
             passed, failed = passed + trial.passed, failed + trial.failed
     print(f"{passed} passed, {failed} failed")

@@ -1,4 +1,4 @@
-"""Which keys stand more than once in an object of a text, as `lint` notes them: of the texts as they were given, also where they have faults."""
+"""Which keys stand more than once in an object of a text, as `lint` warns about it."""
 
 from collections import Counter
 

@@ -3,7 +3,6 @@
 import rules_of_faults as faults
 import rules_of_forms as forms
 import rules_of_inputs as inputs
-import rules_of_kept as kept
 import rules_of_notes as notes
 import rules_of_plans as plans
 import rules_of_runs as runs
@@ -31,7 +30,6 @@ RULES = {
     **plans.CHECKS,
     **plans.EXPECTATIONS,
     **notes.NOTES,
-    **kept.KEPT,
     **faults.FAULTS,
     **strictness.STRICTNESS,
     **forms.FORMS,

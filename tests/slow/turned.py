@@ -24,7 +24,6 @@ from rule_list import RULES
 from rules import turn, turn_none
 from rules_of_faults import FAULTS
 from rules_of_forms import FORMS
-from rules_of_kept import KEPT
 from rules_of_notes import NOTES
 from rules_of_plans import CHECKS, EXPECTATIONS, FORETOLD
 from rules_of_runs import COURSES, GROUPS, JOURNALS, RESUMES, TELLING
@@ -39,7 +38,7 @@ _KINDS = {
     "words": (draw_worded, WORDED, FORETOLD),
     "check": (draw_checked, CHECKED, CHECKS),
     "expect": (draw_expected, EXPECTED, EXPECTATIONS),
-    "lint": (draw_linted, LINTED, {**NOTES, **KEPT}),
+    "lint": (draw_linted, LINTED, NOTES),
     "faults": (draw_faulty, FAULTY, FAULTS),
     "strict": (draw_strict, STRICT, STRICTNESS),
     "json": (draw_formed, FORMED, FORMS),

@@ -37,7 +37,7 @@ has_why None statuses = true
 
 -- what comes first, where any host is down
 abbrev pub mending_text : Bool → List ℕ
-mending_text true = codes "next: mend what is down; then go on, by --resume JOURNAL --mended NAMES, or without a journal, what is still down marked (\"down\": true),"
+mending_text true = codes "next: mend what is down; then go on, by --resume JOURNAL --up NAMES, or without a journal, what is still down marked (\"down\": true),"
 mending_text false = codes "next: go on, by --resume JOURNAL, or without a journal"
 
 -- what is to be done next

@@ -64,7 +64,7 @@ fn write_mending<W: Write>(text: &mut TextWriter<'_, W>, any_down: bool)
 {
     if any_down {
         text.write_str(
-            "next: mend what is down; then go on, by --resume JOURNAL --mended NAMES, or without a journal, what is still down marked (\"down\": true),",
+            "next: mend what is down; then go on, by --resume JOURNAL --up NAMES, or without a journal, what is still down marked (\"down\": true),",
         );
     } else {
         text.write_str("next: go on, by --resume JOURNAL, or without a journal");

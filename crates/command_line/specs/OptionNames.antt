@@ -2,7 +2,7 @@
 use Rattle.std.specs.Prelude.{Bool, true, false, ◌||◌, [], codes, unwrap_or}
 use Rattle.std.specs.Str.{bytes_eq}
 use Rattle.command_line.specs.declared.option_name.OptionName.{OptionName}
-use Rattle.command_line.specs.declared.option_name.OptionName.TheVariants.{Allow, ChangedInputs, Color, Course, Expect, Failing, From, Groups, Journal, Json, Lock, Mended, Picture, Quiet, Resume, StopFile, Strict, Verbose, Words}
+use Rattle.command_line.specs.declared.option_name.OptionName.TheVariants.{Allow, ChangedInputs, Color, Course, Expect, Failing, From, Groups, Journal, Json, LockFile, Up, NoLock, Picture, Quiet, Resume, StopFile, Strict, Verbose, Words}
 use Rattle.command_line.specs.Operands.{Word}
 use Rattle.command_line.specs.Options.{behind}
 
@@ -18,8 +18,9 @@ text_of From = codes "--from"
 text_of Groups = codes "--groups"
 text_of Journal = codes "--journal"
 text_of Json = codes "--json"
-text_of Lock = codes "--lock"
-text_of Mended = codes "--mended"
+text_of LockFile = codes "--lock-file"
+text_of Up = codes "--up"
+text_of NoLock = codes "--no-lock"
 text_of Picture = codes "--picture"
 text_of Quiet = codes "--quiet"
 text_of Resume = codes "--resume"
@@ -44,8 +45,9 @@ has_value From = true
 has_value Groups = false
 has_value Journal = true
 has_value Json = false
-has_value Lock = false
-has_value Mended = true
+has_value LockFile = true
+has_value Up = true
+has_value NoLock = false
 has_value Picture = true
 has_value Quiet = false
 has_value Resume = true
@@ -70,8 +72,9 @@ has_letter From word = false
 has_letter Groups word = false
 has_letter Journal word = false
 has_letter Json word = false
-has_letter Lock word = false
-has_letter Mended word = false
+has_letter LockFile word = false
+has_letter Up word = false
+has_letter NoLock word = false
 has_letter Picture word = false
 has_letter Quiet word = false
 has_letter Resume word = false

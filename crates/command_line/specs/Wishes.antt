@@ -4,9 +4,9 @@ use Rattle.std.specs.List.{last_or, list_all, list_any}
 use Rattle.std.specs.Option.{option_or}
 use Rattle.std.specs.Str.{bytes_eq}
 use Rattle.command_line.specs.declared.clash.Clash.{Clash}
-use Rattle.command_line.specs.declared.clash.Clash.TheVariants.{FailingAlone, JournalOfResume, ChangedInputsAlone, MendedAlone, GroupsFrom, ExpectBeyond, WordsBeside, NoJson, StrictOfOthers, NoColor}
+use Rattle.command_line.specs.declared.clash.Clash.TheVariants.{FailingAlone, JournalOfResume, ChangedInputsAlone, UpAlone, GroupsFrom, ExpectBeyond, WordsBeside, NoJson, StrictOfOthers, NoColor}
 use Rattle.command_line.specs.declared.option_name.OptionName.{OptionName}
-use Rattle.command_line.specs.declared.option_name.OptionName.TheVariants.{Allow, ChangedInputs, Color, Course, Expect, Failing, From, Groups, Journal, Json, Lock, Mended, Picture, Quiet, Resume, StopFile, Strict, Verbose, Words}
+use Rattle.command_line.specs.declared.option_name.OptionName.TheVariants.{Allow, ChangedInputs, Color, Course, Expect, Failing, From, Groups, Journal, Json, LockFile, Up, NoLock, Picture, Quiet, Resume, StopFile, Strict, Verbose, Words}
 use Rattle.command_line.specs.declared.wishes.Wishes as declared
 use Rattle.command_line.specs.Operands.{Word}
 use Rattle.command_line.specs.OptionNames.{is_same}
@@ -64,7 +64,7 @@ begins_strictly command given = bytes_eq command (codes "run") && has Strict giv
 
 -- it begins with other hosts than the inventory has as up
 abbrev pub begins_with_others : List Given → Bool
-begins_with_others given = has Resume given || has Mended given
+begins_with_others given = has Resume given || has Up given
 
 -- when tables are coloured: at a terminal, always, or never
 abbrev pub is_when : Word → Bool
@@ -92,7 +92,7 @@ clash_of_beginning command given =
     unless (goes_with (has Failing given) (has Course given)) FailingAlone (
     unless (goes_with (has Journal given) (not (has Resume given))) JournalOfResume (
     unless (goes_with (has ChangedInputs given) (begins_from given || bytes_eq command (codes "state"))) ChangedInputsAlone (
-    unless (goes_with (has Mended given) (begins_from given || bytes_eq command (codes "run"))) MendedAlone (
+    unless (goes_with (has Up given) (begins_from given || bytes_eq command (codes "run"))) UpAlone (
     unless (goes_with (has From given) (not (tells_groups given))) GroupsFrom None))))
 
 -- numbers are expected of the table of limits and of the plan at the start, and words are told in place of all else. What is told of the start or the end, and of a course, has a form
@@ -132,7 +132,7 @@ abbrev pub given_in : List Word → List Given
 given_in [] = []
 given_in (command ∷ words) = (reading_of command words).given
 
--- what is asked for beside a line: to tell of itself, or nothing; to refuse, or to begin only where no name may be missing; to hold the lock; the file that ends a run; the new one in which it is kept; the journal from which a run
+-- what is asked for beside a line: to tell of itself, or nothing; to refuse, or to begin only where no name may be missing; to hold no lock, or that of another file; the file that ends a run; the new one in which it is kept; the journal from which a run
 -- goes on, or a plan, a rehearsal or limits begin; the hosts that are up by now, a comma behind each name; whether the inputs may be others than those of that journal; the names of the
 -- hosts that fail in the course, where it is asked for; the table of groups, and when that is coloured; the file of the picture; the words of the steps; JSON; what is expected, a
 -- comma behind each list; and the kinds of notes that are allowed, likewise
@@ -140,7 +140,8 @@ pub record Wish : Type 0 where
   pub verbose : Bool
   pub quiet : Bool
   pub strict : Bool
-  pub locks : Bool
+  pub unlocked : Bool
+  pub lock_file : Option Word
   pub stop_file : Option Word
   pub journal : Option Word
   pub from : Option Word
@@ -160,11 +161,12 @@ wish_of given = record {
   verbose = has Verbose given;
   quiet = has Quiet given;
   strict = has Strict given;
-  locks = has Lock given;
+  unlocked = has NoLock given;
+  lock_file = last_value LockFile given;
   stop_file = last_value StopFile given;
   journal = last_value Journal given;
   from = option_or (last_value Resume given) (last_value From given);
-  mended = joined_values Mended given;
+  mended = joined_values Up given;
   others = has ChangedInputs given;
   course = if has Course given then Some (joined_values Failing given) else None;
   groups = has Groups given;
@@ -186,7 +188,8 @@ wish_as wishes = record {
   verbose = wishes.is_verbose;
   quiet = wishes.is_quiet;
   strict = wishes.is_strict;
-  locks = wishes.locks;
+  unlocked = wishes.is_unlocked;
+  lock_file = option_map string_bytes wishes.lock_file;
   stop_file = option_map string_bytes wishes.stop_file;
   journal = option_map string_bytes wishes.journal;
   from = option_map string_bytes wishes.from;

@@ -12,7 +12,7 @@ pub enum Clash {
     /// Other inputs than those of no journal.
     ChangedInputsAlone,
     /// Hosts are up by now where no run began before.
-    MendedAlone,
+    UpAlone,
     /// A table of groups, or a picture, of what a journal leaves.
     GroupsFrom,
     /// A number is expected of more than the start.
@@ -42,7 +42,7 @@ impl Clash {
             Clash::ChangedInputsAlone => {
                 "error: --changed-inputs goes with --resume, with --from and with state\n"
             }
-            Clash::MendedAlone => "error: --mended goes with run, and else with --from\n",
+            Clash::UpAlone => "error: --up goes with run, and else with --from\n",
             Clash::GroupsFrom => "error: --from doesn't go with --groups and --picture\n",
             Clash::ExpectBeyond => {
                 "error: --expect doesn't go with --course, --groups, --picture and --from\n"
@@ -54,11 +54,11 @@ impl Clash {
                 "error: --json doesn't go with --groups, --picture, --from, --expect and --words\n"
             }
             Clash::StrictOfOthers => {
-                "error: --strict of a run doesn't go with --resume and --mended\n"
+                "error: --strict of a run doesn't go with --resume and --up\n"
             }
             Clash::NoColor => "error: --color has the values auto, always and never\n",
             Clash::NoEntry => {
-                "error: explain goes with the number of a fault, as 302, or a kind of notes: repeated-key, zero-limit, empty-limit, loose-limit, empty-group, group-down, near-key, value-hole, case-hosts, group-host, no-hosts, down-hosts, full-group, unlimited-hosts, idle-serial, one-failure, local-play, unknown-name, missing-name, missing-result, unknown-group, unknown-host, false-text, unlike-variable, whole-result, text-hole, idle-step, idle-state, constant-condition, unlike-values, clashing-values, shell-word, blank-program, lost-quotes, local-step, fixed-target, long-word, dash-name, idle-notify, idle-handler\n"
+                "error: explain goes with the number of a fault, as 302, or a kind of notes: repeated-key, near-key, group-down, zero-limit, empty-limit, loose-limit, unfilled-placeholder, no-hosts, unlimited-hosts, local-command, undefined-name, unknown-group, idle-step, idle-handler, changed-guard, shell-word, dash-name, long-word, down-hosts, one-failure\n"
             }
         }
     }

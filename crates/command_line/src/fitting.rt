@@ -17,9 +17,10 @@ pub(crate) const OF_RUN: &[OptionName] = &[
     OptionName::StopFile,
     OptionName::Journal,
     OptionName::Resume,
-    OptionName::Mended,
+    OptionName::Up,
     OptionName::ChangedInputs,
-    OptionName::Lock,
+    OptionName::LockFile,
+    OptionName::NoLock,
     OptionName::Strict,
     OptionName::Json,
 ];
@@ -33,7 +34,7 @@ pub(crate) const OF_PLAN: &[OptionName] = &[
     OptionName::Words,
     OptionName::Expect,
     OptionName::From,
-    OptionName::Mended,
+    OptionName::Up,
     OptionName::ChangedInputs,
     OptionName::Json,
     OptionName::Verbose,
@@ -42,7 +43,7 @@ pub(crate) const OF_PLAN: &[OptionName] = &[
 pub(crate) const OF_REHEARSAL: &[OptionName] = &[
     OptionName::Strict,
     OptionName::From,
-    OptionName::Mended,
+    OptionName::Up,
     OptionName::ChangedInputs,
     OptionName::Json,
     OptionName::Verbose,
@@ -51,7 +52,7 @@ pub(crate) const OF_REHEARSAL: &[OptionName] = &[
 pub(crate) const OF_LIMITS: &[OptionName] = &[
     OptionName::Expect,
     OptionName::From,
-    OptionName::Mended,
+    OptionName::Up,
     OptionName::ChangedInputs,
     OptionName::Json,
     OptionName::Verbose,
@@ -112,11 +113,8 @@ fn clash_of_beginning(command: &String, given: &[Given]) -> Option<Clash>
         from || is_word(command, "state"),
     ) {
         Some(Clash::ChangedInputsAlone)
-    } else if !goes_with(
-        has(given, OptionName::Mended),
-        from || is_word(command, "run"),
-    ) {
-        Some(Clash::MendedAlone)
+    } else if !goes_with(has(given, OptionName::Up), from || is_word(command, "run")) {
+        Some(Clash::UpAlone)
     } else if !goes_with(has(given, OptionName::From), !tells_groups(given)) {
         Some(Clash::GroupsFrom)
     } else {
@@ -217,7 +215,7 @@ fn begins_strictly(command: &String, given: &[Given]) -> bool
 fn begins_with_others(given: &[Given]) -> bool
     ensures { result ≡ spec.begins_with_others (map given_as given.now) }
 {
-    has(given, OptionName::Resume) || has(given, OptionName::Mended)
+    has(given, OptionName::Resume) || has(given, OptionName::Up)
 }
 
 /// Whether an option that is given or not goes with what holds or not.

@@ -7,7 +7,7 @@ impl OptionName {
     pub(crate) fn value_name<'a>(self) -> &'a str {
         match self {
             OptionName::Color => "WHEN",
-            OptionName::Failing | OptionName::Mended => "HOSTS",
+            OptionName::Failing | OptionName::Up => "HOSTS",
             OptionName::Expect => "LIST",
             OptionName::Allow => "NAMES",
             OptionName::From | OptionName::Resume => "JOURNAL",
@@ -29,7 +29,7 @@ impl OptionName {
             OptionName::Verbose => {
                 "Tells on standard error of each batch, and of each step of each host"
             }
-            OptionName::Mended => {
+            OptionName::Up => {
                 "These hosts and groups, parted by commas, are up by now, though the inventory or the journal has them as down"
             }
             OptionName::ChangedInputs => {
@@ -48,9 +48,10 @@ impl OptionName {
             OptionName::Strict => {
                 "Runs nothing where a step may look for a name that has no value on a host"
             }
-            OptionName::Lock => {
-                "Holds the lock of the inventory's file, as --journal does: a second such run is refused meanwhile"
+            OptionName::LockFile => {
+                "Lock this file, made if missing, instead of the inventory, to keep a second run out"
             }
+            OptionName::NoLock => "Lock nothing: another run of the inventory isn't kept out",
             other => other.help_of_others(),
         }
     }
@@ -85,7 +86,7 @@ impl OptionName {
             OptionName::From => {
                 "Begins where the run of this journal stands, as --resume would have it go on"
             }
-            OptionName::Mended => {
+            OptionName::Up => {
                 "Beside --from these hosts and groups, parted by commas, are up by now"
             }
             OptionName::ChangedInputs => {

@@ -18,8 +18,9 @@ pub(crate) enum OptionName {
     Groups,
     Journal,
     Json,
-    Lock,
-    Mended,
+    LockFile,
+    Up,
+    NoLock,
     Picture,
     Quiet,
     Resume,
@@ -45,8 +46,9 @@ impl OptionName {
             OptionName::Groups => "--groups",
             OptionName::Journal => "--journal",
             OptionName::Json => "--json",
-            OptionName::Lock => "--lock",
-            OptionName::Mended => "--mended",
+            OptionName::LockFile => "--lock-file",
+            OptionName::Up => "--up",
+            OptionName::NoLock => "--no-lock",
             OptionName::Picture => "--picture",
             OptionName::Quiet => "--quiet",
             OptionName::Resume => "--resume",
@@ -75,7 +77,8 @@ impl OptionName {
             | OptionName::Failing
             | OptionName::From
             | OptionName::Journal
-            | OptionName::Mended
+            | OptionName::LockFile
+            | OptionName::Up
             | OptionName::Picture
             | OptionName::Resume
             | OptionName::StopFile => true,
@@ -83,7 +86,7 @@ impl OptionName {
             | OptionName::Course
             | OptionName::Groups
             | OptionName::Json
-            | OptionName::Lock
+            | OptionName::NoLock
             | OptionName::Quiet
             | OptionName::Strict
             | OptionName::Verbose

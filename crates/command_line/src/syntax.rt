@@ -24,7 +24,8 @@ Exit status:
   3  hosts wait in a group that has no room
   4  a batch ended the run: too many of its hosts have failed, or all
   5  want of memory
-  6  by its journal a run was broken off";
+  6  a run ended before its plays did: stopped, interrupted, or its journal is not written
+  7  a run goes on, by its journal";
 
 const COMMANDS: &str = "\
 Standard input has a command a line, about the first play of PLAY. Nothing is run.

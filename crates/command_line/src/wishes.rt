@@ -19,8 +19,10 @@ pub struct Wishes {
     pub is_quiet: bool,
     /// Whether a rehearsal in which a command is refused ends as refused, and a run begins only where no name may be missing.
     pub is_strict: bool,
-    /// Whether a run holds the lock of its inventory.
-    pub locks: bool,
+    /// Whether a run holds no lock.
+    pub is_unlocked: bool,
+    /// The file of which a run holds the lock, in place of its inventory.
+    pub lock_file: Option<String>,
     /// The file that ends a run before its next batch, once it is there.
     pub stop_file: Option<String>,
     /// The new file in which a run is kept.
@@ -58,7 +60,8 @@ impl Wishes {
             is_verbose: false,
             is_quiet: false,
             is_strict: false,
-            locks: false,
+            is_unlocked: false,
+            lock_file: None,
             stop_file: None,
             journal: None,
             from: None,
@@ -84,11 +87,12 @@ pub(crate) fn wishes_of(alloc: Global, given: &[Given]) -> Result<Wishes, AllocE
         is_verbose: has(given, OptionName::Verbose),
         is_quiet: has(given, OptionName::Quiet),
         is_strict: has(given, OptionName::Strict),
-        locks: has(given, OptionName::Lock),
+        is_unlocked: has(given, OptionName::NoLock),
+        lock_file: last(alloc, given, OptionName::LockFile)?,
         stop_file: last(alloc, given, OptionName::StopFile)?,
         journal: last(alloc, given, OptionName::Journal)?,
         from: begins_from(alloc, given)?,
-        mended: joined(alloc, given, OptionName::Mended)?,
+        mended: joined(alloc, given, OptionName::Up)?,
         takes_others: has(given, OptionName::ChangedInputs),
         course: course_of(alloc, given)?,
         is_grouped: has(given, OptionName::Groups),

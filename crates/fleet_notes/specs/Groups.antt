@@ -1,5 +1,5 @@
 -- What is noted of groups and their variables.
-use Rattle.std.specs.Prelude.{ℕ, ◌==◌, not, ◌&&◌, ◌||◌, nat_lt, if◌then◌else◌, Option, None, Some, List, ◌++◌, codes, flat_map, length, slice_index_or}
+use Rattle.std.specs.Prelude.{ℕ, ◌==◌, ◌||◌, nat_lt, if◌then◌else◌, Option, None, Some, List, ◌++◌, flat_map, length, slice_index_or}
 use Rattle.std.specs.List.{range_with_len}
 use Rattle.group_tree.specs.Names.{Name, same_name}
 use Rattle.group_tree.specs.Places.{Inventory}
@@ -9,7 +9,7 @@ use Rattle.domains.specs.FleetViews.{FleetView}
 use Rattle.domains.specs.Numbered.{host_at}
 use Rattle.domains.specs.Starts.{place_at}
 use Rattle.fleet_notes.specs.Holes.{has_hole}
-use Rattle.note_lines.specs.Notes.{Note, empty_group, empty_limit, group_down, loose_limit, near_key, noted, value_hole, zero_limit}
+use Rattle.note_lines.specs.Notes.{Note, empty_limit, group_down, loose_limit, near_key, noted, value_hole, zero_limit}
 use Rattle.fleet_notes.specs.NearKeys.{down_key, is_near_key, is_near_mark}
 
 -- of a group with this limit and so many hosts: it has none, or some, of which none may be down, or more than there are
@@ -18,12 +18,8 @@ limited_note group limit members =
     if members == 0 then Some (empty_limit group)
     else (if limit == 0 then Some (zero_limit group members) else (if nat_lt members limit then Some (loose_limit group limit members) else None))
 
--- of one without a limit: it has no hosts; `ungrouped` stands in each inventory that Ansible exports
-abbrev pub unlimited_note : Name → ℕ → Option Note
-unlimited_note group members = if members == 0 && not (same_name group (codes "ungrouped")) then Some (empty_group group) else None
-
 abbrev pub limit_note : Name → Option ℕ → ℕ → Option Note
-limit_note group None members = unlimited_note group members
+limit_note group None members = None
 limit_note group (Some limit) members = limited_note group limit members
 
 abbrev pub limit_note_of : FleetView → ℕ → Option Note

@@ -3,6 +3,6 @@ pub mod NearKeys
 pub mod Groups
 pub mod HostKeys
 pub mod Namesakes
-pub mod CaseHosts
+pub mod Fleet
 pub mod Repeats
 pub mod Inside

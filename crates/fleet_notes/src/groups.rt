@@ -12,9 +12,6 @@ use group_tree::{GroupId, Tree, Variable};
 use note_lines::{Note, Notes};
 use std::alloc::{AllocError, Allocator};
 
-/// The group that is there in each inventory that Ansible exports, also where it has no hosts.
-const REST: &str = "ungrouped";
-
 /// What is noted of a group with a limit.
 fn limited_note(name: &str, limit: u16, members: usize) -> Option<Note<'_>>
     ensures { option_map seen result ≡ model.limited_note name.now limit members }
@@ -39,27 +36,14 @@ fn limited_note(name: &str, limit: u16, members: usize) -> Option<Note<'_>>
     }
 }
 
-/// What is noted of a group without one.
-fn unlimited_note(name: &str, members: usize) -> Option<Note<'_>>
-    ensures { option_map seen result ≡ model.unlimited_note name.now members }
-{
-    if members == 0 && name != REST {
-        Some(Note::EmptyGroup { group: name })
-    } else {
-        None
-    }
-}
-
-/// What is noted of a group's limit and of how many hosts it has.
+/// What is noted of a group's limit.
 fn limit_note(fleet: &Fleet, group: GroupId) -> Option<Note<'_>>
     requires { group.index < length fleet.now.groups }
     ensures { option_map seen result ≡ model.limit_note_of fleet.now group.index }
 {
-    let members = fleet.members(group).len();
-    let name = fleet.group_name(group);
     match fleet.limit(group) {
-        Some(limit) => limited_note(name, limit, members),
-        None => unlimited_note(name, members),
+        Some(limit) => limited_note(fleet.group_name(group), limit, fleet.members(group).len()),
+        None => None,
     }
 }
 

@@ -2,7 +2,7 @@
 #![tactic(auto)]
 
 mod bytes;
-mod case_hosts;
+mod fleet;
 mod groups;
 mod holes;
 mod host_keys;
@@ -11,7 +11,7 @@ mod near_keys;
 mod repeats;
 
 pub use bytes::{behind_blanks, byte_at, bytes_behind, first_bytes, last_bytes};
-pub use case_hosts::list_fleet_notes;
+pub use fleet::list_fleet_notes;
 pub use holes::is_literal;
 pub use namesakes::is_group;
 pub use repeats::{Repeats, Texts};

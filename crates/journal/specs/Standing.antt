@@ -1,5 +1,5 @@
 -- What is told of where a run stands.
-use Rattle.std.specs.Prelude.{ℕ, Option, Some, None, List, [], ◌++◌, codes, flat_map, length, if◌then◌else◌}
+use Rattle.std.specs.Prelude.{ℕ, Bool, Option, Some, None, List, [], ◌++◌, codes, flat_map, length, if◌then◌else◌}
 use Rattle.std.specs.List.{range_with_len}
 use Rattle.domains.specs.FleetViews.{FleetView}
 use Rattle.domains.specs.Numbered.{host_at}
@@ -21,10 +21,14 @@ state_line fleet host status = if is_idle status then [] else host_at fleet.host
 abbrev pub state_lines : FleetView → List Status → List ℕ
 state_lines fleet statuses = flat_map (λ host. state_line fleet host (status_at statuses host)) (range_with_len 0 (length fleet.hosts))
 
--- the last line; a run that has not ended was broken off
-abbrev pub standing_end : FleetView → Option End → List ℕ
-standing_end fleet (Some end) = ended_line fleet end
-standing_end fleet None = codes "end broken-off\n"
+-- a run that has not ended goes on, or was broken off
+abbrev pub endless_text : Bool → List ℕ
+endless_text goes_on = if goes_on then codes "end running\n" else codes "end broken-off\n"
 
-abbrev pub state_text : FleetView → JournalState → List ℕ
-state_text fleet state = state_lines fleet state.statuses ++ standing_end fleet (run_end state)
+-- the last line
+abbrev pub standing_end : FleetView → Bool → Option End → List ℕ
+standing_end fleet goes_on (Some end) = ended_line fleet end
+standing_end fleet goes_on None = endless_text goes_on
+
+abbrev pub state_text : FleetView → Bool → JournalState → List ℕ
+state_text fleet goes_on state = state_lines fleet state.statuses ++ standing_end fleet goes_on (run_end state)

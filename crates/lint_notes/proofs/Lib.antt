@@ -1,7 +1,5 @@
-pub mod ResultLemmas
 pub mod SameLemmas
 pub mod LintLemmas
 pub mod BatchLemmas
 pub mod UnlimitedLemmas
 pub mod EachLemmas
-pub mod FullLemmas

@@ -1,7 +1,7 @@
 -- What refuses the texts is true, and what goes out is the text of the notes.
-use Rattle.std.proofs.Common.{◌≡◌, ℕ, Bool, Option, List, refl}
-use Rattle.std.specs.Io.KnownBytes.{Appends, Keeps}
-use Rattle.bounded_io.specs.Sending.{SendsFirst}
+use Rattle.std.proofs.Common.{◌≡◌, ℕ, Bool, Option, Ok, Err, List, refl}
+use Rattle.std.specs.Io.KnownBytes.{Keeps}
+use Rattle.bounded_io.specs.declared.write_fault.WriteFault.{WriteFault}
 use Rattle.domains.specs.FleetViews.{FleetView}
 use Rattle.planning.specs.PlanTexts.{IsFleetIn, IsPlaybookFault}
 use Rattle.planning.specs.declared.fault.PlanFault.{PlanFault}
@@ -9,7 +9,7 @@ use Rattle.planning.specs.declared.fault.PlanFault.TheVariants.{Read, Fleet, Pla
 use Rattle.planning.proofs.TextLemmas.{refused_is_true}
 use Rattle.lint_notes.specs.LintTexts.{BreaksNotes, IsTrueFault, WritesNotes}
 use Rattle.note_lines.specs.Notes.{Note, told}
-use Rattle.note_lines.specs.NotesText.{end_of, notes_text}
+use Rattle.note_lines.specs.NotesText.{IsNotesText, SendsSuch, end_of}
 use Rattle.note_lines.specs.declared.end.LintEnd.{LintEnd}
 
 pub refused_lint : (first : List Note) (inventory playbook : List ℕ) (tells : Note → Bool) (old new : Option (List ℕ)) (fleet : FleetView) → IsFleetIn inventory fleet → (fault : PlanFault) → Keeps old new
@@ -21,18 +21,18 @@ refused_lint first inventory playbook tells old new fleet built (Fleet fault) ke
 refused_lint first inventory playbook tells old new fleet built (Write fault) keeps refused = absurd refused
 
 pub writes_notes : (AreNotes : List Note → Type 0) (tells : Note → Bool) (notes : List Note) (old new : Option (List ℕ)) (end : LintEnd) → AreNotes notes
-    → Appends old new (notes_text tells notes) → end ≡ end_of (told tells notes) → WritesNotes AreNotes tells old new end
-writes_notes AreNotes tells notes old new end are written ends = record {
-  text = notes_text tells notes;
-  is = record { notes = notes; are = are; text_is = refl; ends = ends };
-  written = written;
+    → SendsSuch {T = LintEnd} old new (IsNotesText tells notes) (Ok end) → end ≡ end_of (told tells notes) → WritesNotes AreNotes tells old new end
+writes_notes AreNotes tells notes old new end are sent ends = record {
+  text = sent.text;
+  is = record { notes = notes; are = are; text_is = sent.is; ends = ends };
+  written = sent.sends;
 }
 
-pub breaks_notes : (AreNotes : List Note → Type 0) (tells : Note → Bool) (notes : List Note) (old new : Option (List ℕ)) (count : ℕ) → AreNotes notes
-    → SendsFirst old new (notes_text tells notes) count → BreaksNotes AreNotes tells old new count
-breaks_notes AreNotes tells notes old new count are written = record {
-  text = notes_text tells notes;
+pub breaks_notes : (AreNotes : List Note → Type 0) (tells : Note → Bool) (notes : List Note) (old new : Option (List ℕ)) (fault : WriteFault) → AreNotes notes
+    → SendsSuch {T = LintEnd} old new (IsNotesText tells notes) (Err fault) → BreaksNotes AreNotes tells old new fault.written
+breaks_notes AreNotes tells notes old new fault are sent = record {
+  text = sent.text;
   end = end_of (told tells notes);
-  is = record { notes = notes; are = are; text_is = refl; ends = refl };
-  written = written;
+  is = record { notes = notes; are = are; text_is = sent.is; ends = refl };
+  written = sent.sends;
 }

@@ -7,14 +7,14 @@ use Rattle.host_vars.specs.Layers.{HostView}
 use Rattle.host_vars.specs.Shared.{AreHostsOf}
 use Rattle.play_model.specs.declared.play.Play.{Play}
 use Rattle.note_lines.specs.Notes.{Note}
-use Rattle.step_notes.specs.Given.{is_given, is_given_as}
+use Rattle.step_notes.specs.Given.{is_given}
 use Rattle.lint_notes.specs.Near.{all_with_near, compared_names}
-use Rattle.step_notes.specs.Hosts.{foreseen_of, lacks_of}
+use Rattle.step_notes.specs.Hosts.{foreseen_of, value_of}
 use Rattle.lint_notes.specs.Batches.{AreSmallestOf}
-use Rattle.fleet_notes.specs.CaseHosts.{fleet_notes}
+use Rattle.fleet_notes.specs.Fleet.{fleet_notes}
 use Rattle.lint_notes.specs.Playbooks.{plays_notes}
 
--- The notes on these plays, for a fleet of this inventory whose hosts have the variables that the inventory gives them: behind the first ones those on groups and hosts, then play by play. A play's
+-- The notes on these plays, for a fleet of this inventory whose hosts have the variables that the inventory gives them: after the first ones those on groups and hosts, then play by play. A play's
 -- smallest batch is that of the plan with which it begins. A name that is read is compared with the host's own, with those that are given, in some order, and with those that steps register.
 pub record AreNotesOf (first : List Note) (inventory : Inventory) (fleet : FleetView) (plays : List Play) (notes : List Note) : Type 0 where
   pub hosts : List HostView
@@ -24,4 +24,4 @@ pub record AreNotesOf (first : List Note) (inventory : Inventory) (fleet : Fleet
   pub given : List Name
   pub gives : (name : Name) → is_among name given ≡ is_given inventory name
   pub notes_are : notes
-      ≡ all_with_near (compared_names given plays) ((first ++ fleet_notes inventory fleet) ++ plays_notes fleet (lacks_of hosts) (λ sort. is_given_as sort inventory) (foreseen_of fleet plays hosts) sizes plays)
+      ≡ all_with_near (compared_names given plays) ((first ++ fleet_notes inventory fleet) ++ plays_notes fleet (value_of hosts) (is_given inventory) (foreseen_of fleet plays hosts) sizes plays)

@@ -1,29 +1,12 @@
 -- What is noted of the batches of a play.
-use Rattle.std.specs.Prelude.{◌≡◌, ℕ, ◌<◌, Bool, true, is_some, ◌&&◌, nat_lt, min, if◌then◌else◌, Option, None, Some, option_map, List, [], ◌∷◌, length, map, slice_index_or}
-use Rattle.std.specs.List.{find}
+use Rattle.std.specs.Prelude.{◌≡◌, ℕ, ◌<◌, Bool, true, is_some, ◌&&◌, nat_lt, min, if◌then◌else◌, Option, None, Some, List, [], ◌∷◌, length, map, slice_index_or}
 use Rattle.domains.specs.FleetViews.{FleetView}
 use Rattle.play_model.specs.declared.play.Play.{Play}
-use Rattle.play_model.specs.declared.size.Size.{Size}
-use Rattle.play_model.specs.declared.size.Size.TheVariants.{Count, Percent}
 use Rattle.batch_plan.specs.declared.answers.Answer.{Answer}
 use Rattle.batch_plan.specs.declared.answers.Answer.TheVariants.{Planned, Blocked}
 use Rattle.play_course.specs.PlayPlans.{IsPlanOf}
 use Rattle.fleet_states.specs.Batches.{is_past}
-use Rattle.note_lines.specs.Notes.{Note, idle_serial, one_failure}
-
--- the number of hosts that a size says; a percentage says none
-abbrev pub counted_hosts : Size → ℕ
-counted_hosts (Count hosts) = hosts
-counted_hosts (Percent share) = 0
-
--- where so many hosts wait, a batch of this size could have more
-abbrev pub is_idle : ℕ → Size → Bool
-is_idle waiting size = nat_lt waiting (counted_hosts size)
-
--- the first such size of the play with this number, where somebody waits for it
-abbrev pub size_note : ℕ → List Size → ℕ → Option Note
-size_note number sizes waiting =
-    if nat_lt 0 waiting then option_map (λ size. idle_serial number (counted_hosts size) waiting) (find (is_idle waiting) sizes) else None
+use Rattle.note_lines.specs.Notes.{Note, one_failure}
 
 -- the less of a number of hosts and another; a batch of a single host is passed over
 abbrev pub lesser : Option ℕ → ℕ → Option ℕ

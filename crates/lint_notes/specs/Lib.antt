@@ -1,5 +1,4 @@
 pub mod Batches
-pub mod FullGroups
 pub mod Unlimited
 pub mod Playbooks
 pub mod AllNotes

@@ -13,8 +13,8 @@ use Rattle.planning.specs.PlanTexts.{ArePlaysIn, IsFleetIn, IsUnread}
 use Rattle.planning.specs.declared.fault.PlanFault.{PlanFault}
 use Rattle.planning.specs.declared.fault.PlanFault.TheVariants.{Read, Fleet, Playbook, Pattern, Write}
 use Rattle.note_lines.specs.Notes.{Note, told}
-use Rattle.note_lines.specs.NotesText.{end_of, notes_text}
-use Rattle.fleet_notes.specs.CaseHosts.{fleet_notes}
+use Rattle.note_lines.specs.NotesText.{IsNotesText, end_of}
+use Rattle.fleet_notes.specs.Fleet.{fleet_notes}
 use Rattle.lint_notes.specs.AllNotes.{AreNotesOf}
 use Rattle.note_lines.specs.declared.end.LintEnd.{LintEnd}
 
@@ -40,7 +40,7 @@ pub record AreFleetNotesIn (first : List Note) (inventory : List ℕ) (notes : L
 pub record IsTextOf (AreNotes : List Note → Type 0) (tells : Note → Bool) (text : List ℕ) (end : LintEnd) : Type 0 where
   pub notes : List Note
   pub are : AreNotes notes
-  pub text_is : text ≡ notes_text tells notes
+  pub text_is : IsNotesText tells notes text
   pub ends : end ≡ end_of (told tells notes)
 
 -- that text went out, and nothing else

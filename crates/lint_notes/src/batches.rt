@@ -1,6 +1,5 @@
 //! The notes on a play's batches.
 ghost use Rattle.std.specs.Prelude.{◌≡◌, ◌<◌, IfOk, length, option_map};
-ghost use Rattle.std.specs.List.{find};
 ghost use Rattle.fleet_numbers.specs.NumberLists.{list_at};
 ghost use Rattle.lint_notes.specs.Batches as model;
 ghost use Rattle.lint_notes.specs.Batches.{AreSmallestOf, IsSmallestIn, IsSmallestOf};
@@ -11,44 +10,8 @@ use domains::Fleet;
 use group_tree::Percentage;
 use note_lines::Note;
 use play_course::plan_play;
-use play_model::{Play, Size};
+use play_model::Play;
 use std::alloc::{AllocError, Global};
-
-fn counted_hosts(size: Size) -> u16
-    ensures { result ≡ model.counted_hosts size }
-{
-    match size {
-        Size::Count(hosts) => hosts,
-        Size::Percent(_) => 0,
-    }
-}
-
-/// The first of the sizes that is above the number of waiting hosts.
-fn first_idle(sizes: &[Size], waiting: usize) -> Option<Size>
-    ensures { result ≡ find (model.is_idle waiting) sizes.now }
-{
-    sizes
-        .iter()
-        .copied()
-        .find(|size| waiting < usize::from(counted_hosts(*size)))
-}
-
-/// What is noted of the sizes of the play with this number, for which so many hosts wait.
-pub(crate) fn size_note(number: usize, sizes: &[Size], waiting: usize) -> Option<Note<'static>>
-    ensures { option_map seen result ≡ model.size_note number sizes.now waiting }
-{
-    if waiting == 0 {
-        return None;
-    }
-    match first_idle(sizes, waiting) {
-        Some(size) => Some(Note::IdleSerial {
-            play: number,
-            size: counted_hosts(size),
-            waiting,
-        }),
-        None => None,
-    }
-}
 
 /// Whether one failed host of a batch of several is more than the percentage, which is above 0.
 fn bears_none(percent: u8, size: usize) -> bool

@@ -2,7 +2,6 @@
 #![tactic(auto)]
 
 mod batches;
-mod full_groups;
 mod lint;
 mod near;
 mod playbook;
@@ -10,4 +9,4 @@ mod scene;
 mod targets;
 mod unlimited;
 
-pub use lint::{lint_fleet_text, lint_text, sift_fleet_text, sift_text};
+pub use lint::{lint_fleet_text, lint_text};

@@ -9,23 +9,23 @@ use bumpalo::Bump;
 use domains::{Fleet, PatternFault};
 use fleet_notes::{Repeats, Texts, list_fleet_notes};
 use inventory_read::read_inventory;
-use note_lines::{Allowed, LintEnd, Sieve, send_notes};
+use note_lines::{Allowed, LintEnd, send_notes};
 use planning::{PlanFault, read_known_plays};
 use std::alloc::{AllocError, Global};
 use std::io::Write;
 
-/// Writes what is accepted of an inventory and probably not meant, given as the bytes of its text: a line a note on a group or its hosts, but for those that the sieve holds back, and
-/// how many they are. First come those on the keys that stand more than once in one object of the texts as they were given. An inventory that is refused is refused as for a plan, and nothing goes out then. Where a write fails, exactly the first bytes of the text went out, as many as the fault
-/// says.
-pub fn sift_fleet_text<W: Write, S: Sieve>(
+/// Writes the notes on an inventory, except those of kinds that are allowed, and after them their number and what to do about each kind. First come those on keys that are repeated in one
+/// object of the given texts. An inventory that a plan rejects is rejected with the same fault, and nothing is written. If a write fails, exactly as many bytes of the text were written as the
+/// fault says.
+pub fn lint_fleet_text<W: Write>(
     alloc: Global,
     given: Texts<'_>,
     inventory: &[u8],
-    sieve: &S,
+    allowed: &Allowed<'_>,
     out: &mut W,
 ) -> Result<LintEnd, PlanFault>
-    ensures ok { IfOk result (WritesNotes (AreFleetNotesIn (repeats_given given.entry) inventory.now) (S.tells sieve.now) (W.contents out.old) (W.contents out.new)) }
-    ensures err { IfErr result (IsTrueFleetFault (repeats_given given.entry) inventory.now (S.tells sieve.now) (W.contents out.old) (W.contents out.new)) }
+    ensures ok { IfOk result (WritesNotes (AreFleetNotesIn (repeats_given given.entry) inventory.now) (isnt_allowed allowed.now) (W.contents out.old) (W.contents out.new)) }
+    ensures err { IfErr result (IsTrueFleetFault (repeats_given given.entry) inventory.now (isnt_allowed allowed.now) (W.contents out.old) (W.contents out.new)) }
 {
     let arena = Bump::new(alloc);
     let tree = match read_inventory(&arena, alloc, inventory) {
@@ -44,24 +44,25 @@ pub fn sift_fleet_text<W: Write, S: Sieve>(
         Ok(notes) => notes,
         Err(AllocError) => return Err(PlanFault::Pattern(PatternFault::Memory)),
     };
-    match send_notes(&notes, sieve, out) {
+    match send_notes(&notes, allowed, out) {
         Ok(end) => Ok(end),
         Err(fault) => Err(PlanFault::Write(fault)),
     }
 }
 
-/// The same of an inventory and a playbook: behind the notes on groups and their hosts stand those on each play and its steps, in their order. Nothing goes out before both texts were accepted:
-/// first the inventory's faults are told, then the playbook's, then the first part of a pattern, of any play, that names nothing. Want of memory for the notes is told as that for a pattern.
-pub fn sift_text<W: Write, S: Sieve>(
+/// Writes the notes on an inventory and a playbook in the same way: after the notes on groups and their hosts those on each play and its steps, in their order. Nothing is written unless both
+/// texts are accepted: the inventory's faults come first, then the playbook's, then the first part of a pattern, of any play, that matches nothing. A failed allocation for the notes is reported
+/// as one for a pattern.
+pub fn lint_text<W: Write>(
     alloc: Global,
     given: Texts<'_>,
     inventory: &[u8],
     playbook: &[u8],
-    sieve: &S,
+    allowed: &Allowed<'_>,
     out: &mut W,
 ) -> Result<LintEnd, PlanFault>
-    ensures ok { IfOk result (WritesNotes (AreNotesIn (repeats_given given.entry) inventory.now playbook.now) (S.tells sieve.now) (W.contents out.old) (W.contents out.new)) }
-    ensures err { IfErr result (IsTrueFault (repeats_given given.entry) inventory.now playbook.now (S.tells sieve.now) (W.contents out.old) (W.contents out.new)) }
+    ensures ok { IfOk result (WritesNotes (AreNotesIn (repeats_given given.entry) inventory.now playbook.now) (isnt_allowed allowed.now) (W.contents out.old) (W.contents out.new)) }
+    ensures err { IfErr result (IsTrueFault (repeats_given given.entry) inventory.now playbook.now (isnt_allowed allowed.now) (W.contents out.old) (W.contents out.new)) }
 {
     let arena = Bump::new(alloc);
     let tree = match read_inventory(&arena, alloc, inventory) {
@@ -84,37 +85,8 @@ pub fn sift_text<W: Write, S: Sieve>(
         Ok(notes) => notes,
         Err(AllocError) => return Err(PlanFault::Pattern(PatternFault::Memory)),
     };
-    match send_notes(&notes, sieve, out) {
+    match send_notes(&notes, allowed, out) {
         Ok(end) => Ok(end),
         Err(fault) => Err(PlanFault::Write(fault)),
     }
-}
-
-/// The notes on an inventory, but for those of the kinds that are allowed.
-pub fn lint_fleet_text<W: Write>(
-    alloc: Global,
-    given: Texts<'_>,
-    inventory: &[u8],
-    allowed: &Allowed<'_>,
-    out: &mut W,
-) -> Result<LintEnd, PlanFault>
-    ensures ok { IfOk result (WritesNotes (AreFleetNotesIn (repeats_given given.entry) inventory.now) (isnt_allowed allowed.now) (W.contents out.old) (W.contents out.new)) }
-    ensures err { IfErr result (IsTrueFleetFault (repeats_given given.entry) inventory.now (isnt_allowed allowed.now) (W.contents out.old) (W.contents out.new)) }
-{
-    sift_fleet_text(alloc, given, inventory, allowed, out)
-}
-
-/// The same of an inventory and a playbook.
-pub fn lint_text<W: Write>(
-    alloc: Global,
-    given: Texts<'_>,
-    inventory: &[u8],
-    playbook: &[u8],
-    allowed: &Allowed<'_>,
-    out: &mut W,
-) -> Result<LintEnd, PlanFault>
-    ensures ok { IfOk result (WritesNotes (AreNotesIn (repeats_given given.entry) inventory.now playbook.now) (isnt_allowed allowed.now) (W.contents out.old) (W.contents out.new)) }
-    ensures err { IfErr result (IsTrueFault (repeats_given given.entry) inventory.now playbook.now (isnt_allowed allowed.now) (W.contents out.old) (W.contents out.new)) }
-{
-    sift_text(alloc, given, inventory, playbook, allowed, out)
 }

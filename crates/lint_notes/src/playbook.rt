@@ -1,20 +1,18 @@
 //! The notes on the plays of a playbook.
-ghost use Rattle.std.specs.Prelude.{◌≡◌, ◌<◌, ◌||◌, ◌++◌, ◌^◌, IfOk, OnOk, length};
+ghost use Rattle.std.specs.Prelude.{◌≡◌, ◌+◌, ◌<◌, ◌||◌, ◌++◌, ◌^◌, IfOk, OnOk, length};
 ghost use Rattle.group_tree.specs.Names.{Name};
 ghost use Rattle.domains.specs.Fleets.{IsFleetOf};
 ghost use Rattle.needed_results.specs.Registers.{is_registered_by};
-ghost use Rattle.step_notes.specs.Given.{AreAllGiven, gives};
-ghost use Rattle.step_notes.specs.Inside.{crowd_of, foreseen_in, has_missed, has_name, lacks_in, may_be};
+ghost use Rattle.note_lines.specs.Notes.{noted};
+ghost use Rattle.step_notes.specs.Given.{AreAllGiven};
+ghost use Rattle.step_notes.specs.Inside.{crowd_of, foreseen_in, has_missed, has_name, value_in};
+ghost use Rattle.step_notes.specs.Places as places;
 ghost use Rattle.fleet_notes.specs.Inside.{noted_repeats};
 ghost use Rattle.lint_notes.specs.AllNotes.{AreNotesOf};
-ghost use Rattle.lint_notes.specs.FullGroups.{AreMarks};
-ghost use Rattle.step_notes.specs.Endings.{is_left_by};
-ghost use Rattle.step_notes.specs.declared.ending.Ending.{Ending};
 ghost use Rattle.step_notes.specs.Hosts.{down_for, waiting_for};
 ghost use Rattle.lint_notes.specs.Playbooks.{batch_notes, play_notes, plays_notes, steps_notes};
 
-use crate::batches::{failure_note, list_smallest, size_note};
-use crate::full_groups::{full_note, mark_full};
+use crate::batches::{failure_note, list_smallest};
 use crate::near::with_near;
 use crate::scene::Scene;
 use crate::targets::{Targets, note_of};
@@ -38,12 +36,10 @@ fn note_steps<'a>(
     registered: &mut Registered<'a>,
     numbered: Numbered<'a>,
 ) -> Result<(), AllocError>
-    ensures notes { OnOk result (notes.new ≡ notes.old ++ steps_notes (has_name registered.old) (may_be registered.old) (crowd_of crowd.now)
+    ensures notes { OnOk result (notes.new ≡ notes.old ++ steps_notes (has_name registered.old) (crowd_of crowd.now)
         (foreseen_in registry.now.fleet.now registry.now.plays.now crowd.now.lacks.now.vars.now numbered.entry.number) numbered.entry.number numbered.entry.play.now) }
     ensures registered { OnOk result ((name : Name) → has_name registered.new name
         ≡ (has_name registered.old name || is_registered_by numbered.entry.play.now.steps.items name)) }
-    ensures endings { OnOk result ((ending : Ending) (name : Name) → may_be registered.new ending name
-        ≡ (may_be registered.old ending name || is_left_by numbered.entry.play.now.steps.items ending name)) }
 {
     let play = numbered.play;
     let steps = play.steps();
@@ -65,7 +61,7 @@ fn note_steps<'a>(
     Ok(())
 }
 
-/// Adds what is noted of a play's hosts and batches, of which the smallest has this size. Here plays are counted from 1.
+/// Adds what is noted of a play's hosts and batches, the smallest of which has this size. Here plays are counted from 1.
 fn note_batches<'a>(
     notes: &mut Notes<'a>,
     scene: Scene<'a, '_>,
@@ -73,7 +69,6 @@ fn note_batches<'a>(
     numbered: Numbered<'_>,
     smallest: Option<usize>,
 ) -> Result<(), AllocError>
-    requires full { AreMarks scene.fleet.now scene.full.now }
     requires waiting { targets.now.waiting.items ≡ waiting_for scene.fleet.now numbered.play.now }
     requires down { targets.now.down.items ≡ down_for scene.fleet.now numbered.play.now }
     ensures { OnOk result (notes.new ≡ notes.old ++ batch_notes scene.entry.fleet.now smallest numbered.entry.number numbered.entry.play.now) }
@@ -83,12 +78,35 @@ fn note_batches<'a>(
     let number = numbered.number;
     let waiting = targets.waiting.as_slice();
     notes.add(note_of(fleet, number, targets))?;
-    notes.add(full_note(fleet, scene.full, number, waiting))?;
     notes.add(unlimited_note(fleet, number, waiting))?;
-    notes.add(size_note(number, play.sizes(), targets.waiting.len()))?;
     notes.add(failure_note(number, play.max_fail(), smallest))?;
-    notes.add(local_play_note(number, targets.waiting.len(), play))?;
     Ok(())
+}
+
+/// Adds what is noted of where a play's steps run, before any of them.
+fn note_local<'a>(
+    alloc: Global,
+    notes: &mut Notes<'a>,
+    crowd: &Crowd<'a, '_>,
+    registry: &Registry<'a>,
+    registered: &Registered<'a>,
+    numbered: Numbered<'a>,
+) -> Result<(), AllocError>
+    requires { numbered.number < 2 ^ 63 }
+    ensures { OnOk result (notes.new ≡ notes.old ++ noted (places.local_play_note (has_name registered.now) (crowd_of crowd.now)
+        (foreseen_in registry.now.fleet.now registry.now.plays.now crowd.now.lacks.now.vars.now numbered.entry.number) (numbered.entry.number + 1) numbered.entry.play.now)) }
+{
+    let asked = Asked {
+        registered,
+        crowd: *crowd,
+        stand: Stand {
+            registry,
+            number: numbered.number,
+            place: 0,
+        },
+    };
+    let note = local_play_note(alloc, &asked, numbered.number + 1, numbered.play)?;
+    notes.add(note)
 }
 
 /// Adds what is noted of a play, and the names under which its steps register results.
@@ -101,16 +119,13 @@ fn note_play<'a>(
     smallest: Option<usize>,
 ) -> Result<(), AllocError>
     requires number { numbered.number < 2 ^ 63 }
-    requires full { AreMarks scene.fleet.now scene.full.now }
-    requires given { AreAllGiven (has_missed scene.given.now.names) scene.vars.now }
+    requires given { AreAllGiven (has_missed scene.given.now) scene.vars.now }
     ensures notes { OnOk result (notes.new ≡ notes.old
-        ++ play_notes scene.entry.fleet.now (lacks_in scene.entry.vars.now) (gives scene.entry.given.now)
+        ++ play_notes scene.entry.fleet.now (value_in scene.entry.vars.now) (has_missed scene.entry.given.now)
         (foreseen_in scene.entry.registry.now.fleet.now scene.entry.registry.now.plays.now scene.entry.vars.now numbered.entry.number)
-        (has_name registered.old) (may_be registered.old) smallest numbered.entry.number numbered.entry.play.now) }
+        (has_name registered.old) smallest numbered.entry.number numbered.entry.play.now) }
     ensures registered { OnOk result ((name : Name) → has_name registered.new name
         ≡ (has_name registered.old name || is_registered_by numbered.entry.play.now.steps.items name)) }
-    ensures endings { OnOk result ((ending : Ending) (name : Name) → may_be registered.new ending name
-        ≡ (may_be registered.old ending name || is_left_by numbered.entry.play.now.steps.items ending name)) }
 {
     let fleet = scene.fleet;
     let targets = Targets::of(alloc, fleet, numbered.play)?;
@@ -130,6 +145,7 @@ fn note_play<'a>(
         fleet,
         lacks: &lacks,
     };
+    note_local(alloc, notes, &crowd, scene.registry, registered, numbered)?;
     note_steps(alloc, notes, &crowd, scene.registry, registered, numbered)?;
     Ok(())
 }
@@ -143,9 +159,8 @@ fn note_plays<'a>(
     plays: &'a [Play],
 ) -> Result<(), AllocError>
     requires sizes { length sizes.now ≡ length plays.now }
-    requires full { AreMarks scene.fleet.now scene.full.now }
-    requires given { AreAllGiven (has_missed scene.given.now.names) scene.vars.now }
-    ensures { OnOk result (notes.new ≡ notes.old ++ plays_notes scene.entry.fleet.now (lacks_in scene.entry.vars.now) (gives scene.entry.given.now)
+    requires given { AreAllGiven (has_missed scene.given.now) scene.vars.now }
+    ensures { OnOk result (notes.new ≡ notes.old ++ plays_notes scene.entry.fleet.now (value_in scene.entry.vars.now) (has_missed scene.entry.given.now)
         (foreseen_in scene.entry.registry.now.fleet.now scene.entry.registry.now.plays.now scene.entry.vars.now) sizes.now plays.now) }
 {
     let mut registered = Registered::new(alloc);
@@ -160,7 +175,7 @@ fn note_plays<'a>(
     Ok(())
 }
 
-/// Behind the notes on these keys all those on a fleet and on these plays. They are gathered by the variables of the tree of which the fleet was built. It fails for want of memory alone.
+/// Lists the notes on these keys, and after them all those on a fleet and on these plays, by the variables of the tree of which the fleet was built. Fails only if an allocation fails.
 pub(crate) fn list_notes<'a, A: Allocator>(
     alloc: Global,
     repeats: &'a Repeats,
@@ -176,14 +191,12 @@ pub(crate) fn list_notes<'a, A: Allocator>(
     let mut notes = list_fleet_notes(alloc, repeats, tree, fleet)?;
     let registry = Registry::of(alloc, fleet, plays)?;
     let given = list_given(alloc, tree)?;
-    let full = mark_full(alloc, fleet)?;
     let scene = Scene {
         fleet,
-        full: full.as_slice(),
         vars: vars.as_slice(),
         given: &given,
         registry: &registry,
     };
     note_plays(alloc, &mut notes, scene, sizes.as_slice(), plays)?;
-    with_near(alloc, &notes, &given.names, plays)
+    with_near(alloc, &notes, &given, plays)
 }

@@ -1,2 +1,2 @@
-pub mod AdviceLemmas
+pub mod HintLemmas
 pub mod ToldLemmas

@@ -1,6 +1,6 @@
 pub mod Kinds
 pub mod Notes
-pub mod NotePlaces
-pub mod Advice
+pub mod NoteLines
+pub mod Hints
 pub mod NotesText
 pub mod Paths

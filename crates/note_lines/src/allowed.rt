@@ -1,9 +1,11 @@
-//! Kinds of notes that aren't told.
+//! Kinds of notes that are suppressed.
 ghost use Rattle.std.specs.Prelude.{◌≡◌, false, true, MatchOption};
 ghost use Rattle.note_lines.specs.Kinds as model;
 ghost use Rattle.note_lines.specs.Kinds.{are_kind_names};
+ghost use Rattle.note_lines.specs.Notes.{isnt_allowed, seen};
 
-use crate::kind::{Kind, is_kind_name};
+use crate::kind::{Kind, kinds};
+use crate::note::Note;
 use std::marker::Model;
 use text_parts::first_part;
 
@@ -21,7 +23,7 @@ impl<'a> Model for Allowed<'a> {
     ghost view = { λ allowed. allowed.text.now };
 }
 
-/// Reads the names of kinds, between which commas stand, as the parts of a pattern of hosts; the empty text names none. A name that no kind has refuses the text. It takes no memory.
+/// Reads comma-separated names of kinds, as the parts of a pattern of hosts; the empty text names none. Returns `None` if no kind has one of the names. It takes no memory.
 pub fn read_allowed(text: &str) -> Option<Allowed<'_>>
     ensures { MatchOption result (are_kind_names text.now ≡ false) (λ allowed. (allowed ≡ text.now) × (are_kind_names text.now ≡ true)) }
 {
@@ -30,6 +32,13 @@ pub fn read_allowed(text: &str) -> Option<Allowed<'_>>
     } else {
         None
     }
+}
+
+/// Whether a kind has this name.
+fn is_kind_name(word: &str) -> bool
+    ensures { result ≡ model.is_kind_name word.now }
+{
+    kinds().iter().any(|kind| kind.name() == word)
 }
 
 fn are_kinds(text: &str) -> bool
@@ -46,21 +55,7 @@ fn are_kinds(text: &str) -> bool
 }
 
 impl<'a> Allowed<'a> {
-    /// The kinds whose names are among the parts of the text, whatever else it names.
-    pub fn among(text: &'a str) -> Allowed<'a>
-        ensures { result ≡ text.now }
-    {
-        Allowed { text }
-    }
-
-    /// The text that names them.
-    pub fn as_str(&self) -> &str
-        ensures { result.now ≡ self.now }
-    {
-        self.text
-    }
-
-    /// Whether notes of this kind aren't told.
+    /// Whether notes of this kind are suppressed.
     pub fn allows(&self, kind: Kind) -> bool
         ensures { result ≡ model.allows self.now kind }
     {
@@ -73,5 +68,12 @@ impl<'a> Allowed<'a> {
             rest = later;
         }
         false
+    }
+
+    /// Whether the note is printed.
+    pub(crate) fn tells(&self, note: &Note<'_>) -> bool
+        ensures { result ≡ isnt_allowed self.now (seen note.now) }
+    {
+        !self.allows(note.kind())
     }
 }

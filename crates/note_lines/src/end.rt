@@ -1,6 +1,6 @@
 //! How `lint` ends.
 
-/// Whether anything was noted.
+/// Whether a warning was printed.
 #[derive(Clone, Copy, Debug, PartialEq, Eq)]
 pub enum LintEnd {
     Clean,

@@ -1,16 +1,14 @@
-//! What may be noted of an inventory and a playbook, the line of each note, and what helps.
+//! What may be noted of an inventory and a playbook, the line of each note, and what to do about it.
 #![tactic(auto)]
 
-mod advice;
 mod allowed;
 mod document;
 mod end;
-mod helps;
+mod hints;
 mod kind;
 mod note;
 mod notes;
-mod place;
-mod sieve;
+mod rows;
 mod step_path;
 mod told;
 mod writing;
@@ -18,10 +16,9 @@ mod writing;
 pub use allowed::{Allowed, read_allowed};
 pub use document::Document;
 pub use end::LintEnd;
-pub use kind::{Kind, fleet_kinds, play_kinds};
+pub use kind::Kind;
 pub use note::{Missing, Note};
 pub use notes::Notes;
-pub use place::NotePlace;
-pub use sieve::Sieve;
+pub use rows::{Row, Severity};
 pub use step_path::{Numbered, StepPath};
 pub use told::send_notes;

@@ -6,12 +6,24 @@ use crate::document::Document;
 use crate::kind::Kind;
 use crate::step_path::StepPath;
 
-/// What is told of an inventory and a playbook, with names that these lend.
+/// A note on an inventory and a playbook, with names that these lend.
 #[derive(Clone, Copy, Debug)]
 pub enum Note<'a> {
     RepeatedKey {
         document: Document,
         path: &'a [u8],
+    },
+    NearKey {
+        group: &'a str,
+        name: &'a str,
+    },
+    NearHostKey {
+        group: &'a str,
+        host: &'a str,
+        name: &'a str,
+    },
+    GroupDown {
+        group: &'a str,
     },
     ZeroLimit {
         group: &'a str,
@@ -25,21 +37,6 @@ pub enum Note<'a> {
         limit: u16,
         members: usize,
     },
-    EmptyGroup {
-        group: &'a str,
-    },
-    GroupDown {
-        group: &'a str,
-    },
-    NearKey {
-        group: &'a str,
-        name: &'a str,
-    },
-    NearHostKey {
-        group: &'a str,
-        host: &'a str,
-        name: &'a str,
-    },
     ValueHole {
         group: &'a str,
         name: &'a str,
@@ -49,42 +46,28 @@ pub enum Note<'a> {
         host: &'a str,
         name: &'a str,
     },
-    CaseHosts {
-        host: &'a str,
-        other: &'a str,
-    },
-    GroupHost {
-        name: &'a str,
+    TextHole {
+        at: StepPath,
+        key: &'a str,
+        text: &'a str,
     },
     NoHosts {
         play: usize,
-    },
-    DownHosts {
-        play: usize,
-        hosts: usize,
-        host: &'a str,
-    },
-    FullGroup {
-        play: usize,
-        missing: Missing<'a>,
-        group: &'a str,
     },
     UnlimitedHosts {
         play: usize,
         missing: Missing<'a>,
     },
-    IdleSerial {
-        play: usize,
-        size: u16,
-        waiting: usize,
-    },
-    OneFailure {
-        play: usize,
-        percent: u8,
-        size: usize,
-    },
     LocalPlay {
         play: usize,
+        hosts: usize,
+    },
+    LocalStep {
+        at: StepPath,
+        word: &'a str,
+    },
+    FixedTarget {
+        at: StepPath,
         hosts: usize,
     },
     UnknownName {
@@ -112,43 +95,15 @@ pub enum Note<'a> {
         key: &'a str,
         host: &'a str,
     },
-    FalseText {
-        at: StepPath,
-        key: &'a str,
-        name: &'a str,
-    },
-    UnlikeVariable {
-        at: StepPath,
-        key: &'a str,
-        name: &'a str,
-    },
-    WholeResult {
-        at: StepPath,
-        key: &'a str,
-        name: &'a str,
-    },
-    TextHole {
-        at: StepPath,
-        key: &'a str,
-        text: &'a str,
-    },
     IdleStep {
         at: StepPath,
     },
-    IdleState {
+    IdleHandler {
+        at: StepPath,
+    },
+    ChangedGuard {
         at: StepPath,
         name: &'a str,
-    },
-    ConstantCondition {
-        at: StepPath,
-    },
-    UnlikeValues {
-        at: StepPath,
-        key: &'a str,
-    },
-    ClashingValues {
-        at: StepPath,
-        key: &'a str,
     },
     ShellWord {
         at: StepPath,
@@ -162,27 +117,23 @@ pub enum Note<'a> {
         at: StepPath,
         word: &'a str,
     },
-    LocalStep {
+    DashName {
         at: StepPath,
-        word: &'a str,
-    },
-    FixedTarget {
-        at: StepPath,
-        hosts: usize,
+        host: &'a str,
     },
     LongWord {
         at: StepPath,
         bytes: usize,
     },
-    DashName {
-        at: StepPath,
+    DownHosts {
+        play: usize,
+        hosts: usize,
         host: &'a str,
     },
-    IdleNotify {
-        at: StepPath,
-    },
-    IdleHandler {
-        at: StepPath,
+    OneFailure {
+        play: usize,
+        percent: u8,
+        size: usize,
     },
 }
 
@@ -200,47 +151,35 @@ impl Note<'_> {
     {
         match self {
             Note::RepeatedKey { .. } => Kind::RepeatedKey,
+            Note::NearKey { .. } => Kind::NearKey,
+            Note::NearHostKey { .. } => Kind::NearKey,
+            Note::GroupDown { .. } => Kind::GroupDown,
             Note::ZeroLimit { .. } => Kind::ZeroLimit,
             Note::EmptyLimit { .. } => Kind::EmptyLimit,
             Note::LooseLimit { .. } => Kind::LooseLimit,
-            Note::EmptyGroup { .. } => Kind::EmptyGroup,
-            Note::GroupDown { .. } => Kind::GroupDown,
-            Note::NearKey { .. } => Kind::NearKey,
-            Note::NearHostKey { .. } => Kind::NearKey,
-            Note::ValueHole { .. } => Kind::ValueHole,
-            Note::HostValueHole { .. } => Kind::ValueHole,
-            Note::CaseHosts { .. } => Kind::CaseHosts,
-            Note::GroupHost { .. } => Kind::GroupHost,
+            Note::ValueHole { .. } => Kind::UnfilledPlaceholder,
+            Note::HostValueHole { .. } => Kind::UnfilledPlaceholder,
+            Note::TextHole { .. } => Kind::UnfilledPlaceholder,
             Note::NoHosts { .. } => Kind::NoHosts,
-            Note::DownHosts { .. } => Kind::DownHosts,
-            Note::FullGroup { .. } => Kind::FullGroup,
             Note::UnlimitedHosts { .. } => Kind::UnlimitedHosts,
-            Note::IdleSerial { .. } => Kind::IdleSerial,
-            Note::OneFailure { .. } => Kind::OneFailure,
-            Note::LocalPlay { .. } => Kind::LocalPlay,
-            Note::UnknownName { .. } => Kind::UnknownName,
-            Note::MissingName { .. } => Kind::MissingName,
-            Note::MissingResult { .. } => Kind::MissingResult,
+            Note::LocalPlay { .. } => Kind::LocalCommand,
+            Note::LocalStep { .. } => Kind::LocalCommand,
+            Note::FixedTarget { .. } => Kind::LocalCommand,
+            Note::UnknownName { .. } => Kind::UndefinedName,
+            Note::MissingName { .. } => Kind::UndefinedName,
+            Note::MissingResult { .. } => Kind::UndefinedName,
             Note::UnknownGroup { .. } => Kind::UnknownGroup,
-            Note::UnknownHost { .. } => Kind::UnknownHost,
-            Note::FalseText { .. } => Kind::FalseText,
-            Note::UnlikeVariable { .. } => Kind::UnlikeVariable,
-            Note::WholeResult { .. } => Kind::WholeResult,
-            Note::TextHole { .. } => Kind::TextHole,
+            Note::UnknownHost { .. } => Kind::UnknownGroup,
             Note::IdleStep { .. } => Kind::IdleStep,
-            Note::IdleState { .. } => Kind::IdleState,
-            Note::ConstantCondition { .. } => Kind::ConstantCondition,
-            Note::UnlikeValues { .. } => Kind::UnlikeValues,
-            Note::ClashingValues { .. } => Kind::ClashingValues,
-            Note::ShellWord { .. } => Kind::ShellWord,
-            Note::BlankProgram { .. } => Kind::BlankProgram,
-            Note::LostQuotes { .. } => Kind::LostQuotes,
-            Note::LocalStep { .. } => Kind::LocalStep,
-            Note::FixedTarget { .. } => Kind::FixedTarget,
-            Note::LongWord { .. } => Kind::LongWord,
-            Note::DashName { .. } => Kind::DashName,
-            Note::IdleNotify { .. } => Kind::IdleNotify,
             Note::IdleHandler { .. } => Kind::IdleHandler,
+            Note::ChangedGuard { .. } => Kind::ChangedGuard,
+            Note::ShellWord { .. } => Kind::ShellWord,
+            Note::BlankProgram { .. } => Kind::ShellWord,
+            Note::LostQuotes { .. } => Kind::ShellWord,
+            Note::DashName { .. } => Kind::DashName,
+            Note::LongWord { .. } => Kind::LongWord,
+            Note::DownHosts { .. } => Kind::DownHosts,
+            Note::OneFailure { .. } => Kind::OneFailure,
         }
     }
 }

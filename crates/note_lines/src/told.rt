@@ -1,46 +1,62 @@
-//! The notes that are told.
-ghost use Rattle.std.specs.Prelude.{◌≡◌, ◌≤◌, ◌∷◌, [], IfOk, flat_map, length, map};
-ghost use Rattle.bounded_io.specs.Sending.{SendsText};
+//! The notes that are printed.
+ghost use Rattle.std.specs.Prelude.{◌≡◌, ◌≤◌, ◌∷◌, ◌++◌, [], IfOk, flat_map, length, map};
+ghost use Rattle.std.specs.List.{list_any};
 ghost use Rattle.bounded_io.specs.Writing.{Writes};
-ghost use Rattle.note_lines.specs.Notes.{seen, told};
-ghost use Rattle.note_lines.specs.NotesText.{count_line, end_of, note_line, notes_text};
+ghost use Rattle.note_lines.specs.NoteLines.{note_line};
+ghost use Rattle.note_lines.specs.Notes as model;
+ghost use Rattle.note_lines.specs.Notes.{isnt_allowed, seen, told, warnings};
+ghost use Rattle.note_lines.specs.NotesText.{IsNotesText, SendsSuch, WritesSuch, count_line, end_of, last_line};
 
+use crate::allowed::Allowed;
 use crate::end::LintEnd;
-use crate::helps::write_helps;
+use crate::hints::write_hints;
 use crate::note::Note;
 use crate::notes::Notes;
-use crate::sieve::Sieve;
+use crate::rows::Severity;
 use crate::writing::write_note;
 use bounded_io::{TextWriter, WriteFault};
 use recap::write_field;
 use std::io::Write;
 
-/// Writes the line of the note where it is told, and says how many lines that are.
+fn is_warning(note: &Note<'_>) -> bool
+    ensures { result ≡ model.is_warning (seen note.now) }
+{
+    match note.kind().severity() {
+        Severity::Warning => true,
+        Severity::Info => false,
+    }
+}
+
+/// Writes the line of the note, if it is printed, and returns how many warnings that are.
 #[tactic(auto, using(bounded_io::proofs::Pieces::pieces_of_text))]
-fn write_told<W: Write, S: Sieve>(text: &mut TextWriter<'_, W>, note: &Note<'_>, sieve: &S) -> usize
-    ensures writes { Writes W.contents text.old text.new (flat_map note_line (told (S.tells sieve.now) (seen note.now ∷ []))) }
-    ensures count { result ≡ length (told (S.tells sieve.now) (seen note.now ∷ [])) }
+fn write_told<W: Write>(
+    text: &mut TextWriter<'_, W>,
+    note: &Note<'_>,
+    allowed: &Allowed<'_>,
+) -> usize
+    ensures writes { Writes W.contents text.old text.new (flat_map note_line (told (isnt_allowed allowed.now) (seen note.now ∷ []))) }
+    ensures count { result ≡ length (warnings (told (isnt_allowed allowed.now) (seen note.now ∷ []))) }
     ensures few { result ≤ 1 }
 {
-    if !sieve.is_told(*note) {
+    if !allowed.tells(note) {
         return 0;
     }
     write_note(text, note);
-    1
+    if is_warning(note) { 1 } else { 0 }
 }
 
-/// Writes the lines of the notes that are told, and says how many they are.
-fn write_lines<W: Write, S: Sieve>(
+/// Writes the lines of the notes that are printed, and returns how many of them are warnings.
+fn write_lines<W: Write>(
     text: &mut TextWriter<'_, W>,
     notes: &[Note<'_>],
-    sieve: &S,
+    allowed: &Allowed<'_>,
 ) -> usize
-    ensures writes { Writes W.contents text.old text.new (flat_map note_line (told (S.tells sieve.now) (map seen notes.now))) }
-    ensures count { result ≡ length (told (S.tells sieve.now) (map seen notes.now)) }
+    ensures writes { Writes W.contents text.old text.new (flat_map note_line (told (isnt_allowed allowed.now) (map seen notes.now))) }
+    ensures count { result ≡ length (warnings (told (isnt_allowed allowed.now) (map seen notes.now))) }
 {
     let mut count = 0;
     for note in notes {
-        count += write_told(text, note, sieve);
+        count += write_told(text, note, allowed);
     }
     count
 }
@@ -53,37 +69,75 @@ fn write_count<W: Write>(text: &mut TextWriter<'_, W>, count: u64)
     text.write_str("\n");
 }
 
-/// Writes the notes that are told, how many they are, and of each kind what to do; says whether there is any.
-#[tactic(auto, using(bounded_io::proofs::Pieces::pieces_of_text))]
-fn write_notes<W: Write, S: Sieve>(
-    text: &mut TextWriter<'_, W>,
-    notes: &Notes<'_>,
-    sieve: &S,
-) -> LintEnd
-    ensures writes { Writes W.contents text.old text.new (notes_text (S.tells sieve.now) notes.now) }
-    ensures end { result ≡ end_of (told (S.tells sieve.now) notes.now) }
+fn is_any_told(notes: &[Note<'_>], allowed: &Allowed<'_>) -> bool
+    ensures { result ≡ list_any (λ note. isnt_allowed allowed.now (seen note)) notes.now }
 {
-    let count = write_lines(text, notes.as_slice(), sieve);
+    notes.iter().any(|note| allowed.tells(note))
+}
+
+/// Whether a note is printed.
+#[tactic(auto, using(crate::proofs::HintLemmas::any_told))]
+fn has_any_told(notes: &[Note<'_>], allowed: &Allowed<'_>) -> bool
+    ensures { result ≡ list_any (isnt_allowed allowed.now) (map seen notes.now) }
+{
+    is_any_told(notes, allowed)
+}
+
+/// Writes where to read on, if a note is printed.
+#[tactic(auto, using(bounded_io::proofs::Pieces::pieces_of_text))]
+fn write_last<W: Write>(text: &mut TextWriter<'_, W>, notes: &[Note<'_>], allowed: &Allowed<'_>)
+    ensures { Writes W.contents text.old text.new (last_line (isnt_allowed allowed.now) (map seen notes.now)) }
+{
+    if has_any_told(notes, allowed) {
+        text.write_str(
+            "  `rollout explain KIND` has an example; `--allow KIND,..` suppresses a rule\n",
+        );
+    }
+}
+
+/// Writes the notes that are printed, how many of them are warnings, and what to do about each kind; returns that number.
+fn write_text<W: Write>(
+    text: &mut TextWriter<'_, W>,
+    notes: &[Note<'_>],
+    allowed: &Allowed<'_>,
+) -> usize
+    ensures writes { WritesSuch W.contents text.old text.new (IsNotesText (isnt_allowed allowed.now) (map seen notes.now)) }
+    ensures count { result ≡ length (warnings (told (isnt_allowed allowed.now) (map seen notes.now))) }
+{
+    let count = write_lines(text, notes, allowed);
     write_count(text, count as u64);
-    write_helps(text, notes.as_slice(), sieve);
-    if count == 0 {
+    write_hints(text, notes, allowed);
+    write_last(text, notes, allowed);
+    count
+}
+
+/// Writes that text, and returns whether a warning was printed.
+fn write_notes<W: Write>(
+    text: &mut TextWriter<'_, W>,
+    notes: &[Note<'_>],
+    allowed: &Allowed<'_>,
+) -> LintEnd
+    ensures writes { WritesSuch W.contents text.old text.new (IsNotesText (isnt_allowed allowed.now) (map seen notes.now)) }
+    ensures end { result ≡ end_of (told (isnt_allowed allowed.now) (map seen notes.now)) }
+{
+    if write_text(text, notes, allowed) == 0 {
         LintEnd::Clean
     } else {
         LintEnd::Noted
     }
 }
 
-/// The text of the notes that are told. It takes no memory.
-pub fn send_notes<W: Write, S: Sieve>(
+/// Sends the text of the notes, except those of kinds that are allowed. It takes no memory.
+pub fn send_notes<W: Write>(
     notes: &Notes<'_>,
-    sieve: &S,
+    allowed: &Allowed<'_>,
     out: &mut W,
 ) -> Result<LintEnd, WriteFault>
-    ensures text { SendsText (W.contents out.old) (W.contents out.new) (notes_text (S.tells sieve.now) notes.now) result }
-    ensures end { IfOk result (λ end. end ≡ end_of (told (S.tells sieve.now) notes.now)) }
+    ensures text { SendsSuch (W.contents out.old) (W.contents out.new) (IsNotesText (isnt_allowed allowed.now) notes.now) result }
+    ensures end { IfOk result (λ end. end ≡ end_of (told (isnt_allowed allowed.now) notes.now)) }
 {
     let mut text = TextWriter::new(out);
-    let end = write_notes(&mut text, notes, sieve);
+    let end = write_notes(&mut text, notes.as_slice(), allowed);
     match text.finish() {
         Ok(()) => Ok(end),
         Err(fault) => Err(fault),

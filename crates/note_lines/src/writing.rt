@@ -2,9 +2,8 @@
 ghost use Rattle.std.specs.Prelude.{◌≡◌, ◌++◌, codes, option_map};
 ghost use Rattle.bounded_io.specs.Writing.{Writes};
 ghost use Rattle.note_lines.specs.Notes.{seen};
-ghost use Rattle.recap.specs.LimitsText.{field_text};
-ghost use Rattle.note_lines.specs.NotesText as model;
-ghost use Rattle.note_lines.specs.NotesText.{at_text, details, list_word, missing_text, named_text, near_text, note_line, step_text};
+ghost use Rattle.note_lines.specs.NoteLines as model;
+ghost use Rattle.note_lines.specs.NoteLines.{at_text, details, list_word, missing_text, named_text, near_text, note_line, step_text};
 
 use crate::document::Document;
 use crate::note::{Missing, Note};
@@ -63,7 +62,7 @@ fn write_step<W: Write>(text: &mut TextWriter<'_, W>, at: StepPath, word: &str, 
     write_named(text, word, name);
 }
 
-/// What stands in a condition, behind the key of this.
+/// What a condition has, after the key of this.
 #[tactic(auto, using(bounded_io::proofs::Pieces::pieces_of_text))]
 fn write_keyed<W: Write>(text: &mut TextWriter<'_, W>, at: StepPath, key: &str, named: (&str, &str))
     ensures { Writes W.contents text.old text.new (step_text at (codes " key=") key.now ++ named_text named.entry.0.now named.entry.1.now) }
@@ -90,7 +89,7 @@ fn write_near<W: Write>(text: &mut TextWriter<'_, W>, near: Option<&str>)
     }
 }
 
-/// Two words, and a name behind each.
+/// Two words, and a name after each.
 #[tactic(auto, using(bounded_io::proofs::Pieces::pieces_of_text))]
 fn write_pair<W: Write>(text: &mut TextWriter<'_, W>, first: (&str, &str), second: (&str, &str))
     ensures { Writes W.contents text.old text.new (named_text first.entry.0.now first.entry.1.now ++ named_text second.entry.0.now second.entry.1.now) }
@@ -99,28 +98,18 @@ fn write_pair<W: Write>(text: &mut TextWriter<'_, W>, first: (&str, &str), secon
     write_named(text, second.0, second.1);
 }
 
-/// A play's number, and two words with a number behind each.
-#[tactic(auto, using(bounded_io::proofs::Pieces::pieces_of_text))]
-fn write_fields<W: Write>(
-    text: &mut TextWriter<'_, W>,
-    play: usize,
-    first: (&str, u64),
-    second: (&str, u64),
-)
-    ensures { Writes W.contents text.old text.new (field_text (codes " play=") play
-        ++ (field_text first.entry.0.now first.entry.1 ++ field_text second.entry.0.now second.entry.1)) }
-{
-    write_field(text, " play=", play as u64);
-    write_field(text, first.0, first.1);
-    write_field(text, second.0, second.1);
-}
-
 #[tactic(auto, using(bounded_io::proofs::Pieces::pieces_of_text))]
 fn write_details<W: Write>(text: &mut TextWriter<'_, W>, note: &Note<'_>)
     ensures { Writes W.contents text.old text.new (details (seen note.now)) }
 {
     match *note {
         Note::RepeatedKey { document, path } => write_shown(text, document_word(document), path),
+        Note::NearKey { group, name } => write_pair(text, (" group=", group), (" name=", name)),
+        Note::NearHostKey { group, host, name } => {
+            write_named(text, " group=", group);
+            write_pair(text, (" host=", host), (" name=", name));
+        }
+        Note::GroupDown { group } => write_named(text, " group=", group),
         Note::ZeroLimit { group, members } => {
             write_named(text, " group=", group);
             write_field(text, " members=", members as u64);
@@ -135,61 +124,28 @@ fn write_details<W: Write>(text: &mut TextWriter<'_, W>, note: &Note<'_>)
             write_field(text, " limit=", limit as u64);
             write_field(text, " members=", members as u64);
         }
-        Note::EmptyGroup { group } => write_named(text, " group=", group),
-        Note::GroupDown { group } => write_named(text, " group=", group),
-        Note::NearKey { group, name } => write_pair(text, (" group=", group), (" name=", name)),
-        Note::NearHostKey { group, host, name } => {
-            write_named(text, " group=", group);
-            write_pair(text, (" host=", host), (" name=", name));
-        }
         Note::ValueHole { group, name } => write_pair(text, (" group=", group), (" name=", name)),
         Note::HostValueHole { group, host, name } => {
             write_named(text, " group=", group);
             write_pair(text, (" host=", host), (" name=", name));
         }
-        Note::CaseHosts { host, other } => write_pair(text, (" host=", host), (" other=", other)),
-        Note::GroupHost { name } => write_named(text, " name=", name),
+        Note::TextHole {
+            at,
+            key,
+            text: word,
+        } => write_keyed(text, at, key, (" word=", word)),
         Note::NoHosts { play } => write_field(text, " play=", play as u64),
-        Note::DownHosts { play, hosts, host } => {
-            write_field(text, " play=", play as u64);
-            write_field(text, " hosts=", hosts as u64);
-            write_named(text, " host=", host);
-        }
-        Note::FullGroup {
-            play,
-            missing,
-            group,
-        } => {
-            write_field(text, " play=", play as u64);
-            write_missing(text, &missing);
-            write_named(text, " group=", group);
-        }
         Note::UnlimitedHosts { play, missing } => {
             write_field(text, " play=", play as u64);
             write_missing(text, &missing);
         }
-        Note::IdleSerial {
-            play,
-            size,
-            waiting,
-        } => write_fields(
-            text,
-            play,
-            (" size=", size as u64),
-            (" waiting=", waiting as u64),
-        ),
-        Note::OneFailure {
-            play,
-            percent,
-            size,
-        } => write_fields(
-            text,
-            play,
-            (" percent=", percent as u64),
-            (" size=", size as u64),
-        ),
         Note::LocalPlay { play, hosts } => {
             write_field(text, " play=", play as u64);
+            write_field(text, " hosts=", hosts as u64);
+        }
+        Note::LocalStep { at, word } => write_step(text, at, " word=", word),
+        Note::FixedTarget { at, hosts } => {
+            write_at(text, at);
             write_field(text, " hosts=", hosts as u64);
         }
         Note::UnknownName { at, name, near } => {
@@ -206,34 +162,31 @@ fn write_details<W: Write>(text: &mut TextWriter<'_, W>, note: &Note<'_>)
         }
         Note::UnknownGroup { at, key, group } => write_keyed(text, at, key, (" group=", group)),
         Note::UnknownHost { at, key, host } => write_keyed(text, at, key, (" host=", host)),
-        Note::FalseText { at, key, name } => write_keyed(text, at, key, (" name=", name)),
-        Note::UnlikeVariable { at, key, name } => write_keyed(text, at, key, (" name=", name)),
-        Note::WholeResult { at, key, name } => write_keyed(text, at, key, (" name=", name)),
-        Note::TextHole {
-            at,
-            key,
-            text: word,
-        } => write_keyed(text, at, key, (" word=", word)),
         Note::IdleStep { at } => write_at(text, at),
-        Note::IdleState { at, name } => write_step(text, at, " name=", name),
-        Note::ConstantCondition { at } => write_at(text, at),
-        Note::UnlikeValues { at, key } => write_step(text, at, " key=", key),
-        Note::ClashingValues { at, key } => write_step(text, at, " key=", key),
+        Note::IdleHandler { at } => write_at(text, at),
+        Note::ChangedGuard { at, name } => write_step(text, at, " name=", name),
         Note::ShellWord { at, word } => write_step(text, at, " word=", word),
         Note::BlankProgram { at, word } => write_step(text, at, " word=", word),
         Note::LostQuotes { at, word } => write_step(text, at, " word=", word),
-        Note::LocalStep { at, word } => write_step(text, at, " word=", word),
-        Note::FixedTarget { at, hosts } => {
-            write_at(text, at);
-            write_field(text, " hosts=", hosts as u64);
-        }
+        Note::DashName { at, host } => write_step(text, at, " host=", host),
         Note::LongWord { at, bytes } => {
             write_at(text, at);
             write_field(text, " bytes=", bytes as u64);
         }
-        Note::DashName { at, host } => write_step(text, at, " host=", host),
-        Note::IdleNotify { at } => write_at(text, at),
-        Note::IdleHandler { at } => write_at(text, at),
+        Note::DownHosts { play, hosts, host } => {
+            write_field(text, " play=", play as u64);
+            write_field(text, " hosts=", hosts as u64);
+            write_named(text, " host=", host);
+        }
+        Note::OneFailure {
+            play,
+            percent,
+            size,
+        } => {
+            write_field(text, " play=", play as u64);
+            write_field(text, " percent=", percent as u64);
+            write_field(text, " size=", size as u64);
+        }
     }
 }
 

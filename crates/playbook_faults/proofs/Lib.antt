@@ -4,9 +4,4 @@ pub mod ListLaws
 pub mod FlawLaws
 pub mod SeenLaws
 pub mod PlaceLaws
-pub mod Agreement
-pub mod StepAgreement
-pub mod PlayAgreement
-pub mod LawProofs
 pub mod TextLaws
-pub mod ToldLaws

@@ -10,4 +10,3 @@ pub mod PlayFindings
 pub mod Names
 pub mod Telling
 pub mod Patterns
-pub mod Laws

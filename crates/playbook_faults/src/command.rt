@@ -85,7 +85,7 @@ fn judge_value(value: &Value) -> Verdict
 }
 
 /// What is said of the command of a step.
-pub fn judge(step: &Value) -> Verdict
+pub(crate) fn judge(step: &Value) -> Verdict
     ensures { result ≡ spec.verdict_of (rules.words_in (view step.now)) }
 {
     match command_in(step) {

@@ -16,7 +16,7 @@ use std::alloc::AllocError;
 use text_parts::elements_of;
 
 /// The plays of a document; none where it is no list.
-pub fn plays_of(document: &Value) -> &[Value]
+pub(crate) fn plays_of(document: &Value) -> &[Value]
     ensures { map view result.now ≡ plays_in (view document.now) }
 {
     match elements_of(document) {

@@ -8,13 +8,13 @@ use std::alloc::{AllocError, Global};
 
 /// Names, each once.
 #[derive(Drop)]
-pub struct NameSet<'a> {
+pub(crate) struct NameSet<'a> {
     names: IndexSet<&'a str>,
 }
 
 impl<'a> NameSet<'a> {
     /// No names. It takes no memory.
-    pub fn new(alloc: Global) -> NameSet<'a>
+    pub(crate) fn new(alloc: Global) -> NameSet<'a>
         ensures { (name : Name) → has_name result name ≡ false }
     {
         NameSet {
@@ -23,14 +23,14 @@ impl<'a> NameSet<'a> {
     }
 
     /// Adds a name, and says whether it is new.
-    pub fn add(&mut self, name: &'a str) -> Result<bool, AllocError>
+    pub(crate) fn add(&mut self, name: &'a str) -> Result<bool, AllocError>
         ensures new { IfOk result (λ new. new ≡ not (has_name self.old name.now)) }
         ensures names { OnOk result ((other : Name) → has_name self.new other ≡ (has_name self.old other || same_name other name.now)) }
     {
         Ok(self.names.insert(name)?)
     }
 
-    pub fn has(&self, name: &str) -> bool
+    pub(crate) fn has(&self, name: &str) -> bool
         ensures { result ≡ has_name self.now name.now }
     {
         self.names.contains(name)

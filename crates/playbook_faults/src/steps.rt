@@ -8,7 +8,7 @@ use serde_json::Value;
 use text_parts::elements_of;
 
 /// The tasks of a play; none where `tasks` is missing or no list.
-pub fn tasks_of(play: &Value) -> &[Value]
+pub(crate) fn tasks_of(play: &Value) -> &[Value]
     ensures { map view result.now ≡ spec.tasks_in (view play.now) }
 {
     match play.get("tasks") {
@@ -18,7 +18,7 @@ pub fn tasks_of(play: &Value) -> &[Value]
 }
 
 /// The handlers of a play; none where `handlers` is missing or no list.
-pub fn handlers_of(play: &Value) -> &[Value]
+pub(crate) fn handlers_of(play: &Value) -> &[Value]
     ensures { map view result.now ≡ spec.handlers_in (view play.now) }
 {
     match play.get("handlers") {

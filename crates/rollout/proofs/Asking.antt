@@ -1,5 +1,5 @@
 -- What the words ask for is what is done.
-use Rattle.std.proofs.Common.{◌≡◌, ℕ, Bool, true, false, Option, Some, None, List, Result, Ok, Err, inl, inr, refl, sym, ap, ◌∙◌, subst}
+use Rattle.std.proofs.Common.{◌≡◌, ℕ, Bool, true, false, Option, Some, None, List, Result, Ok, Err, inl, inr, refl, sym, subst}
 use Rattle.std.specs.Prelude.{IfOk, IfErr, OnOk, is_some, option_map, ◌⊎◌, ◌||◌}
 use Rattle.command_line.specs.Operands.{Word}
 use Rattle.command_line.specs.Wishes.{Wish, plain, wished}
@@ -12,7 +12,7 @@ use Rattle.event_log.specs.Told.{Work}
 use Rattle.rollout.specs.Endings.{Reporting, MayHelp, form_of}
 use Rattle.rollout.specs.Groups.{PlansBy}
 use Rattle.rollout.specs.Pictures.{IsOfPicture, LosesPicture}
-use Rattle.rollout.specs.Runs.{Does, FollowsLine}
+use Rattle.rollout.specs.Runs.{Acts, FollowsLine}
 use Rattle.rollout.specs.Systems.{Sources}
 use Rattle.rollout.specs.declared.fault.Fault.{Fault}
 use Rattle.rollout.specs.declared.status.Status.{Status}
@@ -39,14 +39,14 @@ module _ (may : Work → Ending → Type 0) (is_watched : Bool) (sources : Sourc
   -- what was done is what the words ask for
   pub follows_line : (asks : Bool) (wish : Wish) → words.Says (plain words_given) line → wish ≡ wished words_given → asks ≡ is_some wish.stop_file
       → reporting.form ≡ form_of wish.json → MayHelp (is_watched || wish.verbose) reporting.help
-      → Does may asks wish sources line input_old input_new out_old out_new result logs → FollowsLine may is_watched sources words_given input_old input_new out_old out_new reporting result logs
-  follows_line asks wish says of_wish of_asks of_form helps does = record {
+      → Acts may asks wish sources line input_old input_new out_old out_new result logs → FollowsLine may is_watched sources words_given input_old input_new out_old out_new reporting result logs
+  follows_line asks wish says of_wish of_asks of_form helps acts = record {
     form_is = subst (λ (w : Wish). reporting.form ≡ form_of w.json) of_wish of_form;
     help_is = subst (λ (w : Wish). MayHelp (is_watched || w.verbose) reporting.help) of_wish helps;
     line = line;
     says = says;
-    does = subst (λ (w : Wish). Does may (is_some w.stop_file) w sources line input_old input_new out_old out_new result logs) of_wish
-        (subst (λ (b : Bool). Does may b wish sources line input_old input_new out_old out_new result logs) of_asks does);
+    acts = subst (λ (w : Wish). Acts may (is_some w.stop_file) w sources line input_old input_new out_old out_new result logs) of_wish
+        (subst (λ (b : Bool). Acts may b wish sources line input_old input_new out_old out_new result logs) of_asks acts);
   }
 
 -- how a plan ends behind which a picture was drawn or not

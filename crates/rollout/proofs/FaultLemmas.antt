@@ -1,5 +1,5 @@
 -- Faults that are told, one behind the other.
-use Rattle.std.proofs.Common.{inl, inr, ◌≡◌, ℕ, ◌-◌, ◌≤◌, Bool, true, List, [], ◌∷◌, ◌++◌, take, drop, length, get_or, Option, Result, Ok, Err, append_assoc, arith, refl, sym, ap, subst, ◌∙◌}
+use Rattle.std.proofs.Common.{inl, ◌≡◌, ℕ, ◌-◌, ◌≤◌, true, List, [], ◌∷◌, ◌++◌, take, drop, length, get_or, Option, Result, Ok, Err, append_assoc, arith, refl, sym, ap, subst, ◌∙◌}
 use Rattle.std.proofs.lemmas.List.{take_rest}
 use Rattle.std.specs.Prelude.{◌⊎◌, IfErr, IfOk}
 use Rattle.std.specs.Borrow.{MutBor}
@@ -10,7 +10,6 @@ use Rattle.bounded_io.proofs.WritingLemmas.{writes_none, writes_two}
 use Rattle.json_texts.specs.declared.form.Form.TheVariants.{Plain}
 use Rattle.every_fault.specs.declared.every.EveryFault.{EveryFault}
 use Rattle.rollout.specs.Endings.{MayHelp, fault_text, help_text}
-use Rattle.kept_notes.specs.Beside.{IsBeside}
 use Rattle.rollout.specs.LintFaults.{IsFaultsText, IsFound, IsTextOf, LosesFaults, LosesFound, PrintsFaults, ShowsFaults, TellsEach, WantsMemory, WritesEach, WritesTold, count_line, counted, fault_count, known_faults, more_faults, most_faults}
 use Rattle.rollout.specs.declared.commands.faults.Found.{Found}
 use Rattle.rollout.specs.declared.fault.Fault.{Fault}
@@ -35,28 +34,22 @@ module _ {W : Type 0} (contents : W → Option (List ℕ)) where
         writes = writes_two contents t0 t1 t2 (line ++ help) each.lines (line ++ (help ++ each.lines)) told.writes each.writes (append_assoc line help each.lines);
       }
 
-  module _ (out : MutBor W) (first mid told last : TextWriter W) (new : Option (List ℕ)) (found : Found) (beside : List ℕ) (begins : Begins out first)
-      (each : WritesEach contents first mid (take most_faults found.faults.items)) (count : Writes contents mid told (count_line found.count))
-      (others : Writes contents told last beside) where
-    abbrev behind : List ℕ
-    behind = count_line found.count ++ beside
-
+  module _ (out : MutBor W) (first mid last : TextWriter W) (new : Option (List ℕ)) (found : Found) (begins : Begins out first)
+      (each : WritesEach contents first mid (take most_faults found.faults.items)) (count : Writes contents mid last (count_line found.count)) where
     abbrev text : List ℕ
-    text = each.lines ++ behind
+    text = each.lines ++ count_line found.count
 
     pub whole : Writes contents first last text
-    whole =
-        let end : Writes contents mid last behind = writes_two contents mid told last (count_line found.count) beside behind count others refl in
-        writes_two contents first mid last each.lines behind text each.writes end refl
+    whole = writes_two contents first mid last each.lines (count_line found.count) text each.writes count refl
 
-    pub shown_so : Finishes contents last new (Ok tt) → ShowsFaults found beside (contents out.now) new
+    pub shown_so : Finishes contents last new (Ok tt) → ShowsFaults found (contents out.now) new
     shown_so finishes = record {
       text = text;
       is = record { lines = each.lines; tells = each.tells; text_is = refl };
       written = finishes out first text begins whole;
     }
 
-    pub lost_so : (fault : WriteFault) → Finishes contents last new (Err fault) → LosesFound found beside (contents out.now) new (Write fault)
+    pub lost_so : (fault : WriteFault) → Finishes contents last new (Err fault) → LosesFound found (contents out.now) new (Write fault)
     lost_so fault finishes = record {
       lost = fault;
       is = refl;
@@ -72,44 +65,34 @@ split (fault ∷ faults) first long is =
     ap (λ f. f ∷ faults) (sym is) ∙ ap (λ l. first ∷ l) (sym (take_rest (fault ∷ faults) 1))
 
 -- what was found of both texts was told, or broke off
-module _ (allowed inventory : List ℕ) (playbook : Option (List ℕ)) (found : Found) (beside : List ℕ) (is : IsFound inventory playbook found) (is_beside : IsBeside allowed inventory playbook beside)
-    (old new : Option (List ℕ)) where
-  told_is : (shown : List ℕ) → IsTextOf found beside shown → IsFaultsText allowed inventory playbook shown
+module _ (inventory : List ℕ) (playbook : Option (List ℕ)) (found : Found) (is : IsFound inventory playbook found) (old new : Option (List ℕ)) where
+  told_is : (shown : List ℕ) → IsTextOf found shown → IsFaultsText inventory playbook shown
   told_is shown told = record {
     all = is.all;
     are = is.are;
     some = is.some;
     lines = told.lines;
     tells = subst (λ (faults : List Fault). TellsEach (take most_faults faults) told.lines) is.known told.tells;
-    beside = beside;
-    is_beside = is_beside;
-    text_is = told.text_is ∙ ap (λ (count : ℕ). told.lines ++ (count_line count ++ beside)) is.count;
+    text_is = told.text_is ∙ ap (λ (count : ℕ). told.lines ++ count_line count) is.count;
   }
 
-  pub prints_found : (status : Status) → status ≡ Refused → ShowsFaults found beside old new → PrintsFaults allowed inventory playbook old new status
+  pub prints_found : (status : Status) → status ≡ Refused → ShowsFaults found old new → PrintsFaults inventory playbook old new status
   prints_found status tells shows = record { text = shows.text; is = told_is shows.text shows.is; written = shows.written; tells = tells }
 
-  pub loses_found : (fault : Fault) → LosesFound found beside old new fault → LosesFaults allowed inventory playbook old new fault
+  pub loses_found : (fault : Fault) → LosesFound found old new fault → LosesFaults inventory playbook old new fault
   loses_found fault loses = record {
     lost = loses.lost;
     is = loses.is;
     breaks = record { text = loses.text; is = told_is loses.text loses.text_is; written = loses.written };
   }
 
-  pub prints_in : (result : Result Status Fault) → IfOk result (λ status. (status ≡ Refused) × ShowsFaults found beside old new) → IfOk result (PrintsFaults allowed inventory playbook old new)
+  pub prints_in : (result : Result Status Fault) → IfOk result (λ status. (status ≡ Refused) × ShowsFaults found old new) → IfOk result (PrintsFaults inventory playbook old new)
   prints_in (Ok status) shows = prints_found status shows.0 shows.1
   prints_in (Err fault) shows = tt
 
-  pub loses_in : (result : Result Status Fault) → IfErr result (λ fault. LosesFound found beside old new fault ⊎ WantsMemory old new fault)
-      → IfErr result (λ fault. LosesFaults allowed inventory playbook old new fault ⊎ WantsMemory old new fault)
+  pub loses_in : (result : Result Status Fault) → IfErr result (LosesFound found old new) → IfErr result (λ fault. LosesFaults inventory playbook old new fault ⊎ WantsMemory old new fault)
   loses_in (Ok status) loses = tt
-  loses_in (Err fault) (inl loses) = inl (loses_found fault loses)
-  loses_in (Err fault) (inr wants) = inr wants
-
-pub lost_in : (found : Found) (beside : List ℕ) (old new : Option (List ℕ)) (result : Result Status Fault) → IfErr result (LosesFound found beside old new)
-    → IfErr result (λ fault. LosesFound found beside old new fault ⊎ WantsMemory old new fault)
-lost_in found beside old new (Ok status) loses = tt
-lost_in found beside old new (Err fault) loses = inl loses
+  loses_in (Err fault) loses = inl (loses_found fault loses)
 
 -- how many were found in all
 pub all_counted : (all : EveryFault) (faults : List Fault) (more count : ℕ) → faults ≡ known_faults all → more ≡ more_faults all → count ≡ counted (length faults) more → count ≡ fault_count all

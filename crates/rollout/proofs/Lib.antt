@@ -1,4 +1,3 @@
-pub mod Advising
 pub mod Asking
 pub mod FaultLemmas
 pub mod NoteLemmas

@@ -1,5 +1,5 @@
 -- What comes in place of notes that failed.
-use Rattle.std.proofs.Common.{inl, inr, ◌≡◌, ℕ, false, List, ◌++◌, take, Option, Some, None, Result, Ok, Err, sym, subst, ◌∙◌}
+use Rattle.std.proofs.Common.{inl, inr, ◌≡◌, ℕ, false, List, ◌++◌, take, Option, Some, None, Result, Ok, Err, sym, subst}
 use Rattle.std.specs.Prelude.{◌⊎◌, IfErr, IfOk}
 use Rattle.std.specs.Io.KnownBytes.{Appends, Keeps}
 use Rattle.std.proofs.KnownBytes.{Keeps-trans}
@@ -7,12 +7,11 @@ use Rattle.bounded_io.specs.declared.write_fault.WriteFault.{WriteFault}
 use Rattle.domains.specs.declared.pattern_fault.PatternFault.TheVariants.{NoSuchName, Memory}
 use Rattle.planning.specs.declared.fault.PlanFault.{PlanFault}
 use Rattle.planning.specs.declared.fault.PlanFault.TheVariants as planning
-use Rattle.kept_notes.specs.Beside.{AreNotesOn, IsTrueOn}
 use Rattle.fleet_notes.specs.Repeats.{repeat_notes}
 use Rattle.note_lines.specs.Notes.{isnt_allowed}
 use Rattle.lint_notes.specs.LintTexts.{BreaksNotes}
 use Rattle.rollout.specs.LintFaults.{AreFaultless, PrintsFaults}
-use Rattle.rollout.specs.Notes.{FailsOver, IsFaultlessFor, IsRefusedSo, LosesAll, LosesNotes, SaysOf, TellsInstead, TellsLost, is_lost}
+use Rattle.rollout.specs.Notes.{AreNotesOn, FailsOver, IsFaultlessFor, IsRefusedSo, IsTrueOn, LosesAll, LosesNotes, SaysOf, TellsInstead, TellsLost, is_lost}
 use Rattle.rollout.specs.declared.fault.Fault.{Fault}
 use Rattle.rollout.specs.declared.fault.Fault.TheVariants as lines
 use Rattle.rollout.specs.declared.status.Status.{Status}
@@ -59,12 +58,12 @@ lost_so allowed inventory playbook old mid new (planning.Fleet fleet) fails faul
 lost_so allowed inventory playbook old mid new (planning.Playbook play) fails fault tells = absurd (let lost = tells.lost in cc)
 lost_so allowed inventory playbook old mid new (planning.Pattern pattern) fails fault tells = absurd (let lost = tells.lost in cc)
 
-module _ (allowed inventory : List ℕ) (playbook : Option (List ℕ)) (old mid new : Option (List ℕ)) where
-  printed_after : (status : Status) → Keeps old mid → PrintsFaults allowed inventory playbook mid new status → PrintsFaults allowed inventory playbook old new status
+module _ (inventory : List ℕ) (playbook : Option (List ℕ)) (old mid new : Option (List ℕ)) where
+  printed_after : (status : Status) → Keeps old mid → PrintsFaults inventory playbook mid new status → PrintsFaults inventory playbook old new status
   printed_after status keeps prints =
       record { text = prints.text; is = prints.is; written = appends_after old mid new prints.text keeps prints.written; tells = prints.tells }
 
-  all_lost_after : (fault : Fault) → Keeps old mid → LosesAll allowed inventory playbook mid new fault → LosesAll allowed inventory playbook old new fault
+  all_lost_after : (fault : Fault) → Keeps old mid → LosesAll inventory playbook mid new fault → LosesAll inventory playbook old new fault
   all_lost_after fault keeps (inl loses) =
       let first : List ℕ = take loses.lost.written loses.breaks.text in
       let written = loses.breaks.written in
@@ -79,8 +78,8 @@ module _ (allowed inventory : List ℕ) (playbook : Option (List ℕ)) (old mid 
       })
   all_lost_after fault keeps (inr wants) = inr (wants.0, Keeps-trans old mid new keeps wants.1)
 
-  module _ (cause : PlanFault) (fails : IsTrueOn (isnt_allowed allowed) (repeat_notes inventory playbook) inventory playbook old mid cause) where
-    says_after : (status : Status) → TellsInstead allowed inventory playbook mid new cause (Ok status) → SaysOf allowed inventory playbook old new status
+  module _ (allowed : List ℕ) (cause : PlanFault) (fails : IsTrueOn (isnt_allowed allowed) (repeat_notes inventory playbook) inventory playbook old mid cause) where
+    says_after : (status : Status) → TellsInstead inventory playbook mid new cause (Ok status) → SaysOf allowed inventory playbook old new status
     says_after status (inl lost) = absurd (let tells = lost.tells in cc)
     says_after status (inr tells) = inr (printed_after status (kept_before allowed inventory playbook old mid cause tells.0 fails) tells.1)
 
@@ -89,18 +88,18 @@ module _ (allowed inventory : List ℕ) (playbook : Option (List ℕ)) (old mid 
         let true_of : Option (List ℕ) → Type 0 = λ (end : Option (List ℕ)). IsTrueOn (isnt_allowed allowed) (repeat_notes inventory playbook) inventory playbook old end cause in
         (tells.faultless, record { cause = cause; is = tells.tells; is_true = subst true_of (sym tells.same) fails })
 
-    by_all : (fault : Fault) → Keeps old mid → LosesAll allowed inventory playbook mid new fault ⊎ IsFaultlessFor inventory playbook mid new cause fault → FailsOver allowed inventory playbook old new fault
+    by_all : (fault : Fault) → Keeps old mid → LosesAll inventory playbook mid new fault ⊎ IsFaultlessFor inventory playbook mid new cause fault → FailsOver allowed inventory playbook old new fault
     by_all fault keeps (inl loses) = inr (inl (all_lost_after fault keeps loses))
     by_all fault keeps (inr tells) = inr (inr (faultless_after fault tells))
 
-    fails_after : (fault : Fault) → TellsInstead allowed inventory playbook mid new cause (Err fault) → FailsOver allowed inventory playbook old new fault
+    fails_after : (fault : Fault) → TellsInstead inventory playbook mid new cause (Err fault) → FailsOver allowed inventory playbook old new fault
     fails_after fault (inl lost) = inl (lost_so allowed inventory playbook old mid new cause fails fault lost)
     fails_after fault (inr tells) = by_all fault (kept_before allowed inventory playbook old mid cause tells.0 fails) tells.1
 
-    pub ok_after : (result : Result Status Fault) → TellsInstead allowed inventory playbook mid new cause result → IfOk result (SaysOf allowed inventory playbook old new)
+    pub ok_after : (result : Result Status Fault) → TellsInstead inventory playbook mid new cause result → IfOk result (SaysOf allowed inventory playbook old new)
     ok_after (Ok status) tells = says_after status tells
     ok_after (Err fault) tells = tt
 
-    pub err_after : (result : Result Status Fault) → TellsInstead allowed inventory playbook mid new cause result → IfErr result (FailsOver allowed inventory playbook old new)
+    pub err_after : (result : Result Status Fault) → TellsInstead inventory playbook mid new cause result → IfErr result (FailsOver allowed inventory playbook old new)
     err_after (Ok status) tells = tt
     err_after (Err fault) tells = fails_after fault tells

@@ -1,14 +1,13 @@
 -- What is said of the texts of inputs that were read.
-use Rattle.std.proofs.Common.{◌≡◌, ℕ, ◌≤◌, List, length, Option, Result, Ok, Err, inr, refl}
+use Rattle.std.proofs.Common.{ℕ, List, Option, Result, Ok, Err, inr}
 use Rattle.std.specs.Prelude.{IfErr, IfOk}
-use Rattle.bounded_io.specs.Reading.{max_input}
 use Rattle.command_line.specs.declared.command.Source.{Source}
 use Rattle.rollout.specs.Inputs.{IsTextOf, ReadsBoth}
 use Rattle.rollout.specs.Lists.{IsBadList, IsListFault}
 use Rattle.rollout.specs.Systems.{Sources}
 use Rattle.rollout.specs.Texts.{OverOne, OverThree, OverTwo, ReadsThree}
 use Rattle.rollout.specs.declared.fault.Fault.{Fault}
-use Rattle.rollout.specs.declared.fault.Fault.TheVariants.{Line, Input, Read, Fleet, Playbook, Pattern, Mixed, LongLine, JournalThere, JournalWrite, ChildrenIgnored, Stopped, Locked, BadJournal, OtherInputs, NeedsResult, NoValue, BadPlan, Unexpected, BadList, Write, Memory}
+use Rattle.rollout.specs.declared.fault.Fault.TheVariants.{Line, Input, Read, Fleet, Playbook, Pattern, Mixed, LongLine, JournalThere, JournalWrite, ChildrenIgnored, Stopped, Locked, BadJournal, OtherInputs, NeedsResult, OutputIsInput, NoValue, BadPlan, Unexpected, BadList, Write, Memory}
 use Rattle.rollout.specs.declared.status.Status.{Status}
 
 module _ (sources : Sources) (inventory : Source) (input_old input_new out_old out_new : Option (List ℕ)) where
@@ -51,6 +50,7 @@ bad_so why lacking list Locked is lacks tells = absurd tells
 bad_so why lacking list (BadJournal line) is lacks tells = absurd tells
 bad_so why lacking list OtherInputs is lacks tells = absurd tells
 bad_so why lacking list (NeedsResult name) is lacks tells = absurd tells
+bad_so why lacking list (OutputIsInput name) is lacks tells = absurd tells
 bad_so why lacking list (NoValue missing) is lacks tells = absurd tells
 bad_so why lacking list (BadPlan line) is lacks tells = absurd tells
 bad_so why lacking list (Unexpected found) is lacks tells = absurd tells

@@ -6,11 +6,9 @@ use Rattle.host_track.specs.Endings.{Ending}
 use Rattle.event_log.specs.Events.{Event}
 use Rattle.event_log.specs.Told.{Work}
 use Rattle.json_texts.specs.declared.form.Form.{Form}
-use Rattle.fork_pool.specs.declared.fault.StepFault.{StepFault}
 use Rattle.fork_pool.specs.declared.fault.StepFault.TheVariants as step
 use Rattle.planning.specs.declared.fault.PlanFault.{PlanFault}
 use Rattle.planning.specs.declared.fault.PlanFault.TheVariants as plan
-use Rattle.roll_run.specs.declared.fault.Break.{Break}
 use Rattle.roll_run.specs.declared.fault.Break.TheVariants as break
 use Rattle.roll_run.specs.Histories.{Gains}
 use Rattle.roll_run.proofs.Following.{gains_as}

@@ -22,7 +22,7 @@ use Rattle.running.proofs.SafeRecaps.{broken_recaps_are_of_safe_rolls, faults_fr
 use Rattle.rollout.specs.Endings.{Reporting, form_of}
 use Rattle.rollout.specs.Rolls.{AreSafeFrom, BreaksOff, Rolls, RollsInputs}
 use Rattle.rollout.specs.Resumes.{AreSafeAgain, AreSafeMended, BeginsBy, BeginsMended, BreaksRest, GoesOn, GoesOnBy, IsNoneWished, IsWished, MendsInputs, ResumeWish, Resumes, ResumesInputs, RollsFrom, RollsMended, resume_wish}
-use Rattle.rollout.specs.Runs.{AreSafeBegun, AreSafeOrAgain, Attempts, Does, Performs, StartsSafely}
+use Rattle.rollout.specs.Runs.{Acts, AreSafeBegun, AreSafeOrAgain, Attempts, Does, Performs, StartsSafely}
 use Rattle.rollout.specs.Systems.{Gives, Known, Sources}
 use Rattle.rollout.specs.declared.fault.Fault.{Fault}
 use Rattle.rollout.specs.declared.status.Status.{Status}
@@ -177,6 +177,11 @@ module _ (may : Work → Ending → Type 0) (is_watched : Bool) where
           safe = subst (λ (w : Wish). AreSafeOrAgain may w.from w sources inventory playbook forks input_old input_new logs) is safe;
         })
 
+    acts_are_safe : (args : List Word) → Gives given args → (asked : Line) → words.Says (plain (drop 1 args)) asked → (asks : Bool) (wish : Wish) (result : Result Status Fault) (logs : List (List Event))
+        → wish ≡ wished (drop 1 args) → Acts may asks wish sources asked input_old input_new out_old out_new result logs → StartsSafely may given sources input_old input_new logs
+    acts_are_safe args gives asked says asks wish result logs is (inl does) = lines_are_safe args gives asked says asks wish result logs is does
+    acts_are_safe args gives asked says asks wish result logs is (inr overwrites) = inl overwrites.none
+
     pub performs_safely : (reporting : Reporting) (result : Result Status Fault) (logs : List (List Event)) → Performs may is_watched given sources input_old input_new out_old out_new reporting result logs → StartsSafely may given sources input_old input_new logs
     performs_safely reporting result logs (inr lacks) = inl lacks.none
     performs_safely reporting result logs (inl takes) = by takes.words_given takes.behind_name takes.attempts
@@ -184,5 +189,5 @@ module _ (may : Work → Ending → Type 0) (is_watched : Bool) where
         by : (behind : List Word) → behind ≡ drop 1 takes.args → Attempts may is_watched sources behind input_old input_new out_old out_new reporting result logs → StartsSafely may given sources input_old input_new logs
         by behind are (inr refuses) = inl refuses.none
         by behind are (inl follows) =
-            lines_are_safe takes.args takes.gives follows.line (subst (λ (w : List Word). words.Says (plain w) follows.line) are follows.says)
-            (is_some (wished behind).stop_file) (wished behind) result logs (ap wished are) follows.does
+            acts_are_safe takes.args takes.gives follows.line (subst (λ (w : List Word). words.Says (plain w) follows.line) are follows.says)
+            (is_some (wished behind).stop_file) (wished behind) result logs (ap wished are) follows.acts

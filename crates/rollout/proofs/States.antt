@@ -15,10 +15,10 @@ pub text_within : (sources : Sources) (source : Source) (old new : Option (List 
 text_within sources StandardInput old new text is = is.within
 text_within sources (File name) old new text is = is.0.whole.within
 
-pub TellsState-of_texts : (takes_others : Bool) (sources : Sources) (inventory journal : Source) (input_old input_new out_old out_new : Option (List ℕ)) (first second : List ℕ) (result : Result Status Fault)
-    → ReadsBoth sources inventory journal input_old input_new first second → IfOk result (TellsTexts first second takes_others out_old out_new) → IfErr result (RefusesTexts first second takes_others out_old out_new)
+pub TellsState-of_texts : (takes_others goes_on : Bool) (sources : Sources) (inventory journal : Source) (input_old input_new out_old out_new : Option (List ℕ)) (first second : List ℕ) (result : Result Status Fault)
+    → ReadsBoth sources inventory journal input_old input_new first second → IfOk result (TellsTexts first second takes_others goes_on out_old out_new) → IfErr result (RefusesTexts first second takes_others goes_on out_old out_new)
     → TellsState takes_others sources inventory journal input_old input_new out_old out_new result
-TellsState-of_texts takes_others sources inventory journal input_old input_new out_old out_new first second (Ok status) texts tells refuses =
-    record { first = first; second = second; texts = texts; tells = tells }
-TellsState-of_texts takes_others sources inventory journal input_old input_new out_old out_new first second (Err fault) texts tells refuses =
-    inr (record { first = first; second = second; texts = texts; refuses = refuses })
+TellsState-of_texts takes_others goes_on sources inventory journal input_old input_new out_old out_new first second (Ok status) texts tells refuses =
+    record { first = first; second = second; texts = texts; goes_on = goes_on; tells = tells }
+TellsState-of_texts takes_others goes_on sources inventory journal input_old input_new out_old out_new first second (Err fault) texts tells refuses =
+    inr (record { first = first; second = second; texts = texts; goes_on = goes_on; refuses = refuses })

@@ -1,10 +1,10 @@
 -- How the program ends: its status, and what it reports on standard error.
-use Rattle.std.specs.Prelude.{◌≡◌, ℕ, Bool, true, false, List, [], ◌++◌, Option, Some, None, option_map, Result, Ok, Err, codes, string_bytes, ⊤}
+use Rattle.std.specs.Prelude.{◌≡◌, ℕ, ◌==◌, Bool, true, false, ◌||◌, if◌then◌else◌, List, [], ◌++◌, Option, Some, None, option_map, Result, Ok, Err, codes, string_bytes, ⊤}
 use Rattle.std.specs.Io.KnownBytes.{Keeps}
 use Rattle.bounded_io.specs.Sending.{SendsText}
 use Rattle.bounded_io.specs.declared.write_fault.WriteFault.{WriteFault}
 use Rattle.rollout.specs.FaultLines.{line_text}
-use Rattle.help_lines.specs.Lines.{IsHelp}
+use Rattle.hints.specs.Lines.{IsHelp}
 use Rattle.json_texts.specs.declared.form.Form.{Form}
 use Rattle.json_texts.specs.declared.form.Form.TheVariants.{Plain, Json}
 use Rattle.rollout.specs.Explanations.{explanation_in}
@@ -47,9 +47,13 @@ abbrev pub MayHelp : Bool → Option (List ℕ) → Type 0
 MayHelp may None = ⊤
 MayHelp may (Some help) = (may ≡ true) × IsHelp help
 
+-- a run that ended before its plays did: its journal could not be written, or its stop file was there
+abbrev pub ends_early : ℕ → Bool
+ends_early number = number == 911 || number == 917
+
 -- the status of what has a fault's number
 abbrev pub status_of_number : Option ℕ → Status
-status_of_number (Some number) = status.Refused
+status_of_number (Some number) = if ends_early number then status.BrokenOff else status.Refused
 status_of_number None = status.Memory
 
 -- want of memory is kept apart from what is refused

@@ -6,7 +6,7 @@ use Rattle.command_line.specs.declared.fault.LineFault.TheVariants as line_fault
 use Rattle.json_texts.specs.declared.form.Form.{Form}
 use Rattle.json_texts.specs.declared.form.Form.TheVariants.{Plain, Json}
 use Rattle.rollout.specs.declared.fault.Fault.{Fault}
-use Rattle.rollout.specs.declared.fault.Fault.TheVariants.{Line, Input, Read, Fleet, Playbook, Pattern, Mixed, LongLine, JournalThere, JournalWrite, ChildrenIgnored, Stopped, Locked, BadJournal, OtherInputs, NeedsResult, NoValue, BadPlan, Unexpected, BadList, Write, Memory}
+use Rattle.rollout.specs.declared.fault.Fault.TheVariants.{Line, Input, Read, Fleet, Playbook, Pattern, Mixed, LongLine, JournalThere, JournalWrite, ChildrenIgnored, Stopped, Locked, BadJournal, OtherInputs, NeedsResult, OutputIsInput, NoValue, BadPlan, Unexpected, BadList, Write, Memory}
 
 -- a byte of a text in which words of somebody else stand: a control character but for the line feed and the tabulator is a question mark
 abbrev pub told : ℕ → ℕ
@@ -40,6 +40,7 @@ explanation_of Locked = []
 explanation_of (BadJournal line) = []
 explanation_of OtherInputs = []
 explanation_of (NeedsResult name) = []
+explanation_of (OutputIsInput name) = []
 explanation_of (NoValue missing) = []
 explanation_of (BadPlan line) = []
 explanation_of (Unexpected found) = []

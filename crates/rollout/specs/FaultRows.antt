@@ -29,7 +29,7 @@ use Rattle.play_rules.specs.declared.key.ConditionKey.{ConditionKey}
 use Rattle.recap.specs.Printable.{printed}
 use Rattle.rollout.specs.FaultLines.{Row, ShownDetail}
 use Rattle.rollout.specs.declared.fault.Fault.{Fault}
-use Rattle.rollout.specs.declared.fault.Fault.TheVariants.{Line, Input, Read, Fleet, Playbook, Pattern, Mixed, LongLine, JournalThere, JournalWrite, ChildrenIgnored, Stopped, Locked, BadJournal, OtherInputs, NeedsResult, NoValue, BadPlan, Unexpected, BadList, Write, Memory}
+use Rattle.rollout.specs.declared.fault.Fault.TheVariants.{Line, Input, Read, Fleet, Playbook, Pattern, Mixed, LongLine, JournalThere, JournalWrite, ChildrenIgnored, Stopped, Locked, BadJournal, OtherInputs, NeedsResult, OutputIsInput, NoValue, BadPlan, Unexpected, BadList, Write, Memory}
 
 abbrev row : List ℕ → List ShownDetail → Row
 row name details = record { name = name; details = details }
@@ -160,6 +160,7 @@ number_of Locked = Some 918
 number_of (BadJournal line) = Some 912
 number_of OtherInputs = Some 913
 number_of (NeedsResult name) = Some 914
+number_of (OutputIsInput name) = Some 919
 number_of (NoValue missing) = Some 915
 number_of (BadPlan line) = Some 908
 number_of (Unexpected found) = Some 907
@@ -184,6 +185,7 @@ row_of Locked = row (codes "Locked") []
 row_of (BadJournal line) = row (codes "BadJournal") (number (codes "line") line ∷ [])
 row_of OtherInputs = row (codes "OtherInputs") []
 row_of (NeedsResult name) = name_row (codes "NeedsResult") (string_bytes name)
+row_of (OutputIsInput name) = name_row (codes "OutputIsInput") (string_bytes name)
 row_of (NoValue missing) = missing_row missing.play missing.step (string_bytes missing.host) (string_bytes missing.name)
 row_of (BadPlan line) = row (codes "BadPlan") (number (codes "line") line ∷ [])
 row_of (Unexpected found) = unexpected_row found

@@ -10,7 +10,7 @@ use Rattle.command_line.specs.declared.command.Source.{Source}
 use Rattle.command_line.specs.declared.command.Source.TheVariants.{StandardInput, File}
 use Rattle.rollout.specs.Systems.{Fails, Sources, Known, Opens}
 use Rattle.rollout.specs.declared.fault.Fault.{Fault}
-use Rattle.rollout.specs.declared.fault.Fault.TheVariants.{Line, Input, Read, Fleet, Playbook, Pattern, Mixed, LongLine, JournalThere, JournalWrite, ChildrenIgnored, Stopped, Locked, BadJournal, OtherInputs, NeedsResult, NoValue, BadPlan, Unexpected, BadList, Write, Memory}
+use Rattle.rollout.specs.declared.fault.Fault.TheVariants.{Line, Input, Read, Fleet, Playbook, Pattern, Mixed, LongLine, JournalThere, JournalWrite, ChildrenIgnored, Stopped, Locked, BadJournal, OtherInputs, NeedsResult, OutputIsInput, NoValue, BadPlan, Unexpected, BadList, Write, Memory}
 
 -- a file that was opened was read whole
 pub record IsTextOfFile (known : Known (List ℕ)) (text : List ℕ) : Type 0 where
@@ -71,6 +71,7 @@ IsUnreadable sources source old new Locked = ⊥
 IsUnreadable sources source old new (BadJournal line) = ⊥
 IsUnreadable sources source old new OtherInputs = ⊥
 IsUnreadable sources source old new (NeedsResult name) = ⊥
+IsUnreadable sources source old new (OutputIsInput name) = ⊥
 IsUnreadable sources source old new (NoValue missing) = ⊥
 IsUnreadable sources source old new (BadPlan line) = ⊥
 IsUnreadable sources source old new (Unexpected found) = ⊥

@@ -18,6 +18,7 @@ pub mod Lists
 pub mod Notes
 pub mod OutlookFaults
 pub mod Outlooks
+pub mod Outputs
 pub mod Pages
 pub mod Pictures
 pub mod PlanFaults

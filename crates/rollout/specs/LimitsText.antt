@@ -13,7 +13,7 @@ use Rattle.domains.specs.FleetViews.{FleetView}
 use Rattle.domains.specs.Fleets.{IsFleetOf}
 use Rattle.recap.specs.LimitsTable.{limits_table}
 use Rattle.rollout.specs.declared.fault.Fault.{Fault}
-use Rattle.rollout.specs.declared.fault.Fault.TheVariants.{Line, Input, Read, Fleet, Playbook, Pattern, Mixed, LongLine, JournalThere, JournalWrite, ChildrenIgnored, Stopped, Locked, BadJournal, OtherInputs, NeedsResult, NoValue, BadPlan, Unexpected, BadList, Write, Memory}
+use Rattle.rollout.specs.declared.fault.Fault.TheVariants.{Line, Input, Read, Fleet, Playbook, Pattern, Mixed, LongLine, JournalThere, JournalWrite, ChildrenIgnored, Stopped, Locked, BadJournal, OtherInputs, NeedsResult, OutputIsInput, NoValue, BadPlan, Unexpected, BadList, Write, Memory}
 
 -- the text says this inventory, which has no more hosts than a fleet may have; its limited groups lie inside each other
 -- wherever they share a host, and none has more hosts down than its limit when a run starts
@@ -59,6 +59,7 @@ IsTrueFault text old new Locked = ⊥
 IsTrueFault text old new (BadJournal line) = ⊥
 IsTrueFault text old new OtherInputs = ⊥
 IsTrueFault text old new (NeedsResult name) = ⊥
+IsTrueFault text old new (OutputIsInput name) = ⊥
 IsTrueFault text old new (NoValue missing) = ⊥
 IsTrueFault text old new (BadPlan line) = ⊥
 IsTrueFault text old new (Unexpected found) = ⊥
@@ -90,6 +91,7 @@ IsUnread text Locked = ⊥
 IsUnread text (BadJournal line) = ⊥
 IsUnread text OtherInputs = ⊥
 IsUnread text (NeedsResult name) = ⊥
+IsUnread text (OutputIsInput name) = ⊥
 IsUnread text (NoValue missing) = ⊥
 IsUnread text (BadPlan line) = ⊥
 IsUnread text (Unexpected found) = ⊥

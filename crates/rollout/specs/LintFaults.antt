@@ -1,12 +1,11 @@
--- What the command `lint` tells of texts that are refused: all their faults, and of each what to do.
-use Rattle.std.specs.Prelude.{◌≡◌, ◌⊎◌, ℕ, ◌+◌, ◌-◌, ◌^◌, Bool, true, false, Option, List, [], ◌∷◌, ◌++◌, codes, length, map, min, take, ◌==◌}
+-- What the command `lint` reports of texts that are rejected: all their faults, each with a hint.
+use Rattle.std.specs.Prelude.{◌≡◌, ℕ, ◌+◌, ◌-◌, ◌^◌, true, false, Option, List, [], ◌∷◌, ◌++◌, codes, length, map, min, take, ◌==◌}
 use Rattle.std.specs.Io.KnownBytes.{Appends, Keeps}
 use Rattle.bounded_io.specs.Sending.{SendsFirst}
 use Rattle.bounded_io.specs.Writing.{Writes}
 use Rattle.bounded_io.specs.declared.write_fault.WriteFault.{WriteFault}
 use Rattle.bounded_io.specs.declared.text_writer.TextWriter.{TextWriter}
 use Rattle.json_texts.specs.declared.form.Form.TheVariants.{Plain}
-use Rattle.kept_notes.specs.Beside.{IsBeside}
 use Rattle.recap.specs.LimitsText.{field_text}
 use Rattle.every_fault.specs.Every.{IsEveryFault}
 use Rattle.every_fault.specs.declared.every.EveryFault.{EveryFault}
@@ -55,16 +54,14 @@ TellsEach (fault ∷ faults) text = TellsFirst fault (TellsEach faults) text
 abbrev pub count_line : ℕ → List ℕ
 count_line count = field_text (codes "faults=") count ++ codes "\n"
 
--- the first of the faults of both texts, how many they are, and the notes that are told beside them
-pub record IsFaultsText (allowed inventory : List ℕ) (playbook : Option (List ℕ)) (text : List ℕ) : Type 0 where
+-- the first of the faults of both texts, and how many they are
+pub record IsFaultsText (inventory : List ℕ) (playbook : Option (List ℕ)) (text : List ℕ) : Type 0 where
   pub all : EveryFault
   pub are : IsEveryFault inventory playbook most_faults all
   pub some : fault_count all == 0 ≡ false
   pub lines : List ℕ
   pub tells : TellsEach (take most_faults (known_faults all)) lines
-  pub beside : List ℕ
-  pub is_beside : IsBeside allowed inventory playbook beside
-  pub text_is : text ≡ lines ++ (count_line (fault_count all) ++ beside)
+  pub text_is : text ≡ lines ++ count_line (fault_count all)
 
 -- what was found of both texts, as the program keeps it
 pub record IsFound (inventory : List ℕ) (playbook : Option (List ℕ)) (found : Found) : Type 0 where
@@ -86,36 +83,36 @@ pub record WritesEach {W : Type 0} (contents : W → Option (List ℕ)) (old new
   pub tells : TellsEach faults lines
   pub writes : Writes contents old new lines
 
--- those that were found were told, as far as they are, and how many they are, and behind them this text
-pub record IsTextOf (found : Found) (beside text : List ℕ) : Type 0 where
+-- those that were found, as far as they are, and how many they are
+pub record IsTextOf (found : Found) (text : List ℕ) : Type 0 where
   pub lines : List ℕ
   pub tells : TellsEach (take most_faults found.faults.items) lines
-  pub text_is : text ≡ lines ++ (count_line found.count ++ beside)
+  pub text_is : text ≡ lines ++ count_line found.count
 
-pub record ShowsFaults (found : Found) (beside : List ℕ) (old new : Option (List ℕ)) : Type 0 where
+pub record ShowsFaults (found : Found) (old new : Option (List ℕ)) : Type 0 where
   pub text : List ℕ
-  pub is : IsTextOf found beside text
+  pub is : IsTextOf found text
   pub written : Appends old new text
 
 -- or broke off where the fault says
-pub record LosesFound (found : Found) (beside : List ℕ) (old new : Option (List ℕ)) (fault : Fault) : Type 0 where
+pub record LosesFound (found : Found) (old new : Option (List ℕ)) (fault : Fault) : Type 0 where
   pub lost : WriteFault
   pub is : fault ≡ Write lost
   pub text : List ℕ
-  pub text_is : IsTextOf found beside text
+  pub text_is : IsTextOf found text
   pub written : SendsFirst old new text lost.written
 
 -- they went out, and the status tells that there are any
-pub record PrintsFaults (allowed inventory : List ℕ) (playbook : Option (List ℕ)) (old new : Option (List ℕ)) (status : Status) : Type 0 where
+pub record PrintsFaults (inventory : List ℕ) (playbook : Option (List ℕ)) (old new : Option (List ℕ)) (status : Status) : Type 0 where
   pub text : List ℕ
-  pub is : IsFaultsText allowed inventory playbook text
+  pub is : IsFaultsText inventory playbook text
   pub written : Appends old new text
   pub tells : status ≡ Refused
 
 -- they broke off after so many bytes
-pub record BreaksFaults (allowed inventory : List ℕ) (playbook : Option (List ℕ)) (old new : Option (List ℕ)) (count : ℕ) : Type 0 where
+pub record BreaksFaults (inventory : List ℕ) (playbook : Option (List ℕ)) (old new : Option (List ℕ)) (count : ℕ) : Type 0 where
   pub text : List ℕ
-  pub is : IsFaultsText allowed inventory playbook text
+  pub is : IsFaultsText inventory playbook text
   pub written : SendsFirst old new text count
 
 -- memory is wanting, and nothing went out
@@ -123,10 +120,10 @@ abbrev pub WantsMemory : Option (List ℕ) → Option (List ℕ) → Fault → T
 WantsMemory old new fault = (fault ≡ Memory) × Keeps old new
 
 -- they broke off where the fault says
-pub record LosesFaults (allowed inventory : List ℕ) (playbook : Option (List ℕ)) (old new : Option (List ℕ)) (fault : Fault) : Type 0 where
+pub record LosesFaults (inventory : List ℕ) (playbook : Option (List ℕ)) (old new : Option (List ℕ)) (fault : Fault) : Type 0 where
   pub lost : WriteFault
   pub is : fault ≡ Write lost
-  pub breaks : BreaksFaults allowed inventory playbook old new lost.written
+  pub breaks : BreaksFaults inventory playbook old new lost.written
 
 -- nothing is wrong with both
 pub record AreFaultless (inventory : List ℕ) (playbook : Option (List ℕ)) : Type 0 where

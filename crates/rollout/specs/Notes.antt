@@ -2,11 +2,10 @@
 use Rattle.std.specs.Prelude.{◌≡◌, ◌⊎◌, ℕ, Bool, false, true, List, None, Option, Some, Result, Ok, Err}
 use Rattle.bounded_io.specs.declared.write_fault.WriteFault.{WriteFault}
 use Rattle.command_line.specs.declared.command.Source.{Source}
-use Rattle.kept_notes.specs.Beside.{AreNotesOn, IsTrueOn, WritesOn}
 use Rattle.note_lines.specs.Kinds.{are_kind_names}
-use Rattle.lint_notes.specs.LintTexts.{BreaksNotes}
+use Rattle.lint_notes.specs.LintTexts.{AreFleetNotesIn, AreNotesIn, BreaksNotes, IsTrueFault, IsTrueFleetFault, WritesNotes}
 use Rattle.fleet_notes.specs.Repeats.{repeat_notes}
-use Rattle.note_lines.specs.Notes.{isnt_allowed}
+use Rattle.note_lines.specs.Notes.{Note, isnt_allowed}
 use Rattle.note_lines.specs.declared.end.LintEnd.{LintEnd}
 use Rattle.planning.specs.declared.fault.PlanFault.{PlanFault}
 use Rattle.planning.specs.declared.fault.PlanFault.TheVariants as planning
@@ -19,6 +18,20 @@ use Rattle.rollout.specs.Texts.{OverOne, OverTwo}
 use Rattle.rollout.specs.declared.fault.Fault.{Fault}
 use Rattle.rollout.specs.declared.fault.Fault.TheVariants as lines
 use Rattle.rollout.specs.declared.status.Status.{Status}
+
+-- the notes on an inventory, or on one and a playbook, behind the first ones
+abbrev pub AreNotesOn : List Note → List ℕ → Option (List ℕ) → (List Note → Type 0)
+AreNotesOn first inventory None = AreFleetNotesIn first inventory
+AreNotesOn first inventory (Some playbook) = AreNotesIn first inventory playbook
+
+-- that text went out, and nothing else
+abbrev pub WritesOn : (Note → Bool) → List Note → List ℕ → Option (List ℕ) → Option (List ℕ) → Option (List ℕ) → LintEnd → Type 0
+WritesOn tells first inventory playbook old new end = WritesNotes (AreNotesOn first inventory playbook) tells old new end
+
+-- what a fault of noting them says
+abbrev pub IsTrueOn : (Note → Bool) → List Note → List ℕ → Option (List ℕ) → Option (List ℕ) → Option (List ℕ) → PlanFault → Type 0
+IsTrueOn tells first inventory None old new fault = IsTrueFleetFault first inventory tells old new fault
+IsTrueOn tells first inventory (Some playbook) old new fault = IsTrueFault first inventory playbook tells old new fault
 
 -- the notes went out, and the status tells whether there are any
 pub record PrintsNotes (allowed inventory : List ℕ) (playbook : Option (List ℕ)) (old new : Option (List ℕ)) (status : Status) : Type 0 where
@@ -41,17 +54,17 @@ pub record IsRefusedSo (allowed inventory : List ℕ) (playbook : Option (List �
 -- the notes went out, and so the texts are accepted; or all faults of the texts did
 abbrev pub SaysOf : List ℕ → List ℕ → Option (List ℕ) → Option (List ℕ) → Option (List ℕ) → Status → Type 0
 SaysOf allowed inventory playbook old new status =
-    PrintsNotes allowed inventory playbook old new status ⊎ PrintsFaults allowed inventory playbook old new status
+    PrintsNotes allowed inventory playbook old new status ⊎ PrintsFaults inventory playbook old new status
 
 -- they broke off, or memory was wanting
-abbrev pub LosesAll : List ℕ → List ℕ → Option (List ℕ) → Option (List ℕ) → Option (List ℕ) → Fault → Type 0
-LosesAll allowed inventory playbook old new fault = LosesFaults allowed inventory playbook old new fault ⊎ WantsMemory old new fault
+abbrev pub LosesAll : List ℕ → Option (List ℕ) → Option (List ℕ) → Option (List ℕ) → Fault → Type 0
+LosesAll inventory playbook old new fault = LosesFaults inventory playbook old new fault ⊎ WantsMemory old new fault
 
 -- the notes or the faults broke off; or memory was wanting, for texts without any fault too
 abbrev pub FailsOver : List ℕ → List ℕ → Option (List ℕ) → Option (List ℕ) → Option (List ℕ) → Fault → Type 0
 FailsOver allowed inventory playbook old new fault =
     LosesNotes allowed inventory playbook old new fault
-    ⊎ (LosesAll allowed inventory playbook old new fault ⊎ (AreFaultless inventory playbook × IsRefusedSo allowed inventory playbook old new fault))
+    ⊎ (LosesAll inventory playbook old new fault ⊎ (AreFaultless inventory playbook × IsRefusedSo allowed inventory playbook old new fault))
 
 -- nothing is wrong with the texts, and the fault tells the cause
 pub record IsFaultlessFor (inventory : List ℕ) (playbook : Option (List ℕ)) (old new : Option (List ℕ)) (cause : PlanFault) (fault : Fault) : Type 0 where
@@ -60,10 +73,10 @@ pub record IsFaultlessFor (inventory : List ℕ) (playbook : Option (List ℕ)) 
   pub same : new ≡ old
 
 -- all faults of the texts were told, or broke off, or memory was wanting; of texts without any the cause is
-abbrev pub TellsAll : List ℕ → List ℕ → Option (List ℕ) → Option (List ℕ) → Option (List ℕ) → PlanFault → Result Status Fault → Type 0
-TellsAll allowed inventory playbook old new cause (Ok status) = PrintsFaults allowed inventory playbook old new status
-TellsAll allowed inventory playbook old new cause (Err fault) =
-    LosesAll allowed inventory playbook old new fault ⊎ IsFaultlessFor inventory playbook old new cause fault
+abbrev pub TellsAll : List ℕ → Option (List ℕ) → Option (List ℕ) → Option (List ℕ) → PlanFault → Result Status Fault → Type 0
+TellsAll inventory playbook old new cause (Ok status) = PrintsFaults inventory playbook old new status
+TellsAll inventory playbook old new cause (Err fault) =
+    LosesAll inventory playbook old new fault ⊎ IsFaultlessFor inventory playbook old new cause fault
 
 -- notes broke off
 abbrev pub is_lost : PlanFault → Bool
@@ -80,9 +93,9 @@ pub record TellsLost (old new : Option (List ℕ)) (cause : PlanFault) (result :
   pub same : new ≡ old
 
 -- what comes in place of notes that failed so: all faults of the texts, unless the notes themselves broke off
-abbrev pub TellsInstead : List ℕ → List ℕ → Option (List ℕ) → Option (List ℕ) → Option (List ℕ) → PlanFault → Result Status Fault → Type 0
-TellsInstead allowed inventory playbook old new cause result =
-    TellsLost old new cause result ⊎ ((is_lost cause ≡ false) × TellsAll allowed inventory playbook old new cause result)
+abbrev pub TellsInstead : List ℕ → Option (List ℕ) → Option (List ℕ) → Option (List ℕ) → PlanFault → Result Status Fault → Type 0
+TellsInstead inventory playbook old new cause result =
+    TellsLost old new cause result ⊎ ((is_lost cause ≡ false) × TellsAll inventory playbook old new cause result)
 
 abbrev pub LintsBoth : List ℕ → Sources → Source → Source → Option (List ℕ) → Option (List ℕ) → Option (List ℕ) → Option (List ℕ) → Result Status Fault → Type 0
 LintsBoth allowed sources inventory playbook input_old input_new out_old out_new result =

@@ -3,8 +3,8 @@ use Rattle.std.specs.Prelude.{◌≡◌, ◌⊎◌, true, false, ℕ, List, Opti
 use Rattle.std.specs.Io.KnownBytes.{Keeps}
 use Rattle.command_line.specs.declared.clash.Clash.TheVariants.{NoEntry}
 use Rattle.command_line.specs.declared.fault.LineFault.TheVariants.{Apart}
-use Rattle.fault_pages.specs.Entries.{IsEntryOf}
-use Rattle.fault_pages.specs.Listed.{has_entry}
+use Rattle.hints.specs.Entries.{IsEntryOf}
+use Rattle.hints.specs.Listed.{has_entry}
 use Rattle.rollout.specs.Commands.{Prints}
 use Rattle.rollout.specs.declared.fault.Fault.{Fault}
 use Rattle.rollout.specs.declared.fault.Fault.TheVariants.{Line}

@@ -1,6 +1,7 @@
 -- What the command `run` does with the inputs that a line names.
 use Rattle.std.specs.Prelude.{◌≡◌, ◌⊎◌, ◌<◌, ◌≤◌, ℕ, Bool, true, false, List, [], Option, Result, Ok, Err}
 use Rattle.std.specs.Io.KnownBytes.{Keeps}
+use Rattle.bounded_io.specs.declared.input_fault.InputFault.TheVariants as input_fault
 use Rattle.command_line.specs.declared.command.Source.{Source}
 use Rattle.host_track.specs.Endings.{Ending}
 use Rattle.event_log.specs.Events.{Event}
@@ -16,7 +17,7 @@ use Rattle.rollout.specs.Status.{status_of_run}
 use Rattle.rollout.specs.Strictness.{FindsNames, RefusesNames}
 use Rattle.rollout.specs.Systems.{Files, Sources}
 use Rattle.rollout.specs.declared.fault.Fault.{Fault}
-use Rattle.rollout.specs.declared.fault.Fault.TheVariants.{ChildrenIgnored, JournalThere, JournalWrite, Locked, Memory, Stopped}
+use Rattle.rollout.specs.declared.fault.Fault.TheVariants.{ChildrenIgnored, Input, JournalThere, JournalWrite, Locked, Memory, Stopped}
 use Rattle.rollout.specs.declared.status.Status.{Status}
 
 -- plays were run, their recap went out, and the status tells of their end
@@ -85,13 +86,19 @@ RollsInputs form strict may sources inventory playbook forks input_old input_new
     ⊎ HoldsBack strict sources inventory playbook input_old input_new out_old out_new fault logs
     ⊎ BreaksRun form strict may sources inventory playbook forks input_old input_new out_old out_new fault logs
 
--- why a run is refused before anything is read: the ends of children are ignored, or memory was wanting to look; or its journal is there already, or another run holds the inventory
+-- a file that is to be locked can't be had, or memory is wanting for its name
+abbrev pub IsUnlockable : Fault → Type 0
+IsUnlockable (Input source input_fault.File) = Unit {0}
+IsUnlockable Memory = Unit {0}
+IsUnlockable fault = ⊥
+
+-- why a run is refused before anything is read: the ends of children are ignored, or memory was wanting to look; or its journal is there already; or another run holds the lock, or its file can't be had
 abbrev pub IsRefusedBy : Files → Fault → Type 0
 IsRefusedBy files ChildrenIgnored = IsAnswerOf files true
 IsRefusedBy files Memory = Unit {0}
 IsRefusedBy files JournalThere = Unit {0}
 IsRefusedBy files Locked = Unit {0}
-IsRefusedBy files fault = ⊥
+IsRefusedBy files fault = IsUnlockable fault
 
 -- a run is refused: nothing was read, run or written
 pub record RefusesToRoll (sources : Sources) (input_old input_new out_old out_new : Option (List ℕ)) (result : Result Status Fault) (logs : List (List Event)) : Type 0 where

@@ -22,6 +22,7 @@ use Rattle.rollout.specs.Expecting.{ExpectsPlan, ExpectsTable}
 use Rattle.rollout.specs.Jsons.{PlansJson, TabulatesJson}
 use Rattle.rollout.specs.Notes.{Lints}
 use Rattle.rollout.specs.Outlooks.{PlansRest, RehearsesFrom, TabulatesStanding}
+use Rattle.rollout.specs.Outputs.{RefusesName}
 use Rattle.rollout.specs.Pages.{Explains}
 use Rattle.rollout.specs.Pictures.{PlansDrawn}
 use Rattle.rollout.specs.Rehearsals.{RehearsesInputs}
@@ -95,6 +96,19 @@ Does may asks wish sources (Explain word) input_old input_new out_old out_new re
 Does may asks wish sources (Print message) input_old input_new out_old out_new result logs =
     Keeps input_old input_new × Prints (messages.text_of message) out_old out_new result × (logs ≡ [])
 
+-- the name of a file is refused, and nothing was done
+pub record RefusesFile (wish : Wish) (input_old input_new out_old out_new : Option (List ℕ)) (result : Result Status Fault) (logs : List (List Event)) : Type 0 where
+  pub fault : Fault
+  pub refuses : RefusesName wish fault
+  pub is : result ≡ Err fault
+  pub unread : Keeps input_old input_new
+  pub unwritten : Keeps out_old out_new
+  pub none : logs ≡ []
+
+abbrev pub Acts : (Work → Ending → Type 0) → Bool → Wish → Sources → declared_line.Line → Option (List ℕ) → Option (List ℕ) → Option (List ℕ) → Option (List ℕ) → Result Status Fault → List (List Event) → Type 0
+Acts may asks wish sources line input_old input_new out_old out_new result logs =
+    Does may asks wish sources line input_old input_new out_old out_new result logs ⊎ RefusesFile wish input_old input_new out_old out_new result logs
+
 -- the words without their options are a line, and what it asks for was done as they ask: whether a run tells of itself while it goes on makes no difference, and it may be stopped where they
 -- name a file for that. A fault is reported in the form that they ask for, and what helps is said behind it only where they ask for more than its line, or somebody watches
 pub record FollowsLine (may : Work → Ending → Type 0) (is_watched : Bool) (sources : Sources) (words_given : List Word) (input_old input_new out_old out_new : Option (List ℕ)) (reporting : Reporting) (result : Result Status Fault) (logs : List (List Event)) : Type 0 where
@@ -102,7 +116,7 @@ pub record FollowsLine (may : Work → Ending → Type 0) (is_watched : Bool) (s
   pub help_is : MayHelp (is_watched || (wished words_given).verbose) reporting.help
   pub line : declared_line.Line
   pub says : words.Says (plain words_given) line
-  pub does : Does may (is_some (wished words_given).stop_file) (wished words_given) sources line input_old input_new out_old out_new result logs
+  pub acts : Acts may (is_some (wished words_given).stop_file) (wished words_given) sources line input_old input_new out_old out_new result logs
 
 -- the words are no line, and nothing was read or written
 pub record RefusesWords (words_given : List Word) (input_old input_new out_old out_new : Option (List ℕ)) (reporting : Reporting) (result : Result Status Fault) (logs : List (List Event)) : Type 0 where

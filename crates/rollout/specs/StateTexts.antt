@@ -1,5 +1,5 @@
 -- What the command `state` does with an inventory and a journal.
-use Rattle.std.specs.Prelude.{◌≡◌, ◌⊎◌, ℕ, Bool, List, Option, None, Some, Result, Ok, Err}
+use Rattle.std.specs.Prelude.{◌≡◌, ◌⊎◌, ℕ, Bool, List, Option, None, Some, Result, Ok, Err, if◌then◌else◌}
 use Rattle.std.specs.Io.KnownBytes.{Appends, Keeps}
 use Rattle.bounded_io.specs.Sending.{SendsFirst}
 use Rattle.command_line.specs.declared.command.Source.{Source}
@@ -20,28 +20,32 @@ use Rattle.rollout.specs.Systems.{Sources}
 use Rattle.rollout.specs.declared.fault.Fault.{Fault}
 use Rattle.rollout.specs.declared.fault.Fault.TheVariants.{BadJournal, OtherInputs, Write, Memory}
 use Rattle.rollout.specs.declared.status.Status.{Status}
-use Rattle.rollout.specs.declared.status.Status.TheVariants.{BrokenOff}
+use Rattle.rollout.specs.declared.status.Status.TheVariants.{BrokenOff, Running}
 
--- a run that has ended is told as it told itself, and one that has not by a status of its own
-abbrev pub status_of_standing : Option End → List hosts.Status → Status
-status_of_standing (Some end) statuses = status_of_run (end_of end statuses)
-status_of_standing None statuses = BrokenOff
+-- a run that has not ended goes on, or was broken off
+abbrev pub endless_status : Bool → Status
+endless_status goes_on = if goes_on then Running else BrokenOff
 
-abbrev pub status_of_state : JournalState → Status
-status_of_state state = status_of_standing (run_end state) state.statuses
+-- a run that has ended is told as it told itself
+abbrev pub status_of_standing : Bool → Option End → List hosts.Status → Status
+status_of_standing goes_on (Some end) statuses = status_of_run (end_of end statuses)
+status_of_standing goes_on None statuses = endless_status goes_on
+
+abbrev pub status_of_state : Bool → JournalState → Status
+status_of_state goes_on state = status_of_standing goes_on (run_end state) state.statuses
 
 -- the text is the journal of a run that began with this inventory, or with another that is meant, and what is told of where it stands went out
-pub record TellsStanding (fleet : FleetView) (inventory text : List ℕ) (takes_others : Bool) (old new : Option (List ℕ)) (status : Status) : Type 0 where
+pub record TellsStanding (fleet : FleetView) (inventory text : List ℕ) (takes_others goes_on : Bool) (old new : Option (List ℕ)) (status : Status) : Type 0 where
   pub state : JournalState
   pub reads : IsBegunJournal fleet inventory takes_others text state
-  pub written : Appends old new (state_text fleet state)
-  pub tells : status ≡ status_of_state state
+  pub written : Appends old new (state_text fleet goes_on state)
+  pub tells : status ≡ status_of_state goes_on state
 
 -- what was told broke off after so many bytes
-pub record BreaksStanding (fleet : FleetView) (inventory text : List ℕ) (takes_others : Bool) (old new : Option (List ℕ)) (count : ℕ) : Type 0 where
+pub record BreaksStanding (fleet : FleetView) (inventory text : List ℕ) (takes_others goes_on : Bool) (old new : Option (List ℕ)) (count : ℕ) : Type 0 where
   pub state : JournalState
   pub reads : IsBegunJournal fleet inventory takes_others text state
-  pub written : SendsFirst old new (state_text fleet state) count
+  pub written : SendsFirst old new (state_text fleet goes_on state) count
 
 -- the journal is refused so, and nothing went out
 pub record RefusesStanding (fleet : FleetView) (inventory text : List ℕ) (takes_others : Bool) (old new : Option (List ℕ)) (fault : Fault) : Type 0 where
@@ -51,44 +55,46 @@ pub record RefusesStanding (fleet : FleetView) (inventory text : List ℕ) (take
   pub unwritten : Keeps old new
 
 -- the fault is true of the text, and nothing went out; or what was told broke off where it says
-abbrev pub IsTrueOfJournal : FleetView → List ℕ → List ℕ → Bool → Option (List ℕ) → Option (List ℕ) → Fault → Type 0
-IsTrueOfJournal fleet inventory text takes_others old new (Write fault) = BreaksStanding fleet inventory text takes_others old new fault.written
-IsTrueOfJournal fleet inventory text takes_others old new (BadJournal line) = RefusesStanding fleet inventory text takes_others old new (BadJournal line)
-IsTrueOfJournal fleet inventory text takes_others old new OtherInputs = RefusesStanding fleet inventory text takes_others old new OtherInputs
-IsTrueOfJournal fleet inventory text takes_others old new Memory = Keeps old new
-IsTrueOfJournal fleet inventory text takes_others old new fault = ⊥
+abbrev pub IsTrueOfJournal : FleetView → List ℕ → List ℕ → Bool → Bool → Option (List ℕ) → Option (List ℕ) → Fault → Type 0
+IsTrueOfJournal fleet inventory text takes_others goes_on old new (Write fault) = BreaksStanding fleet inventory text takes_others goes_on old new fault.written
+IsTrueOfJournal fleet inventory text takes_others goes_on old new (BadJournal line) = RefusesStanding fleet inventory text takes_others old new (BadJournal line)
+IsTrueOfJournal fleet inventory text takes_others goes_on old new OtherInputs = RefusesStanding fleet inventory text takes_others old new OtherInputs
+IsTrueOfJournal fleet inventory text takes_others goes_on old new Memory = Keeps old new
+IsTrueOfJournal fleet inventory text takes_others goes_on old new fault = ⊥
 
 -- both texts were accepted, and where the run stands was told; the fleet's names are plain, so that no other entry has a line of the journal
-pub record TellsTexts (inventory text : List ℕ) (takes_others : Bool) (old new : Option (List ℕ)) (status : Status) : Type 0 where
+pub record TellsTexts (inventory text : List ℕ) (takes_others goes_on : Bool) (old new : Option (List ℕ)) (status : Status) : Type 0 where
   pub fleet : FleetView
   pub accepted : IsFleetIn inventory fleet
   pub plain : HasPlainNames fleet
-  pub tells : TellsStanding fleet inventory text takes_others old new status
+  pub tells : TellsStanding fleet inventory text takes_others goes_on old new status
 
 -- the inventory was accepted, and the fault is true of the journal
-pub record RefusesJournal (inventory text : List ℕ) (takes_others : Bool) (old new : Option (List ℕ)) (fault : Fault) : Type 0 where
+pub record RefusesJournal (inventory text : List ℕ) (takes_others goes_on : Bool) (old new : Option (List ℕ)) (fault : Fault) : Type 0 where
   pub fleet : FleetView
   pub accepted : IsFleetIn inventory fleet
   pub plain : HasPlainNames fleet
-  pub is_true : IsTrueOfJournal fleet inventory text takes_others old new fault
+  pub is_true : IsTrueOfJournal fleet inventory text takes_others goes_on old new fault
 
 -- the fault is true of the inventory, or of the journal
-abbrev pub RefusesTexts : List ℕ → List ℕ → Bool → Option (List ℕ) → Option (List ℕ) → Fault → Type 0
-RefusesTexts inventory text takes_others old new fault = (IsUnread inventory fault × Keeps old new) ⊎ RefusesJournal inventory text takes_others old new fault
+abbrev pub RefusesTexts : List ℕ → List ℕ → Bool → Bool → Option (List ℕ) → Option (List ℕ) → Fault → Type 0
+RefusesTexts inventory text takes_others goes_on old new fault = (IsUnread inventory fault × Keeps old new) ⊎ RefusesJournal inventory text takes_others goes_on old new fault
 
 -- both inputs were read, and where the run stands was told
 pub record HoldsState (takes_others : Bool) (sources : Sources) (inventory journal : Source) (input_old input_new out_old out_new : Option (List ℕ)) (status : Status) : Type 0 where
   pub first : List ℕ
   pub second : List ℕ
   pub texts : ReadsBoth sources inventory journal input_old input_new first second
-  pub tells : TellsTexts first second takes_others out_old out_new status
+  pub goes_on : Bool
+  pub tells : TellsTexts first second takes_others goes_on out_old out_new status
 
 -- both inputs were read, and the fault is true of one of them
 pub record EndsState (takes_others : Bool) (sources : Sources) (inventory journal : Source) (input_old input_new out_old out_new : Option (List ℕ)) (fault : Fault) : Type 0 where
   pub first : List ℕ
   pub second : List ℕ
   pub texts : ReadsBoth sources inventory journal input_old input_new first second
-  pub refuses : RefusesTexts first second takes_others out_old out_new fault
+  pub goes_on : Bool
+  pub refuses : RefusesTexts first second takes_others goes_on out_old out_new fault
 
 -- the command `state`
 abbrev pub TellsState : Bool → Sources → Source → Source → Option (List ℕ) → Option (List ℕ) → Option (List ℕ) → Option (List ℕ) → Result Status Fault → Type 0

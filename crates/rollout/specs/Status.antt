@@ -13,7 +13,7 @@ use Rattle.step_words.specs.declared.end.WordsEnd.TheVariants as words_ends
 use Rattle.note_lines.specs.declared.end.LintEnd.{LintEnd}
 use Rattle.note_lines.specs.declared.end.LintEnd.TheVariants as lint_ends
 use Rattle.rollout.specs.declared.status.Status.{Status}
-use Rattle.rollout.specs.declared.status.Status.TheVariants.{Done, Refused, Failed, Blocked, Stopped, Memory, BrokenOff}
+use Rattle.rollout.specs.declared.status.Status.TheVariants.{Done, Refused, Failed, Blocked, Stopped, Memory, BrokenOff, Running}
 
 abbrev pub code_of : Status → ℕ
 code_of Done = 0
@@ -23,6 +23,7 @@ code_of Blocked = 3
 code_of Stopped = 4
 code_of Memory = 5
 code_of BrokenOff = 6
+code_of Running = 7
 
 -- a plan that leaves hosts out is told by a status of its own
 abbrev pub status_of_end : End → Status

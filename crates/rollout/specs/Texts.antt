@@ -1,5 +1,5 @@
 -- Commands that read one, two or three inputs whole, and then say something of their texts.
-use Rattle.std.specs.Prelude.{◌≡◌, ◌⊎◌, ℕ, List, Option, Result, Ok, Err}
+use Rattle.std.specs.Prelude.{◌⊎◌, ℕ, List, Option, Result, Ok, Err}
 use Rattle.std.specs.Io.KnownBytes.{Keeps}
 use Rattle.command_line.specs.declared.command.Source.{Source}
 use Rattle.rollout.specs.Inputs.{IsTextOf, IsUnreadable, LacksInput, ReadsBoth}

@@ -1,14 +1,12 @@
 //! The line that helps behind the line of a fault of a text.
 ghost use Rattle.std.specs.Prelude.{◌≡◌, true, IfOk, option_map, string_bytes};
-ghost use Rattle.help_lines.specs.Lines.{IsHelpLine};
+ghost use Rattle.hints.specs.Lines.{IsHelpLine};
 ghost use Rattle.rollout.specs.Endings.{MayHelp};
 
 use crate::fault::Fault;
 use domains::{Fleet, FleetFault, PatternFault};
-use every_fault::kept_texts;
-use fault_help::{fleet_help, pattern_help, play_help, read_help};
 use group_tree::{GroupId, HostId};
-use help_lines::Document;
+use hints::{Document, fleet_help, pattern_help, play_help, read_help};
 use inventory_read::ReadFault;
 use planning::read_fleet;
 use play_rules::PlayFault;
@@ -39,14 +37,14 @@ impl<'t> Texts<'t> {
     }
 }
 
-/// Making a fleet of what is kept of a great inventory takes longer than all else, so it is made for those alone that look names up.
+/// Making a fleet of a great inventory takes longer than all else, so it is made only for faults that look names up.
 fn fleet_for(
     alloc: Global,
     inventory: &[u8],
     faults: &[Fault],
 ) -> Result<Option<Fleet>, AllocError> {
     if faults.iter().any(|fault| is_of_pattern(fault)) {
-        known_fleet(alloc, inventory)
+        Ok(read_fleet(alloc, inventory).ok())
     } else {
         Ok(None)
     }
@@ -56,14 +54,6 @@ fn is_of_pattern(fault: &Fault) -> bool {
     match fault {
         Fault::Pattern(_) => true,
         _ => false,
-    }
-}
-
-/// The fleet in which names are looked up, of the inventory, or of what is kept of it.
-fn known_fleet(alloc: Global, inventory: &[u8]) -> Result<Option<Fleet>, AllocError> {
-    match kept_texts(alloc, inventory, None)? {
-        Some(kept) => Ok(read_fleet(alloc, kept.inventory.as_slice()).ok()),
-        None => Ok(None),
     }
 }
 
@@ -89,7 +79,6 @@ fn told(alloc: Global, fault: &Fault, texts: &Texts<'_>) -> Result<Option<String
     }
 }
 
-#[tactic(auto, using(crate::proofs::Advising::helps_so))]
 fn on_inventory(
     alloc: Global,
     fault: &ReadFault,
@@ -100,7 +89,6 @@ fn on_inventory(
     kept(read_help(alloc, fault, document))
 }
 
-#[tactic(auto, using(crate::proofs::Advising::helps_so))]
 fn on_fleet(
     alloc: Global,
     fault: &FleetFault,
@@ -111,7 +99,6 @@ fn on_fleet(
     kept(fleet_help(alloc, fault, document))
 }
 
-#[tactic(auto, using(crate::proofs::Advising::helps_so))]
 fn on_playbook(
     alloc: Global,
     fault: &PlayFault,

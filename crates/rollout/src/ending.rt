@@ -95,10 +95,18 @@ pub(crate) fn write_help<W: Write>(text: &mut TextWriter<'_, W>, form: Form, hel
     }
 }
 
+/// Whether the fault of this number ended a run before its plays did.
+fn ends_early(number: u16) -> bool
+    ensures { result ≡ spec.ends_early number }
+{
+    number == 911 || number == 917
+}
+
 fn fault_status(fault: &Fault) -> Status
     ensures { result ≡ status_of_fault fault.now }
 {
     match fault.number() {
+        Some(number) if ends_early(number) => Status::BrokenOff,
         Some(_) => Status::Refused,
         None => Status::Memory,
     }

@@ -58,6 +58,8 @@ pub enum Fault {
     NoValue(NoValue),
     /// Another run that is kept goes on with the same inventory.
     Locked,
+    /// A file that is to be written is one that is read.
+    OutputIsInput { name: String },
     /// A text is no plan: this line, counted from 1, is none of one.
     BadPlan { line: usize },
     /// All was printed, and a number isn't as expected.
@@ -91,6 +93,7 @@ impl Fault {
             Fault::BadJournal { line: _ } => Some(912),
             Fault::OtherInputs => Some(913),
             Fault::NeedsResult { name: _ } => Some(914),
+            Fault::OutputIsInput { name: _ } => Some(919),
             Fault::NoValue(_) => Some(915),
             Fault::BadPlan { line: _ } => Some(908),
             Fault::Unexpected(_) => Some(907),

@@ -106,6 +106,7 @@ fn write_row<W: Write>(text: &mut TextWriter<'_, W>, form: Form, fault: &Fault)
             "NeedsResult",
             &[Text("name", name.as_str())],
         ),
+        Fault::OutputIsInput { name } => name_row(text, form, "OutputIsInput", name),
         Fault::NoValue(missing) => write_missing_row(text, form, missing),
         Fault::BadPlan { line } => row(text, form, "BadPlan", &[Number("line", *line as u64)]),
         Fault::Unexpected(unexpected) => write_unexpected_row(text, form, unexpected),

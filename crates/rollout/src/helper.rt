@@ -11,7 +11,7 @@ use crate::system::System;
 use bounded_io::InputFault;
 use command_line::command::Line;
 use command_line::{Source, Wishes};
-use help_lines::tell;
+use hints::tell;
 use std::alloc::Global;
 
 /// The files that a fault may be of, and whether a line that helps is to stand behind it.
@@ -153,7 +153,6 @@ fn text_of<S: System>(system: &S, alloc: Global, name: &Option<String>) -> Vec<u
 }
 
 /// Why the system didn't give the file.
-#[tactic(auto, using(help_lines::proofs::LineLemmas::lines_help))]
 fn why_unreadable<S: System>(system: &S, alloc: Global, name: &str) -> Option<String>
     ensures { MayHelp true (option_map string_bytes result) }
 {

@@ -15,6 +15,8 @@ mod folder;
 mod helper;
 mod inputs;
 mod list;
+mod locking;
+mod outputs;
 mod playbook_rows;
 mod program;
 mod row;

@@ -4,7 +4,7 @@ ghost use Rattle.std.specs.Process.{exit_status};
 ghost use Rattle.roll_run.specs.Histories.{Gains};
 ghost use Rattle.command_line.specs.Wishes.{wish_as};
 ghost use Rattle.rollout.specs.Endings.{reporting_as};
-ghost use Rattle.rollout.specs.Runs.{Attempts, Does, Performs, Runs, StartsSafely};
+ghost use Rattle.rollout.specs.Runs.{Acts, Attempts, Does, Performs, Runs, StartsSafely};
 ghost use Rattle.rollout.specs.Systems.{sources_of};
 ghost use Rattle.rollout.specs.Watching.{IsWatchedAs};
 
@@ -13,6 +13,7 @@ use crate::commands::{check, explain, lint, print, state};
 use crate::ending::{Ended, Reporting, conclude, exit_code, form_of};
 use crate::fault::Fault;
 use crate::helper::Helper;
+use crate::outputs::refused_name;
 use crate::status::Status;
 use crate::system::System;
 use crate::wished::{limits_by, plan_or_rest, rehearse_by, run_by};
@@ -136,7 +137,7 @@ fn attempt<
                 attend: &attend,
             };
             let helper = Helper::new(system, alloc, &line, &wishes);
-            let (outcome, history) = follow(
+            let (outcome, history) = act(
                 system,
                 &coordinator,
                 runner,
@@ -172,6 +173,46 @@ fn begin_telling<S: System, T: Tell>(system: &S, tell: &mut T, line: &Line, wish
         | Line::Lint { .. }
         | Line::Explain { .. }
         | Line::Print(_) => {}
+    }
+}
+
+/// Does what the line asks for, unless it names a file that is refused.
+#[allow(clippy::too_many_arguments)]
+fn act<
+    S: System,
+    H: Threads + Wait + Processes<Started = SystemProcess> + Sync,
+    R: Runner,
+    A: Attend,
+    T: Watch,
+    I: Input,
+    O: Write,
+>(
+    system: &S,
+    coordinator: &Coordinator<'_, H, A>,
+    runner: &R,
+    watch: &mut T,
+    line: Line,
+    wishes: &Wishes,
+    input: &mut I,
+    out: &mut O,
+    history: History,
+) -> (Result<Status, Fault>, History)
+    ensures { Gains history result.1 (Acts (R.may runner.now) (A.asks coordinator.now.attend.now) (wish_as wishes.now) (sources_of (S.files system.now) (I.is_reliable input.old)) line
+        (I.remaining input.old) (I.remaining input.new) (O.contents out.old) (O.contents out.new) result.0) }
+{
+    match refused_name(system, coordinator.alloc, &line, wishes) {
+        Some(fault) => (Err(fault), history),
+        None => follow(
+            system,
+            coordinator,
+            runner,
+            watch,
+            line,
+            wishes,
+            input,
+            out,
+            history,
+        ),
     }
 }
 

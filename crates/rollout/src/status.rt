@@ -14,7 +14,7 @@ use step_words::WordsEnd;
 pub enum Status {
     /// What was asked for was done.
     Done,
-    /// The line, an input or a write was refused, a text that is checked is no plan, or there are notes.
+    /// The line, an input or a write was refused, and nothing was started; a text that is checked is no plan; or there are faults or warnings.
     Refused,
     /// A run came to its end, or would, and a host has failed; or a plan that is checked is longer than the least.
     Failed,
@@ -24,8 +24,10 @@ pub enum Status {
     Stopped,
     /// Memory was wanting.
     Memory,
-    /// By its journal a run was broken off.
+    /// A run ended before its plays did.
     BrokenOff,
+    /// By its journal's lock a run still goes on.
+    Running,
 }
 
 impl Status {
@@ -40,6 +42,7 @@ impl Status {
             Status::Stopped => 4,
             Status::Memory => 5,
             Status::BrokenOff => 6,
+            Status::Running => 7,
         }
     }
 }

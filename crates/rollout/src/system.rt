@@ -13,7 +13,7 @@ use rehearsing::Prompt;
 use std::env::{Env, FillError};
 use std::fs::OpenFile;
 use std::io::{IsTerminal, Stderr, Stdout, Write};
-use std::os::unix::fs::OpenOptionsExt;
+use std::os::unix::fs::{MetadataExt, OpenOptionsExt};
 use std::process::{Processes, SystemProcess};
 use std::{env, fs, io};
 use telling::{Seen, width};
@@ -48,8 +48,17 @@ pub trait System: Prompt + Shelf {
     /// The lock of the file of this name; none where another holds it, and an error where the file has no lock.
     fn lock(&self, name: &str) -> io::Result<Option<Self::Lock>>;
 
+    /// The same of a file that is made if it isn't there.
+    fn lock_made(&self, name: &str) -> io::Result<Option<Self::Lock>>;
+
+    /// Whether another program holds the lock of the file of this name.
+    fn is_held(&self, name: &str) -> bool;
+
     /// Whether there is a file of this name now, of whatever kind.
     fn is_there(&self, name: &str) -> bool;
+
+    /// Whether a file of this name would be seen if it was made: its folder is there and can be searched.
+    fn may_appear(&self, name: &str) -> bool;
 
     /// How what is told is seen, by what was asked for. How wide the lines may be is asked for where one may be drawn.
     fn seen(&self, wishes: &Wishes, draws: bool) -> Seen
@@ -63,6 +72,9 @@ pub trait System: Prompt + Shelf {
 
     /// Whether there is a file of this name that can be read more than once.
     fn is_file(&self, name: &str) -> bool;
+
+    /// Whether both names are of one file that is there.
+    fn are_one_file(&self, one: &str, other: &str) -> bool;
 
     /// Whether what is printed is coloured where it isn't said whether it is to be: a terminal shows it, and nobody has asked programs not to.
     fn shows_colours(&self) -> bool;
@@ -188,16 +200,29 @@ impl<R: Env + fs::Files<File = fs::File> + AllocGlobal + Processes<Started = Sys
         if !fs::metadata(self.rt, name)?.is_file() {
             return Err(io::ErrorKind::Unsupported.into());
         }
-        let file = fs::open(self.rt, name)?;
-        match file.try_lock() {
-            Ok(()) => Ok(Some(file)),
-            Err(fs::TryLockError::WouldBlock) => Ok(None),
-            Err(fs::TryLockError::Error(error)) => Err(error),
-        }
+        held(fs::open(self.rt, name)?)
+    }
+
+    fn lock_made(&self, name: &str) -> io::Result<Option<fs::File>> {
+        let mut how = fs::OpenOptions::new();
+        how.append(true).create(true).mode(0o600);
+        held(how.open(self.rt, name)?)
+    }
+
+    fn is_held(&self, name: &str) -> bool {
+        is_held(self.rt, name).unwrap_or(false)
     }
 
     fn is_there(&self, name: &str) -> bool {
         fs::exists(self.rt, name).unwrap_or(false)
+    }
+
+    fn may_appear(&self, name: &str) -> bool {
+        let has_folder = match fs::metadata(self.rt, folder_of(name)) {
+            Ok(folder) => folder.is_dir(),
+            Err(_) => false,
+        };
+        has_folder && !name.is_empty() && fs::exists(self.rt, name).is_ok()
     }
 
     fn seen(&self, wishes: &Wishes, draws: bool) -> Seen {
@@ -229,8 +254,35 @@ impl<R: Env + fs::Files<File = fs::File> + AllocGlobal + Processes<Started = Sys
         }
     }
 
+    fn are_one_file(&self, one: &str, other: &str) -> bool {
+        match (fs::metadata(self.rt, one), fs::metadata(self.rt, other)) {
+            (Ok(one), Ok(other)) => one.dev() == other.dev() && one.ino() == other.ino(),
+            _ => false,
+        }
+    }
+
     fn shows_colours(&self) -> bool {
         self.out.is_terminal() && !is_dumb(self.rt) && !refuses_colours(self.rt)
+    }
+}
+
+/// The file with its lock; none if another holds that.
+fn held(file: fs::File) -> io::Result<Option<fs::File>> {
+    match file.try_lock() {
+        Ok(()) => Ok(Some(file)),
+        Err(fs::TryLockError::WouldBlock) => Ok(None),
+        Err(fs::TryLockError::Error(error)) => Err(error),
+    }
+}
+
+/// A shared lock is enough to ask, so that two who ask at once don't take each other for the holder.
+fn is_held<R: fs::Files<File = fs::File>>(rt: &R, name: &str) -> io::Result<bool> {
+    if !fs::metadata(rt, name)?.is_file() {
+        return Ok(false);
+    }
+    match fs::open(rt, name)?.try_lock_shared() {
+        Err(fs::TryLockError::WouldBlock) => Ok(true),
+        Ok(()) | Err(fs::TryLockError::Error(_)) => Ok(false),
     }
 }
 

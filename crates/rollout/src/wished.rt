@@ -15,6 +15,7 @@ use crate::commands::{
 };
 use crate::ending::form_of;
 use crate::fault::Fault;
+use crate::locking::Locking;
 use crate::status::Status;
 use crate::system::System;
 use bounded_io::Input;
@@ -264,6 +265,7 @@ fn resume_wish<'w>(journal: &'w String, wishes: &'w Wishes) -> ResumeWish<'w>
         journal: journal.as_str(),
         mended: wishes.mended.as_str(),
         takes_others: wishes.takes_others,
+        locking: Locking::of(wishes),
         form: form_of(wishes.is_json),
     }
 }
@@ -275,7 +277,7 @@ fn start_wish(wishes: &Wishes) -> StartWish<'_>
 {
     StartWish {
         journal: &wishes.journal,
-        locks: wishes.locks,
+        locking: Locking::of(wishes),
         is_strict: wishes.is_strict,
         form: form_of(wishes.is_json),
     }

@@ -4,9 +4,7 @@ use Rattle.std.specs.List.{find, list_any}
 use Rattle.std.proofs.lemmas.Grind.{take_at_read}
 use Rattle.std.proofs.lemmas.List.{get_or-map, length-map, map-append}
 use Rattle.group_tree.specs.Names.{Name, is_among}
-use Rattle.step_notes.specs.Hosts.{asking, lack_count, noted_lack}
 use Rattle.step_notes.specs.Inside.{AreMissed, has_missed}
-use Rattle.step_notes.specs.Laws.{NamesMissedAreTold}
 use Rattle.step_notes.specs.declared.missed.Missed.{Missed}
 
 module _ (missed : ℕ → List Name) (hosts : List ℕ) (sets : List Missed) where
@@ -43,8 +41,3 @@ found_any test note (host ∷ hosts) = by_case (test host) (found_any test note 
     by_case : (b : Bool) → is_some (option_map note (find test hosts)) ≡ list_any test hosts → is_some (option_map note (cond b (Some host) (find test hosts))) ≡ (b || list_any test hosts)
     by_case true later = refl
     by_case false later = later
-
-pub told_are_missed : NamesMissedAreTold
-told_are_missed crowd missed at name =
-    let some = asking crowd missed in
-    found_any (some.lacks name) (noted_lack some at name (lack_count some name)) crowd.waiting

@@ -1,14 +1,12 @@
 -- What conditions find on the hosts is what the inventory gives them.
-use Rattle.std.proofs.Common.{◌≡◌, ℕ, zero, suc, ◌<◌, Bool, is_none, Option, None, Some, option_map, List, [], ◌∷◌, ◌++◌, ◌+◌, get_or, slice_get, length, map, take, arith, refl, sym, ap, ◌∙◌}
+use Rattle.std.proofs.Common.{◌≡◌, ℕ, zero, suc, ◌<◌, Bool, Option, Some, List, [], ◌∷◌, ◌++◌, ◌+◌, get_or, slice_get, length, map, take, arith, refl, sym, ap, ◌∙◌}
 use Rattle.std.specs.Prelude.{All, filter}
 use Rattle.std.proofs.lemmas.List.Elements.{All-head, All-tail, filter_more}
-use Rattle.cond.specs.Meaning.{Plain}
 use Rattle.domains.specs.FleetViews.{FleetView}
 use Rattle.domains.specs.Ids.{host_numbers}
 use Rattle.fleet_states.proofs.HostLemmas.{length-host_numbers, number_of_host}
 use Rattle.group_tree.specs.Names.{Name}
 use Rattle.group_tree.specs.declared.ids.HostId.{HostId}
-use Rattle.group_tree.specs.Variables.{Scalar}
 use Rattle.host_vars.specs.Conditions.{result_or_variable}
 use Rattle.host_track.specs.Hosts.{Known}
 use Rattle.host_vars.specs.HostVars.{HasNoResult, variables_of}
@@ -16,23 +14,18 @@ use Rattle.host_vars.specs.declared.vars.Vars.{Vars}
 use Rattle.play_model.specs.Results.{Row}
 use Rattle.play_model.specs.declared.play.Play.{Play}
 use Rattle.step_words.proofs.Waiting.{fresh_without}
-use Rattle.step_notes.specs.Hosts.{foreseen_at, foreseen_of, foreseen_with, has_none, lacks_of}
-use Rattle.step_notes.specs.Inside.{finds_none, foreseen_by, foreseen_in, lacks_in}
-
-none_plain : (variable : Option Scalar) → is_none (option_map Plain variable) ≡ is_none variable
-none_plain None = refl
-none_plain (Some scalar) = refl
+use Rattle.step_notes.specs.Hosts.{foreseen_at, foreseen_of, foreseen_with, value_from, value_of}
+use Rattle.step_notes.specs.Inside.{foreseen_by, foreseen_in, value_in}
+use Rattle.step_notes.specs.Lacks.{value_by}
 
 -- a host without results has just its variables
-none_found : (vars : Vars) (name : Name) → HasNoResult vars → finds_none (Some vars) name ≡ has_none (Some (variables_of vars)) name
-none_found vars name bare =
-    ap (λ (row : Option Row). is_none (result_or_variable row ((variables_of vars).variable name))) (bare.results name)
-    ∙ none_plain ((variables_of vars).variable name)
+value_found : (vars : Vars) (name : Name) → HasNoResult vars → value_by (Some vars) name ≡ value_from (Some (variables_of vars)) name
+value_found vars name bare = ap (λ (row : Option Row). result_or_variable row ((variables_of vars).variable name)) (bare.results name)
 
-pub lacks_same : (vars : List Vars) (name : Name) (host : ℕ) → All HasNoResult vars → lacks_in vars name host ≡ lacks_of (map variables_of vars) name host
-lacks_same [] name host bare = refl
-lacks_same (one ∷ vars) name zero bare = none_found one name (All-head HasNoResult one vars bare)
-lacks_same (one ∷ vars) name (suc host) bare = lacks_same vars name host (All-tail HasNoResult one vars bare)
+pub value_same : (vars : List Vars) (name : Name) (host : ℕ) → All HasNoResult vars → value_in vars name host ≡ value_of (map variables_of vars) name host
+value_same [] name host bare = refl
+value_same (one ∷ vars) name zero bare = value_found one name (All-head HasNoResult one vars bare)
+value_same (one ∷ vars) name (suc host) bare = value_same vars name host (All-tail HasNoResult one vars bare)
 
 pub foreseen_same : (fleet : FleetView) (plays : List Play) (number place host : ℕ) (vars : List Vars) → All HasNoResult vars
     → foreseen_in fleet plays vars number place host ≡ foreseen_of fleet plays (map variables_of vars) number place host

@@ -6,8 +6,6 @@ use Rattle.std.proofs.lemmas.List.{map-append}
 use Rattle.std.proofs.lemmas.List.Elements.{filter-append}
 use Rattle.std.proofs.lemmas.List.Folds.{list_any-append}
 use Rattle.group_tree.specs.Names.{Name, same_name, is_among}
-use Rattle.text_parts.specs.Words.{Part, parts_of}
-use Rattle.needed_results.specs.Reads.{names_in_part, names_in_word, names_in_words}
 use Rattle.step_notes.specs.Inside.{names_of, with_fresh}
 use Rattle.step_notes.specs.NamesRead.{once_after}
 
@@ -93,25 +91,3 @@ none_fresh test before names name is = by_case (test name) (is_among name before
     by_case true true stands fresh = ap (λ (l : List Name). before ++ l) (sym (passed_over before (filter test names) name stands))
     by_case true false stands fresh = absurd (cc)
     by_case false stood stands fresh = refl
-
--- the first part of a word, and the rest behind it
-pub fresh_part : (test : Name → Bool) (before : List Name) (first : Part) (word rest : List ℕ) → parts_of word ≡ first ∷ parts_of rest
-    → with_fresh test (with_fresh test before (names_in_part first)) (names_in_word rest) ≡ with_fresh test before (names_in_word word)
-fresh_part test before first word rest is =
-    sym (fresh_append test before (names_in_part first) (names_in_word rest))
-    ∙ sym (ap (λ (parts : List Part). with_fresh test before (flat_map names_in_part parts)) is)
-
--- no part is left
-pub fresh_end : (test : Name → Bool) (before : List Name) (word : List ℕ) → parts_of word ≡ [] → with_fresh test before (names_in_word word) ≡ before
-fresh_end test before word is =
-    ap (λ (parts : List Part). with_fresh test before (flat_map names_in_part parts)) is ∙ append-nil before
-
--- word by word
-abbrev pub with_words : (Name → Bool) → List Name → List Name → List Name
-with_words test before [] = before
-with_words test before (word ∷ words) = with_words test (with_fresh test before (names_in_word word)) words
-
-pub with_words_is : (test : Name → Bool) (before : List Name) (words : List Name) → with_words test before words ≡ with_fresh test before (names_in_words words)
-with_words_is test before [] = sym (append-nil before)
-with_words_is test before (word ∷ words) =
-    with_words_is test (with_fresh test before (names_in_word word)) words ∙ sym (fresh_append test before (names_in_word word) (names_in_words words))

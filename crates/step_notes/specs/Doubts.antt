@@ -1,83 +1,116 @@
--- Conditions that ask for what isn't there, or take something for what it isn't.
-use Rattle.std.specs.Prelude.{Bool, false, ◌||◌, Option, None, Some, option_map, List, [], ◌∷◌, ◌++◌, codes}
+-- Conditions that ask for what doesn't exist, and those by which a step runs only after a change.
+use Rattle.std.specs.Prelude.{Bool, not, ◌||◌, if◌then◌else◌, Option, None, Some, option_map, List, [], ◌∷◌, ◌++◌, codes}
 use Rattle.std.specs.Option.{option_or}
-use Rattle.cond.specs.Grammar.{Test}
+use Rattle.cond.specs.Grammar as grammar
+use Rattle.cond.specs.Grammar.{Operand, Ref, Test}
 use Rattle.cond.specs.declared.condition.Cond.{Cond}
-use Rattle.group_tree.specs.Names.{Name}
-use Rattle.needed_results.specs.Registers.{is_registered_by, registers}
+use Rattle.cond.specs.declared.states.State.{State}
+use Rattle.cond.specs.declared.states.State.TheVariants as state
+use Rattle.domains.specs.FleetViews.{FleetView}
+use Rattle.group_tree.specs.Names.{Name, is_among}
+use Rattle.fleet_notes.specs.Holes.{has_opening}
+use Rattle.fleet_notes.specs.Namesakes.{is_group}
 use Rattle.play_model.specs.declared.step.Step.{Step}
-use Rattle.note_lines.specs.Notes.{Note, false_text, noted, text_hole, unknown_group, unknown_host, unlike_variable, whole_result}
+use Rattle.note_lines.specs.Notes.{Note, changed_guard, noted, text_hole, unknown_group, unknown_host}
 use Rattle.note_lines.specs.declared.step_path.StepPath.{StepPath}
-use Rattle.step_notes.specs.AskedGroups as groups
-use Rattle.step_notes.specs.AskedHosts as hosts
-use Rattle.step_notes.specs.Clashes.{clash_note}
-use Rattle.step_notes.specs.Conditions.{unlike_note}
-use Rattle.step_notes.specs.Hosts.{Crowd}
-use Rattle.step_notes.specs.Tests.{tests_if}
-use Rattle.step_notes.specs.TextHoles.{holed_in}
-use Rattle.step_notes.specs.Values.{Known, false_in, unlike_in, whole_in}
+use Rattle.step_notes.specs.Tests.{Stated, tests_if}
 use Rattle.step_notes.specs.declared.doubts.Doubt.{Doubt}
-use Rattle.step_notes.specs.declared.doubts.Doubt.TheVariants.{NamesNoGroup, NamesNoHost, IsFalseText, IsUnlike, IsWhole, HasHole}
+use Rattle.step_notes.specs.declared.doubts.Doubt.TheVariants.{NamesNoGroup, NamesNoHost, HasHole, AsksChanged}
 
--- the group, the host, the name or the text for which the test may not be meant
-abbrev pub doubted_in : Doubt → Known → Test → Option Name
-doubted_in NamesNoGroup = λ known. groups.unknown_in known.fleet.groups
-doubted_in NamesNoHost = λ known. hosts.unknown_in known.fleet.hosts
-doubted_in IsFalseText = false_in
-doubted_in IsUnlike = unlike_in
-doubted_in IsWhole = whole_in
-doubted_in HasHole = λ known. holed_in
+-- the group for which the test asks, if it is none of these
+abbrev pub unknown_group_in : List Name → Test → Option Name
+unknown_group_in groups (grammar.stands name contrary state) = None
+unknown_group_in groups (grammar.defined of contrary) = None
+unknown_group_in groups (grammar.equals left contrary right) = None
+unknown_group_in groups (grammar.within group contrary) = if is_group groups group then None else Some group
+unknown_group_in groups (grammar.alone operand) = None
+
+-- the string, if it is none of these names
+abbrev pub unknown_name : List Name → Operand → Option Name
+unknown_name hosts (grammar.text bytes) = if is_among bytes hosts then None else Some bytes
+unknown_name hosts (grammar.number value) = None
+unknown_name hosts (grammar.truth value) = None
+unknown_name hosts (grammar.ref of) = None
+
+-- what is compared with the host's own name, if it is such a string
+abbrev pub beside_ref : List Name → Ref → Operand → Option Name
+beside_ref hosts (grammar.whole name) other = None
+beside_ref hosts (grammar.part name field) other = None
+beside_ref hosts grammar.hostname other = unknown_name hosts other
+
+abbrev pub beside_own : List Name → Operand → Operand → Option Name
+beside_own hosts (grammar.text bytes) other = None
+beside_own hosts (grammar.number value) other = None
+beside_own hosts (grammar.truth value) other = None
+beside_own hosts (grammar.ref of) other = beside_ref hosts of other
+
+abbrev pub unknown_host_in : List Name → Test → Option Name
+unknown_host_in hosts (grammar.stands name contrary state) = None
+unknown_host_in hosts (grammar.defined of contrary) = None
+unknown_host_in hosts (grammar.equals left contrary right) = option_or (beside_own hosts left right) (beside_own hosts right left)
+unknown_host_in hosts (grammar.within group contrary) = None
+unknown_host_in hosts (grammar.alone operand) = None
+
+-- the operand, if it is a string with a placeholder, which nothing fills
+abbrev pub holed : Operand → Option Name
+holed (grammar.text bytes) = if has_opening bytes then Some bytes else None
+holed (grammar.number value) = None
+holed (grammar.truth value) = None
+holed (grammar.ref of) = None
+
+-- the first such string that the test compares, or that is alone; the name of a group is another thing
+abbrev pub holed_in : Test → Option Name
+holed_in (grammar.stands name contrary state) = None
+holed_in (grammar.defined of contrary) = None
+holed_in (grammar.equals left contrary right) = option_or (holed left) (holed right)
+holed_in (grammar.within group contrary) = None
+holed_in (grammar.alone operand) = holed operand
+
+-- The name of the result, if the test holds only if its step changed something. After a failed attempt a second one changes nothing, so the test doesn't hold.
+abbrev pub if_changed : Bool → State → Name → Option Name
+if_changed turned state.Changed name = if turned then None else Some name
+if_changed turned state.Failed name = None
+if_changed turned state.Skipped name = None
+if_changed turned state.Succeeded name = None
+
+abbrev pub changed_in : Bool → Test → Option Name
+changed_in denied (grammar.stands name contrary state) = if_changed (denied || contrary) state name
+changed_in denied (grammar.defined of contrary) = None
+changed_in denied (grammar.equals left contrary right) = None
+changed_in denied (grammar.within group contrary) = None
+changed_in denied (grammar.alone operand) = None
+
+-- the group, the host, the string or the result for which the test may not be meant
+abbrev pub doubted_in : Doubt → FleetView → Stated → Option Name
+doubted_in NamesNoGroup = λ fleet one. unknown_group_in fleet.groups one.test
+doubted_in NamesNoHost = λ fleet one. unknown_host_in fleet.hosts one.test
+doubted_in HasHole = λ fleet one. holed_in one.test
+doubted_in AsksChanged = λ fleet one. changed_in one.denied one.test
 
 -- the first such of some tests
-abbrev pub first_doubted : Doubt → Known → List Test → Option Name
-first_doubted doubt known [] = None
-first_doubted doubt known (test ∷ tests) = option_or (doubted_in doubt known test) (first_doubted doubt known tests)
+abbrev pub first_doubted : Doubt → FleetView → List Stated → Option Name
+first_doubted doubt fleet [] = None
+first_doubted doubt fleet (one ∷ tests) = option_or (doubted_in doubt fleet one) (first_doubted doubt fleet tests)
 
 abbrev pub noted_doubt : Doubt → StepPath → Name → Name → Note
 noted_doubt NamesNoGroup = unknown_group
 noted_doubt NamesNoHost = unknown_host
-noted_doubt IsFalseText = false_text
-noted_doubt IsUnlike = unlike_variable
-noted_doubt IsWhole = whole_result
 noted_doubt HasHole = text_hole
+noted_doubt AsksChanged = λ at key. changed_guard at
 
--- of a condition under this key that is made of these tests
-abbrev pub doubt_note : Doubt → Known → StepPath → Name → List Test → Option Note
-doubt_note doubt known at key tests = option_map (noted_doubt doubt at key) (first_doubted doubt known tests)
+-- of the condition under this key
+abbrev pub doubt_note : Doubt → FleetView → StepPath → Name → Option Cond → Option Note
+doubt_note doubt fleet at key condition = option_map (noted_doubt doubt at key) (first_doubted doubt fleet (tests_if condition))
 
-abbrev pub doubt_notes : Known → StepPath → Name → List Test → List Note
-doubt_notes known at key tests =
-    noted (doubt_note NamesNoGroup known at key tests)
-    ++ (noted (doubt_note NamesNoHost known at key tests)
-    ++ (noted (doubt_note IsFalseText known at key tests)
-    ++ (noted (doubt_note IsUnlike known at key tests) ++ (noted (doubt_note IsWhole known at key tests) ++ noted (doubt_note HasHole known at key tests)))))
+abbrev pub condition_notes : FleetView → StepPath → Name → Option Cond → List Note
+condition_notes fleet at key condition =
+    noted (doubt_note NamesNoGroup fleet at key condition) ++ (noted (doubt_note NamesNoHost fleet at key condition) ++ noted (doubt_note HasHole fleet at key condition))
 
--- all that is noted of the condition that stands under this key
-abbrev pub condition_notes : Known → StepPath → Name → Option Cond → List Note
-condition_notes known at key condition =
-    doubt_notes known at key (tests_if condition) ++ (noted (unlike_note at key condition) ++ noted (clash_note at key condition))
+abbrev pub conditions_notes : FleetView → StepPath → Step → List Note
+conditions_notes fleet at step =
+    condition_notes fleet at (codes "when") step.when
+    ++ (condition_notes fleet at (codes "changed_when") step.changed_when ++ condition_notes fleet at (codes "failed_when") step.failed_when)
 
--- the step that has run registers its result under the name
-abbrev pub is_own : Option Step → Name → Bool
-is_own None name = false
-is_own (Some step) name = registers name step
-
--- one before does, or this one
-abbrev pub is_result_of : (Name → Bool) → Option Step → Name → Bool
-is_result_of is_set run name = is_set name || is_own run name
-
--- behind these tasks, which have run for sure
-abbrev pub known_by : Crowd → (Name → Bool) → List Step → Option Step → Known
-known_by crowd is_set tasks run = record {
-  fleet = crowd.fleet;
-  is_result = is_result_of is_set run;
-  is_sure = is_result_of (is_registered_by tasks) run;
-  gives = crowd.gives;
-}
-
--- what judges the step's end sees its own result too
-abbrev pub conditions_notes : Crowd → (Name → Bool) → List Step → StepPath → Step → List Note
-conditions_notes crowd is_set tasks at step =
-    condition_notes (known_by crowd is_set tasks None) at (codes "when") step.when
-    ++ (condition_notes (known_by crowd is_set tasks (Some step)) at (codes "changed_when") step.changed_when
-    ++ condition_notes (known_by crowd is_set tasks (Some step)) at (codes "failed_when") step.failed_when)
+-- the step runs only after a change
+abbrev pub changed_note : FleetView → StepPath → Step → Option Note
+changed_note fleet at step = doubt_note AsksChanged fleet at (codes "when") step.when

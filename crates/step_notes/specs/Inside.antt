@@ -1,34 +1,21 @@
--- Words of the passes.
-use Rattle.std.specs.Prelude.{◌≡◌, ℕ, Bool, false, Option, None, Some, option_map, List, [], ◌++◌, filter, map, slice_get}
+-- What the passes keep.
+use Rattle.std.specs.Prelude.{◌≡◌, ℕ, Bool, false, Option, None, Some, List, [], ◌++◌, filter, map, slice_get}
 use Rattle.std.specs.Borrow.{Bor}
-use Rattle.std.specs.List.{list_any}
-use Rattle.indexmap.specs.IndexSet.{IndexSet}
-use Rattle.group_tree.specs.Names.{Name, is_among, same_name}
+use Rattle.group_tree.specs.Names.{Name, is_among}
 use Rattle.domains.specs.FleetViews.{FleetView}
 use Rattle.play_model.specs.declared.play.Play.{Play}
 use Rattle.host_vars.specs.HostVars.{known_of}
 use Rattle.host_vars.specs.declared.vars.Vars.{Vars}
-use Rattle.step_notes.specs.Hosts.{Crowd, Foreseen, asking, foreseen_at, missed_on}
+use Rattle.step_notes.specs.Hosts.{Crowd, Foreseen, foreseen_at, missed_on}
 use Rattle.step_notes.specs.NamesRead.{once_after}
-pub use Rattle.step_notes.specs.Given.{gives, has_missed}
-pub use Rattle.step_notes.specs.Lacks.{finds_none, lacks_in}
-use Rattle.cond.specs.Grammar.{Test}
+pub use Rattle.step_notes.specs.Given.{has_missed}
+pub use Rattle.step_notes.specs.Lacks.{lacks_in, value_in}
 use Rattle.cond.specs.Trees.{written}
-use Rattle.step_notes.specs.declared.tests.Said.{Said}
+use Rattle.step_notes.specs.Tests.{Stated}
+use Rattle.step_notes.specs.declared.tests.SpannedTest.{SpannedTest}
 use Rattle.step_notes.specs.declared.missed.Missed.{Missed}
 use Rattle.step_notes.specs.declared.crowd.Crowd as code
 use Rattle.step_notes.specs.declared.stand.Stand.{Stand}
-use Rattle.needed_results.specs.Needs.{tasks_before}
-use Rattle.step_notes.specs.Doubts.{known_by}
-use Rattle.step_notes.specs.Values.{Known}
-use Rattle.step_notes.specs.Codes.{asked_in, coded_in_words}
-use Rattle.step_notes.specs.declared.codes.Asking.{Asking}
-use Rattle.cond.specs.declared.condition.Cond.{Cond}
-use Rattle.play_model.specs.declared.step.Step.{Step}
-use Rattle.step_notes.specs.declared.known.Known as known
-use Rattle.step_notes.specs.Endings.{is_vain}
-use Rattle.step_notes.specs.declared.ending.Ending.{Ending}
-use Rattle.step_notes.specs.declared.ending.Ending.TheVariants.{Changed, Failed, Skipped, NonZero}
 use Rattle.step_notes.specs.declared.registered.Registered.{Registered}
 
 -- what is foreseen of the step there on a host that has these variables
@@ -62,46 +49,24 @@ abbrev pub AreMissed : (ℕ → List Name) → List ℕ → List Missed → Type
 AreMissed missed hosts sets = map has_missed sets ≡ map (λ host name. is_among name (missed host)) hosts
 
 abbrev pub crowd_of : code.Crowd → Crowd
-crowd_of crowd = record { fleet = crowd.fleet.now; lacks = lacks_in crowd.lacks.now.vars.now; gives = gives crowd.lacks.now.given.now; waiting = crowd.lacks.now.waiting.now }
+crowd_of crowd = record {
+  fleet = crowd.fleet.now;
+  value = value_in crowd.lacks.now.vars.now;
+  gives = has_missed crowd.lacks.now.given.now;
+  elsewhere = crowd.lacks.now.elsewhere;
+  waiting = crowd.lacks.now.waiting.now;
+}
 
--- the same hosts before the step there
-abbrev pub asking_of : code.Crowd → Stand → Crowd
-asking_of crowd stand = asking (crowd_of crowd) (missed_from stand crowd.lacks.now.vars.now)
-
--- the names that were gathered, and those of results that may have ended so
-abbrev pub is_kept : {S : Type 0} → IndexSet (Bor Name) S → Name → Bool
-is_kept names name = list_any (λ key. same_name name key.now) names.keys
-
+-- the names that were gathered
 abbrev pub has_name : Registered → Name → Bool
-has_name registered = is_kept registered.names
-
-abbrev pub may_be : Registered → Ending → Name → Bool
-may_be registered Changed = is_kept registered.changed
-may_be registered Failed = is_kept registered.failed
-may_be registered Skipped = is_kept registered.skipped
-may_be registered NonZero = is_kept registered.non_zero
-
-abbrev pub is_vain_in : Registered → Ending → Name → Bool
-is_vain_in registered = is_vain (has_name registered) (may_be registered)
+has_name registered = has_missed registered.names
 
 abbrev pub names_of : List (Bor Name) → List Name
 names_of lent = map (λ (name : Bor Name). name.now) lent
 
--- what is known of names where a condition of a step asks
-abbrev pub known_in : known.Known → Known
-known_in known =
-    known_by (crowd_of known.asked.crowd) (has_name known.asked.registered.now) (tasks_before known.play.now known.asked.stand.place) (option_map (λ step. step.now) known.run)
+-- a test, as its words are in its text
+abbrev pub said : SpannedTest → Stated
+said one = record { test = written one.text.now one.test; denied = one.denied }
 
--- a test, as its words stand in its text
-abbrev pub said : Said → Test
-said one = written one.text.now one.test
-
-abbrev pub said_all : List Said → List Test
+abbrev pub said_all : List SpannedTest → List Stated
 said_all tests = map said tests
-
--- the set has the names of which a condition asks for that, and those whose codes stand in a step's words
-abbrev pub AreAsked : Asking → Option Cond → Missed → Type 0
-AreAsked asking condition found = (name : Name) → has_missed found name ≡ is_among name (asked_in asking condition)
-
-abbrev pub AreCoded : Step → Missed → Type 0
-AreCoded step found = (name : Name) → has_missed found name ≡ is_among name (coded_in_words step.words)

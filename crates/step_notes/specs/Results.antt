@@ -1,16 +1,14 @@
--- The results that a step reads and that may not be there, though a step before registers them.
-use Rattle.std.specs.Prelude.{Bool, not, ◌&&◌, ◌||◌, List, [], ◌∷◌, ◌++◌, filter}
+-- The results that a step reads and that may not exist, though a step before registers them.
+use Rattle.std.specs.Prelude.{Bool, not, ◌&&◌, ◌||◌, List, [], ◌∷◌}
 use Rattle.std.specs.List.{flat_map}
 use Rattle.group_tree.specs.Names.{Name, is_among}
 use Rattle.text_parts.specs.Words.{Part, plain, hole, braces, whole, part, hostname, parts_of}
 use Rattle.play_model.specs.declared.step.Step.{Step}
-use Rattle.needed_results.specs.Reads.{read_before, read_behind}
 use Rattle.needed_results.specs.Registers.{is_registered_by}
-use Rattle.step_notes.specs.Codes.{is_coded}
 use Rattle.step_notes.specs.Guards.{guarded}
-use Rattle.step_notes.specs.NamesRead.{once_after}
+use Rattle.step_notes.specs.NamesRead.{read_once}
 
--- the name that stands in the hole without a field
+-- the name that is in the placeholder without a field
 abbrev pub whole_in_part : Part → List Name
 whole_in_part (plain text) = []
 whole_in_part (hole (whole name)) = name ∷ []
@@ -24,15 +22,13 @@ whole_in_word word = flat_map whole_in_part (parts_of word)
 abbrev pub whole_in_words : List Name → List Name
 whole_in_words words = flat_map whole_in_word words
 
--- Of these tasks, which are sure to have run, none registers the name, and the step's `when` doesn't ask whether it is there.
+-- Of these tasks, which are sure to have run, none registers the name, and the step's `when` doesn't ask whether it is defined.
 abbrev pub may_be_away : List Step → Step → Name → Bool
 may_be_away tasks step name = not (is_registered_by tasks name) && not (is_among name (guarded step.when))
 
--- A step before registers the name, but its result may not be there; or the name stands in a word without a field, where no result has a text; or the step reads the result's code, which isn't there where its step was skipped.
+-- A step before registers the name, but its result may not exist; or the name is in a word without a field, where no result has a text.
 abbrev pub is_unsure : (Name → Bool) → List Step → Step → Name → Bool
-is_unsure is_set tasks step name = is_set name && ((may_be_away tasks step name || is_among name (whole_in_words step.words)) || is_coded step name)
+is_unsure is_set tasks step name = is_set name && (may_be_away tasks step name || is_among name (whole_in_words step.words))
 
--- each once, in the order of reading
 abbrev pub names_unsure : (Name → Bool) → List Step → Step → List Name
-names_unsure is_set tasks step =
-    once_after [] (filter (is_unsure is_set tasks step) (read_before step) ++ filter (is_unsure is_set tasks step) (read_behind step))
+names_unsure is_set tasks step = read_once (is_unsure is_set tasks step) (is_unsure is_set tasks step) step

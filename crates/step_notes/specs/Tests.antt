@@ -1,5 +1,5 @@
--- The tests that a condition is made of, from left to right.
-use Rattle.std.specs.Prelude.{ℕ, Option, None, Some, List, [], ◌∷◌, map, take, drop, string_bytes, box_value}
+-- The tests of a condition, from left to right.
+use Rattle.std.specs.Prelude.{ℕ, Bool, true, false, Option, None, Some, List, [], ◌∷◌, ◌++◌, map, take, drop, string_bytes, box_value}
 use Rattle.std.specs.List.{flat_map}
 use Rattle.cond.specs.Grammar.{Test}
 use Rattle.cond.specs.Trees.{written, bytes_of, trees_of}
@@ -10,47 +10,42 @@ use Rattle.cond.specs.declared.tree.Tree.{Tree}
 use Rattle.cond.specs.declared.tree.Tree.TheOpen.{Tree-F}
 use Rattle.cond.specs.declared.tree.Tree.TheOpen as tree
 use Rattle.cond.specs.declared.tree.Tree.TheFolds.{fold-Tree}
-use Rattle.step_notes.specs.declared.tests.Reach.{Reach}
-use Rattle.step_notes.specs.declared.tests.Reach.TheVariants.{All, Joint}
 
--- lists, one behind the other
-abbrev pub all_of : List (List Test) → List Test
-all_of lists = flat_map (λ tests. tests) lists
+-- a test, and whether a `not` precedes it, at once or before brackets round it
+pub record Stated : Type 0 where
+  pub test : Test
+  pub denied : Bool
 
--- one level, with the tests of those below it; those behind brackets with several and behind contraries count just where all do
-abbrev pub tests_step : Reach → List ℕ → Tree-F (List Test) → List Test
-tests_step All text (tree.Either parts) = all_of parts.items
-tests_step All text (tree.Both parts) = all_of parts.items
-tests_step All text (tree.Negated part) = box_value part
-tests_step All text (tree.Leaf test) = written text test ∷ []
-tests_step All text (tree.Denied test) = written text test ∷ []
-tests_step Joint text (tree.Either parts) = []
-tests_step Joint text (tree.Both parts) = []
-tests_step Joint text (tree.Negated part) = []
-tests_step Joint text (tree.Leaf test) = written text test ∷ []
-tests_step Joint text (tree.Denied test) = written text test ∷ []
+-- the tests of several trees in sequence; a `not` precedes all of them or none
+abbrev pub all_of : Bool → List (Bool → List Stated) → List Stated
+all_of denied lists = flat_map (λ tests. tests denied) lists
 
-abbrev pub tests_in_tree : Reach → List ℕ → Tree → List Test
-tests_in_tree reach text = fold-Tree (List Test) (tests_step reach text)
+-- one level, with the tests of those below it
+abbrev pub tests_step : List ℕ → Tree-F (Bool → List Stated) → Bool → List Stated
+tests_step text (tree.Either parts) denied = all_of denied parts.items
+tests_step text (tree.Both parts) denied = all_of denied parts.items
+tests_step text (tree.Negated part) denied = box_value part true
+tests_step text (tree.Leaf test) denied = record { test = written text test; denied = denied } ∷ []
+tests_step text (tree.Denied test) denied = record { test = written text test; denied = true } ∷ []
+
+abbrev pub tests_in_tree : List ℕ → Tree → Bool → List Stated
+tests_in_tree text = fold-Tree (Bool → List Stated) (tests_step text)
 
 -- in a part of this text, with these trees
-abbrev pub tests_in_part : Reach → List ℕ → List Tree → Part → List Test
-tests_in_part reach text trees (part.Test denied bytes test) = written text test ∷ []
-tests_in_part reach text trees (part.Trees bytes count) = all_of (map (tests_in_tree reach text) trees)
+abbrev pub tests_in_part : List ℕ → List Tree → Part → List Stated
+tests_in_part text trees (part.Test denied bytes test) = record { test = written text test; denied = denied } ∷ []
+tests_in_part text trees (part.Trees bytes count) = all_of false (map (tests_in_tree text) trees)
 
--- in each part; their texts stand one behind the other, and so do their trees
-abbrev pub tests_by_part : Reach → List ℕ → List Tree → List Part → List (List Test)
-tests_by_part reach text trees [] = []
-tests_by_part reach text trees (part ∷ parts) =
-    tests_in_part reach (take (bytes_of part) text) (take (trees_of part) trees) part ∷ tests_by_part reach (drop (bytes_of part) text) (drop (trees_of part) trees) parts
+-- in each part; their texts are in sequence, and so are their trees
+abbrev pub tests_by_part : List ℕ → List Tree → List Part → List Stated
+tests_by_part text trees [] = []
+tests_by_part text trees (part ∷ parts) =
+    tests_in_part (take (bytes_of part) text) (take (trees_of part) trees) part ++ tests_by_part (drop (bytes_of part) text) (drop (trees_of part) trees) parts
 
-abbrev pub tests_of : Reach → Cond → List Test
-tests_of reach condition = all_of (tests_by_part reach (string_bytes condition.text) condition.trees.items condition.parts.items)
+abbrev pub tests_of : Cond → List Stated
+tests_of condition = tests_by_part (string_bytes condition.text) condition.trees.items condition.parts.items
 
--- where there is a condition
-abbrev pub tests_reached : Reach → Option Cond → List Test
-tests_reached reach None = []
-tests_reached reach (Some condition) = tests_of reach condition
-
-abbrev pub tests_if : Option Cond → List Test
-tests_if = tests_reached All
+-- if there is a condition
+abbrev pub tests_if : Option Cond → List Stated
+tests_if None = []
+tests_if (Some condition) = tests_of condition

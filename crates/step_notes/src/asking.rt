@@ -1,14 +1,15 @@
-//! The hosts on which a step may look a name up in vain.
+//! The hosts on which a step may read names undefined.
 ghost use Rattle.std.specs.Prelude.{◌≡◌};
 ghost use Rattle.step_notes.specs.Inside.{AreMissed, missed_from};
 
 use crate::crowd::{Crowd, lack_note};
+use crate::lack::Lack;
 use crate::missed::{Missed, missed_on};
 use crate::stand::Stand;
 use note_lines::{Note, StepPath};
 use std::alloc::{AllocError, Global};
 
-/// The hosts that wait for a play, and what a step of it misses on each.
+/// The hosts that wait for a play, and the names that a step of it may read undefined on each.
 #[derive(Drop)]
 pub(crate) struct Askers<'a, 's> {
     pub(crate) crowd: Crowd<'a, 's>,
@@ -18,13 +19,13 @@ pub(crate) struct Askers<'a, 's> {
 }
 
 impl<'a, 's> Askers<'a, 's> {
-    ghost use Rattle.std.specs.Prelude.{◌≡◌, ◌<◌, IfOk, length, option_map, slice_index_or};
-    ghost use Rattle.group_tree.specs.Names.{is_among};
-    ghost use Rattle.step_notes.specs.Hosts as model;
-    ghost use Rattle.step_notes.specs.Inside.{asking_of, crowd_of, missed_from};
+    ghost use Rattle.std.specs.Prelude.{◌≡◌, ◌<◌, IfOk, count_by, length, option_map, slice_index_or};
+    ghost use Rattle.std.specs.List.{find};
+    ghost use Rattle.step_notes.specs.Hosts.{misses, name_note};
+    ghost use Rattle.step_notes.specs.Inside.{crowd_of, missed_from};
     ghost use Rattle.note_lines.specs.Notes.{seen};
 
-    /// It fails for want of memory alone.
+    /// Fails only if an allocation fails.
     pub(crate) fn of(
         alloc: Global,
         crowd: Crowd<'a, 's>,
@@ -40,56 +41,48 @@ impl<'a, 's> Askers<'a, 's> {
         Ok(Askers { crowd, stand, sets })
     }
 
-    /// Whether the step may look the name up in vain on the waiting host at this place.
-    pub(crate) fn is_missed(&self, place: usize, name: &str) -> bool
+    /// Whether the step may read the name undefined on the waiting host at this place.
+    fn is_missed(&self, place: usize, name: &str) -> bool
         requires { place < length self.now.crowd.lacks.now.waiting.now }
-        ensures { result ≡ is_among name.now (missed_from self.now.stand self.now.crowd.lacks.now.vars.now (slice_index_or self.now.crowd.lacks.now.waiting.now place 0)) }
+        ensures { result ≡ misses (missed_from self.now.stand self.now.crowd.lacks.now.vars.now) name.now (slice_index_or self.now.crowd.lacks.now.waiting.now place 0) }
     {
         self.sets[place].has(name)
     }
 
-    /// Whether it may look up there in vain a name of which the host has no variable.
-    fn is_asked(&self, place: usize, name: &str) -> bool
-        requires { place < length self.now.crowd.lacks.now.waiting.now }
-        ensures { result ≡ (asking_of self.now.crowd self.now.stand).lacks name.now (slice_index_or self.now.crowd.lacks.now.waiting.now place 0) }
-    {
-        let host = self.crowd.lacks.waiting[place];
-        self.is_missed(place, name) && self.crowd.host_lacks(name, host)
-    }
-
-    /// On how many of them it may.
-    fn count_asked(&self, name: &str) -> usize
-        ensures { result ≡ model.lack_count (asking_of self.now.crowd self.now.stand) name.now }
+    /// Counts the hosts on which it may.
+    fn count_missing(&self, name: &str) -> usize
+        ensures { result ≡ count_by (misses (missed_from self.now.stand self.now.crowd.lacks.now.vars.now) name.now) self.now.crowd.lacks.now.waiting.now }
     {
         let mut count = 0;
         for place in 0..self.crowd.lacks.waiting.len() {
-            if self.is_asked(place, name) {
+            if self.is_missed(place, name) {
                 count += 1;
             }
         }
         count
     }
 
-    /// The first of these.
-    fn first_asked(&self, name: &str) -> Option<usize>
-        ensures { result ≡ model.first_lacking (asking_of self.now.crowd self.now.stand) name.now }
+    /// Returns the first of these.
+    fn first_missing(&self, name: &str) -> Option<usize>
+        ensures { result ≡ find (misses (missed_from self.now.stand self.now.crowd.lacks.now.vars.now) name.now) self.now.crowd.lacks.now.waiting.now }
     {
         for place in 0..self.crowd.lacks.waiting.len() {
-            if self.is_asked(place, name) {
+            if self.is_missed(place, name) {
                 return Some(self.crowd.lacks.waiting[place]);
             }
         }
         None
     }
 
-    /// What is noted of a name that the step reads and that no step before registers.
-    pub(crate) fn name_note(&self, at: StepPath, name: &'a str) -> Option<Note<'a>>
-        ensures { option_map seen result ≡ model.name_note (asking_of self.now.crowd self.now.stand) at name.now }
+    /// Returns the note on a name that the step reads; a step before registers it, or none does.
+    pub(crate) fn name_note(&self, is_result: bool, at: StepPath, name: &'a str) -> Option<Note<'a>>
+        ensures { option_map seen result ≡ name_note (crowd_of self.now.crowd) is_result (misses (missed_from self.now.stand self.now.crowd.lacks.now.vars.now)) at name.now }
     {
-        match self.first_asked(name) {
+        match self.first_missing(name) {
             Some(first) => {
-                let count = self.count_asked(name);
-                Some(lack_note(&self.crowd, at, name, count, first))
+                let hosts = self.count_missing(name);
+                let lack = Lack { hosts, first };
+                Some(lack_note(&self.crowd, is_result, at, name, lack))
             }
             None => None,
         }

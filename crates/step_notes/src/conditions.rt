@@ -1,20 +1,28 @@
-//! The notes on a condition that asks nothing about a host, and on one that compares what is never the same.
-ghost use Rattle.std.specs.Prelude.{◌≡◌, map, option_map};
+//! What the tests of a condition ask.
+ghost use Rattle.std.specs.Prelude.{◌≡◌, IfOk};
 ghost use Rattle.std.specs.List.{list_any};
+ghost use Rattle.cond.specs.Trees.{written, written_operand};
 ghost use Rattle.step_notes.specs.Conditions as model;
-ghost use Rattle.step_notes.specs.Conditions.{any_of};
-ghost use Rattle.note_lines.specs.Notes.{seen};
+ghost use Rattle.step_notes.specs.Inside.{said, said_all};
 
-use crate::comparisons::compares_unlike;
-use crate::questions::Question;
+use crate::tests::{SpannedTest, list_tests};
+use cond::Cond;
 use cond::leaf::{Operand, Test};
-use cond::tree::Tree;
-use cond::{Cond, Part};
-use note_lines::{Note, StepPath};
-use play_model::Step;
+use std::alloc::{AllocError, Global};
 
-fn looks_up(operand: Operand) -> bool
-    ensures { result ≡ model.looks_up operand }
+/// A question about a test.
+#[derive(Clone, Copy, Debug)]
+pub(crate) enum Question {
+    /// Does it read anything, or ask for a group?
+    AsksHost,
+    /// Does it ask for a group, or compare what it reads?
+    Matches,
+    /// Does it ask only whether a value is true, or defined?
+    Switches,
+}
+
+fn looks_up(text: &[u8], operand: Operand) -> bool
+    ensures { result ≡ model.looks_up (written_operand text.now operand) }
 {
     match operand {
         Operand::Text(_) | Operand::Int(_) | Operand::Truth(_) => false,
@@ -22,219 +30,77 @@ fn looks_up(operand: Operand) -> bool
     }
 }
 
-fn asks(test: Test) -> bool
-    ensures { result ≡ model.asks test }
+fn asks(text: &[u8], test: Test) -> bool
+    ensures { result ≡ model.asks (written text.now test) }
 {
     match test {
         Test::Stands { .. } | Test::Defined { .. } | Test::Within { .. } => true,
-        Test::Equals { left, right, .. } => looks_up(left) || looks_up(right),
-        Test::Alone(operand) => looks_up(operand),
+        Test::Equals { left, right, .. } => looks_up(text, left) || looks_up(text, right),
+        Test::Alone(operand) => looks_up(text, operand),
     }
 }
 
-fn matches(test: Test) -> bool
-    ensures { result ≡ model.matches test }
+fn matches(text: &[u8], test: Test) -> bool
+    ensures { result ≡ model.matches (written text.now test) }
 {
     match test {
         Test::Stands { .. } | Test::Defined { .. } | Test::Alone(_) => false,
-        Test::Equals { left, right, .. } => looks_up(left) || looks_up(right),
+        Test::Equals { left, right, .. } => looks_up(text, left) || looks_up(text, right),
         Test::Within { .. } => true,
     }
 }
 
-/// Whether the test is a text or a number alone: `true` and `false` switch something on or off.
-fn is_literal(test: Test) -> bool
-    ensures { result ≡ model.is_literal test }
-{
-    match test {
-        Test::Alone(Operand::Text(_) | Operand::Int(_)) => true,
-        _ => false,
-    }
-}
-
-fn is_truth(operand: Operand) -> bool
-    ensures { result ≡ model.is_truth operand }
+fn is_truth(text: &[u8], operand: Operand) -> bool
+    ensures { result ≡ model.is_truth (written_operand text.now operand) }
 {
     matches!(operand, Operand::Truth(_))
 }
 
-fn switches(test: Test) -> bool
-    ensures { result ≡ model.switches test }
+fn switches(text: &[u8], test: Test) -> bool
+    ensures { result ≡ model.switches (written text.now test) }
 {
     match test {
         Test::Stands { .. } | Test::Within { .. } => false,
         Test::Defined { .. } => true,
-        Test::Equals { left, right, .. } => is_truth(left) || is_truth(right),
-        Test::Alone(operand) => looks_up(operand),
+        Test::Equals { left, right, .. } => is_truth(text, left) || is_truth(text, right),
+        Test::Alone(operand) => looks_up(text, operand),
     }
 }
 
-fn answers(question: Question, test: Test) -> bool
-    ensures { result ≡ model.answers question test }
+fn answers(question: Question, one: SpannedTest<'_>) -> bool
+    ensures { result ≡ model.answers question (said one.entry) }
 {
     match question {
-        Question::AsksHost => asks(test),
-        Question::Matches => matches(test),
-        Question::Switches => switches(test),
-        Question::ComparesUnlike => compares_unlike(test),
-        Question::IsLiteral => is_literal(test),
+        Question::AsksHost => asks(one.text, one.test),
+        Question::Matches => matches(one.text, one.test),
+        Question::Switches => switches(one.text, one.test),
     }
 }
 
-#[cycle(answering)]
-fn answers_in_trees(question: Question, trees: &[Tree]) -> bool
-    ensures { result ≡ any_of (map (model.answers_in_tree question) trees.now) }
+fn has_test(question: Question, tests: &[SpannedTest<'_>]) -> bool
+    ensures { result ≡ list_any (model.answers question) (said_all tests.now) }
 {
-    for tree in trees {
-        if answers_in_tree(question, tree) {
+    for one in tests {
+        if answers(question, *one) {
             return true;
         }
     }
     false
 }
 
-#[cycle(answering)]
-fn answers_in_tree(question: Question, tree: &Tree) -> bool
-    ensures { result ≡ model.answers_in_tree question tree.now }
+/// Whether a test of it asks for a group or compares what it reads, and none asks only whether a value is true, or defined. Fails only if an allocation fails.
+pub(crate) fn is_matched(alloc: Global, when: &Option<Cond>) -> Result<bool, AllocError>
+    ensures { IfOk result (λ matched. matched ≡ model.is_matched when.now) }
 {
-    match tree {
-        Tree::Either(parts) | Tree::Both(parts) => answers_in_trees(question, parts),
-        Tree::Negated(part) => answers_in_tree(question, part),
-        Tree::Leaf(test) | Tree::Denied(test) => answers(question, *test),
-    }
+    let tests = list_tests(alloc, when)?;
+    let tests = tests.as_slice();
+    Ok(has_test(Question::Matches, tests) && !has_test(Question::Switches, tests))
 }
 
-fn answers_in_part(question: Question, part: Part) -> bool
-    ensures { result ≡ model.answers_in_part question part }
+/// Whether a test of it asks anything about the host. Fails only if an allocation fails.
+pub(crate) fn asks_host(alloc: Global, when: &Option<Cond>) -> Result<bool, AllocError>
+    ensures { IfOk result (λ asked. asked ≡ model.asks_host when.now) }
 {
-    match part {
-        Part::Test { test, .. } => answers(question, test),
-        Part::Trees { .. } => false,
-    }
-}
-
-fn answers_in_parts(question: Question, parts: &[Part]) -> bool
-    ensures { result ≡ list_any (model.answers_in_part question) parts.now }
-{
-    parts.iter().any(|part| answers_in_part(question, *part))
-}
-
-/// Whether a test of the condition is one that the question asks for.
-fn has_test(question: Question, condition: &Cond) -> bool
-    ensures { result ≡ model.has_test question condition.now }
-{
-    answers_in_parts(question, &condition.parts) || answers_in_trees(question, &condition.trees)
-}
-
-fn has_test_if(question: Question, condition: &Option<Cond>) -> bool
-    ensures { result ≡ model.has_test_if question condition.now }
-{
-    match condition {
-        Some(condition) => has_test(question, condition),
-        None => false,
-    }
-}
-
-/// Whether a test of it asks for a group or compares what it looks up, and none asks just whether a value is true, or there.
-pub(crate) fn is_matched(when: &Option<Cond>) -> bool
-    ensures { result ≡ model.is_matched when.now }
-{
-    has_test_if(Question::Matches, when) && !has_test_if(Question::Switches, when)
-}
-
-/// Whether a test of it asks anything about the host.
-pub(crate) fn asks_host(when: &Option<Cond>) -> bool
-    ensures { result ≡ model.asks_host when.now }
-{
-    has_test_if(Question::AsksHost, when)
-}
-
-fn is_never_operand(denied: bool, operand: Operand) -> bool
-    ensures { result ≡ model.is_never_operand denied operand }
-{
-    match operand {
-        Operand::Truth(true) => denied,
-        Operand::Truth(false) => !denied,
-        Operand::Text(_) | Operand::Int(_) | Operand::Ref(_) => false,
-    }
-}
-
-fn is_never_test(denied: bool, test: Test) -> bool
-    ensures { result ≡ model.is_never_test denied test }
-{
-    match test {
-        Test::Alone(operand) => is_never_operand(denied, operand),
-        _ => false,
-    }
-}
-
-/// Whether the part is `false` on each host.
-fn is_never(part: Part) -> bool
-    ensures { result ≡ model.is_never part }
-{
-    match part {
-        Part::Test { denied, test, .. } => is_never_test(denied, test),
-        Part::Trees { .. } => false,
-    }
-}
-
-fn is_never_in(parts: &[Part]) -> bool
-    ensures { result ≡ list_any model.is_never parts.now }
-{
-    parts.iter().any(|part| is_never(*part))
-}
-
-pub(crate) fn never_holds(condition: &Option<Cond>) -> bool
-    ensures { result ≡ model.never_holds condition.now }
-{
-    match condition {
-        Some(condition) => is_never_in(&condition.parts),
-        None => false,
-    }
-}
-
-/// What is noted of whom the step notifies.
-pub(crate) fn notify_note(at: StepPath, step: &Step) -> Option<Note<'static>>
-    ensures { option_map seen result ≡ model.notify_note at step.now }
-{
-    if !step.notify.is_empty() && never_holds(&step.changed_when) {
-        Some(Note::IdleNotify { at })
-    } else {
-        None
-    }
-}
-
-/// What is noted of the condition under which a step runs.
-pub(crate) fn condition_note(at: StepPath, when: &Option<Cond>) -> Option<Note<'static>>
-    ensures { option_map seen result ≡ model.condition_note at when.now }
-{
-    match when {
-        Some(condition) => constant_note(at, condition),
-        None => None,
-    }
-}
-
-fn constant_note(at: StepPath, condition: &Cond) -> Option<Note<'static>>
-    ensures { option_map seen result ≡ model.constant_note at condition.now }
-{
-    if !has_test(Question::AsksHost, condition) || has_test(Question::IsLiteral, condition) {
-        Some(Note::ConstantCondition { at })
-    } else {
-        None
-    }
-}
-
-/// What is noted of the condition that stands under this key.
-pub(crate) fn unlike_note(
-    at: StepPath,
-    key: &'static str,
-    condition: &Option<Cond>,
-) -> Option<Note<'static>>
-    ensures { option_map seen result ≡ model.unlike_note at key.now condition.now }
-{
-    if has_test_if(Question::ComparesUnlike, condition) {
-        Some(Note::UnlikeValues { at, key })
-    } else {
-        None
-    }
+    let tests = list_tests(alloc, when)?;
+    Ok(has_test(Question::AsksHost, tests.as_slice()))
 }

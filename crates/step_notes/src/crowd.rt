@@ -1,33 +1,27 @@
-//! The hosts that wait for a play, and the names that they lack.
-ghost use Rattle.std.specs.Prelude.{◌≡◌, None, length, option_map};
+//! The hosts that wait for a play.
+ghost use Rattle.std.specs.Prelude.{◌≡◌, false, length, option_map};
 ghost use Rattle.std.specs.List.{find};
 ghost use Rattle.step_notes.specs.Hosts as model;
-ghost use Rattle.step_notes.specs.Hosts.{noted_lack, noted_want};
+ghost use Rattle.step_notes.specs.Hosts.{noted_lack};
 ghost use Rattle.step_notes.specs.Inside.{crowd_of};
-ghost use Rattle.note_lines.specs.Notes.{seen, unknown_name};
-ghost use Rattle.step_notes.specs.Programs as programs;
-ghost use Rattle.step_notes.specs.Programs.{first_dashed, is_dashed};
+ghost use Rattle.note_lines.specs.Notes.{seen};
+ghost use Rattle.step_notes.specs.Arguments.{first_dashed};
+ghost use Rattle.step_notes.specs.Programs.{is_dashed};
 ghost use Rattle.domains.specs.Numbered.{host_at};
 
-use crate::lacks::{Lacks, host_lacks};
-use crate::sort::Sort;
+use crate::lack::Lack;
+use crate::lacks::Lacks;
+use crate::programs::is_dashed;
 use domains::Fleet;
-use fleet_notes::byte_at;
 use group_tree::HostId;
 use note_lines::{Missing, Note, StepPath};
 use recap::host_name;
 
-/// The waiting hosts, and which names they lack.
+/// The waiting hosts, and what they have under names.
 #[derive(Clone, Copy)]
 pub struct Crowd<'a, 's> {
     pub fleet: &'a Fleet,
     pub lacks: &'s Lacks<'a, 's>,
-}
-
-fn is_dashed(name: &str) -> bool
-    ensures { result ≡ programs.is_dashed name.now }
-{
-    byte_at(name.as_bytes(), 0) == b'-'
 }
 
 impl<'a> Crowd<'a, '_> {
@@ -35,27 +29,27 @@ impl<'a> Crowd<'a, '_> {
     pub(crate) fn is_lacked(&self, name: &str) -> bool
         ensures { result ≡ model.is_lacked (crowd_of self.now) name.now }
     {
-        self.lacks.get(name).is_some()
+        self.lacks.get(name).lack.is_some()
     }
 
-    /// Whether this host hasn't.
-    pub(crate) fn host_lacks(&self, name: &str, host: usize) -> bool
-        ensures { result ≡ (crowd_of self.now).lacks name.now host }
+    /// Whether not all waiting hosts have the same value of the name.
+    pub(crate) fn varies(&self, name: &str) -> bool
+        ensures { result ≡ model.varies (crowd_of self.now) name.now }
     {
-        host_lacks(self.lacks.vars, name, host)
+        self.lacks.get(name).varies
     }
 
-    /// What is noted of a name that a step without conditions reads.
+    /// Returns the note on a name that a step without conditions reads.
     pub(crate) fn name_note(&self, at: StepPath, name: &'a str) -> Option<Note<'a>>
-        ensures { option_map seen result ≡ model.name_note (crowd_of self.now) at name.now }
+        ensures { option_map seen result ≡ model.name_note (crowd_of self.now) false (model.lacks (crowd_of self.now)) at name.now }
     {
-        match self.lacks.get(name) {
-            Some(lack) => Some(lack_note(self, at, name, lack.hosts, lack.first)),
+        match self.lacks.get(name).lack {
+            Some(lack) => Some(lack_note(self, false, at, name, lack)),
             None => None,
         }
     }
 
-    /// The first whose name begins with a dash.
+    /// Returns the first whose name starts with a dash.
     fn first_dashed_host(&self) -> Option<usize>
         ensures { result ≡ find (λ host. is_dashed (host_at self.now.fleet.now.hosts host)) self.now.lacks.now.waiting.now }
     {
@@ -66,7 +60,7 @@ impl<'a> Crowd<'a, '_> {
         )))
     }
 
-    /// Its name.
+    /// Returns its name.
     pub(crate) fn first_dashed(&self) -> Option<&'a str>
         ensures { option_map (λ name. name.now) result ≡ first_dashed (crowd_of self.now) }
     {
@@ -77,62 +71,38 @@ impl<'a> Crowd<'a, '_> {
     }
 }
 
-/// What is noted of a name that a step reads and that one before registers, where it may be looked up in vain on so many of the waiting hosts, first this one.
-pub(crate) fn want_note<'a>(
-    crowd: &Crowd<'a, '_>,
-    at: StepPath,
-    name: &'a str,
-    hosts: usize,
-    first: usize,
-) -> Note<'a>
-    ensures { seen result ≡ noted_want (crowd_of crowd.now) at name.now hosts first }
-{
-    Note::MissingResult {
-        at,
-        name,
-        missing: missing_from(crowd, hosts, first),
-    }
-}
-
-fn missing_from<'a>(crowd: &Crowd<'a, '_>, hosts: usize, first: usize) -> Missing<'a>
-    ensures hosts { result.hosts ≡ hosts }
+fn missing_from<'a>(crowd: &Crowd<'a, '_>, lack: Lack) -> Missing<'a>
+    ensures hosts { result.hosts ≡ lack.hosts }
     ensures waiting { result.waiting ≡ length crowd.now.lacks.now.waiting.now }
-    ensures host { result.host.now ≡ host_at crowd.now.fleet.now.hosts first }
+    ensures host { result.host.now ≡ host_at crowd.now.fleet.now.hosts lack.first }
 {
     Missing {
-        hosts,
+        hosts: lack.hosts,
         waiting: crowd.lacks.waiting.len(),
-        host: host_name(crowd.fleet, HostId { index: first }),
+        host: host_name(crowd.fleet, HostId { index: lack.first }),
     }
 }
 
-/// What is noted of a name that nobody has.
-pub(crate) fn unknown_note(at: StepPath, name: &str) -> Note<'_>
-    ensures { seen result ≡ unknown_name at name.now None }
-{
-    Note::UnknownName {
-        at,
-        name,
-        near: None,
-    }
-}
-
-/// What is noted of a name that a step reads and that so many of the waiting hosts lack, first this one.
+/// Returns the note on a name that these of the waiting hosts may read undefined; a step before registers it, or none does.
 pub(crate) fn lack_note<'a>(
     crowd: &Crowd<'a, '_>,
+    is_result: bool,
     at: StepPath,
     name: &'a str,
-    hosts: usize,
-    first: usize,
+    lack: Lack,
 ) -> Note<'a>
-    ensures { seen result ≡ noted_lack (crowd_of crowd.now) at name.now hosts first }
+    ensures { seen result ≡ noted_lack (crowd_of crowd.now) is_result at name.now lack.hosts lack.first }
 {
-    if hosts == crowd.lacks.waiting.len() || !crowd.lacks.given.has(Sort::Any, name) {
-        return unknown_note(at, name);
-    }
-    Note::MissingName {
-        at,
-        name,
-        missing: missing_from(crowd, hosts, first),
+    let missing = missing_from(crowd, lack);
+    if is_result {
+        Note::MissingResult { at, name, missing }
+    } else if lack.hosts == crowd.lacks.waiting.len() || !crowd.lacks.given.has(name) {
+        Note::UnknownName {
+            at,
+            name,
+            near: None,
+        }
+    } else {
+        Note::MissingName { at, name, missing }
     }
 }

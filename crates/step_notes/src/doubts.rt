@@ -1,60 +1,47 @@
-//! The notes on a condition that asks for what isn't there, or takes something for what it isn't.
-ghost use Rattle.std.specs.Prelude.{◌≡◌, ◌++◌, OnOk, option_map};
-ghost use Rattle.needed_results.specs.Needs.{tasks_before};
+//! The notes on conditions that ask for what doesn't exist, and on those by which a step runs only after a change.
+ghost use Rattle.std.specs.Prelude.{◌≡◌, ◌++◌, IfOk, OnOk, option_map};
 ghost use Rattle.note_lines.specs.Notes.{seen};
 ghost use Rattle.step_notes.specs.Doubts as model;
-ghost use Rattle.step_notes.specs.Inside.{crowd_of, has_name, known_in, said, said_all};
+ghost use Rattle.step_notes.specs.Inside.{said, said_all};
 
-use crate::asked::Asked;
-use crate::asked_groups::unknown_group;
-use crate::asked_hosts::unknown_host;
-use crate::clashing::clash_note;
-use crate::conditions::unlike_note;
-use crate::known::Known;
-use crate::tests::{Said, list_tests};
-use crate::text_holes::holed_in;
-use crate::values::{false_in, unlike_in, whole_in};
+use crate::misfits::{changed_in, holed_in, unknown_group, unknown_host};
+use crate::tests::{SpannedTest, list_tests};
 use cond::Cond;
+use domains::Fleet;
 use note_lines::{Note, Notes, StepPath};
-use play_model::{Play, Step};
+use play_model::Step;
 use std::alloc::{AllocError, Global};
 
 /// Why a condition may not be meant.
 #[derive(Clone, Copy, Debug)]
 pub(crate) enum Doubt {
-    /// It asks for a group that isn't there.
+    /// It asks for a group that doesn't exist.
     NamesNoGroup,
     /// It compares the host's name with one that no host has.
     NamesNoHost,
-    /// A name stands alone, and a value of it is a text by which somebody says no.
-    IsFalseText,
-    /// A name is compared with what is of another kind than all of its values.
-    IsUnlike,
-    /// A result stands alone, is compared, or is asked for where it always is, though its fields are meant.
-    IsWhole,
-    /// A text has a hole, which nothing fills.
+    /// A string has a placeholder, which nothing fills.
     HasHole,
+    /// It asks whether a step changed something, which a second attempt doesn't do again.
+    AsksChanged,
 }
 
-fn doubted_in<'c>(doubt: Doubt, known: &Known<'_, '_>, one: Said<'c>) -> Option<&'c str>
-    ensures { option_map (λ name. name.now) result ≡ model.doubted_in doubt (known_in known.now) (said one.entry) }
+fn doubted_in<'c>(doubt: Doubt, fleet: &Fleet, one: SpannedTest<'c>) -> Option<&'c str>
+    ensures { option_map (λ name. name.now) result ≡ model.doubted_in doubt fleet.now (said one.entry) }
 {
     match doubt {
-        Doubt::NamesNoGroup => unknown_group(known.asked.crowd.fleet, one),
-        Doubt::NamesNoHost => unknown_host(known.asked.crowd.fleet, one),
-        Doubt::IsFalseText => false_in(known, one),
-        Doubt::IsUnlike => unlike_in(known, one),
-        Doubt::IsWhole => whole_in(known, one),
+        Doubt::NamesNoGroup => unknown_group(fleet, one),
+        Doubt::NamesNoHost => unknown_host(fleet, one),
         Doubt::HasHole => holed_in(one),
+        Doubt::AsksChanged => changed_in(one),
     }
 }
 
-/// The first name, or text, of which the tests make one doubt so.
-fn first_doubted<'c>(doubt: Doubt, known: &Known<'_, '_>, tests: &[Said<'c>]) -> Option<&'c str>
-    ensures { option_map (λ name. name.now) result ≡ model.first_doubted doubt (known_in known.now) (said_all tests.now) }
+/// Returns the first name, or string, of which the tests make one doubt so.
+fn first_doubted<'c>(doubt: Doubt, fleet: &Fleet, tests: &[SpannedTest<'c>]) -> Option<&'c str>
+    ensures { option_map (λ name. name.now) result ≡ model.first_doubted doubt fleet.now (said_all tests.now) }
 {
     for one in tests {
-        if let Some(name) = doubted_in(doubt, known, *one) {
+        if let Some(name) = doubted_in(doubt, fleet, *one) {
             return Some(name);
         }
     }
@@ -75,93 +62,73 @@ fn noted<'c>(doubt: Doubt, at: StepPath, key: &'static str, name: &'c str) -> No
             key,
             host: name,
         },
-        Doubt::IsFalseText => Note::FalseText { at, key, name },
-        Doubt::IsUnlike => Note::UnlikeVariable { at, key, name },
-        Doubt::IsWhole => Note::WholeResult { at, key, name },
         Doubt::HasHole => Note::TextHole {
             at,
             key,
             text: name,
         },
+        Doubt::AsksChanged => Note::ChangedGuard { at, name },
     }
 }
 
-/// What is noted of the condition under this key, which is made of these tests.
+/// Returns the note on the condition under this key, which is made of these tests.
 fn doubt_note<'c>(
     doubt: Doubt,
-    known: &Known<'_, '_>,
+    fleet: &Fleet,
     at: StepPath,
     key: &'static str,
-    tests: &[Said<'c>],
+    tests: &[SpannedTest<'c>],
 ) -> Option<Note<'c>>
-    ensures { option_map seen result ≡ model.doubt_note doubt (known_in known.now) at key.now (said_all tests.now) }
+    ensures { option_map seen result ≡ option_map (model.noted_doubt doubt at key.now) (model.first_doubted doubt fleet.now (said_all tests.now)) }
 {
-    let name = first_doubted(doubt, known, tests)?;
+    let name = first_doubted(doubt, fleet, tests)?;
     Some(noted(doubt, at, key, name))
 }
 
-/// Adds what is noted of it.
-fn note_doubts<'c>(
-    notes: &mut Notes<'c>,
-    known: &Known<'_, '_>,
-    at: StepPath,
-    key: &'static str,
-    tests: &[Said<'c>],
-) -> Result<(), AllocError>
-    ensures { OnOk result (notes.new ≡ notes.old ++ model.doubt_notes (known_in known.now) at key.now (said_all tests.now)) }
-{
-    notes.add(doubt_note(Doubt::NamesNoGroup, known, at, key, tests))?;
-    notes.add(doubt_note(Doubt::NamesNoHost, known, at, key, tests))?;
-    notes.add(doubt_note(Doubt::IsFalseText, known, at, key, tests))?;
-    notes.add(doubt_note(Doubt::IsUnlike, known, at, key, tests))?;
-    notes.add(doubt_note(Doubt::IsWhole, known, at, key, tests))?;
-    notes.add(doubt_note(Doubt::HasHole, known, at, key, tests))?;
-    Ok(())
-}
-
-/// Adds all that is noted of the condition under this key.
+/// Adds the notes on the condition under this key.
 fn note_condition<'a>(
     alloc: Global,
     notes: &mut Notes<'a>,
-    known: &Known<'_, '_>,
+    fleet: &Fleet,
     at: StepPath,
     key: &'static str,
     condition: &'a Option<Cond>,
 ) -> Result<(), AllocError>
-    ensures { OnOk result (notes.new ≡ notes.old ++ model.condition_notes (known_in known.now) at key.now condition.now) }
+    ensures { OnOk result (notes.new ≡ notes.old ++ model.condition_notes fleet.now at key.now condition.now) }
 {
-    let tests = list_tests(alloc, condition)?;
-    note_doubts(notes, known, at, key, tests.as_slice())?;
-    notes.add(unlike_note(at, key, condition))?;
-    notes.add(clash_note(alloc, at, key, condition)?)?;
+    let listed = list_tests(alloc, condition)?;
+    let tests = listed.as_slice();
+    notes.add(doubt_note(Doubt::NamesNoGroup, fleet, at, key, tests))?;
+    notes.add(doubt_note(Doubt::NamesNoHost, fleet, at, key, tests))?;
+    notes.add(doubt_note(Doubt::HasHole, fleet, at, key, tests))?;
     Ok(())
 }
 
-/// Adds what is noted of a step's conditions, one after another. It fails for want of memory alone.
+/// Adds the notes on a step's conditions, in sequence. Fails only if an allocation fails.
 pub(crate) fn note_conditions<'a>(
     alloc: Global,
     notes: &mut Notes<'a>,
-    asked: &Asked<'_, '_>,
-    play: &Play,
+    fleet: &Fleet,
     at: StepPath,
     step: &'a Step,
 ) -> Result<(), AllocError>
-    ensures { OnOk result (notes.new ≡ notes.old
-        ++ model.conditions_notes (crowd_of asked.now.crowd) (has_name asked.now.registered.now) (tasks_before play.now asked.now.stand.place) at step.now) }
+    ensures { OnOk result (notes.new ≡ notes.old ++ model.conditions_notes fleet.now at step.now) }
 {
-    let before = Known {
-        asked: *asked,
-        play,
-        run: None,
-    };
-    note_condition(alloc, notes, &before, at, "when", &step.when)?;
-    let behind = Known {
-        asked: *asked,
-        play,
-        run: Some(step),
-    };
-    let changed = &step.changed_when;
-    note_condition(alloc, notes, &behind, at, "changed_when", changed)?;
-    note_condition(alloc, notes, &behind, at, "failed_when", &step.failed_when)?;
+    note_condition(alloc, notes, fleet, at, "when", &step.when)?;
+    note_condition(alloc, notes, fleet, at, "changed_when", &step.changed_when)?;
+    note_condition(alloc, notes, fleet, at, "failed_when", &step.failed_when)?;
     Ok(())
+}
+
+/// Returns the note on a step that runs only after a change. Fails only if an allocation fails.
+pub(crate) fn changed_note<'a>(
+    alloc: Global,
+    fleet: &Fleet,
+    at: StepPath,
+    step: &'a Step,
+) -> Result<Option<Note<'a>>, AllocError>
+    ensures { IfOk result (λ note. option_map seen note ≡ model.changed_note fleet.now at step.now) }
+{
+    let tests = list_tests(alloc, &step.when)?;
+    Ok(doubt_note(Doubt::AsksChanged, fleet, at, "when", tests.as_slice()))
 }

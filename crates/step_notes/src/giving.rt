@@ -2,10 +2,9 @@
 ghost use Rattle.std.specs.Prelude.{◌≡◌, ◌||◌, IfOk, OnOk};
 ghost use Rattle.std.specs.List.{list_any};
 ghost use Rattle.group_tree.specs.Names.{Name};
-ghost use Rattle.step_notes.specs.Given.{gives, group_gives, hosts_give, is_given_as, is_named};
-ghost use Rattle.step_notes.specs.declared.sort.Sort.{Sort};
+ghost use Rattle.step_notes.specs.Given.{group_gives, has_missed, hosts_give, is_given, is_named};
 
-use crate::given::Given;
+use crate::missed::Missed;
 use domains::{WalkedGroup, list_walk};
 use group_tree::{Group, Host, Tree, Variable};
 use std::alloc::{AllocError, Allocator, Global};
@@ -13,12 +12,12 @@ use std::alloc::{AllocError, Allocator, Global};
 /// Adds the names of these variables.
 fn add_variables<'t, A: Allocator>(
     variables: &'t [Variable<A>],
-    given: &mut Given<'t>,
+    given: &mut Missed<'t>,
 ) -> Result<(), AllocError>
-    ensures { OnOk result ((sort : Sort) (name : Name) → gives given.new sort name ≡ (gives given.old sort name || is_named sort name variables.now)) }
+    ensures { OnOk result ((name : Name) → has_missed given.new name ≡ (has_missed given.old name || is_named name variables.now)) }
 {
     for variable in variables {
-        given.add(variable.name(), variable.value())?;
+        given.add(variable.name())?;
     }
     Ok(())
 }
@@ -26,9 +25,9 @@ fn add_variables<'t, A: Allocator>(
 /// Adds those of the hosts' variables.
 fn add_hosts<'t, A: Allocator>(
     hosts: &'t [Host<A>],
-    given: &mut Given<'t>,
+    given: &mut Missed<'t>,
 ) -> Result<(), AllocError>
-    ensures { OnOk result ((sort : Sort) (name : Name) → gives given.new sort name ≡ (gives given.old sort name || hosts_give sort name hosts.now)) }
+    ensures { OnOk result ((name : Name) → has_missed given.new name ≡ (has_missed given.old name || hosts_give name hosts.now)) }
 {
     for host in hosts {
         add_variables(host.variables(), given)?;
@@ -37,8 +36,11 @@ fn add_hosts<'t, A: Allocator>(
 }
 
 /// Adds those of the group's own variables, and of the hosts that it lists itself.
-fn add_group<'t, A: Allocator>(group: &'t Group<A>, given: &mut Given<'t>) -> Result<(), AllocError>
-    ensures { OnOk result ((sort : Sort) (name : Name) → gives given.new sort name ≡ (gives given.old sort name || group_gives sort name group.now)) }
+fn add_group<'t, A: Allocator>(
+    group: &'t Group<A>,
+    given: &mut Missed<'t>,
+) -> Result<(), AllocError>
+    ensures { OnOk result ((name : Name) → has_missed given.new name ≡ (has_missed given.old name || group_gives name group.now)) }
 {
     add_variables(group.variables(), given)?;
     add_hosts(group.hosts(), given)
@@ -46,10 +48,10 @@ fn add_group<'t, A: Allocator>(group: &'t Group<A>, given: &mut Given<'t>) -> Re
 
 fn add_groups<'t, A: Allocator>(
     groups: &[WalkedGroup<'t, A>],
-    given: &mut Given<'t>,
+    given: &mut Missed<'t>,
 ) -> Result<(), AllocError>
-    ensures { OnOk result ((sort : Sort) (name : Name) → gives given.new sort name
-        ≡ (gives given.old sort name || list_any (λ walked. group_gives sort name walked.group.now) groups.now)) }
+    ensures { OnOk result ((name : Name) → has_missed given.new name
+        ≡ (has_missed given.old name || list_any (λ walked. group_gives name walked.group.now) groups.now)) }
 {
     for walked in groups {
         add_group(walked.group, given)?;
@@ -57,16 +59,16 @@ fn add_groups<'t, A: Allocator>(
     Ok(())
 }
 
-/// The names of the variables of all groups and hosts. It fails for want of memory alone.
+/// Returns the names of the variables of all groups and hosts. Fails only if an allocation fails.
 pub fn list_given<'t, A: Allocator>(
     alloc: Global,
     tree: &'t Tree<A>,
-) -> Result<Given<'t>, AllocError>
-    ensures { IfOk result (λ given. (sort : Sort) (name : Name) → gives given sort name ≡ is_given_as sort tree.now name) }
+) -> Result<Missed<'t>, AllocError>
+    ensures { IfOk result (λ given. (name : Name) → has_missed given name ≡ is_given tree.now name) }
 {
     let mut groups = Vec::new(alloc);
     list_walk(tree.root(), 0, &mut groups)?;
-    let mut given = Given::new(alloc);
+    let mut given = Missed::new(alloc);
     add_groups(groups.as_slice(), &mut given)?;
     Ok(given)
 }

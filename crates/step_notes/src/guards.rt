@@ -1,4 +1,4 @@
-//! The names of which a condition asks whether they are there.
+//! The names of which a condition asks whether they are defined.
 ghost use Rattle.std.specs.Prelude.{◌≡◌, ◌||◌, IfOk, OnOk};
 ghost use Rattle.cond.specs.Mentions.{names_in_ref};
 ghost use Rattle.cond.specs.Trees.{written_ref};
@@ -7,7 +7,7 @@ ghost use Rattle.step_notes.specs.Guards.{guarded, guarded_by, guarded_in_test};
 ghost use Rattle.step_notes.specs.Inside.{has_missed, said, said_all};
 
 use crate::missed::Missed;
-use crate::tests::{Said, list_tests};
+use crate::tests::{SpannedTest, list_tests};
 use cond::Cond;
 use cond::leaf::{Ref, Test};
 use cond::span::word_in;
@@ -22,8 +22,8 @@ fn add_ref<'c>(text: &'c [u8], of: Ref, found: &mut Missed<'c>) -> Result<(), Al
     }
 }
 
-fn add_test<'c>(one: Said<'c>, found: &mut Missed<'c>) -> Result<(), AllocError>
-    ensures { OnOk result ((name : Name) → has_missed found.new name ≡ (has_missed found.old name || is_among name (guarded_in_test (said one.entry)))) }
+fn add_test<'c>(one: SpannedTest<'c>, found: &mut Missed<'c>) -> Result<(), AllocError>
+    ensures { OnOk result ((name : Name) → has_missed found.new name ≡ (has_missed found.old name || is_among name (guarded_in_test (said one.entry).test))) }
 {
     match one.test {
         Test::Defined { of, .. } => add_ref(one.text, of, found),
@@ -31,7 +31,7 @@ fn add_test<'c>(one: Said<'c>, found: &mut Missed<'c>) -> Result<(), AllocError>
     }
 }
 
-fn add_tests<'c>(tests: &[Said<'c>], found: &mut Missed<'c>) -> Result<(), AllocError>
+fn add_tests<'c>(tests: &[SpannedTest<'c>], found: &mut Missed<'c>) -> Result<(), AllocError>
     ensures { OnOk result ((name : Name) → has_missed found.new name ≡ (has_missed found.old name || is_among name (guarded_by (said_all tests.now)))) }
 {
     for one in tests {
@@ -40,7 +40,7 @@ fn add_tests<'c>(tests: &[Said<'c>], found: &mut Missed<'c>) -> Result<(), Alloc
     Ok(())
 }
 
-/// Each once. It fails for want of memory alone.
+/// Returns each once. Fails only if an allocation fails.
 pub(crate) fn list_guarded<'c>(
     alloc: Global,
     condition: &'c Option<Cond>,

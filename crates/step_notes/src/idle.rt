@@ -29,7 +29,7 @@ pub(crate) fn skips(
     }
 }
 
-/// Whether it is known that each waiting host does; not where nobody waits.
+/// Whether it is known that each waiting host does; not if none waits.
 fn all_skip(alloc: Global, crowd: &Crowd<'_, '_>, stand: Stand<'_, '_>) -> Result<bool, AllocError>
     ensures { IfOk result (λ skip. skip ≡ skip_all (crowd_of crowd.now) (foreseen_from stand.entry crowd.now.lacks.now.vars.now)) }
 {
@@ -49,14 +49,14 @@ fn is_idle(
 ) -> Result<bool, AllocError>
     ensures { IfOk result (λ idle. idle ≡ model.is_idle (crowd_of crowd.now) (foreseen_from stand.entry crowd.now.lacks.now.vars.now) when.now) }
 {
-    if is_matched(when) {
+    if is_matched(alloc, when)? {
         all_skip(alloc, crowd, stand)
     } else {
         Ok(false)
     }
 }
 
-/// What is noted of who runs the step. It fails for want of memory alone.
+/// Returns the note on a step that no host runs. Fails only if an allocation fails.
 pub(crate) fn idle_step_note(
     alloc: Global,
     crowd: &Crowd<'_, '_>,

@@ -1,109 +1,127 @@
-//! Which names the waiting hosts lack: each is looked up on them once a play.
-ghost use Rattle.std.specs.Prelude.{◌≡◌, OnOk, count_by};
-ghost use Rattle.std.specs.List.{find};
-ghost use Rattle.step_notes.specs.Lacks as spec;
+//! What the waiting hosts have under names: each name is looked up on them once a play.
+ghost use Rattle.std.specs.Prelude.{◌≡◌, OnOk, count_by, option_map};
+ghost use Rattle.std.specs.List.{find, list_all};
+ghost use Rattle.cond.specs.Meaning as meaning;
+ghost use Rattle.cond.specs.Trees.{had};
+ghost use Rattle.group_tree.specs.Scalars.{lent_scalar};
 ghost use Rattle.step_notes.specs.Given.{AreAllGiven, has_missed};
-ghost use Rattle.step_notes.specs.Lacks.{KnowsLacks, lack_in, lacks_in};
+ghost use Rattle.step_notes.specs.Lacks as spec;
+ghost use Rattle.step_notes.specs.Lacks.{KnowsFacts, facts_in, lacks_in, value_in};
 
-use crate::given::Given;
-use crate::lack::Lack;
-use crate::mentioned::list_mentioned;
+use crate::lack::{Facts, Lack};
 use crate::missed::Missed;
-use crate::reading::name_in;
-use cond::{Cond, Env};
+use crate::programs::goes_elsewhere;
+use crate::reads::{list_before, list_behind};
+use cond::{Env, Scalar, Value};
 use host_vars::Vars;
 use indexmap::IndexMap;
-use play_model::{Step, Words};
+use play_model::Step;
 use std::alloc::{AllocError, Global};
-use text_parts::first_word_part;
 
-/// The variables of all hosts, the names that any of them has, the waiting hosts by their numbers, rising, and what was looked up of them. What nobody has isn't looked up.
+/// The variables of all hosts, the names that any of them has, the waiting hosts by their numbers, rising, whether a step of their play calls `ssh`, and what was looked up of the hosts. What none has
+/// isn't looked up.
 #[derive(Drop)]
 pub struct Lacks<'a, 's> {
     pub vars: &'s [Vars],
     pub waiting: &'s [usize],
-    pub given: &'s Given<'a>,
-    known: IndexMap<&'a str, Option<Lack>>,
-    ghost knows: { KnowsLacks vars.now waiting.now known },
-    ghost all: { AreAllGiven (has_missed given.now.names) vars.now },
+    pub given: &'s Missed<'a>,
+    pub elsewhere: bool,
+    known: IndexMap<&'a str, Facts>,
+    ghost knows: { KnowsFacts vars.now waiting.now known },
+    ghost all: { AreAllGiven (has_missed given.now) vars.now },
 }
 
 impl<'a, 's> Lacks<'a, 's> {
-    ghost use Rattle.std.specs.Prelude.{IfOk};
+    ghost use Rattle.std.specs.Prelude.{◌≡◌, IfOk};
+    ghost use Rattle.step_notes.specs.Programs.{goes_elsewhere};
 
-    /// Looks up whatever the steps read. It fails for want of memory alone.
+    /// Looks up whatever the steps read. Fails only if an allocation fails.
     pub fn of(
         alloc: Global,
         vars: &'s [Vars],
         waiting: &'s [usize],
-        given: &'s Given<'a>,
+        given: &'s Missed<'a>,
         steps: &'a [Step],
     ) -> Result<Lacks<'a, 's>, AllocError>
-        requires { AreAllGiven (has_missed given.now.names) vars.now }
+        requires { AreAllGiven (has_missed given.now) vars.now }
         ensures given { IfOk result (λ lacks. lacks.given.now ≡ given.now) }
         ensures vars { IfOk result (λ lacks. lacks.vars.now ≡ vars.now) }
         ensures waiting { IfOk result (λ lacks. lacks.waiting.now ≡ waiting.now) }
+        ensures elsewhere { IfOk result (λ lacks. lacks.elsewhere ≡ goes_elsewhere steps.now) }
     {
         let mut known = IndexMap::new(alloc);
         for step in steps {
-            learn_step(alloc, vars, waiting, &given.names, step, &mut known)?;
+            learn_step(alloc, vars, waiting, given, step, &mut known)?;
         }
         Ok(Lacks {
             vars,
             waiting,
             given,
+            elsewhere: goes_elsewhere(steps),
             known,
         })
     }
 
-    /// How many of the waiting hosts lack the name, where any does.
-    pub(crate) fn get(&self, name: &str) -> Option<Lack>
-        ensures { result ≡ lack_in self.now.vars.now self.now.waiting.now name.now }
+    /// Returns what the waiting hosts have under the name.
+    pub(crate) fn get(&self, name: &str) -> Facts
+        ensures { result ≡ facts_in self.now.vars.now self.now.waiting.now name.now }
     {
-        match known_lack(&self.known, name) {
-            Some(lack) => lack,
+        match known_facts(&self.known, name) {
+            Some(facts) => facts,
             None => self.find(name),
         }
     }
 
-    fn find(&self, name: &str) -> Option<Lack>
-        ensures { result ≡ lack_in self.now.vars.now self.now.waiting.now name.now }
+    fn find(&self, name: &str) -> Facts
+        ensures { result ≡ facts_in self.now.vars.now self.now.waiting.now name.now }
     {
-        if self.given.names.has(name) {
+        if self.given.has(name) {
             look_up(self.vars, self.waiting, name)
         } else {
-            lacked_by_all(self.waiting)
+            facts_of_none(self.waiting)
         }
     }
 }
 
-/// What is kept of a name that nobody has.
-fn lacked_by_all(waiting: &[usize]) -> Option<Lack>
-    ensures { result ≡ spec.lacked_by_all waiting.now }
+/// Returns what is so of a name that no host has.
+fn facts_of_none(waiting: &[usize]) -> Facts
+    ensures { result ≡ spec.facts_of_none waiting.now }
 {
     match waiting.first() {
-        Some(first) => Some(Lack {
-            hosts: waiting.len(),
-            first: *first,
-        }),
-        None => None,
+        Some(first) => Facts {
+            lack: Some(Lack {
+                hosts: waiting.len(),
+                first: *first,
+            }),
+            varies: true,
+        },
+        None => Facts {
+            lack: None,
+            varies: false,
+        },
     }
 }
 
-fn known_lack(known: &IndexMap<&str, Option<Lack>>, name: &str) -> Option<Option<Lack>>
-    ensures { result ≡ spec.known_lack known.now name.now }
+fn known_facts(known: &IndexMap<&str, Facts>, name: &str) -> Option<Facts>
+    ensures { result ≡ spec.known_facts known.now name.now }
 {
     known.get(name).copied()
 }
 
-/// Whether the host of this number lacks the name.
-pub(crate) fn host_lacks(vars: &[Vars], name: &str, host: usize) -> bool
-    ensures { result ≡ lacks_in vars.now name.now host }
+/// Returns what the host of this number has under the name.
+fn value_on<'v>(vars: &'v [Vars], name: &str, host: usize) -> Option<Value<'v>>
+    ensures { option_map had result ≡ value_in vars.now name.now host }
 {
     match vars.get(host) {
-        Some(vars) => vars.value(name).is_none(),
-        None => true,
+        Some(vars) => vars.value(name),
+        None => None,
     }
+}
+
+fn host_lacks(vars: &[Vars], name: &str, host: usize) -> bool
+    ensures { result ≡ lacks_in vars.now name.now host }
+{
+    value_on(vars, name, host).is_none()
 }
 
 fn count_lacking(vars: &[Vars], waiting: &[usize], name: &str) -> usize
@@ -124,8 +142,8 @@ fn first_lacking(vars: &[Vars], waiting: &[usize], name: &str) -> Option<usize>
         .find(|host| host_lacks(vars, name, *host))
 }
 
-fn look_up(vars: &[Vars], waiting: &[usize], name: &str) -> Option<Lack>
-    ensures { result ≡ lack_in vars.now waiting.now name.now }
+fn find_lack(vars: &[Vars], waiting: &[usize], name: &str) -> Option<Lack>
+    ensures { result ≡ spec.lack_in vars.now waiting.now name.now }
 {
     match first_lacking(vars, waiting, name) {
         Some(first) => Some(Lack {
@@ -136,106 +154,84 @@ fn look_up(vars: &[Vars], waiting: &[usize], name: &str) -> Option<Lack>
     }
 }
 
+fn same_scalar(first: Scalar<'_>, second: Scalar<'_>) -> bool
+    ensures { result ≡ meaning.same_scalar (lent_scalar first.entry) (lent_scalar second.entry) }
+{
+    match (first, second) {
+        (Scalar::Text(first), Scalar::Text(second)) => first == second,
+        (Scalar::Int(first), Scalar::Int(second)) => first == second,
+        (Scalar::Bool(first), Scalar::Bool(second)) => first == second,
+        _ => false,
+    }
+}
+
+fn are_same(first: Option<Value<'_>>, second: Option<Value<'_>>) -> bool
+    ensures { result ≡ spec.are_same (option_map had first.entry) (option_map had second.entry) }
+{
+    match (first, second) {
+        (Some(Value::Plain(first)), Some(Value::Plain(second))) => same_scalar(first, second),
+        _ => false,
+    }
+}
+
+fn all_have(vars: &[Vars], waiting: &[usize], name: &str, first: usize) -> bool
+    ensures { result ≡ list_all (λ host. spec.are_same (value_in vars.now name.now first) (value_in vars.now name.now host)) waiting.now }
+{
+    let value = value_on(vars, name, first);
+    waiting
+        .iter()
+        .all(|host| are_same(value, value_on(vars, name, *host)))
+}
+
+fn varies(vars: &[Vars], waiting: &[usize], name: &str) -> bool
+    ensures { result ≡ spec.varies_among (value_in vars.now name.now) waiting.now }
+{
+    match waiting.first() {
+        Some(first) => !all_have(vars, waiting, name, *first),
+        None => false,
+    }
+}
+
+fn look_up(vars: &[Vars], waiting: &[usize], name: &str) -> Facts
+    ensures { result ≡ facts_in vars.now waiting.now name.now }
+{
+    Facts {
+        lack: find_lack(vars, waiting, name),
+        varies: varies(vars, waiting, name),
+    }
+}
+
 fn keep<'a>(
     vars: &[Vars],
     waiting: &[usize],
     name: &'a str,
-    known: &mut IndexMap<&'a str, Option<Lack>>,
+    known: &mut IndexMap<&'a str, Facts>,
 ) -> Result<(), AllocError>
-    requires { KnowsLacks vars.now waiting.now known.old }
-    ensures { OnOk result (KnowsLacks vars.now waiting.now known.new) }
+    requires { KnowsFacts vars.now waiting.now known.old }
+    ensures { OnOk result (KnowsFacts vars.now waiting.now known.new) }
 {
-    let lack = look_up(vars, waiting, name);
-    known.insert(name, lack)?;
+    let facts = look_up(vars, waiting, name);
+    known.insert(name, facts)?;
     Ok(())
 }
 
-/// Keeps the name, where nothing is kept of it and anybody has it.
-fn learn<'a>(
-    vars: &[Vars],
-    waiting: &[usize],
-    given: &Missed<'_>,
-    name: &'a str,
-    known: &mut IndexMap<&'a str, Option<Lack>>,
-) -> Result<(), AllocError>
-    requires { KnowsLacks vars.now waiting.now known.old }
-    ensures { OnOk result (KnowsLacks vars.now waiting.now known.new) }
-{
-    if known_lack(known, name).is_some() || !given.has(name) {
-        return Ok(());
-    }
-    keep(vars, waiting, name, known)
-}
-
-/// Keeps these names.
+/// Keeps the names of which nothing is kept and that any host has.
 fn learn_all<'a>(
     vars: &[Vars],
     waiting: &[usize],
     given: &Missed<'_>,
     names: &[&'a str],
-    known: &mut IndexMap<&'a str, Option<Lack>>,
+    known: &mut IndexMap<&'a str, Facts>,
 ) -> Result<(), AllocError>
-    requires { KnowsLacks vars.now waiting.now known.old }
-    ensures { OnOk result (KnowsLacks vars.now waiting.now known.new) }
+    requires { KnowsFacts vars.now waiting.now known.old }
+    ensures { OnOk result (KnowsFacts vars.now waiting.now known.new) }
 {
     for name in names {
-        learn(vars, waiting, given, *name, known)?;
-    }
-    Ok(())
-}
-
-/// Keeps the names in the holes of a word, in one pass over it.
-fn learn_word<'a>(
-    vars: &[Vars],
-    waiting: &[usize],
-    given: &Missed<'_>,
-    word: &'a str,
-    known: &mut IndexMap<&'a str, Option<Lack>>,
-) -> Result<(), AllocError>
-    requires { KnowsLacks vars.now waiting.now known.old }
-    ensures { OnOk result (KnowsLacks vars.now waiting.now known.new) }
-{
-    let mut rest = word;
-    while let Some((part, behind)) = first_word_part(rest) {
-        if let Some(name) = name_in(part) {
-            learn(vars, waiting, given, name, known)?;
+        if known_facts(known, *name).is_none() && given.has(*name) {
+            keep(vars, waiting, *name, known)?;
         }
-        rest = behind;
     }
     Ok(())
-}
-
-/// Keeps the names in the holes of words.
-fn learn_words<'a>(
-    vars: &[Vars],
-    waiting: &[usize],
-    given: &Missed<'_>,
-    words: &'a Words,
-    known: &mut IndexMap<&'a str, Option<Lack>>,
-) -> Result<(), AllocError>
-    requires { KnowsLacks vars.now waiting.now known.old }
-    ensures { OnOk result (KnowsLacks vars.now waiting.now known.new) }
-{
-    for place in 0..words.len() {
-        learn_word(vars, waiting, given, words.at(place), known)?;
-    }
-    Ok(())
-}
-
-/// Keeps the names that a condition mentions.
-fn learn_condition<'a>(
-    alloc: Global,
-    vars: &[Vars],
-    waiting: &[usize],
-    given: &Missed<'_>,
-    condition: &'a Option<Cond>,
-    known: &mut IndexMap<&'a str, Option<Lack>>,
-) -> Result<(), AllocError>
-    requires { KnowsLacks vars.now waiting.now known.old }
-    ensures { OnOk result (KnowsLacks vars.now waiting.now known.new) }
-{
-    let names = list_mentioned(alloc, condition)?;
-    learn_all(vars, waiting, given, names.as_slice(), known)
 }
 
 /// Keeps whatever the step reads.
@@ -245,13 +241,13 @@ fn learn_step<'a>(
     waiting: &[usize],
     given: &Missed<'_>,
     step: &'a Step,
-    known: &mut IndexMap<&'a str, Option<Lack>>,
+    known: &mut IndexMap<&'a str, Facts>,
 ) -> Result<(), AllocError>
-    requires { KnowsLacks vars.now waiting.now known.old }
-    ensures { OnOk result (KnowsLacks vars.now waiting.now known.new) }
+    requires { KnowsFacts vars.now waiting.now known.old }
+    ensures { OnOk result (KnowsFacts vars.now waiting.now known.new) }
 {
-    learn_condition(alloc, vars, waiting, given, &step.when, known)?;
-    learn_words(vars, waiting, given, &step.words, known)?;
-    learn_condition(alloc, vars, waiting, given, &step.changed_when, known)?;
-    learn_condition(alloc, vars, waiting, given, &step.failed_when, known)
+    let before = list_before(alloc, step)?;
+    learn_all(vars, waiting, given, before.as_slice(), known)?;
+    let behind = list_behind(alloc, step)?;
+    learn_all(vars, waiting, given, behind.as_slice(), known)
 }

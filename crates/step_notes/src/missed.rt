@@ -1,5 +1,5 @@
-//! Names of which each counts once, as those that a step may look up in vain on a host.
-ghost use Rattle.std.specs.Prelude.{◌≡◌, ◌||◌, false, IfOk, OnOk};
+//! Names of which each counts once, as those that a step may read undefined on a host.
+ghost use Rattle.std.specs.Prelude.{◌≡◌, ◌||◌, true, false, IfOk, OnOk};
 ghost use Rattle.group_tree.specs.Names.{Name, is_among, same_name};
 ghost use Rattle.step_notes.specs.Inside.{has_missed, missed_from, names_of};
 
@@ -8,7 +8,7 @@ use host_vars::Vars;
 use indexmap::IndexSet;
 use std::alloc::{AllocError, Global};
 
-/// Names, each once. They are lent by the plays.
+/// Names, each once. They are borrowed from the inputs.
 #[derive(Drop)]
 pub struct Missed<'a> {
     pub names: IndexSet<&'a str>,
@@ -21,6 +21,12 @@ impl<'a> Missed<'a> {
         Missed {
             names: IndexSet::new(alloc),
         }
+    }
+
+    pub(crate) fn is_empty(&self) -> bool
+        ensures { (name : Name) → result ≡ true → has_missed self.now name ≡ false }
+    {
+        self.names.is_empty()
     }
 
     pub(crate) fn has(&self, name: &str) -> bool
@@ -48,7 +54,7 @@ impl<'a> Missed<'a> {
     }
 }
 
-/// Those that the step there misses on the host of this number. It fails for want of memory alone.
+/// Returns the names that the step there may read undefined on the host of this number. Fails only if an allocation fails.
 pub(crate) fn missed_on<'a>(
     alloc: Global,
     stand: Stand<'a, '_>,

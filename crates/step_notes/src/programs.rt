@@ -1,172 +1,187 @@
-//! The notes on the programs that steps run, and on the words that these get.
-ghost use Rattle.std.specs.Prelude.{◌≡◌, drop, option_map};
-ghost use Rattle.std.specs.List.{list_all};
-ghost use Rattle.fleet_notes.specs.Holes as holes;
-ghost use Rattle.step_notes.specs.Inside.{crowd_of};
-ghost use Rattle.note_lines.specs.Notes.{seen};
+//! The programs that steps run.
+ghost use Rattle.std.specs.Prelude.{◌≡◌, ◌<◌, length, option_map};
+ghost use Rattle.fleet_numbers.specs.NumberLists.{list_at};
 ghost use Rattle.step_notes.specs.Programs as model;
+ghost use Rattle.step_notes.specs.declared.programs.Front.TheVariants as front;
 
-use crate::conditions::asks_host;
-use crate::crowd::Crowd;
-use fleet_notes::{behind_blanks, bytes_behind, first_bytes, is_literal, last_bytes};
-use note_lines::{Note, StepPath};
-use play_model::{Play, Step, Words};
-use text_parts::{MAX_RENDERED, starts_with_pair};
+use fleet_notes::{byte_at, bytes_behind};
+use play_model::{Step, Words};
 
-/// What stands for the host's own name in a hole.
-const HOST_WORD: &str = "inventory_hostname";
-
-fn is_ssh(word: &str) -> bool
-    ensures { result ≡ model.is_ssh word.now }
-{
-    word == "ssh" || last_bytes(word.as_bytes(), 4) == "/ssh".as_bytes()
+/// A program that runs the one which follows its own words.
+#[derive(Clone, Copy, Debug)]
+pub(crate) enum Wrapper {
+    Sudo,
+    Timeout,
+    Env,
+    Nice,
 }
 
-#[tactic(auto, using(crate::proofs::ProgramLemmas::calls_first))]
+/// What a word may be before the program is found.
+#[derive(Clone, Copy, Debug)]
+pub(crate) enum Front {
+    /// The program, or a wrapper.
+    Any,
+    /// The same, or an own word of this wrapper.
+    Own(Wrapper),
+    /// The value of an option of this wrapper.
+    Value(Wrapper),
+}
+
+/// Returns a program's name without the path before it.
+fn base_name(word: &str) -> &[u8]
+    ensures { result.now ≡ model.base_name word.now }
+{
+    let bytes = word.as_bytes();
+    let mut base = bytes;
+    for place in 0..bytes.len() {
+        if byte_at(bytes, place) == b'/' {
+            base = bytes_behind(bytes, place + 1);
+        }
+    }
+    base
+}
+
+pub(crate) fn is_ssh(word: &str) -> bool
+    ensures { result ≡ model.is_ssh word.now }
+{
+    base_name(word) == "ssh".as_bytes()
+}
+
+pub(crate) fn is_dashed(word: &str) -> bool
+    ensures { result ≡ model.is_dashed word.now }
+{
+    byte_at(word.as_bytes(), 0) == b'-'
+}
+
+fn has_equals(word: &str) -> bool
+    ensures { result ≡ model.has_equals word.now }
+{
+    word.as_bytes().iter().any(|byte| *byte == b'=')
+}
+
+fn wrapper_named(word: &str) -> Option<Wrapper>
+    ensures { result ≡ model.wrapper_named word.now }
+{
+    let base = base_name(word);
+    if base == "sudo".as_bytes() {
+        Some(Wrapper::Sudo)
+    } else if base == "timeout".as_bytes() {
+        Some(Wrapper::Timeout)
+    } else if base == "env".as_bytes() {
+        Some(Wrapper::Env)
+    } else if base == "nice".as_bytes() {
+        Some(Wrapper::Nice)
+    } else {
+        None
+    }
+}
+
+/// Whether the word is an option, the time of `timeout`, or a variable for `env`.
+fn takes(wrapper: Wrapper, word: &str) -> bool
+    ensures { result ≡ model.takes wrapper word.now }
+{
+    match wrapper {
+        Wrapper::Sudo | Wrapper::Nice => is_dashed(word),
+        Wrapper::Timeout => true,
+        Wrapper::Env => has_equals(word),
+    }
+}
+
+/// Returns what may follow such a word.
+fn taken(wrapper: Wrapper, word: &str) -> Front
+    ensures { result ≡ model.taken wrapper word.now }
+{
+    match wrapper {
+        Wrapper::Sudo if word == "-u" => Front::Value(wrapper),
+        Wrapper::Nice if word == "-n" => Front::Value(wrapper),
+        Wrapper::Timeout if !is_dashed(word) => Front::Any,
+        _ => Front::Own(wrapper),
+    }
+}
+
+/// Whether the word belongs to the wrapper before it.
+fn is_own(front: Front, word: &str) -> bool
+    ensures { result ≡ model.is_own front word.now }
+{
+    match front {
+        Front::Any => false,
+        Front::Own(wrapper) => takes(wrapper, word),
+        Front::Value(_) => true,
+    }
+}
+
+/// Returns what may follow such a word.
+fn after(front: Front, word: &str) -> Front
+    ensures { result ≡ model.after front word.now }
+{
+    match front {
+        Front::Any => Front::Any,
+        Front::Own(wrapper) => taken(wrapper, word),
+        Front::Value(wrapper) => Front::Own(wrapper),
+    }
+}
+
+/// Returns the first word that is no wrapper and doesn't belong to one; the last wrapper if all do.
+fn find_program(words: &Words) -> &str
+    requires { 0 < length words.now }
+    ensures { result.now ≡ model.program_from front.Any (list_at words.now 0) words.now }
+{
+    let mut front = Front::Any;
+    let mut wrapper = words.at(0);
+    for place in 0..words.len() {
+        let word = words.at(place);
+        if is_own(front, word) {
+            front = after(front, word);
+        } else {
+            match wrapper_named(word) {
+                Some(named) => (front, wrapper) = (Front::Own(named), word),
+                None => return word,
+            }
+        }
+    }
+    wrapper
+}
+
+/// Returns the program that the words run in the end: behind `sudo`, `timeout`, `env` and `nice`.
+#[tactic(auto, using(crate::proofs::ProgramLemmas::program_first))]
+pub(crate) fn program(words: &Words) -> Option<&str>
+    ensures { option_map (λ word. word.now) result ≡ model.program words.now }
+{
+    if words.is_empty() {
+        None
+    } else {
+        Some(find_program(words))
+    }
+}
+
 pub(crate) fn calls_ssh(words: &Words) -> bool
     ensures { result ≡ model.calls_ssh words.now }
 {
-    !words.is_empty() && is_ssh(words.at(0))
-}
-
-pub(crate) fn goes_elsewhere(play: &Play) -> bool
-    ensures { result ≡ model.goes_elsewhere play.now }
-{
-    play.steps().iter().any(|step| calls_ssh(&step.words))
-}
-
-pub(crate) fn are_literal(words: &Words) -> bool
-    ensures { result ≡ list_all holes.is_literal words.now }
-{
-    for place in 0..words.len() {
-        if !is_literal(words.at(place)) {
-            return false;
-        }
-    }
-    true
-}
-
-fn are_local(words: &Words) -> bool
-    ensures { result ≡ model.are_local words.now }
-{
-    if calls_ssh(words) {
-        return false;
-    }
-    are_literal(words)
-}
-
-/// The program, where it is another one than `ssh` and is called alike for each host.
-#[tactic(auto, using(crate::proofs::ProgramLemmas::local_first))]
-pub(crate) fn local_program(words: &Words) -> Option<&str>
-    ensures { option_map (λ word. word.now) result ≡ model.local_program words.now }
-{
-    if words.is_empty() {
-        return None;
-    }
-    if are_local(words) {
-        Some(words.at(0))
-    } else {
-        None
+    match program(words) {
+        Some(word) => is_ssh(word),
+        None => false,
     }
 }
 
-/// Whether the step does the same here for each host, also by its `when`.
-fn is_local(step: &Step) -> bool
-    ensures { result ≡ model.is_local step.now }
+/// Whether one of the steps does.
+pub(crate) fn goes_elsewhere(steps: &[Step]) -> bool
+    ensures { result ≡ model.goes_elsewhere steps.now }
 {
-    are_local(&step.words) && !asks_host(&step.when)
+    steps.iter().any(|step| calls_ssh(&step.words))
 }
 
-fn run_here(steps: &[Step]) -> bool
-    ensures { result ≡ list_all model.is_local steps.now }
+/// Whether the program changes the machine on which it runs.
+pub(crate) fn changes_machine(word: &str) -> bool
+    ensures { result ≡ model.changes_machine word.now }
 {
-    steps.iter().all(is_local)
-}
-
-fn is_local_play(play: &Play) -> bool
-    ensures { result ≡ model.is_local_play play.now }
-{
-    let steps = play.steps();
-    !steps.is_empty() && run_here(steps)
-}
-
-/// What is noted of the place where the play of this number, counted from 1, runs; so many hosts wait for it.
-pub fn local_play_note(number: usize, waiting: usize, play: &Play) -> Option<Note<'static>>
-    ensures { option_map seen result ≡ model.local_play_note number waiting play.now }
-{
-    if waiting > 1 && is_local_play(play) {
-        Some(Note::LocalPlay {
-            play: number,
-            hosts: waiting,
-        })
-    } else {
-        None
-    }
-}
-
-fn is_long(word: &str) -> bool
-    ensures { result ≡ model.is_long word.now }
-{
-    word.len() > MAX_RENDERED && is_literal(word)
-}
-
-/// What is noted of the length of a step's words.
-pub(crate) fn long_note(at: StepPath, step: &Step) -> Option<Note<'static>>
-    ensures { option_map seen result ≡ model.long_note at step.now }
-{
-    let words = &step.words;
-    for place in 0..words.len() {
-        if is_long(words.at(place)) {
-            return Some(Note::LongWord {
-                at,
-                bytes: words.at(place).len(),
-            });
-        }
-    }
-    None
-}
-
-/// Whether the word for the host's own name and `}}` are in front.
-fn is_of_host(inside: &[u8]) -> bool
-    ensures { result ≡ model.is_of_host inside.now }
-{
-    let word = HOST_WORD.as_bytes();
-    first_bytes(inside, word.len()) == word
-        && starts_with_pair(behind_blanks(bytes_behind(inside, word.len())), b'}', b'}')
-}
-
-fn begins_with_host(word: &str) -> bool
-    ensures { result ≡ model.begins_with_host word.now }
-{
-    let bytes = word.as_bytes();
-    starts_with_pair(bytes, b'{', b'{') && is_of_host(behind_blanks(bytes_behind(bytes, 2)))
-}
-
-/// Whether one of the words behind the program begins with the host's name, before which none ends the options.
-fn have_host(words: &Words) -> bool
-    ensures { result ≡ model.have_host (drop 1 words.now) }
-{
-    for place in 1..words.len() {
-        let word = words.at(place);
-        if word == "--" {
-            return false;
-        }
-        if begins_with_host(word) {
-            return true;
-        }
-    }
-    false
-}
-
-/// What is noted of a step that gives its program the host's name.
-pub(crate) fn dash_note<'a>(crowd: &Crowd<'a, '_>, at: StepPath, step: &Step) -> Option<Note<'a>>
-    ensures { option_map seen result ≡ model.dash_note (crowd_of crowd.now) at step.now }
-{
-    if !have_host(&step.words) {
-        return None;
-    }
-    match crowd.first_dashed() {
-        Some(host) => Some(Note::DashName { at, host }),
-        None => None,
-    }
+    let base = base_name(word);
+    base == "systemctl".as_bytes()
+        || base == "service".as_bytes()
+        || base == "apt".as_bytes()
+        || base == "apt-get".as_bytes()
+        || base == "yum".as_bytes()
+        || base == "dnf".as_bytes()
+        || base == "docker".as_bytes()
+        || base == "reboot".as_bytes()
+        || base == "shutdown".as_bytes()
 }

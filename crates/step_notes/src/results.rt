@@ -1,20 +1,18 @@
-//! The results that a step reads and that may not be there, though a step before registers them.
+//! The results that a step reads and that may not exist, though a step before registers them.
 ghost use Rattle.std.specs.Prelude.{◌≡◌, ◌&&◌, ◌||◌, not, IfOk, OnOk};
 ghost use Rattle.group_tree.specs.Names.{Name, is_among};
 ghost use Rattle.needed_results.specs.Needs.{tasks_before};
 ghost use Rattle.needed_results.specs.Registers.{is_registered_by};
-ghost use Rattle.step_notes.specs.Codes.{is_coded};
 ghost use Rattle.text_parts.specs.Seen.{said};
 ghost use Rattle.step_notes.specs.Inside.{has_missed, has_name, names_of};
 ghost use Rattle.step_notes.specs.Results.{names_unsure, whole_in_part, whole_in_word, whole_in_words};
 
-use crate::asked::{Asked, add_before, add_behind};
-use crate::coded::Coded;
+use crate::asked::{Asked, list_once};
 use crate::guards::list_guarded;
 use crate::missed::Missed;
 use crate::registered::{Registered, is_sure};
 use cond::Names;
-use play_model::{Play, Words};
+use play_model::{Play, Step, Words};
 use std::alloc::{AllocError, Global};
 use text_parts::{Part, Ref, first_word_part};
 
@@ -27,7 +25,7 @@ fn add_in_part<'s>(part: Part<'s>, found: &mut Missed<'s>) -> Result<(), AllocEr
     }
 }
 
-/// Adds the names that stand in holes of the word without a field.
+/// Adds the names that are in placeholders of the word without a field.
 fn add_in_word<'s>(word: &'s str, found: &mut Missed<'s>) -> Result<(), AllocError>
     ensures { OnOk result ((name : Name) → has_missed found.new name ≡ (has_missed found.old name || is_among name (whole_in_word word.now))) }
 {
@@ -39,7 +37,7 @@ fn add_in_word<'s>(word: &'s str, found: &mut Missed<'s>) -> Result<(), AllocErr
     Ok(())
 }
 
-/// The names that stand in holes of the words without a field.
+/// Returns the names that are in placeholders of the words without a field.
 fn list_whole(alloc: Global, words: &Words) -> Result<Missed<'_>, AllocError>
     ensures { IfOk result (λ found. (name : Name) → has_missed found name ≡ is_among name (whole_in_words words.now)) }
 {
@@ -50,7 +48,7 @@ fn list_whole(alloc: Global, words: &Words) -> Result<Missed<'_>, AllocError>
     Ok(found)
 }
 
-/// Names that a step before registers, of whose results one may not be there, or stands where it has no text, or is one whose code the step reads.
+/// Names that a step before registers, of whose results one may not exist, or is read where it has no text.
 #[derive(Clone, Copy)]
 struct Unsure<'a, 's, 'w, 'p> {
     registered: &'s Registered<'a>,
@@ -58,30 +56,27 @@ struct Unsure<'a, 's, 'w, 'p> {
     place: usize,
     whole: &'w Missed<'p>,
     guarded: &'w Missed<'p>,
-    coded: &'w Coded<'p>,
 }
 
 impl Names for Unsure<'_, '_, '_, '_> {
     ghost holds = { λ unsure name. has_name unsure.registered.now name
-        && (((not (is_registered_by (tasks_before unsure.play.now unsure.place) name) && not (has_missed unsure.guarded.now name)) || has_missed unsure.whole.now name)
-        || is_coded unsure.coded.now.step.now name) };
+        && ((not (is_registered_by (tasks_before unsure.play.now unsure.place) name) && not (has_missed unsure.guarded.now name)) || has_missed unsure.whole.now name) };
 
     fn has(&self, name: &str) -> bool {
         let is_away = !is_sure(self.play, self.place, name) && !self.guarded.has(name);
-        self.registered.has(name) && (is_away || self.whole.has(name) || self.coded.has(name))
+        self.registered.has(name) && (is_away || self.whole.has(name))
     }
 }
 
-/// Those that the step of this play reads, each once, in the order of reading. It fails for want of memory alone.
+/// Lists those that the step of this play reads, each once, in the order of reading. Fails only if an allocation fails.
 pub(crate) fn list_unsure<'p>(
     alloc: Global,
     asked: &Asked<'_, '_>,
     play: &Play,
-    coded: &Coded<'p>,
+    step: &'p Step,
 ) -> Result<Vec<&'p str>, AllocError>
-    ensures { IfOk result (λ names. names_of names.items ≡ names_unsure (has_name asked.now.registered.now) (tasks_before play.now asked.now.stand.place) coded.now.step.now) }
+    ensures { IfOk result (λ names. names_of names.items ≡ names_unsure (has_name asked.now.registered.now) (tasks_before play.now asked.now.stand.place) step.now) }
 {
-    let step = coded.step;
     let whole = list_whole(alloc, &step.words)?;
     let guarded = list_guarded(alloc, &step.when)?;
     let unsure = Unsure {
@@ -90,11 +85,6 @@ pub(crate) fn list_unsure<'p>(
         place: asked.stand.place,
         whole: &whole,
         guarded: &guarded,
-        coded,
     };
-    let mut list = Vec::new(alloc);
-    let mut found = Missed::new(alloc);
-    add_before(alloc, step, &unsure, &mut list, &mut found)?;
-    add_behind(alloc, step, &unsure, &mut list, &mut found)?;
-    Ok(list)
+    list_once(alloc, step, &unsure, &unsure)
 }

@@ -4,10 +4,11 @@ use Rattle.bounded_io.specs.declared.write_fault.WriteFault.{WriteFault}
 use Rattle.domains.specs.FleetViews.{FleetView}
 use Rattle.play_model.specs.declared.play.Play.{Play}
 use Rattle.roll_core.specs.Tellings.{Telling}
-use Rattle.telling.specs.Hearing.{Draws, Hears, Tells, TellsIn}
+use Rattle.telling.specs.Hearing.{Draws, Hears, Tells, TellsFailure, TellsIn}
+use Rattle.telling.specs.declared.form.Form.{Form}
 use Rattle.telling.specs.declared.form.Form.TheVariants.{Plain, Json}
 use Rattle.telling.specs.declared.mode.Mode.{Mode}
-use Rattle.telling.specs.declared.mode.Mode.TheVariants.{Nothing, OneLine, AllLines, AllJson}
+use Rattle.telling.specs.declared.mode.Mode.TheVariants.{Nothing, Failures, OneLine, AllLines, AllJson}
 use Rattle.telling.specs.declared.screen.Screen.{Screen}
 
 module _ (mode later : Mode) (fleet : FleetView) (play : Play) (telling : Telling) (before after : Screen) (old new : Option (List ℕ)) (sent : Result (Unit {0}) WriteFault) where
@@ -23,6 +24,9 @@ module _ (mode later : Mode) (fleet : FleetView) (play : Play) (telling : Tellin
   pub hears_nothing : mode ≡ Nothing → later ≡ mode → new ≡ old → after ≡ before → Heard
   hears_nothing is stays kept same = hears_in Nothing is stays (kept, same)
 
+  pub hears_failure : (form : Form) → mode ≡ Failures form → later ≡ mode → TellsFailure form fleet play telling old new sent → after ≡ before → Heard
+  hears_failure form is stays tells same = hears_in (Failures form) is stays (tells, same)
+
   pub hears_one : mode ≡ OneLine → later ≡ mode → Draws fleet play telling before after old new sent → Heard
   hears_one is stays draws = hears_in OneLine is stays draws
 
@@ -32,4 +36,4 @@ module _ (mode later : Mode) (fleet : FleetView) (play : Play) (telling : Tellin
   pub hears_json : mode ≡ AllJson → later ≡ mode → Tells Json fleet play telling old new sent → after ≡ before → Heard
   hears_json is stays tells same = hears_in AllJson is stays (tells, same)
 
-pub ruleset hearing = (hears_nothing, hears_one, hears_all, hears_json)
+pub ruleset hearing = (hears_nothing, hears_failure, hears_one, hears_all, hears_json)

@@ -1,18 +1,19 @@
 -- What a teller gives out of what it hears.
-use Rattle.std.specs.Prelude.{◌≡◌, ℕ, false, Option, None, Result, List}
+use Rattle.std.specs.Prelude.{◌≡◌, ℕ, true, false, Option, None, Result, List}
 use Rattle.bounded_io.specs.Sending.{SendsText}
 use Rattle.bounded_io.specs.declared.write_fault.WriteFault.{WriteFault}
 use Rattle.domains.specs.FleetViews.{FleetView}
 use Rattle.play_model.specs.declared.play.Play.{Play}
 use Rattle.roll_core.specs.Tellings.{Telling}
 use Rattle.telling.specs.Above.{tells_above, told_above}
+use Rattle.telling.specs.Failures.{SendsFailure, is_failure}
 use Rattle.telling.specs.Forms.{told_as}
 use Rattle.telling.specs.Screens.{drawn_over, over_text, wipes}
 use Rattle.telling.specs.declared.form.Form.{Form}
 use Rattle.telling.specs.declared.form.Form.TheVariants.{Plain, Json}
 use Rattle.telling.specs.declared.given.Given.{Given}
 use Rattle.telling.specs.declared.mode.Mode.{Mode}
-use Rattle.telling.specs.declared.mode.Mode.TheVariants.{Nothing, OneLine, AllLines, AllJson}
+use Rattle.telling.specs.declared.mode.Mode.TheVariants.{Nothing, Failures, OneLine, AllLines, AllJson}
 use Rattle.telling.specs.declared.screen.Screen.{Screen}
 
 -- the text of what was heard was given out in this form, with some times and a remark; `sent` is how it went out
@@ -29,10 +30,21 @@ pub record Draws (fleet : FleetView) (play : Play) (telling : Telling) (before a
   pub text : SendsText old new (over_text (wipes before (tells_above fleet telling given)) before.width line (told_above fleet play telling given)) sent
   pub drawn : after ≡ drawn_over (wipes before (tells_above fleet telling given)) line before
 
--- where nothing is wanted nothing goes out; at a terminal what is told above the one line, and that line; where all lines are wanted, those of what was heard, in
+-- the row was given out in this form
+abbrev pub TellsRow : Form → FleetView → Play → Telling → Option (List ℕ) → Option (List ℕ) → Result (Unit {0}) WriteFault → Type 0
+TellsRow Plain fleet play telling old new sent = SendsFailure fleet play telling old new sent
+TellsRow Json fleet play telling old new sent = Tells Json fleet play telling old new sent
+
+-- a failure was given out, and nothing else
+pub record TellsFailure (form : Form) (fleet : FleetView) (play : Play) (telling : Telling) (old new : Option (List ℕ)) (sent : Result (Unit {0}) WriteFault) : Type 0 where
+  pub silent : is_failure telling ≡ false → new ≡ old
+  pub tells : is_failure telling ≡ true → TellsRow form fleet play telling old new sent
+
+-- where nothing is wanted nothing goes out; for a log failures alone; at a terminal what is told above the one line, and that line; where all lines are wanted, those of what was heard, in
 -- words or as objects of JSON, and nothing is drawn
 abbrev pub TellsIn : Mode → FleetView → Play → Telling → Screen → Screen → Option (List ℕ) → Option (List ℕ) → Result (Unit {0}) WriteFault → Type 0
 TellsIn Nothing fleet play telling before after old new sent = (new ≡ old) × (after ≡ before)
+TellsIn (Failures form) fleet play telling before after old new sent = TellsFailure form fleet play telling old new sent × (after ≡ before)
 TellsIn OneLine fleet play telling before after old new sent = Draws fleet play telling before after old new sent
 TellsIn AllLines fleet play telling before after old new sent = Tells Plain fleet play telling old new sent × (after ≡ before)
 TellsIn AllJson fleet play telling before after old new sent = Tells Json fleet play telling old new sent × (after ≡ before)

@@ -6,6 +6,8 @@ pub mod Tellings
 pub mod JsonStrings
 pub mod JsonRows
 pub mod JsonTellings
+pub mod Evidence
+pub mod Failures
 pub mod Forms
 pub mod Modes
 pub mod Spans

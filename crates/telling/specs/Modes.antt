@@ -1,33 +1,45 @@
 -- How much is told of a run.
-use Rattle.std.specs.Prelude.{◌≡◌, Bool, true, false, not, ◌&&◌, if◌then◌else◌}
+use Rattle.std.specs.Prelude.{◌≡◌, Bool, true, false, not, if◌then◌else◌}
 use Rattle.telling.specs.declared.form.Form.{Form}
 use Rattle.telling.specs.declared.form.Form.TheVariants.{Plain, Json}
 use Rattle.telling.specs.declared.mode.Mode.{Mode}
-use Rattle.telling.specs.declared.mode.Mode.TheVariants.{Nothing, OneLine, AllLines, AllJson}
+use Rattle.telling.specs.declared.mode.Mode.TheVariants.{Nothing, Failures, OneLine, AllLines, AllJson}
 use Rattle.telling.specs.declared.mode.Seen.{Seen}
 use Rattle.telling.specs.declared.screen.Screen.{Screen}
 use Rattle.telling.specs.Screens.{blank}
 
--- somebody is there to see it
-abbrev pub sees_one_line : Seen → Bool
-sees_one_line seen = seen.is_terminal && not seen.is_quiet
+-- the failures alone, for a log
+abbrev pub failures_mode : Bool → Mode
+failures_mode is_json = if is_json then Failures Json else Failures Plain
 
 abbrev pub lines_mode : Bool → Mode
 lines_mode is_json = if is_json then AllJson else AllLines
 
 abbrev pub mode_of : Seen → Mode
-mode_of seen = if seen.is_verbose then lines_mode seen.is_json else (if sees_one_line seen then OneLine else Nothing)
+mode_of seen =
+    if seen.is_verbose then lines_mode seen.is_json
+    else (if seen.is_quiet then Nothing else (if seen.is_terminal then OneLine else failures_mode seen.is_json))
 
 -- anything is told
 abbrev pub tells : Mode → Bool
 tells Nothing = false
+tells (Failures form) = true
 tells OneLine = true
 tells AllLines = true
 tells AllJson = true
 
+-- so is what is no failure, such as which hosts are left out
+abbrev pub tells_notes : Mode → Bool
+tells_notes Nothing = false
+tells_notes (Failures form) = false
+tells_notes OneLine = true
+tells_notes AllLines = true
+tells_notes AllJson = true
+
 -- a line for each thing that happens is
 abbrev pub tells_lines : Mode → Bool
 tells_lines Nothing = false
+tells_lines (Failures form) = false
 tells_lines OneLine = false
 tells_lines AllLines = true
 tells_lines AllJson = true
@@ -35,6 +47,7 @@ tells_lines AllJson = true
 -- what it is written as
 abbrev pub form_of : Mode → Form
 form_of Nothing = Plain
+form_of (Failures form) = form
 form_of OneLine = Plain
 form_of AllLines = Plain
 form_of AllJson = Json

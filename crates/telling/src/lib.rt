@@ -6,6 +6,8 @@ mod batches;
 mod begins;
 mod columns;
 mod counters;
+mod evidence;
+mod failures;
 mod form;
 mod given;
 mod json_batches;

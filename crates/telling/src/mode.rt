@@ -4,11 +4,12 @@ ghost use Rattle.telling.specs.Modes as spec;
 
 use crate::form::Form;
 
-/// Nothing; failures and warnings, and below them one line that is written over, where the terminal can go back in one; or a line for each thing that
-/// happens, in words or as an object of JSON.
+/// Nothing; only failures, for a log, in words or as objects of JSON; failures and warnings, and below them one line that is written over, if the terminal
+/// can go back in one; or a line for each thing that happens, in words or as an object of JSON.
 #[derive(Clone, Copy, Debug, PartialEq, Eq)]
 pub(crate) enum Mode {
     Nothing,
+    Failures(Form),
     OneLine,
     AllLines,
     AllJson,
@@ -32,10 +33,22 @@ pub(crate) fn mode_of(seen: &Seen) -> Mode
 {
     if seen.is_verbose {
         lines_mode(seen.is_json)
-    } else if sees_one_line(seen) {
+    } else if seen.is_quiet {
+        Mode::Nothing
+    } else if seen.is_terminal {
         Mode::OneLine
     } else {
-        Mode::Nothing
+        failures_mode(seen.is_json)
+    }
+}
+
+fn failures_mode(is_json: bool) -> Mode
+    ensures { result ≡ spec.failures_mode is_json }
+{
+    if is_json {
+        Mode::Failures(Form::Json)
+    } else {
+        Mode::Failures(Form::Plain)
     }
 }
 
@@ -54,13 +67,8 @@ pub(crate) fn form_of(mode: Mode) -> Form
     ensures { result ≡ spec.form_of mode }
 {
     match mode {
+        Mode::Failures(form) => form,
         Mode::Nothing | Mode::OneLine | Mode::AllLines => Form::Plain,
         Mode::AllJson => Form::Json,
     }
-}
-
-fn sees_one_line(seen: &Seen) -> bool
-    ensures { result ≡ spec.sees_one_line seen.now }
-{
-    seen.is_terminal && !seen.is_quiet
 }

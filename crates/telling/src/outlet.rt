@@ -4,8 +4,10 @@ ghost use Rattle.bounded_io.specs.Sending.{SendsText};
 ghost use Rattle.roll_core.specs.Tellings.{telling_of};
 ghost use Rattle.telling.specs.Above.{told_above};
 ghost use Rattle.telling.specs.Forms.{lines_as, play_as, told_as};
+ghost use Rattle.telling.specs.Hearing.{TellsRow};
 ghost use Rattle.telling.specs.Screens.{over_text, wiped_text};
 
+use crate::failures::send_failed;
 use crate::form::Form;
 use crate::given::Given;
 use crate::screen::Over;
@@ -43,6 +45,23 @@ impl<E: Write> Outlet<E> {
         ensures { SendsText (E.contents self.old.out) (E.contents self.new.out) (told_as form fleet.now play.now (telling_of news.now) given.now) self.new.sent }
     {
         self.sent = send_told(&mut self.out, form, fleet, play, news, given);
+    }
+
+    /// Gives out what a log is told of a failed row.
+    pub(crate) fn tell_failed(
+        &mut self,
+        form: Form,
+        fleet: &Fleet,
+        play: &Play,
+        news: &News<'_>,
+        given: &Given,
+    )
+        ensures { TellsRow form fleet.now play.now (telling_of news.now) (E.contents self.old.out) (E.contents self.new.out) self.new.sent }
+    {
+        match form {
+            Form::Plain => self.sent = send_failed(&mut self.out, fleet, play, news, given),
+            Form::Json => self.tell(Form::Json, fleet, play, news, given),
+        }
     }
 
     /// Gives out what is told above the one line, and that line.

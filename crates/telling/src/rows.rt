@@ -23,8 +23,9 @@ pub(crate) fn write_name<W: Write>(text: &mut TextWriter<'_, W>, name: &str)
     text.write_str("\n");
 }
 
+/// Writes how a step ended on a host and was judged.
 #[tactic(auto, using(bounded_io::proofs::Pieces::pieces_of_text))]
-fn write_row_line<W: Write>(
+pub(crate) fn write_row_line<W: Write>(
     text: &mut TextWriter<'_, W>,
     host: &str,
     step: u64,
@@ -116,8 +117,14 @@ fn write_why_not<W: Write>(text: &mut TextWriter<'_, W>, host: &str, given: &Giv
     }
 }
 
+/// Writes why no program was started.
 #[tactic(auto, using(bounded_io::proofs::Pieces::pieces_of_text))]
-fn write_error<W: Write>(text: &mut TextWriter<'_, W>, host: &str, outcome: &Outcome, given: &Given)
+pub(crate) fn write_error<W: Write>(
+    text: &mut TextWriter<'_, W>,
+    host: &str,
+    outcome: &Outcome,
+    given: &Given,
+)
     ensures { Writes W.contents text.old text.new (spec.error_text host.now (ending_of outcome.now) given.now) }
 {
     match outcome {

@@ -3,13 +3,14 @@ ghost use Rattle.std.specs.Prelude.{◌≡◌, [], ◌++◌, IfSome, None, false
 ghost use Rattle.bounded_io.specs.Sending.{SendsText};
 ghost use Rattle.roll_core.specs.Tellings.{telling_of};
 ghost use Rattle.telling.specs.Forms.{lines_as, play_as};
-ghost use Rattle.telling.specs.Hearing.{Draws, Hears, Tells};
+ghost use Rattle.telling.specs.Hearing.{Draws, Hears, Tells, TellsFailure};
 ghost use Rattle.telling.specs.Modes as spec;
 ghost use Rattle.telling.specs.Modes.{TellsAs};
 ghost use Rattle.telling.specs.Screens as screens;
 ghost use Rattle.telling.specs.StatusLines.{status_text};
 
 use crate::above::tells_above;
+use crate::failures::is_failure;
 use crate::form::Form;
 use crate::mode::{Mode, Seen, form_of, mode_of};
 use crate::outlet::Outlet;
@@ -39,7 +40,7 @@ pub trait Tell: Watch {
     fn run_ends(&mut self);
 }
 
-/// Tells of a run on standard error: its lines, or one line at a terminal. A write that fails is passed over: what goes wrong here changes nothing of
+/// Tells of a run on standard error: its lines, one line at a terminal, or its failures alone. A write that fails is passed over: what goes wrong here changes nothing of
 /// the run.
 #[derive(Drop)]
 pub struct Teller<'a, H, E> {
@@ -78,6 +79,20 @@ impl<'a, H: Wait, E: Write> Teller<'a, H, E> {
     {
         let given = self.progress.hear(self.rt, self.notes, news);
         self.outlet.tell(form, fleet, play, news, &given);
+    }
+
+    /// Gives out a failure, and nothing of what else happened.
+    fn tell_failure(&mut self, form: Form, fleet: &Fleet, play: &Play, news: &News<'_>)
+        ensures stays { self.new.mode ≡ self.old.mode }
+        ensures screen { self.new.screen ≡ self.old.screen }
+        ensures tells { TellsFailure form fleet.now play.now (telling_of news.now) (E.contents self.old.outlet.out) (E.contents self.new.outlet.out) self.new.outlet.sent }
+    {
+        let mut given = self.progress.hear(self.rt, self.notes, news);
+        if !is_failure(news) {
+            return;
+        }
+        given.bounds = None;
+        self.outlet.tell_failed(form, fleet, play, news, &given);
     }
 
     /// The one line of a run that has taken so many seconds, where the terminal can go back in it, once a batch was opened, and where there is memory
@@ -120,6 +135,16 @@ impl<'a, H: Wait, E: Write> Teller<'a, H, E> {
         self.mode != Mode::Nothing
     }
 
+    /// Whether what is no failure is told, such as which hosts are left out.
+    fn tells_notes(&self) -> bool
+        ensures { result ≡ spec.tells_notes self.now.mode }
+    {
+        match self.mode {
+            Mode::Nothing | Mode::Failures(_) => false,
+            Mode::OneLine | Mode::AllLines | Mode::AllJson => true,
+        }
+    }
+
     /// Whether a line is told for each thing that happens.
     fn tells_lines(&self) -> bool
         ensures { result ≡ spec.tells_lines self.now.mode }
@@ -148,6 +173,7 @@ impl<H: Wait, E: Write + Drop> Watch for Teller<'_, H, E> {
     fn hear(&mut self, fleet: &Fleet, play: &Play, news: &News<'_>) {
         match self.mode {
             Mode::Nothing => {}
+            Mode::Failures(form) => self.tell_failure(form, fleet, play, news),
             Mode::OneLine => self.draw(fleet, play, news),
             Mode::AllLines => self.tell_all(Form::Plain, fleet, play, news),
             Mode::AllJson => self.tell_all(Form::Json, fleet, play, news),
@@ -197,11 +223,11 @@ impl<H: Wait, E: Write + Drop> Watch for Teller<'_, H, E> {
 
     fn note(&mut self, lines: &[u8])
         ensures stays { self.new.mode ≡ self.old.mode }
-        ensures told { spec.tells self.old.mode ≡ true → SendsText (E.contents self.old.outlet.out) (E.contents self.new.outlet.out)
+        ensures told { spec.tells_notes self.old.mode ≡ true → SendsText (E.contents self.old.outlet.out) (E.contents self.new.outlet.out)
             (screens.wiped_text self.old.screen.is_drawn ++ lines_as (spec.form_of self.old.mode) lines.now) self.new.outlet.sent }
-        ensures silent { spec.tells self.old.mode ≡ false → self.new.outlet ≡ self.old.outlet }
+        ensures silent { spec.tells_notes self.old.mode ≡ false → self.new.outlet ≡ self.old.outlet }
     {
-        if self.tells() {
+        if self.tells_notes() {
             self.tell_lines(lines);
         }
     }

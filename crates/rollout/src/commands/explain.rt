@@ -5,7 +5,7 @@ use crate::commands::print::print;
 use crate::fault::Fault;
 use crate::status::Status;
 use command_line::{Clash, LineFault};
-use fault_pages::entry_of;
+use hints::entry_of;
 use std::io::Write;
 
 /// Prints the entry of the word. A word that has none makes the line a bad one.

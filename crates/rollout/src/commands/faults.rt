@@ -125,18 +125,18 @@ fn pattern_faults(alloc: Global, told: Vec<PatternFault>) -> Result<Vec<Fault>, 
         .collect(alloc)
 }
 
-/// Writes the faults, up to a hundred, each with what to do, how many there are, and behind them the notes that are told beside them.
-#[tactic(auto, using(crate::proofs::FaultLemmas::prints_found, crate::proofs::FaultLemmas::loses_found))]
+/// Writes the faults, up to a hundred, each with a hint, and how many there are.
 pub(crate) fn tell_faults<W: Write>(
     alloc: Global,
     found: &Found,
-    beside: &[u8],
     inventory: &[u8],
     playbook: Option<&[u8]>,
     out: &mut W,
 ) -> Result<Status, Fault>
-    ensures ok { IfOk result (λ status. (status ≡ Status.Refused) × ShowsFaults found.now beside.now (W.contents out.old) (W.contents out.new)) }
-    ensures err { IfErr result (λ fault. LosesFound found.now beside.now (W.contents out.old) (W.contents out.new) fault ⊎ WantsMemory (W.contents out.old) (W.contents out.new) fault) }
+    requires { IsFound inventory.now (option_map (λ text. text.now) playbook) found.now }
+    ensures ok { IfOk result (PrintsFaults inventory.now (option_map (λ text. text.now) playbook.entry) (W.contents out.old) (W.contents out.new)) }
+    ensures err { IfErr result (λ fault. LosesFaults inventory.now (option_map (λ text. text.now) playbook.entry) (W.contents out.old) (W.contents out.new) fault
+        ⊎ WantsMemory (W.contents out.old) (W.contents out.new) fault) }
 {
     let nothing: &[u8] = &[];
     match Texts::read(
@@ -145,7 +145,7 @@ pub(crate) fn tell_faults<W: Write>(
         playbook.unwrap_or(nothing),
         found.faults.as_slice(),
     ) {
-        Ok(texts) => send_faults(alloc, found, beside, &texts, out),
+        Ok(texts) => send_faults(alloc, found, &texts, out),
         Err(_refused) => Err(Fault::Memory),
     }
 }
@@ -154,17 +154,15 @@ pub(crate) fn tell_faults<W: Write>(
 fn send_faults<W: Write>(
     alloc: Global,
     found: &Found,
-    beside: &[u8],
     texts: &Texts<'_>,
     out: &mut W,
 ) -> Result<Status, Fault>
-    ensures ok { IfOk result (λ status. (status ≡ Status.Refused) × ShowsFaults found.now beside.now (W.contents out.old) (W.contents out.new)) }
-    ensures err { IfErr result (LosesFound found.now beside.now (W.contents out.old) (W.contents out.new)) }
+    ensures ok { IfOk result (λ status. (status ≡ Status.Refused) × ShowsFaults found.now (W.contents out.old) (W.contents out.new)) }
+    ensures err { IfErr result (LosesFound found.now (W.contents out.old) (W.contents out.new)) }
 {
     let mut text = TextWriter::new(out);
     write_each(alloc, &mut text, first_of(found.faults.as_slice()), texts);
     write_count(&mut text, found.count);
-    text.write_bytes(beside);
     match text.finish() {
         Ok(()) => Ok(Status::Refused),
         Err(fault) => Err(Fault::Write(fault)),

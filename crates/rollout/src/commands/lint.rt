@@ -1,14 +1,13 @@
-//! The command `lint`: from the files of an inventory and a playbook to what is accepted and probably not meant.
+//! The command `lint`: from the files of an inventory and a playbook to all their faults, or to what is probably a mistake in them.
 ghost use Rattle.std.specs.Prelude.{◌≡◌, IfErr, IfOk, None, Some, false, true};
 ghost use Rattle.std.specs.Option.{option_map};
 ghost use Rattle.note_lines.specs.Kinds.{are_kind_names};
-ghost use Rattle.rollout.specs.LintFaults.{IsFound, PrintsFaults};
 ghost use Rattle.rollout.specs.Lists.{IsBadList};
-ghost use Rattle.rollout.specs.Notes.{FailsOver, Lints, LintsBoth, LintsOne, LosesAll, SaysOf, TellsInstead};
+ghost use Rattle.rollout.specs.Notes.{FailsOver, Lints, LintsBoth, LintsOne, SaysOf, TellsInstead};
 ghost use Rattle.rollout.specs.Notes as spec;
 ghost use Rattle.rollout.specs.Systems.{sources_of};
 
-use crate::commands::faults::{Found, find_faults, tell_faults};
+use crate::commands::faults::{find_faults, tell_faults};
 use crate::fault::Fault;
 use crate::inputs::read_both;
 use crate::list::bad_list;
@@ -18,7 +17,6 @@ use crate::system::System;
 use bounded_io::Input;
 use command_line::Source;
 use fleet_notes::Texts;
-use kept_notes::notes_beside_faults;
 use lint_notes::{lint_fleet_text, lint_text};
 use note_lines::{Allowed, read_allowed};
 use planning::PlanFault;
@@ -36,8 +34,8 @@ fn read_list(alloc: Global, list: &str) -> Result<Allowed<'_>, Fault>
     }
 }
 
-/// Reads the inventory, and the playbook where there is one, and writes the notes on them, but for those of the kinds that the list names; or, where they are refused, all their faults, and
-/// behind these the notes that hold all the same. The list is read first.
+/// Reads the inventory, and the playbook if there is one, and writes the notes on them, except those of the kinds that the list names; or, if they are rejected, all their faults.
+/// The list is read first.
 #[allow(clippy::too_many_arguments)]
 pub fn lint<S: System, I: Input, W: Write>(
     system: &S,
@@ -94,7 +92,7 @@ fn print_on_one<W: Write>(
     };
     match lint_fleet_text(alloc, given, inventory, allowed, out) {
         Ok(end) => Ok(Status::from(end)),
-        Err(refused) => print_instead(alloc, inventory, None, allowed, refused, out),
+        Err(refused) => print_instead(alloc, inventory, None, refused, out),
     }
 }
 
@@ -139,7 +137,7 @@ fn print_on_both<W: Write>(
     };
     match lint_text(alloc, given, inventory, playbook, allowed, out) {
         Ok(end) => Ok(Status::from(end)),
-        Err(refused) => print_instead(alloc, inventory, Some(playbook), allowed, refused, out),
+        Err(refused) => print_instead(alloc, inventory, Some(playbook), refused, out),
     }
 }
 
@@ -158,37 +156,17 @@ fn print_instead<W: Write>(
     alloc: Global,
     inventory: &[u8],
     playbook: Option<&[u8]>,
-    allowed: &Allowed<'_>,
     refused: PlanFault,
     out: &mut W,
 ) -> Result<Status, Fault>
-    ensures { TellsInstead allowed.now inventory.now (option_map (λ text. text.now) playbook.entry) (W.contents out.old) (W.contents out.new) refused result }
+    ensures { TellsInstead inventory.now (option_map (λ text. text.now) playbook.entry) (W.contents out.old) (W.contents out.new) refused result }
 {
     if is_lost(&refused) {
         return Err(Fault::from(refused));
     }
     match find_faults(alloc, inventory, playbook) {
-        Ok(Some(found)) => print_found(alloc, &found, inventory, playbook, allowed, out),
+        Ok(Some(found)) => tell_faults(alloc, &found, inventory, playbook, out),
         Ok(None) => Err(Fault::from(refused)),
-        Err(_refused) => Err(Fault::Memory),
-    }
-}
-
-/// Writes the faults that were found of the texts, and the notes beside them.
-fn print_found<W: Write>(
-    alloc: Global,
-    found: &Found,
-    inventory: &[u8],
-    playbook: Option<&[u8]>,
-    allowed: &Allowed<'_>,
-    out: &mut W,
-) -> Result<Status, Fault>
-    requires { IsFound inventory.now (option_map (λ text. text.now) playbook) found.now }
-    ensures ok { IfOk result (PrintsFaults allowed.now inventory.now (option_map (λ text. text.now) playbook.entry) (W.contents out.old) (W.contents out.new)) }
-    ensures err { IfErr result (LosesAll allowed.now inventory.now (option_map (λ text. text.now) playbook.entry) (W.contents out.old) (W.contents out.new)) }
-{
-    match notes_beside_faults(alloc, inventory, playbook, allowed) {
-        Ok(beside) => tell_faults(alloc, found, beside.as_slice(), inventory, playbook, out),
         Err(_refused) => Err(Fault::Memory),
     }
 }

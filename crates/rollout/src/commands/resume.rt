@@ -13,9 +13,10 @@ ghost use Rattle.rollout.specs.Systems.{sources_of};
 ghost use Rattle.rollout.specs.declared.fault.Fault.TheVariants.{Stopped};
 
 use crate::children::refusal;
-use crate::commands::run::{ended, lock_file, lock_source};
+use crate::commands::run::ended;
 use crate::fault::Fault;
 use crate::inputs::read_both;
+use crate::locking::{Locking, hold_journal, hold_lock};
 use crate::source::read_file;
 use crate::status::Status;
 use crate::system::System;
@@ -37,12 +38,13 @@ use std::process::{Processes, SystemProcess};
 use std::sync::Wait;
 use std::thread::Threads;
 
-/// The run that is to go on: its journal's file, the names of the hosts that are up by now, whether the inputs may be others than those with which it began, and the form of its recap.
+/// The run that is to go on: its journal's file, the names of the hosts that are up by now, whether the inputs may be others than those with which it began, which file it locks, and the form of its recap.
 #[derive(Clone, Copy)]
 pub struct ResumeWish<'w> {
     pub journal: &'w str,
     pub mended: &'w str,
     pub takes_others: bool,
+    pub locking: Locking<'w>,
     pub form: Form,
 }
 
@@ -76,11 +78,11 @@ pub fn resume<
     if let Some(fault) = refusal(system, coordinator.alloc) {
         return (Err(fault), history);
     }
-    let _inventory = match lock_source(system, watch, &inventory) {
+    let _lock = match hold_lock(system, coordinator.alloc, watch, &inventory, wish.locking) {
         Ok(lock) => lock,
         Err(fault) => return (Err(fault), history),
     };
-    let _journal = match lock_file(system, wish.journal) {
+    let _journal = match hold_journal(system, &inventory, wish.journal) {
         Ok(lock) => lock,
         Err(fault) => return (Err(fault), history),
     };

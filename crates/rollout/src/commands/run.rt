@@ -6,12 +6,13 @@ ghost use Rattle.rollout.specs.Rolls.{BreaksOff, IsRefusedBy, PrintsRecap, Rolls
 ghost use Rattle.rollout.specs.Systems.{sources_of};
 ghost use Rattle.rollout.specs.RollFaults.{fault_of};
 ghost use Rattle.rollout.specs.Status.{status_of_run};
-ghost use Rattle.rollout.specs.declared.fault.Fault.TheVariants.{JournalWrite, Locked, Stopped};
+ghost use Rattle.rollout.specs.declared.fault.Fault.TheVariants.{JournalWrite, Stopped};
 
 use crate::children::refusal;
 use crate::commands::strictness::check_names;
 use crate::fault::Fault;
 use crate::inputs::read_both;
+use crate::locking::{Locking, hold_lock};
 use crate::status::Status;
 use crate::system::System;
 use bounded_io::Input;
@@ -28,24 +29,16 @@ use std::process::{Processes, SystemProcess};
 use std::sync::Wait;
 use std::thread::Threads;
 
-/// What a run that begins is asked for: the new file in which it is kept, whether it holds the lock of its inventory without one, whether it begins only where no name may be
-/// missing, and the form of its recap.
+/// What a run that begins is asked for: the new file in which it is kept, which file it locks, whether it begins only if no name may be missing, and the form of its recap.
 #[derive(Clone, Copy)]
 pub struct StartWish<'w> {
     pub journal: &'w Option<String>,
-    pub locks: bool,
+    pub locking: Locking<'w>,
     pub is_strict: bool,
     pub form: Form,
 }
 
-impl StartWish<'_> {
-    fn wants_lock(&self) -> bool {
-        self.locks || self.journal.is_some()
-    }
-}
-
-/// Whether a run may begin: the ends of programs can be had, and no file of the journal's name is there; and the lock of its inventory, where it asks for one and the file has it.
-/// `watch` is told where it hasn't.
+/// Whether a run may begin: the ends of programs can be had, and no file of the journal's name is there; and the lock that it holds. `watch` is told if there is none to be had.
 pub(crate) fn may_begin<S: System, T: Watch>(
     system: &S,
     alloc: Global,
@@ -62,10 +55,7 @@ pub(crate) fn may_begin<S: System, T: Watch>(
     if is_there(system, wish.journal) {
         return Err(Fault::JournalThere);
     }
-    match lock_inventory(system, watch, inventory, wish) {
-        Ok(lock) => Ok(lock),
-        Err(_locked) => Err(Fault::Locked),
-    }
+    hold_lock(system, alloc, watch, inventory, wish.locking)
 }
 
 /// Runs the playbook's plays with so many workers, where the ends of programs can be had, and writes the recap of the run. `watch` is told of
@@ -113,51 +103,6 @@ pub fn roll<
             )
         }
         Err(fault) => (Err(fault), history),
-    }
-}
-
-/// The lock of the inventory's file, where it is asked for: two runs that know nothing of each other would together take more hosts down than a group may lose.
-fn lock_inventory<S: System, T: Watch>(
-    system: &S,
-    watch: &mut T,
-    inventory: &Source,
-    wish: StartWish<'_>,
-) -> Result<Option<S::Lock>, Fault>
-    ensures { IfErr result (λ fault. fault ≡ Locked) }
-{
-    if wish.wants_lock() {
-        lock_source(system, watch, inventory)
-    } else {
-        Ok(None)
-    }
-}
-
-/// The lock of the inventory's file, where it has one. `watch` is told where it hasn't: a pipe hasn't, and no file of some file systems.
-pub(crate) fn lock_source<S: System, T: Watch>(
-    system: &S,
-    watch: &mut T,
-    source: &Source,
-) -> Result<Option<S::Lock>, Fault>
-    ensures { IfErr result (λ fault. fault ≡ Locked) }
-{
-    let Source::File(name) = source else {
-        return Ok(None);
-    };
-    let locked = lock_file(system, name.as_str());
-    if let Ok(None) = &locked {
-        watch.note(b"note: the inventory's file has no lock: another run of it is not kept out\n");
-    }
-    locked
-}
-
-/// The lock of a file, where it has one.
-pub(crate) fn lock_file<S: System>(system: &S, name: &str) -> Result<Option<S::Lock>, Fault>
-    ensures { IfErr result (λ fault. fault ≡ Locked) }
-{
-    match system.lock(name) {
-        Ok(Some(lock)) => Ok(Some(lock)),
-        Ok(None) => Err(Fault::Locked),
-        Err(_error) => Ok(None),
     }
 }
 

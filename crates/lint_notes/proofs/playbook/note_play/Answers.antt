@@ -1,6 +1,9 @@
-use Rattle.std.proofs.Common.{◌≡◌, ◌+◌, ◌++◌, ◌∙◌}
+use Rattle.std.proofs.Common.{◌≡◌, ◌+◌, ◌++◌, ap, ◌∙◌}
 use Rattle.step_notes.specs.Hosts.{crowd_for, waiting_for}
-use Rattle.step_notes.specs.Inside.{foreseen_in, gives, has_name, lacks_in, may_be}
+use Rattle.step_notes.specs.Inside.{foreseen_in, has_missed, has_name, value_in}
+use Rattle.step_notes.specs.Places.{local_play_note}
+use Rattle.step_notes.specs.Programs.{goes_elsewhere}
+use Rattle.note_lines.specs.Notes.{noted}
 use Rattle.lint_notes.specs.Playbooks.{batch_notes, steps_notes}
 use Rattle.fleet_notes.proofs.NotedLemmas.{two_noted}
 use Rattle.lint_notes.proofs.playbook.note_play.Goals as goal
@@ -13,13 +16,22 @@ returns-clause-notes c =
     let number = c.args.numbered.number in
     let play = c.args.numbered.play.now in
     let is_set = has_name c.args.registered.now in
-    let is_left = may_be c.args.registered.now in
     let batched = c.note_batches.new.notes in
+    let placed = c.note_local.new.notes in
     let lacks = c.in_ok-lacks.ensures in
     let waiting : c.in_ok-lacks.lacks.waiting.now ≡ waiting_for fleet play = lacks.waiting ∙ c.as_slice.ensures.value ∙ c.in_ok-targets.ensures.waiting in
-    let steps = steps_notes is_set is_left (crowd_for fleet (lacks_in scene.vars.now) (gives scene.given.now) play) (foreseen_in plays.fleet.now plays.plays.now scene.vars.now number) number play in
-    let noted : c.note_steps.new.notes ≡ batched ++ steps =
+    let elsewhere : c.in_ok-lacks.lacks.elsewhere ≡ goes_elsewhere play.steps.items = lacks.elsewhere ∙ ap goes_elsewhere c.steps.ensures.value in
+    let crowd = crowd_for fleet (value_in scene.vars.now) (has_missed scene.given.now) play in
+    let foreseen = foreseen_in plays.fleet.now plays.plays.now scene.vars.now number in
+    let local = noted (local_play_note is_set crowd foreseen (number + 1) play) in
+    let steps = steps_notes is_set crowd foreseen number play in
+    let first : placed ≡ batched ++ local =
+    c.in_ok-note_local.ensures
+    ∙ (λ i. batched ++ noted (local_play_note is_set (record { fleet = fleet; value = value_in (lacks.vars i); gives = has_missed (lacks.given i); elsewhere = elsewhere i; waiting = waiting i })
+    (foreseen_in plays.fleet.now plays.plays.now (lacks.vars i) number) (number + 1) play)) in
+    let then : c.note_steps.new.notes ≡ placed ++ steps =
     c.in_ok-note_steps.ensures.notes
-    ∙ (λ i. batched ++ steps_notes is_set is_left (record { fleet = fleet; lacks = lacks_in (lacks.vars i); gives = gives (lacks.given i); waiting = waiting i })
+    ∙ (λ i. placed ++ steps_notes is_set (record { fleet = fleet; value = value_in (lacks.vars i); gives = has_missed (lacks.given i); elsewhere = elsewhere i; waiting = waiting i })
     (foreseen_in plays.fleet.now plays.plays.now (lacks.vars i) number) number play) in
-    two_noted c.args.notes.now batched c.note_steps.new.notes (batch_notes fleet c.args.smallest (number + 1) play) steps c.in_ok-note_batches.ensures noted
+    two_noted c.args.notes.now batched c.note_steps.new.notes (batch_notes fleet c.args.smallest (number + 1) play) (local ++ steps) c.in_ok-note_batches.ensures
+    (two_noted batched placed c.note_steps.new.notes local steps first then)

@@ -4,8 +4,7 @@ use Rattle.std.specs.Prelude.{slice_index_or}
 use Rattle.play_model.specs.declared.play.Play.{Play}
 use Rattle.needed_results.specs.Registers.{is_registered_by, is_registered_in}
 use Rattle.step_notes.specs.Hosts.{Foreseen}
-use Rattle.step_notes.specs.Inside.{foreseen_in, gives, has_name, lacks_in, may_be}
-use Rattle.step_notes.specs.Endings.{is_left_by, is_left_in}
+use Rattle.step_notes.specs.Inside.{foreseen_in, has_missed, has_name, value_in}
 use Rattle.note_lines.specs.Notes.{Note}
 use Rattle.lint_notes.specs.Playbooks.{all_noted, play_notes}
 use Rattle.step_notes.proofs.AnyLemmas.{any_more}
@@ -17,8 +16,8 @@ pub loop-number-preserved : goal.loop-number-preserved
 loop-number-preserved c =
     let scene = c.args.scene in
     let fleet = scene.fleet.now in
-    let lacks = lacks_in scene.vars.now in
-    let given = gives scene.given.now in
+    let lacks = value_in scene.vars.now in
+    let given = has_missed scene.given.now in
     let foreseen : ℕ → ℕ → ℕ → Foreseen = foreseen_in scene.registry.now.fleet.now scene.registry.now.plays.now scene.vars.now in
     let plays : List Play = c.args.plays.now in
     let number = c.loop-number.number in
@@ -27,19 +26,15 @@ loop-number-preserved c =
     let smallest = slice_index_or sizes number None in
     let before = c.loop-number.registered in
     let earlier = is_registered_in (take number plays) in
-    let left = is_left_in (take number plays) in
-    let now : c.note_play.new.notes ≡ c.loop-number.notes ++ play_notes fleet lacks given (foreseen number) earlier left smallest number play =
+    let now : c.note_play.new.notes ≡ c.loop-number.notes ++ play_notes fleet lacks given (foreseen number) earlier smallest number play =
     c.in_ok-note_play.ensures.notes
-    ∙ ap (λ (l : List Note). c.loop-number.notes ++ l) (play_same (has_name before) earlier c.loop-number.invariant.registered (may_be before) left c.loop-number.invariant.endings fleet lacks given (foreseen number) smallest number play) in
+    ∙ ap (λ (l : List Note). c.loop-number.notes ++ l) (play_same (has_name before) earlier c.loop-number.invariant.registered fleet lacks given (foreseen number) smallest number play) in
     record {
-      notes = noted_more (λ number play. play_notes fleet lacks given (foreseen number) (is_registered_in (take number plays)) (is_left_in (take number plays)) (slice_index_or sizes number None) number play) plays number play c.loop-number.notes c.note_play.new.notes _
+      notes = noted_more (λ number play. play_notes fleet lacks given (foreseen number) (is_registered_in (take number plays)) (slice_index_or sizes number None) number play) plays number play c.loop-number.notes c.note_play.new.notes _
           c.loop-number-test.true c.index-plays-number.is c.loop-number.invariant.notes now;
       registered = λ name. c.in_ok-note_play.ensures.registered name
           ∙ ap (λ b. b || is_registered_by play.steps.items name) (c.loop-number.invariant.registered name)
           ∙ sym (any_more (λ (play : Play). is_registered_by play.steps.items name) plays number play c.loop-number-test.true c.index-plays-number.is);
-      endings = λ ending name. c.in_ok-note_play.ensures.endings ending name
-          ∙ ap (λ b. b || is_left_by play.steps.items ending name) (c.loop-number.invariant.endings ending name)
-          ∙ sym (any_more (λ (play : Play). is_left_by play.steps.items ending name) plays number play c.loop-number-test.true c.index-plays-number.is);
     }
 
 pub returns : goal.returns
@@ -51,6 +46,6 @@ returns c =
     let end = c.loop-number.number in
     let notes = c.loop-number.notes in
     let of : ℕ → Play → List Note = λ number play.
-    play_notes fleet (lacks_in scene.vars.now) (gives scene.given.now) (foreseen number) (is_registered_in (take number plays)) (is_left_in (take number plays)) (slice_index_or c.args.sizes.now number None) number play in
+    play_notes fleet (value_in scene.vars.now) (has_missed scene.given.now) (foreseen number) (is_registered_in (take number plays)) (slice_index_or c.args.sizes.now number None) number play in
     let none : drop end plays ≡ [] = drop_all end plays (omega (arith, c.loop-number-test.false)) in
     sym (append-nil notes) ∙ ap (λ (left : List Play). notes ++ all_noted of end left) (sym none) ∙ c.loop-number.invariant.notes

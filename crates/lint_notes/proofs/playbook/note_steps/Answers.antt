@@ -3,11 +3,9 @@ use Rattle.group_tree.specs.Names.{Name}
 use Rattle.play_model.specs.declared.step.Step.{Step}
 use Rattle.needed_results.specs.Registers.{is_registered_by, registers}
 use Rattle.step_notes.specs.Hosts.{Foreseen}
-use Rattle.step_notes.specs.Inside.{crowd_of, foreseen_in, has_name, may_be}
-use Rattle.step_notes.specs.Endings.{is_left_by, leaves}
-use Rattle.step_notes.specs.declared.ending.Ending.{Ending}
+use Rattle.step_notes.specs.Inside.{crowd_of, foreseen_in, has_name}
 use Rattle.note_lines.specs.Notes.{Note}
-use Rattle.lint_notes.specs.Playbooks.{is_left_at, is_set_at, step_notes}
+use Rattle.lint_notes.specs.Playbooks.{is_set_at, step_notes}
 use Rattle.step_notes.proofs.AnyLemmas.{any_more, set_more}
 use Rattle.lint_notes.proofs.EachLemmas.{noted_more}
 use Rattle.lint_notes.proofs.SameLemmas.{step_same}
@@ -16,7 +14,6 @@ use Rattle.lint_notes.proofs.playbook.note_steps.Goals as goal
 pub loop-place-preserved : goal.loop-place-preserved
 loop-place-preserved c =
     let first = has_name c.args.registered.now in
-    let left = may_be c.args.registered.now in
     let crowd = crowd_of c.args.crowd.now in
     let play = c.args.numbered.play.now in
     let number = c.args.numbered.number in
@@ -27,16 +24,12 @@ loop-place-preserved c =
     let before = c.loop-place.registered in
     let same : (name : Name) → has_name before name ≡ is_set_at first play place name = λ name.
     c.loop-place.invariant.registered name ∙ ap (λ (l : List Step). first name || is_registered_by (take place l) name) c.steps-steps.ensures.value in
-    let alike : (ending : Ending) (name : Name) → may_be before ending name ≡ is_left_at left play place ending name = λ ending name.
-    c.loop-place.invariant.endings ending name ∙ ap (λ (l : List Step). left ending name || is_left_by (take place l) ending name) c.steps-steps.ensures.value in
-    let now : c.note_step.new.notes ≡ c.loop-place.notes ++ step_notes first left crowd foreseen number play place step =
+    let now : c.note_step.new.notes ≡ c.loop-place.notes ++ step_notes first crowd foreseen number play place step =
     c.in_ok-note_step.ensures
-    ∙ ap (λ (l : List Note). c.loop-place.notes ++ l) (step_same (has_name before) (is_set_at first play place) same (may_be before) (is_left_at left play place) alike crowd foreseen play place c.of-at.result _ c.of-at.ensures step) in
+    ∙ ap (λ (l : List Note). c.loop-place.notes ++ l) (step_same (has_name before) (is_set_at first play place) same crowd foreseen play place c.of-at.result _ c.of-at.ensures step) in
     record {
-      notes = noted_more (step_notes first left crowd foreseen number play) steps place step c.loop-place.notes c.note_step.new.notes _
+      notes = noted_more (step_notes first crowd foreseen number play) steps place step c.loop-place.notes c.note_step.new.notes _
           c.loop-place-test.true c.index-steps-place.is c.loop-place.invariant.notes now;
       registered = λ name. set_more (has_name c.add.new.self name) (has_name before name) (first name) (is_registered_by (take place steps) name) (registers name step) _
-          (c.in_ok-add.ensures.names name) (c.loop-place.invariant.registered name) (any_more (registers name) steps place step c.loop-place-test.true c.index-steps-place.is);
-      endings = λ ending name. set_more (may_be c.add.new.self ending name) (may_be before ending name) (left ending name) (is_left_by (take place steps) ending name) (leaves ending name step) _
-          (c.in_ok-add.ensures.endings ending name) (c.loop-place.invariant.endings ending name) (any_more (leaves ending name) steps place step c.loop-place-test.true c.index-steps-place.is);
+          (c.in_ok-add.ensures name) (c.loop-place.invariant.registered name) (any_more (registers name) steps place step c.loop-place-test.true c.index-steps-place.is);
     }

@@ -1,19 +1,16 @@
 use Rattle.std.proofs.Common.{◌≡◌, ◌||◌, ◌++◌, drop, take}
 use Rattle.group_tree.specs.Names.{Name}
 use Rattle.needed_results.specs.Registers.{is_registered_by}
-use Rattle.step_notes.specs.Inside.{crowd_of, foreseen_in, has_name, may_be}
-use Rattle.step_notes.specs.Endings.{is_left_by}
-use Rattle.step_notes.specs.declared.ending.Ending.{Ending}
+use Rattle.step_notes.specs.Inside.{crowd_of, foreseen_in, has_name}
 use Rattle.lint_notes.specs.Playbooks.{all_noted, step_notes, steps_notes}
 use Rattle.lint_notes.proofs.playbook.note_steps.Given as goal
 
 abbrev pub invariant-loop-place : goal.invariant-loop-place
 invariant-loop-place l = record {
   notes : l.notes
-      ++ all_noted (step_notes (has_name l.initial.registered) (may_be l.initial.registered) (crowd_of l.crowd) (foreseen_in l.registry.fleet.now l.registry.plays.now l.crowd.lacks.now.vars.now l.numbered.number) l.numbered.number l.numbered.play.now)
+      ++ all_noted (step_notes (has_name l.initial.registered) (crowd_of l.crowd) (foreseen_in l.registry.fleet.now l.registry.plays.now l.crowd.lacks.now.vars.now l.numbered.number) l.numbered.number l.numbered.play.now)
       l.place (drop l.place l.steps)
       ≡ l.initial.notes
-      ++ steps_notes (has_name l.initial.registered) (may_be l.initial.registered) (crowd_of l.crowd) (foreseen_in l.registry.fleet.now l.registry.plays.now l.crowd.lacks.now.vars.now l.numbered.number) l.numbered.number l.numbered.play.now;
+      ++ steps_notes (has_name l.initial.registered) (crowd_of l.crowd) (foreseen_in l.registry.fleet.now l.registry.plays.now l.crowd.lacks.now.vars.now l.numbered.number) l.numbered.number l.numbered.play.now;
   registered : (name : Name) → has_name l.registered name ≡ (has_name l.initial.registered name || is_registered_by (take l.place l.steps) name);
-  endings : (ending : Ending) (name : Name) → may_be l.registered ending name ≡ (may_be l.initial.registered ending name || is_left_by (take l.place l.steps) ending name);
 }

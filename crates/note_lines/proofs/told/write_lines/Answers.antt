@@ -1,16 +1,16 @@
 use Rattle.std.proofs.Common.{◌+◌, length, map, refl, ap, take, ◌∙◌, arith}
 use Rattle.bounded_io.proofs.WritingLemmas.{writes_two}
-use Rattle.note_lines.specs.Notes.{seen, told}
+use Rattle.note_lines.specs.Notes.{isnt_allowed, seen, told, warnings}
 use Rattle.note_lines.proofs.ToldLemmas.{count_told, lines_told}
 use Rattle.note_lines.proofs.told.write_lines.Goals as goal
 
 pub loop-note-preserved : goal.loop-note-preserved
 loop-note-preserved g c =
-    let tells = g.S.Sieve.tells c.args.sieve.now in
+    let tells = isnt_allowed c.args.allowed.now in
     let notes = c.args.notes.now in
     let place = c.loop-note.note-index in
     let told_now = c.write_told-count in
-    let before = length (told tells (map seen (take place notes))) in
+    let before = length (warnings (told tells (map seen (take place notes)))) in
     record {
       writes = writes_two _ c.args.text.now c.loop-note.text told_now.new.text _ _ _ c.loop-note.invariant.writes told_now.ensures.writes
           (lines_told tells notes place _ _ c.loop-note-test.true refl);

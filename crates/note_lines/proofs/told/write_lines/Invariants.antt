@@ -1,12 +1,12 @@
 use Rattle.std.proofs.Common.{◌≡◌, ◌≤◌, flat_map, length, map, take}
 use Rattle.bounded_io.specs.Writing.{Writes}
-use Rattle.note_lines.specs.Notes.{seen, told}
-use Rattle.note_lines.specs.NotesText.{note_line}
+use Rattle.note_lines.specs.Notes.{isnt_allowed, seen, told, warnings}
+use Rattle.note_lines.specs.NoteLines.{note_line}
 use Rattle.note_lines.proofs.told.write_lines.Given as goal
 
 abbrev pub invariant-loop-note : goal.invariant-loop-note
 invariant-loop-note g l = record {
-  writes : Writes g.W.Write.contents l.initial.text l.text (flat_map note_line (told (g.S.Sieve.tells l.sieve) (map seen (take l.note-index l.notes))));
-  count : l.count ≡ length (told (g.S.Sieve.tells l.sieve) (map seen (take l.note-index l.notes)));
+  writes : Writes g.W.Write.contents l.initial.text l.text (flat_map note_line (told (isnt_allowed l.allowed) (map seen (take l.note-index l.notes))));
+  count : l.count ≡ length (warnings (told (isnt_allowed l.allowed) (map seen (take l.note-index l.notes))));
   within : l.count ≤ l.note-index;
 }

@@ -1,5 +1,4 @@
-use Rattle.std.proofs.Common.{arith, drop, sym, ap, ◌+◌, ◌∙◌}
-use Rattle.rollout.specs.Children.{says_ignored}
+use Rattle.std.proofs.Common.{sym, ◌∙◌}
 use Rattle.rollout.proofs.Ignoring.{says_here, says_nothing, says_on, tail_is}
 use Rattle.rollout.proofs.children.says_ignored.Goals as goal
 

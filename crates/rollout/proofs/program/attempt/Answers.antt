@@ -13,12 +13,12 @@ returns-in-Ok g c =
     let found = c.in-Ok.field-0 in
     let asked = c.in-Ok.ensures in
     let helps = helps_where_asked c.new-helper.result.is_wanted (g.S.System.may_watch c.args.system.now || found.wishes.is_verbose) _ c.help-help.ensures c.new-helper.ensures.asked in
-    gains_as c.args.history c.follow-outcome.result.1
-    (λ logs does. inl (follows_line (g.R.Runner.may c.args.runner.now) (g.S.System.may_watch c.args.system.now) (sources_of (g.S.System.files c.args.system.now) (g.I.Input.is_reliable c.args.input.now)) given found.line
-    (g.I.Read.remaining c.args.input.now) (g.I.Read.remaining c.follow-outcome.new.input) (g.O.Write.contents c.args.out.now) (g.O.Write.contents c.follow-outcome.new.out) _ c.follow-outcome.result.0 logs
+    gains_as c.args.history c.act-outcome.result.1
+    (λ logs acts. inl (follows_line (g.R.Runner.may c.args.runner.now) (g.S.System.may_watch c.args.system.now) (sources_of (g.S.System.files c.args.system.now) (g.I.Input.is_reliable c.args.input.now)) given found.line
+    (g.I.Read.remaining c.args.input.now) (g.I.Read.remaining c.act-outcome.new.input) (g.O.Write.contents c.args.out.now) (g.O.Write.contents c.act-outcome.new.out) _ c.act-outcome.result.0 logs
     _ (wish_as found.wishes) asked.ok asked.wishes
-    (ap is_some c.new-attend.ensures ∙ sym (mapped_some string_bytes found.wishes.stop_file)) c.form_of.ensures helps does))
-    c.follow-outcome.ensures
+    (ap is_some c.new-attend.ensures ∙ sym (mapped_some string_bytes found.wishes.stop_file)) c.form_of.ensures helps acts))
+    c.act-outcome.ensures
 
 pub returns-in-Err : goal.returns-in-Err
 returns-in-Err g c = gains_none c.args.history c.args.history refl (search rules)

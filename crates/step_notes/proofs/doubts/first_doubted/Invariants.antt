@@ -1,9 +1,9 @@
 use Rattle.std.proofs.Common.{◌≡◌, drop}
-use Rattle.step_notes.specs.Inside.{known_in, said_all}
+use Rattle.step_notes.specs.Inside.{said_all}
 use Rattle.step_notes.specs.Doubts as model
 use Rattle.step_notes.proofs.doubts.first_doubted.Given as goal
 
 -- the first one in what is left is the first
 abbrev pub invariant-loop-one : goal.invariant-loop-one
 invariant-loop-one l =
-    model.first_doubted l.doubt (known_in l.known) (said_all (drop l.one-index l.tests)) ≡ model.first_doubted l.doubt (known_in l.known) (said_all l.tests)
+    model.first_doubted l.doubt l.fleet (said_all (drop l.one-index l.tests)) ≡ model.first_doubted l.doubt l.fleet (said_all l.tests)

@@ -13,7 +13,7 @@ returns g c =
     let walk = c.in_ok-list_walk.ensures.0 in
     let listed : walked_groups groups ≡ walk = ap walked_groups c.as_slice.ensures.value ∙ (rw c.new-groups.ensures.items at c.in_ok-list_walk.ensures.1) in
     let walked : IsWalkOf c.args.tree.now 0 walk = subst (λ (i : Inventory). IsWalkOf i 0 walk) c.root.ensures.root c.in_ok-list_walk.ensures.2 in
-    λ sort name.
-    c.in_ok-add_groups.ensures sort name
-    ∙ ap (λ b. b || list_any (λ w. group_gives sort name w.group.now) groups) (c.new-given.ensures sort name)
-    ∙ given_walked c.args.tree.now 0 walk groups listed walked sort name
+    λ name.
+    c.in_ok-add_groups.ensures name
+    ∙ ap (λ b. b || list_any (λ w. group_gives name w.group.now) groups) (c.new-given.ensures name)
+    ∙ given_walked c.args.tree.now 0 walk groups listed walked name

@@ -1,9 +1,10 @@
 use Rattle.std.proofs.Common.{◌≡◌, ◌++◌, flat_map, take}
-use Rattle.step_notes.specs.Hosts.{name_note}
-use Rattle.step_notes.specs.Inside.{asking_of, names_of}
+use Rattle.step_notes.specs.Hosts.{misses, name_note}
+use Rattle.step_notes.specs.Inside.{crowd_of, missed_from, names_of}
 use Rattle.note_lines.specs.Notes.{noted}
 use Rattle.step_notes.proofs.steps.note_missed.Given as goal
 
 abbrev pub invariant-loop-name : goal.invariant-loop-name
 invariant-loop-name l =
-    l.notes ≡ l.initial.notes ++ flat_map (λ name. noted (name_note (asking_of l.askers.crowd l.askers.stand) l.at name)) (names_of (take l.name-index l.names))
+    l.notes ≡ l.initial.notes
+    ++ flat_map (λ name. noted (name_note (crowd_of l.askers.crowd) l.is_result (misses (missed_from l.askers.stand l.askers.crowd.lacks.now.vars.now)) l.at name)) (names_of (take l.name-index l.names))

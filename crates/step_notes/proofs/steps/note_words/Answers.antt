@@ -1,8 +1,8 @@
 use Rattle.std.proofs.Common.{◌++◌, Option, ap, ◌∙◌}
-use Rattle.step_notes.specs.Inside.{crowd_of, foreseen_from}
+use Rattle.step_notes.specs.Arguments.{dash_note, long_note}
+use Rattle.step_notes.specs.Inside.{crowd_of, foreseen_from, has_name}
 use Rattle.note_lines.specs.Notes.{Note, noted}
 use Rattle.step_notes.specs.Places.{local_note, target_note}
-use Rattle.step_notes.specs.Programs.{dash_note, long_note}
 use Rattle.step_notes.specs.Quoting.{blank_note, quotes_note}
 use Rattle.step_notes.specs.ShellWords.{shell_note}
 use Rattle.fleet_notes.proofs.NotedLemmas.{two_noted}
@@ -10,11 +10,11 @@ use Rattle.step_notes.proofs.steps.note_words.Goals as goal
 
 pub returns : goal.returns
 returns c =
+    let is_set = has_name c.args.asked.now.registered.now in
     let crowd = crowd_of c.args.asked.now.crowd in
     let foreseen = foreseen_from c.args.asked.now.stand c.args.asked.now.crowd.lacks.now.vars.now in
     let at = c.args.at in
     let step = c.args.step.now in
-    let play = c.args.play.now in
     let before = c.args.notes.now in
     let first = c.add.new.self in
     let second = c.add-2.new.self in
@@ -26,8 +26,8 @@ returns c =
     let shell = noted (shell_note at step) in
     let blank = noted (blank_note at step) in
     let torn = noted (quotes_note at step) in
-    let here = noted (local_note crowd foreseen play at step) in
-    let there = noted (target_note crowd foreseen at step) in
+    let here = noted (local_note is_set crowd foreseen at step) in
+    let there = noted (target_note is_set crowd foreseen at step) in
     let long = noted (long_note at step) in
     let dashed = noted (dash_note crowd at step) in
     two_noted before first all shell (blank ++ (torn ++ (here ++ (there ++ (long ++ dashed))))) (c.in_ok-add.ensures ∙ ap (λ (note : Option Note). before ++ noted note) c.shell_note.ensures)

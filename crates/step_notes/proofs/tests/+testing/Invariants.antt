@@ -6,4 +6,4 @@ use Rattle.step_notes.proofs.tests.+testing.Given as goal
 -- those of the trees that were read, and those of the others
 abbrev pub invariant-add_in_trees-loop-tree : goal.invariant-add_in_trees-loop-tree
 invariant-add_in_trees-loop-tree l =
-    said_all l.tests.items ++ all_of (map (tests_in_tree l.reach l.text) (drop l.tree-index l.trees)) ≡ said_all l.fn.tests.items ++ all_of (map (tests_in_tree l.reach l.text) l.trees)
+    said_all l.tests.items ++ all_of l.denied (map (tests_in_tree l.text) (drop l.tree-index l.trees)) ≡ said_all l.fn.tests.items ++ all_of l.denied (map (tests_in_tree l.text) l.trees)

@@ -8,30 +8,26 @@ pub returns-in-Ok-clause-ok : goal.returns-in-Ok-clause-ok
 returns-in-Ok-clause-ok g c =
     let contents = g.W.Write.contents in
     let found = c.args.found.now in
-    let beside = c.args.beside.now in
     let first = c.new-text.result in
     let mid = c.write_each.new.text in
-    let counted = c.write_count.new.text in
-    let last = c.write_bytes.new.self in
+    let last = c.write_count.new.text in
     let each = rw (c.first_of.ensures, c.as_slice.ensures.value) at c.write_each.ensures in
-    let all = whole contents _ first mid counted last (g.W.Write.contents c.args.out.now) found beside c.new-text.ensures each c.write_count.ensures c.write_bytes.ensures in
-    let told = shown_so contents _ first mid counted last _ found beside c.new-text.ensures each c.write_count.ensures c.write_bytes.ensures c.in-Ok.ensures.finishes in
+    let all = whole contents _ first mid last (g.W.Write.contents c.args.out.now) found c.new-text.ensures each c.write_count.ensures in
+    let told = shown_so contents _ first mid last _ found c.new-text.ensures each c.write_count.ensures c.in-Ok.ensures.finishes in
     let same = all.same_reference in
-    let Is : Option (List ℕ) → Type 0 = λ (new : Option (List ℕ)). ShowsFaults found beside (g.W.Write.contents c.args.out.now) new in
+    let Is : Option (List ℕ) → Type 0 = λ (new : Option (List ℕ)). ShowsFaults found (g.W.Write.contents c.args.out.now) new in
     (refl, subst Is (search (rules, same)) told)
 
 pub returns-in-Err-clause-err : goal.returns-in-Err-clause-err
 returns-in-Err-clause-err g c =
     let contents = g.W.Write.contents in
     let found = c.args.found.now in
-    let beside = c.args.beside.now in
     let first = c.new-text.result in
     let mid = c.write_each.new.text in
-    let counted = c.write_count.new.text in
-    let last = c.write_bytes.new.self in
+    let last = c.write_count.new.text in
     let each = rw (c.first_of.ensures, c.as_slice.ensures.value) at c.write_each.ensures in
-    let all = whole contents _ first mid counted last (g.W.Write.contents c.args.out.now) found beside c.new-text.ensures each c.write_count.ensures c.write_bytes.ensures in
-    let told = lost_so contents _ first mid counted last _ found beside c.new-text.ensures each c.write_count.ensures c.write_bytes.ensures c.in-Err.fault c.in-Err.ensures.finishes in
+    let all = whole contents _ first mid last (g.W.Write.contents c.args.out.now) found c.new-text.ensures each c.write_count.ensures in
+    let told = lost_so contents _ first mid last _ found c.new-text.ensures each c.write_count.ensures c.in-Err.fault c.in-Err.ensures.finishes in
     let same = all.same_reference in
-    let Is : Option (List ℕ) → Type 0 = λ (new : Option (List ℕ)). LosesFound found beside (g.W.Write.contents c.args.out.now) new (Write c.in-Err.fault) in
+    let Is : Option (List ℕ) → Type 0 = λ (new : Option (List ℕ)). LosesFound found (g.W.Write.contents c.args.out.now) new (Write c.in-Err.fault) in
     subst Is (search (rules, same)) told

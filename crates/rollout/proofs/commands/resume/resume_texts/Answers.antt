@@ -3,8 +3,7 @@ use Rattle.std.proofs.KnownBytes.{Keeps-refl}
 use Rattle.roll_run.proofs.Following.{gains_none}
 use Rattle.rollout.specs.Resumes as model
 use Rattle.rollout.specs.Resumes.{IsNoneWished, IsWished}
-use Rattle.rollout.proofs.Resuming.{GoesOnBy-of_rest, refusals_stop_nothing}
-use Rattle.rollout.proofs.Rolling.{fault_in}
+use Rattle.rollout.proofs.Resuming.{GoesOnBy-of_rest}
 use Rattle.rollout.proofs.commands.resume.resume_texts.Goals as goal
 
 pub returns-in-Err-clause-goes : goal.returns-in-Err-clause-goes

@@ -16,4 +16,4 @@ pub returns-in-Ok : goal.returns-in-Ok
 returns-in-Ok g c =
     let tells = rw (c.as_slice-inventory.ensures.value, c.as_slice-journal.ensures.value) at c.tell_texts.ensures.ok in
     let refuses = rw (c.as_slice-inventory.ensures.value, c.as_slice-journal.ensures.value) at c.tell_texts.ensures.err in
-    TellsState-of_texts c.args.takes_others _ _ _ _ _ _ _ c.in-Ok.inventory.items c.in-Ok.journal.items c.tell_texts.result c.in-Ok.ensures.ok tells refuses
+    TellsState-of_texts c.args.takes_others c.is_going_on-goes_on.result _ _ _ _ _ _ _ c.in-Ok.inventory.items c.in-Ok.journal.items c.tell_texts.result c.in-Ok.ensures.ok tells refuses

@@ -1,6 +1,7 @@
-use Rattle.std.proofs.Common.{ℕ, is_some, Option, ap, ◌∙◌}
+use Rattle.std.proofs.Common.{ℕ, is_some, ap, ◌∙◌}
 use Rattle.std.specs.Prelude.{count_by}
 use Rattle.step_notes.specs.Lacks.{lacks_in}
+use Rattle.step_notes.specs.declared.lack.Facts.{Facts}
 use Rattle.step_notes.specs.declared.lack.Lack.{Lack}
 use Rattle.step_notes.proofs.AskedLemmas.{found_any}
 use Rattle.step_notes.proofs.crowd.Crowd.is_lacked.Goals as goal
@@ -11,4 +12,4 @@ returns c =
     let waiting = c.args.self.now.lacks.now.waiting.now in
     let name = c.args.name.now in
     let noted : ℕ → Lack = λ first. record { hosts = count_by (lacks_in vars name) waiting; first = first } in
-    c.is_some.ensures ∙ ap (λ (lack : Option Lack). is_some lack) c.get.ensures ∙ found_any (lacks_in vars name) noted waiting
+    c.is_some.ensures ∙ ap (λ (facts : Facts). is_some facts.lack) c.get.ensures ∙ found_any (lacks_in vars name) noted waiting

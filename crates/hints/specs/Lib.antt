@@ -1,0 +1,3 @@
+pub mod Lines
+pub mod Entries
+pub mod Listed

@@ -1,0 +1,21 @@
+//! Tables of hints.
+
+/// A key, or several separated by spaces, and the hint.
+pub(crate) type Row = (&'static str, &'static str);
+
+/// The hint of the first row that has this key.
+pub(crate) fn find(rows: &[Row], key: &str) -> Option<&'static str> {
+    let row = rows
+        .iter()
+        .find(|row| row.0.split(' ').any(|other| other == key))?;
+    Some(row.1)
+}
+
+/// The hint of the first row whose key the bytes start with.
+pub(crate) fn find_start(rows: &[Row], bytes: &[u8]) -> Option<&'static str> {
+    let row = rows.iter().find(|row| row
+        .0
+        .split(' ')
+        .any(|start| bytes.starts_with(start.as_bytes())))?;
+    Some(row.1)
+}

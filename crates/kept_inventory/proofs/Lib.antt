@@ -1,4 +1,0 @@
-pub mod Choosing
-pub mod Shallow
-pub mod Walking
-pub mod SingleDepths

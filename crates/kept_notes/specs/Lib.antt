@@ -1,3 +1,0 @@
-pub mod Certain
-pub mod Sought
-pub mod Beside

@@ -1,0 +1,146 @@
+//! The table of kinds.
+ghost use Rattle.std.specs.Prelude.{◌≡◌};
+ghost use Rattle.note_lines.specs.Kinds as model;
+
+use crate::kind::Kind;
+
+/// Whether `lint` exits with status 1 because of such a note.
+#[derive(Clone, Copy, Debug, PartialEq, Eq)]
+pub enum Severity {
+    Warning,
+    Info,
+}
+
+/// What belongs to a kind: the word with which its lines start, its severity, and what to do about it.
+#[derive(Clone, Copy, Debug)]
+pub struct Row {
+    pub name: &'static str,
+    pub severity: Severity,
+    pub hint: &'static str,
+}
+
+fn warning(name: &'static str, hint: &'static str) -> Row
+    ensures name { result.name.now ≡ name.now }
+    ensures severity { result.severity ≡ Severity.Warning }
+{
+    Row {
+        name,
+        severity: Severity::Warning,
+        hint,
+    }
+}
+
+fn info(name: &'static str, hint: &'static str) -> Row
+    ensures name { result.name.now ≡ name.now }
+    ensures severity { result.severity ≡ Severity.Info }
+{
+    Row {
+        name,
+        severity: Severity::Info,
+        hint,
+    }
+}
+
+impl Kind {
+    /// The row of the kind.
+    pub fn row(self) -> Row
+        ensures name { result.name.now ≡ model.kind_name self }
+        ensures severity { result.severity ≡ model.severity self }
+    {
+        match self {
+            Kind::RepeatedKey => warning(
+                "repeated-key",
+                "only the last value of a repeated key counts; merge the values under one key, or rename one",
+            ),
+            Kind::NearKey => warning(
+                "near-key",
+                "did you mean max_down in the vars of a group, or \"down\": true at a host? any other variable limits and marks nothing",
+            ),
+            Kind::GroupDown => warning(
+                "group-down",
+                "down marks a host, not a group; write \"down\": true at each host that is down",
+            ),
+            Kind::ZeroLimit => warning(
+                "zero-limit",
+                "no host of this group can be updated; set max_down to 1 or more (a percentage rounds down)",
+            ),
+            Kind::EmptyLimit => warning(
+                "empty-limit",
+                "no host is in this group; list its hosts under it, or remove its max_down",
+            ),
+            Kind::LooseLimit => warning(
+                "loose-limit",
+                "all hosts of the group may be down at once; lower max_down, or write a percentage such as \"20%\"",
+            ),
+            Kind::UnfilledPlaceholder => warning(
+                "unfilled-placeholder",
+                "only arguments of a command are filled in; write {{ name }} there, and a plain name in a condition",
+            ),
+            Kind::NoHosts => warning(
+                "no-hosts",
+                "no host waits for this play; name other hosts, or remove \"down\": true from hosts that are up again",
+            ),
+            Kind::UnlimitedHosts => warning(
+                "unlimited-hosts",
+                "these hosts are in no limited group, so all may be down at once; give a group that holds them a max_down",
+            ),
+            Kind::LocalCommand => warning(
+                "local-command",
+                "the same command runs once for each host; write \"ssh\", \"--\", \"{{ inventory_hostname }}\" before its arguments",
+            ),
+            Kind::UndefinedName => warning(
+                "undefined-name",
+                "fix the spelling, define it, register it in an earlier step, or guard it with `NAME is defined`",
+            ),
+            Kind::UnknownGroup => warning(
+                "unknown-group",
+                "the inventory has no such group or host, so the test never holds; fix the spelling",
+            ),
+            Kind::IdleStep => warning(
+                "idle-step",
+                "the condition holds on no waiting host; compare its groups and values with the inventory (15 is a number, '15' a string)",
+            ),
+            Kind::IdleHandler => warning(
+                "idle-handler",
+                "no task of its play notifies this handler; fix the spelling of its name, or remove it",
+            ),
+            Kind::ChangedGuard => warning(
+                "changed-guard",
+                "a second run after a failure changes nothing and skips this step; test the state of the host instead",
+            ),
+            Kind::ShellWord => warning(
+                "shell-word",
+                "no shell runs here; use {\"argv\": [\"sh\", \"-c\", \"ps | grep x\"]}, or two steps instead of && and ;",
+            ),
+            Kind::DashName => warning(
+                "dash-name",
+                "the program takes this name for an option; write \"--\" before the argument, or rename the host",
+            ),
+            Kind::LongWord => warning(
+                "long-word",
+                "an argument of more than 65536 bytes fails the step; pass the program a file instead",
+            ),
+            Kind::DownHosts => info(
+                "down-hosts",
+                "these hosts are skipped; if they are up again, remove \"down\": true or pass --up",
+            ),
+            Kind::OneFailure => info(
+                "one-failure",
+                "to tolerate one failure, set max_fail_percentage to 100/size or more, or enlarge batches; to tolerate none, write 0",
+            ),
+        }
+    }
+
+    /// The word with which the line of such a note starts.
+    pub fn name(self) -> &'static str
+        ensures { result.now ≡ model.kind_name self }
+    {
+        self.row().name
+    }
+
+    pub fn severity(self) -> Severity
+        ensures { result ≡ model.severity self }
+    {
+        self.row().severity
+    }
+}

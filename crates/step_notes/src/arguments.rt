@@ -1,0 +1,72 @@
+//! The notes on the words that a program gets.
+ghost use Rattle.std.specs.Prelude.{◌≡◌, drop, option_map};
+ghost use Rattle.step_notes.specs.Arguments as model;
+ghost use Rattle.step_notes.specs.Inside.{crowd_of};
+ghost use Rattle.note_lines.specs.Notes.{seen};
+
+use crate::crowd::Crowd;
+use fleet_notes::is_literal;
+use note_lines::{Note, StepPath};
+use play_model::{Step, Words};
+use text_parts::{MAX_RENDERED, Part, Ref, first_word_part};
+
+fn is_long(word: &str) -> bool
+    ensures { result ≡ model.is_long word.now }
+{
+    word.len() > MAX_RENDERED && is_literal(word)
+}
+
+/// Returns the note on the length of a step's words.
+pub(crate) fn long_note(at: StepPath, step: &Step) -> Option<Note<'static>>
+    ensures { option_map seen result ≡ model.long_note at step.now }
+{
+    let words = &step.words;
+    for place in 0..words.len() {
+        if is_long(words.at(place)) {
+            return Some(Note::LongWord {
+                at,
+                bytes: words.at(place).len(),
+            });
+        }
+    }
+    None
+}
+
+/// Whether the word starts with a placeholder for the host's own name.
+fn begins_with_host(word: &str) -> bool
+    ensures { result ≡ model.begins_with_host word.now }
+{
+    match first_word_part(word) {
+        Some((Part::Hole(Ref::Hostname), _)) => true,
+        _ => false,
+    }
+}
+
+/// Whether one of the words after the program starts with the host's name, before which none ends the options.
+fn have_host(words: &Words) -> bool
+    ensures { result ≡ model.have_host (drop 1 words.now) }
+{
+    for place in 1..words.len() {
+        let word = words.at(place);
+        if word == "--" {
+            return false;
+        }
+        if begins_with_host(word) {
+            return true;
+        }
+    }
+    false
+}
+
+/// Returns the note on a step that gives its program the host's name.
+pub(crate) fn dash_note<'a>(crowd: &Crowd<'a, '_>, at: StepPath, step: &Step) -> Option<Note<'a>>
+    ensures { option_map seen result ≡ model.dash_note (crowd_of crowd.now) at step.now }
+{
+    if !have_host(&step.words) {
+        return None;
+    }
+    match crowd.first_dashed() {
+        Some(host) => Some(Note::DashName { at, host }),
+        None => None,
+    }
+}
