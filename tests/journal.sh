@@ -118,6 +118,40 @@ for words in "limits $work/racks.json" "rehearse $work/racks.json $work/play.jso
 done
 held plan "$work/racks.json" "$work/play.json"
 [ "$status" -eq 0 ] && pass || fail 'a plan asks for a lock'
+# Whoever looks at it is told which file is locked, and the process that holds it if the system tells.
+held run -v "$work/racks.json" "$work/play.json"
+sed -E '2s/^  (process [0-9]+|another run) holds/  N holds/' "$work/errors" >"$work/told" && mv "$work/told" "$work/errors"
+check 'who holds the lock' 1 '' "rollout: 918 Locked$newline  N holds the lock of $work/racks.json: wait for its end$newline"
+# The inventory is read from the file that is locked: where another takes its name in the moment before, that one is locked and read.
+cat >"$work/replace.c" <<'C'
+#define _GNU_SOURCE
+#include <dlfcn.h>
+#include <stdio.h>
+#include <stdlib.h>
+#include <sys/file.h>
+
+int flock(int fd, int how) {
+    static int (*real)(int, int);
+    if (!real) real = (int (*)(int, int))dlsym(RTLD_NEXT, "flock");
+    if (how & LOCK_EX) rename(getenv("REPLACE_BY"), getenv("REPLACED"));
+    return real(fd, how);
+}
+C
+${CC:-cc} -shared -fPIC -O1 -o "$work/replace.so" "$work/replace.c" -ldl || fail 'no C compiler made replace.so'
+printf '{"all":{"hosts":{"old":null}}}' >replaced
+printf '{"all":{"hosts":{"new":null}}}' >by
+printf '[{"hosts":"all","tasks":[{"command":{"argv":["sh","-c","%s run --no-lock -v replaced one; %s run -v replaced one"]}}]}]' "$built" "$built" >inside
+printf '[{"hosts":"all","tasks":[{"command":"true"}]}]' >one
+REPLACE_BY=by REPLACED=replaced LD_PRELOAD="$work/replace.so" "$built" run -v replaced inside >"$work/out" 2>"$work/errors"
+[ $? -eq 4 ] && grep -q '^new ok=0 changed=0 failed=1 ' "$work/out" && grep -q '^  new stdout: new ok=1 ' "$work/errors" && grep -q '^  new stderr: rollout: 918 Locked$' "$work/errors" && pass ||
+    fail "an inventory that is replaced before it is locked: $(cat "$work/out" "$work/errors")"
+# One that is replaced while the run goes on is told of in the end.
+printf '[{"hosts":"all","tasks":[{"command":{"argv":["sh","-c","cp replaced by && mv by replaced"]}}]}]' >inside
+"$built" run replaced inside >"$work/out" 2>"$work/errors"
+status=$?
+check 'the inventory is replaced meanwhile' 0 "$(cat "$work/out")$newline" "note: the locked file was replaced while this run went on: another run of it was not kept out from then on$newline"
+"$built" run --quiet replaced inside >"$work/out" 2>"$work/errors"
+[ $? -eq 0 ] && [ ! -s "$work/errors" ] && pass || fail "the same, and nothing is to be told: $(cat "$work/errors")"
 # The program of a host finds the lock held, and behind the run it is free.
 printf '[{"hosts":"a","tasks":[{"command":{"argv":["python3","-c","import fcntl\\ntry:\\n    fcntl.flock(open(\\"%s\\"), fcntl.LOCK_EX | fcntl.LOCK_NB)\\nexcept BlockingIOError:\\n    pass\\nelse:\\n    exit(1)"]}}]}]' "$work/racks.json" >"$work/asking.json"
 run run "$work/racks.json" "$work/asking.json" --journal asking

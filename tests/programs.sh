@@ -487,7 +487,7 @@ if proved 'want of memory for what is told'; then
         compared "$number"
         case $status in
             0) [ "$(cat "$work/out")" = "$whole" ] && { grep -q '^a step=1 changed rc=0 ms=[0-9]* name=a step$' "$work/errors" || untold=$((untold + 1)); } ;;
-            5) grep -qx 'rollout: memory' "$work/errors" && ! sed '1,/^rollout: memory$/d' "$work/errors" | grep -qvx 'a was at work\|next: .*' && { [ ! -s "$work/out" ] || [ "$(tail -n 1 "$work/out")" = 'end fault' ]; } ;;
+            5) grep -qx 'rollout: memory' "$work/errors" && ! sed '1,/^rollout: memory$/d' "$work/errors" | grep -qvx 'running: a\|next: .*' && { [ ! -s "$work/out" ] || [ "$(tail -n 1 "$work/out")" = 'end fault' ]; } ;;
             *) false ;;
         esac || fail "told, allocation $number refused: status $status"
     done

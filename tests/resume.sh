@@ -163,8 +163,8 @@ said() {
     rm -f ran
 }
 written one HEAD 'play: a b' 'open: a'
-said 'why it is none that went well' 'a halted
-next: mend what is down; then go on, by --resume JOURNAL --up NAMES, or without a journal, what is still down marked ("down": true), by a narrower "hosts" (docs/DURING_AND_AFTER.md)' inventory one --resume journal
+said 'why it is none that went well' 'halted: a
+next: rollout run --resume journal --up a inventory one' inventory one --resume journal
 
 # ---- who is mended is not told to stay down
 
@@ -181,9 +181,10 @@ said 'who is not among them is' 'note: e is down and stays down: 1 host of the p
 printf '%s' '[{"hosts":"all","tasks":[{"command":"true"}]},{"hosts":"d","tasks":[{"command":{"argv":["sh","-c","exit 7"]}}]}]' >fails
 written fails HEAD 'play: a b c d' 'open: a d' 'closed: updated:a updated:d' 'open: b' 'closed: updated:b' 'open: c' 'closed: updated:c' 'end finished'
 said 'in which play a host failed, and nothing of the plays before' 'play 2
+1 of 1 hosts failed
 d failed in play 2 at step 1: rc=7
-e off from the start
-next: mend what is down; then go on, by --resume JOURNAL --up NAMES, or without a journal, what is still down marked ("down": true), by a narrower "hosts" (docs/DURING_AND_AFTER.md)' inventory fails --resume journal
+off: e
+next: rollout run --resume journal --up d inventory fails' inventory fails --resume journal
 mkfifo pipe
 written one HEAD 'play: a b c d' 'open: a' 'closed: updated:a'
 cat inventory >pipe &

@@ -144,8 +144,8 @@ if [ -n "$as_others" ]; then
     check 'no process for a worker' 5 'a ok=0 changed=0 failed=0 skipped=0 ignored=0 state=waiting
 end fault
 ' "rollout: memory
-a waits
-next: go on, by --resume JOURNAL, or without a journal by a narrower \"hosts\" (docs/DURING_AND_AFTER.md)
+waiting: a
+next: run the rest by a narrower \"hosts\" (docs/DURING_AND_AFTER.md)
 "
 fi
 

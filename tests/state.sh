@@ -261,6 +261,31 @@ check 'no journal' 1 '' "rollout: 902 File name=$work/nosuch$newline"
 run state "$work/nosuch" "$work/journal"
 check 'no inventory' 1 '' "rollout: 902 File name=$work/nosuch$newline"
 
+# ---- what a terminal shows behind it
+
+# shown WHAT LINES BODY ..: of the journal of these bodies standard error has these lines if it is a terminal.
+shown() {
+    what=$1
+    lines=$2
+    shift 2
+    written "$@"
+    python3 -c 'import os, pty, subprocess, sys
+ours, theirs = pty.openpty()
+subprocess.run(sys.argv[1:], stdin=subprocess.DEVNULL, stdout=subprocess.DEVNULL, stderr=theirs)
+os.write(theirs, b"over\n")
+shown = b""
+while not shown.endswith(b"over\r\n"):
+    shown += os.read(ours, 4096)
+sys.stdout.write(shown.decode().replace("\r\n", "\n")[:-5])' "$rollout" state "$work/racks.json" "$work/journal" >"$work/errors"
+    [ "$(cat "$work/errors")" = "$lines" ] && pass || fail "$what: a terminal shows $(cat "$work/errors")"
+}
+going_on="next: rollout run --resume $work/journal"
+shown 'hosts are running, and one has failed' "note: programs may still run on the hosts that are running
+$going_on --up b,c $work/racks.json PLAYBOOK" HEAD 'play: a b c' 'open: a c' 'closed: updated:a failed:c' 'open: b'
+shown 'hosts wait' "$going_on $work/racks.json PLAYBOOK" HEAD 'play: a b' 'open: a' 'closed: updated:a'
+shown 'a host has failed' "$going_on --up a $work/racks.json PLAYBOOK" HEAD 'play: a' 'open: a' 'closed: failed:a' 'end all-failed'
+shown 'nothing is left to do' '' HEAD 'play: a' 'open: a' 'closed: updated:a' 'end finished'
+
 written HEAD2 'play: a b d' 'open: a d' 'closed: updated:a failed:d' 'held: b' 'end held'
 counting python3 "$reader" try "$rollout" "$work/racks.json" "$work/journal"
 counting python3 "$reader" draw "$rollout" 1 "$(fewer 300 40)"

@@ -135,6 +135,7 @@ word ok=2 changed=1 failed=1 skipped=0 ignored=0 state=failed
 end finished
 RECAP
 cat >"$work/reasons" <<'REASONS'
+10 of 12 hosts failed
 changed-when failed at step 4 (changed_when): rc=0, a name in changed_when has no value
 exec-format failed at step 10 (starts): not started
 failed-when failed at step 5 (failed_when): rc=3, judged by failed_when
@@ -145,7 +146,7 @@ output failed at step 6 (by its output): rc=0, judged by failed_when
 permission failed at step 10 (starts): not started
 when failed at step 2 (when): gone has no value
 word failed at step 3 (word): filled has no value
-next: mend what is down; then go on, by --resume JOURNAL --up NAMES, or without a journal, what is still down marked ("down": true), by a narrower "hosts" (docs/DURING_AND_AFTER.md)
+next: mark in the inventory what is still down ("down": true), then run the rest by a narrower "hosts" (docs/DURING_AND_AFTER.md)
 REASONS
 LC_ALL=C sort "$work/told" >"$work/told.sorted"
 for forks in 1 5 64; do
@@ -323,7 +324,7 @@ verbose "$work/twelve.json" "$work/play.json"
 [ "$(head -n 1 "$work/errors")" = 'note: h00 h01 are down and stay down: 2 hosts of the plays are left out' ] && pass || fail "two plays leave hosts out: $(head -n 1 "$work/errors")"
 
 # follows WHAT STATUS LINES INVENTORY PLAYBOOK WORD..: these lines follow the recap of such a run, at each number of forks
-next='next: mend what is down; then go on, by --resume JOURNAL --up NAMES, or without a journal, what is still down marked ("down": true), by a narrower "hosts" (docs/DURING_AND_AFTER.md)'
+next='next: mark in the inventory what is still down ("down": true), then run the rest by a narrower "hosts" (docs/DURING_AND_AFTER.md)'
 follows() {
     what=$1 want=$2 lines=$3
     shift 3
@@ -333,40 +334,40 @@ follows() {
     done
 }
 follows 'all is done' 0 '' "$work/one.json" "$work/true.json"
-follows 'blocked' 3 "a off from the start
-b waits: group all has no room
+follows 'blocked' 3 "off: a
+waiting: b; group all has no room
 $next" "$work/full.json" "$work/true.json"
-follows 'held' 3 "a off from the start
-b was set aside: group all has no room
+follows 'held' 3 "off: a
+held: b; group all has no room
 $next" "$work/full.json" "$work/hold.json"
 printf '[{"hosts":"all","serial":2,"max_fail_percentage":0,"tasks":[{"command":"true"},{"name":"caf\u00e9 \u001b[2J","command":{"argv":["test","{{ inventory_hostname }}","!=","d"]}}]}]' >"$work/play.json"
-follows 'halted, and others wait' 4 "a halted
+follows 'halted, and others wait' 4 "1 of 5 hosts failed
 d failed at step 2 (caf?? ?[2J): rc=1
-b waits
-c waits
-e waits
+halted: a
+waiting: b c e
 $next" "$work/five.json" "$work/play.json"
 printf '{"all":{"children":{"x":{"vars":{"max_down":2},"children":{"y":{"vars":{"max_down":1},"hosts":{"a":null,"b":null}},"z":{"hosts":{"c":null,"d":null}}}}}}}' >"$work/nested.json"
 printf '[{"hosts":"all","serial":1,"tasks":[{"name":"first","command":"true"}]},{"hosts":"all","on_blocked":"hold","tasks":[{"name":"second","command":{"argv":["test","{{ inventory_hostname }}","!=","a"]},"changed_when":"true","failed_when":"inventory_hostname == %s"}]}]' "'a'" >"$work/play.json"
-follows 'of two plays, and the inner group is full' 3 "a failed in play 2 at step 1 (second): rc=1, judged by changed_when and failed_when
-b was set aside: group y has no room
+follows 'of two plays, and the inner group is full' 3 "1 of 4 hosts failed
+a failed in play 2 at step 1 (second): rc=1, judged by changed_when and failed_when
+held: b; group y has no room
 $next" "$work/nested.json" "$work/play.json"
 stop=$work/kept/stop
 printf '[{"hosts":"all","serial":4,"tasks":[{"command":{"argv":["touch","%s"]}}]}]' "$stop" >"$work/play.json"
 verbose "$work/five.json" "$work/play.json" --stop-file "$stop"
 rm -f "$stop"
-[ "$status" -eq 6 ] && [ "$(cat "$work/behind")" = "b waits${newline}d waits${newline}next: go on, by --resume JOURNAL, or without a journal by a narrower \"hosts\" (docs/DURING_AND_AFTER.md)" ] && pass ||
+[ "$status" -eq 6 ] && [ "$(cat "$work/behind")" = "waiting: b d${newline}next: run the rest by a narrower \"hosts\" (docs/DURING_AND_AFTER.md)" ] && pass ||
     fail "a run that its file ended: behind it stands $(tr '\n' '|' <"$work/behind")"
 # Of several plays the one that it broke off has what counts, whether anybody failed in it or not.
 printf '[{"hosts":"all","tasks":[{"command":{"argv":["touch","%s"]}}]},{"hosts":"all","tasks":[{"command":"true"}]}]' "$stop" >"$work/play.json"
 verbose "$work/one.json" "$work/play.json" --stop-file "$stop"
 rm -f "$stop"
-[ "$status" -eq 6 ] && [ "$(cat "$work/behind")" = "a waits${newline}next: go on, by --resume JOURNAL, or without a journal by a narrower \"hosts\" (docs/DURING_AND_AFTER.md)" ] && pass ||
+[ "$status" -eq 6 ] && [ "$(cat "$work/behind")" = "waiting: a${newline}next: run the rest by a narrower \"hosts\" (docs/DURING_AND_AFTER.md)" ] && pass ||
     fail "a second play that its file ended: behind it stands $(tr '\n' '|' <"$work/behind")"
 hosts 3 >"$work/three.json"
 printf '[{"hosts":"all","tasks":[{"command":"true"}]},{"hosts":"all","serial":2,"tasks":[{"command":{"argv":["touch","%s"]}},{"command":{"argv":["test","{{ inventory_hostname }}","!=","h0000"]}}]}]' "$stop" >"$work/play.json"
 verbose "$work/three.json" "$work/play.json" --stop-file "$stop"
 rm -f "$stop"
-[ "$status" -eq 6 ] && [ "$(cat "$work/behind")" = "h0000 failed in play 2 at step 2: rc=1${newline}h0001 waits$newline$next" ] && pass ||
+[ "$status" -eq 6 ] && [ "$(cat "$work/behind")" = "1 of 3 hosts failed${newline}h0000 failed in play 2 at step 2: rc=1${newline}waiting: h0001$newline$next" ] && pass ||
     fail "a host failed in a second play that its file ended: behind it stands $(tr '\n' '|' <"$work/behind")"
 finish

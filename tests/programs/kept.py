@@ -498,15 +498,21 @@ def wrong_in_told(recap, told, lines, several):
 
 
 def wrong_behind(recap, behind, several):
-    """What is wrong with the lines that follow the recap, or None: each host that is down or waits is named with how it is, and no other."""
-    forms = {"failed": r"failed (in play \d+ )?at step \d+.*", "halted": "halted", "off": "off from the start", "running": "was at work", "waiting": "waits.*", "held": "was set aside.*"}
-    left = {host: state for host, (_, state) in sections_of(recap, several)[-1].hosts.items() if state in forms}
+    """What is wrong with the lines that follow the recap, or None: each host that is down or waits is named with its state, and no other; none of these fleets has over ten of one state."""
+    states = ("failed", "halted", "off", "running", "waiting", "held")
+    left = {host: state for host, (_, state) in sections_of(recap, several)[-1].hosts.items() if state in states}
+    failed = list(left.values()).count("failed")
     for line in behind:
-        host, _, said = line.partition(" ")
-        if host == "next:":
+        if line.startswith("next:"):
             break
-        if host not in left or not re.fullmatch(forms[left.pop(host)], said):
+        if re.fullmatch(rf"{failed} of \d+ hosts failed", line):
+            continue
+        state, _, names = line.partition(": ") if line.partition(":")[0] in states else ("failed", "", line.partition(" ")[0])
+        if state == "failed" and not re.fullmatch(r"[^ ]+ failed (in play \d+ )?at step \d+.*", line):
             return f"{line!r} follows the recap"
+        for host in names.partition(";")[0].split():
+            if left.pop(host, None) != state:
+                return f"{line!r} follows the recap"
     return f"nothing is said of {sorted(left)}" if left else None
 
 

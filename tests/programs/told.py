@@ -77,7 +77,7 @@ def plays_of(recap):
 
 def is_told(line):
     """Whether a line is one of those that are told while a run goes on."""
-    return bool(re.match(r"note: |waiting=|closed |\S+ step=\d+ |play \d+$|held: |  \S+ (stdout|stderr|error|warning): |descriptors=", line))
+    return bool(re.match(r"note: |waiting=|closed |\S+ step=\d+ |play \d+$|held: [^;]*$|  \S+ (stdout|stderr|error|warning): |descriptors=", line))
 
 
 def parted(told):

@@ -1,7 +1,8 @@
 -- Why a step failed on a host, in words.
 use Rattle.std.specs.Prelude.{ℕ, ℤ, pos, ◌+◌, ◌&&◌, min, Bool, true, false, is_some, if◌then◌else◌, Option, None, Some, option_map, string_bytes}
-use Rattle.std.specs.Prelude.{List, [], ◌++◌, codes}
+use Rattle.std.specs.Prelude.{List, [], ◌++◌, bytes_eq, codes, length, nat_lt}
 use Rattle.std.specs.Ordering.{int_eq}
+use Rattle.fleet_numbers.specs.NumberLists.{list_at}
 use Rattle.host_track.specs.Endings.{Ending, ran, not_started, lost, skipped, undefined}
 use Rattle.play_model.specs.declared.step.Step.{Step}
 use Rattle.recap.specs.Integers.{integer_text}
@@ -20,9 +21,23 @@ abbrev pub judged_text : ℤ → Option Step → List ℕ
 judged_text rc None = []
 judged_text rc (Some step) = conditions_text (is_some step.changed_when) (is_some step.failed_when) (int_eq rc (pos 0))
 
--- `rc=R`, and what judges it
+abbrev pub is_ssh : List (List ℕ) → Bool
+is_ssh words = nat_lt 0 (length words) && bytes_eq (list_at words 0) (codes "ssh")
+
+abbrev pub calls_ssh : Option Step → Bool
+calls_ssh None = false
+calls_ssh (Some step) = is_ssh step.words
+
+-- what a return code says by custom: of `timeout`, of a shell, of `ssh`
+abbrev pub meaning_text : ℤ → Bool → List ℕ
+meaning_text rc by_ssh =
+    if int_eq rc (pos 124) then codes " (timed out)"
+    else (if int_eq rc (pos 127) then codes " (not found)"
+    else (if int_eq rc (pos 255) && by_ssh then codes " (ssh could not connect)" else []))
+
+-- `rc=R`, what that says, and what judges it
 abbrev pub ran_text : ℤ → Option Step → List ℕ
-ran_text rc step = codes "rc=" ++ (integer_text rc ++ judged_text rc step)
+ran_text rc step = codes "rc=" ++ (integer_text rc ++ (meaning_text rc (calls_ssh step) ++ judged_text rc step))
 
 abbrev pub undefined_text : List ℕ → List ℕ
 undefined_text name = name ++ codes " has no value"

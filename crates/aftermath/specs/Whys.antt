@@ -1,5 +1,5 @@
 -- What an operator is told when a run has ended otherwise than with all done.
-use Rattle.std.specs.Prelude.{ℕ, Bool, true, false, not, ◌||◌, Option, None, Some, List, ◌++◌, codes}
+use Rattle.std.specs.Prelude.{ℕ, Bool, true, false, not, ◌||◌, Option, None, Some, List, ◌++◌}
 use Rattle.std.specs.List.{list_any}
 use Rattle.domains.specs.FleetViews.{FleetView}
 use Rattle.fleet_states.specs.declared.status.Status.{Status}
@@ -7,10 +7,12 @@ use Rattle.fleet_states.specs.declared.status.Status.TheVariants.{Idle, Waiting,
 use Rattle.fleet_states.specs.Statuses.{is_down}
 use Rattle.play_course.specs.declared.end.End.{End}
 use Rattle.play_course.specs.declared.end.End.TheVariants as ending
-use Rattle.aftermath.specs.Downs.{down_lines}
+use Rattle.aftermath.specs.Downs.{count_line, down_lines}
 use Rattle.aftermath.specs.Fulls.{is_full}
 use Rattle.aftermath.specs.Rows.{LastRow, PlayedView, last_row}
-use Rattle.aftermath.specs.Waits.{wait_lines}
+use Rattle.aftermath.specs.Nexts.{next_text}
+use Rattle.aftermath.specs.Standing.{hosts_between, kept_lines, kind_line}
+use Rattle.aftermath.specs.declared.next.Call.{Call}
 
 -- the host is down by the run: it has failed, or was at work when it, or one that it goes on with, was stopped
 abbrev pub is_failed : Status → Bool
@@ -35,20 +37,18 @@ abbrev pub has_why : Option End → List Status → Bool
 has_why (Some end) statuses = not (is_finished end) || list_any (λ status. is_failed status) statuses
 has_why None statuses = true
 
--- what comes first, where any host is down
-abbrev pub mending_text : Bool → List ℕ
-mending_text true = codes "next: mend what is down; then go on, by --resume JOURNAL --up NAMES, or without a journal, what is still down marked (\"down\": true),"
-mending_text false = codes "next: go on, by --resume JOURNAL, or without a journal"
-
--- what is to be done next
-abbrev pub advice_text : Bool → List ℕ
-advice_text any_down = mending_text any_down ++ codes " by a narrower \"hosts\" (docs/DURING_AND_AFTER.md)\n"
-
--- why each host that is down is so, the outermost group without room of each that waits or was set aside, and what is to be done next
-abbrev pub why_by : FleetView → Bool → (ℕ → Option LastRow) → (ℕ → Bool) → List Status → List ℕ
-why_by fleet several row_of full statuses =
-    down_lines fleet several row_of statuses ++ (wait_lines fleet full statuses ++ advice_text (list_any (λ status. is_down status) statuses))
+-- each failure, the hosts that are down otherwise, those whose turn did not come, by the group that has no room, and what to do next
+abbrev pub why_by : FleetView → Bool → (ℕ → Option LastRow) → (ℕ → Bool) → List Status → Option Call → List ℕ
+why_by fleet several row_of full statuses call =
+    count_line fleet statuses
+    ++ (down_lines fleet several row_of statuses
+    ++ (kind_line fleet statuses Halted
+    ++ (kind_line fleet statuses Running
+    ++ (kind_line fleet statuses Off
+    ++ (kept_lines fleet full statuses Waiting
+    ++ (kept_lines fleet full statuses Held
+    ++ next_text fleet (hosts_between fleet statuses 0 2) (list_any (λ status. is_down status) statuses) call))))))
 
 -- the same by the logs of the plays that were begun
-abbrev pub why_text : FleetView → Bool → List PlayedView → List Status → List ℕ
-why_text fleet several played statuses = why_by fleet several (last_row played) (is_full fleet statuses) statuses
+abbrev pub why_text : FleetView → Bool → List PlayedView → List Status → Option Call → List ℕ
+why_text fleet several played statuses call = why_by fleet several (last_row played) (is_full fleet statuses) statuses call

@@ -1,6 +1,8 @@
-//! The lines of the hosts that are down when a run has ended.
-ghost use Rattle.std.specs.Prelude.{◌≡◌, ◌++◌, option_map};
+//! How many hosts have failed, and each of them.
+ghost use Rattle.std.specs.Prelude.{◌≡◌, [], ◌++◌, codes, length, option_map};
 ghost use Rattle.bounded_io.specs.Writing.{Writes};
+ghost use Rattle.domains.specs.Ids.{host_numbers};
+ghost use Rattle.recap.specs.LimitsText.{field_text};
 ghost use Rattle.aftermath.specs.Downs as spec;
 ghost use Rattle.aftermath.specs.Rows.{seen, seen_at};
 
@@ -10,7 +12,7 @@ use bounded_io::TextWriter;
 use domains::Fleet;
 use fleet_states::{Status, status_of};
 use group_tree::HostId;
-use recap::host_name;
+use recap::{host_name, write_field};
 use std::io::Write;
 
 #[tactic(auto, using(bounded_io::proofs::Pieces::pieces_of_text))]
@@ -28,15 +30,7 @@ fn write_failed<W: Write>(
     text.write_str("\n");
 }
 
-#[tactic(auto, using(bounded_io::proofs::Pieces::pieces_of_text))]
-fn write_two<W: Write>(text: &mut TextWriter<'_, W>, name: &str, end: &str)
-    ensures { Writes W.contents text.old text.new (name.now ++ end.now) }
-{
-    text.write_str(name);
-    text.write_str(end);
-}
-
-/// Writes why a host is down.
+/// Writes why a host has failed.
 #[tactic(auto, using(bounded_io::proofs::Pieces::pieces_of_text))]
 fn write_line<W: Write>(
     text: &mut TextWriter<'_, W>,
@@ -49,10 +43,13 @@ fn write_line<W: Write>(
 {
     match status {
         Status::Failed => write_failed(text, several, name, row),
-        Status::Halted => write_two(text, name, " halted\n"),
-        Status::Off => write_two(text, name, " off from the start\n"),
-        Status::Running => write_two(text, name, " was at work\n"),
-        Status::Idle | Status::Waiting | Status::Updated | Status::Held => {}
+        Status::Halted
+        | Status::Off
+        | Status::Running
+        | Status::Idle
+        | Status::Waiting
+        | Status::Updated
+        | Status::Held => {}
     }
 }
 
@@ -66,7 +63,7 @@ fn row_of<'r>(rows: &[Option<Row<'r>>], host: usize) -> Option<Row<'r>>
     }
 }
 
-/// Writes the lines of the hosts that are down, by name, of which these rows are the last.
+/// Writes the lines of the hosts that have failed, by name, of which these rows are the last.
 pub(crate) fn write_down_lines<W: Write>(
     text: &mut TextWriter<'_, W>,
     fleet: &Fleet,
@@ -87,4 +84,29 @@ pub(crate) fn write_down_lines<W: Write>(
             status_of(statuses, host),
         );
     }
+}
+
+/// Writes how many have failed.
+#[tactic(auto, using(bounded_io::proofs::Pieces::pieces_of_text))]
+fn write_counts<W: Write>(text: &mut TextWriter<'_, W>, failed: u64, all: u64)
+    ensures { Writes W.contents text.old text.new (field_text [] failed ++ (field_text (codes " of ") all ++ codes " hosts failed\n")) }
+{
+    write_field(text, "", failed);
+    write_field(text, " of ", all);
+    text.write_str(" hosts failed\n");
+}
+
+fn write_count_of<W: Write>(text: &mut TextWriter<'_, W>, failed: usize, all: usize)
+    ensures { Writes W.contents text.old text.new (spec.count_text failed all) }
+{
+    if failed > 0 {
+        write_counts(text, failed as u64, all as u64);
+    }
+}
+
+/// The same; nothing if none has.
+pub(crate) fn write_count<W: Write>(text: &mut TextWriter<'_, W>, failed: &[HostId], all: &[HostId])
+    ensures { Writes W.contents text.old text.new (spec.count_text (length (host_numbers failed.now)) (length (host_numbers all.now))) }
+{
+    write_count_of(text, failed.len(), all.len());
 }

@@ -36,7 +36,7 @@ pub fn list_full(alloc: Global, fleet: &Fleet, statuses: &[Status]) -> Result<Ve
     Ok(full)
 }
 
-fn is_full_at(full: &[bool], group: GroupId) -> bool
+pub(crate) fn is_full_at(full: &[bool], group: GroupId) -> bool
     ensures { result ≡ slice_index_or full.now group.index false }
 {
     match full.get(group.index) {

@@ -83,7 +83,7 @@ fn is_flagged(flags: &[bool], host: HostId) -> bool
 }
 
 /// Adds the host where it is left out.
-fn push_where(hosts: &mut Vec<HostId>, host: HostId, out: bool) -> Result<(), AllocError>
+pub(crate) fn push_where(hosts: &mut Vec<HostId>, host: HostId, out: bool) -> Result<(), AllocError>
     ensures { OnOk result (host_numbers hosts.new.items ≡ host_numbers hosts.old.items ++ cond out (host.index ∷ []) []) }
 {
     if out {

@@ -4,13 +4,15 @@
 mod down;
 mod full;
 mod left_out;
+mod next;
 mod notes;
 mod reasons;
 mod rows;
-mod waits;
+mod standing;
 mod why;
 
 pub use full::{first_full, list_full};
+pub use next::Call;
 pub use notes::left_out_lines;
 pub use rows::Played;
-pub use why::{has_why, why_lines};
+pub use why::{Ended, has_why, next_lines, why_lines};

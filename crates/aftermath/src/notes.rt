@@ -43,7 +43,7 @@ fn first_hosts(hosts: &[HostId]) -> &[HostId]
 }
 
 /// Writes the names of the first hosts, each after a space.
-fn write_names<W: Write>(text: &mut TextWriter<'_, W>, fleet: &Fleet, hosts: &[HostId])
+pub(crate) fn write_names<W: Write>(text: &mut TextWriter<'_, W>, fleet: &Fleet, hosts: &[HostId])
     ensures { Writes W.contents text.old text.new (names_text fleet.now (take 10 (host_numbers hosts.now))) }
 {
     write_each_name(text, fleet, first_hosts(hosts));
@@ -51,7 +51,7 @@ fn write_names<W: Write>(text: &mut TextWriter<'_, W>, fleet: &Fleet, hosts: &[H
 
 /// Writes how many more there are than are named.
 #[tactic(auto, using(bounded_io::proofs::Pieces::pieces_of_text))]
-fn write_more<W: Write>(text: &mut TextWriter<'_, W>, count: usize)
+pub(crate) fn write_more<W: Write>(text: &mut TextWriter<'_, W>, count: usize)
     ensures { Writes W.contents text.old text.new (spec.more_text count) }
 {
     if count > NAMES_BOUND {

@@ -9,7 +9,7 @@ ghost use Rattle.aftermath.specs.Rows.{seen};
 use crate::rows::Row;
 use bounded_io::TextWriter;
 use host_track::Outcome;
-use play_model::Step;
+use play_model::{Step, Words};
 use recap::{write_field, write_integer, write_printable};
 use std::io::Write;
 
@@ -49,12 +49,43 @@ fn judged_by(rc: i32, step: Option<&Step>) -> &'static str
     }
 }
 
+fn is_ssh(words: &Words) -> bool
+    ensures { result ≡ spec.is_ssh words.now }
+{
+    !words.is_empty() && words.at(0) == "ssh"
+}
+
+fn calls_ssh(step: Option<&Step>) -> bool
+    ensures { result ≡ spec.calls_ssh (option_map (λ step. step.now) step.entry) }
+{
+    match step {
+        Some(step) => is_ssh(&step.words),
+        None => false,
+    }
+}
+
+/// What a return code says by custom.
+fn meaning_of(rc: i32, calls_ssh: bool) -> &'static str
+    ensures { result.now ≡ spec.meaning_text rc calls_ssh }
+{
+    if rc == 124 {
+        " (timed out)"
+    } else if rc == 127 {
+        " (not found)"
+    } else if rc == 255 && calls_ssh {
+        " (ssh could not connect)"
+    } else {
+        ""
+    }
+}
+
 #[tactic(auto, using(bounded_io::proofs::Pieces::pieces_of_text))]
 fn write_ran<W: Write>(text: &mut TextWriter<'_, W>, rc: i32, step: Option<&Step>)
     ensures { Writes W.contents text.old text.new (spec.ran_text rc (option_map (λ step. step.now) step.entry)) }
 {
     text.write_str("rc=");
     write_integer(text, rc);
+    text.write_str(meaning_of(rc, calls_ssh(step)));
     text.write_str(judged_by(rc, step));
 }
 

@@ -1,3 +1,4 @@
+pub mod Calls
 pub mod Checks
 pub mod Children
 pub mod Commands
@@ -15,6 +16,7 @@ pub mod JournalFaults
 pub mod LimitsText
 pub mod LintFaults
 pub mod Lists
+pub mod Locks
 pub mod Notes
 pub mod OutlookFaults
 pub mod Outlooks

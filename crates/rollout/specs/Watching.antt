@@ -12,13 +12,13 @@ pub record IsSeenSo (wish : Wish) (draws : Bool) (seen : Seen) : Type 0 where
   pub json : seen.is_json ≡ wish.json
   pub width : draws ≡ false → seen.width ≡ 0
 
--- whether something is told of what the line asks for while it is done, and whether a line may be drawn of it: of a run; and of a plan
+-- whether something is told beside what the line asks for, and whether a line may be drawn of it: of a run; of a plan; of where a run stands
 abbrev pub watching : declared_line.Line → Option Bool
 watching (Run inventory playbook forks) = Some true
 watching (Plan inventory playbook) = Some false
 watching (Limits inventory) = None
 watching (Rehearse inventory playbook) = None
-watching (State inventory journal) = None
+watching (State inventory journal) = Some false
 watching (Check inventory playbook plan) = None
 watching (Lint inventory playbook) = None
 watching (Explain number) = None

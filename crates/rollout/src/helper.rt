@@ -5,6 +5,7 @@ ghost use Rattle.rollout.specs.Endings.{MayHelp};
 
 use crate::advice::{Texts, advice_on};
 use crate::fault::Fault;
+use crate::holder::holder_of;
 use crate::source::read_file;
 use crate::status::Status;
 use crate::system::System;
@@ -12,7 +13,7 @@ use bounded_io::InputFault;
 use command_line::command::Line;
 use command_line::{Source, Wishes};
 use hints::tell;
-use std::alloc::Global;
+use std::alloc::{AllocError, Global};
 
 /// The files that a fault may be of, and whether a line that helps is to stand behind it.
 #[derive(Drop)]
@@ -20,6 +21,8 @@ pub struct Helper {
     is_wanted: bool,
     inventory: Option<String>,
     playbook: Option<String>,
+    lock_file: Option<String>,
+    journal: Option<String>,
 }
 
 impl Helper {
@@ -34,6 +37,8 @@ impl Helper {
             is_wanted,
             inventory,
             playbook,
+            lock_file: copied(alloc, &wishes.lock_file),
+            journal: copied(alloc, &wishes.from),
         }
     }
 
@@ -60,8 +65,31 @@ impl Helper {
                 source: Source::File(name),
                 fault: InputFault::File,
             } => why_unreadable(system, alloc, name.as_str()),
+            Fault::Locked => self.who_locks(system, alloc),
             fault if self.has_texts_of(system, fault) => self.advice(system, alloc, fault),
             _ => None,
+        }
+    }
+
+    /// Which file is locked, and by which process if the system tells it.
+    fn who_locks<S: System>(&self, system: &S, alloc: Global) -> Option<String>
+        ensures { MayHelp true (option_map string_bytes result) }
+    {
+        match self.locked(system) {
+            Some(name) => who_locks(system, alloc, name),
+            None => None,
+        }
+    }
+
+    /// The name of the file whose lock another holds.
+    fn locked<S: System>(&self, system: &S) -> Option<&str> {
+        let first = match &self.lock_file {
+            Some(_name) => &self.lock_file,
+            None => &self.inventory,
+        };
+        match held_name(system, first) {
+            Some(name) => Some(name),
+            None => held_name(system, &self.journal),
         }
     }
 
@@ -135,10 +163,25 @@ fn named(alloc: Global, source: &Source) -> Option<String> {
     }
 }
 
+fn copied(alloc: Global, name: &Option<String>) -> Option<String> {
+    match name {
+        Some(name) => String::from_str(alloc, name.as_str()).ok(),
+        None => None,
+    }
+}
+
 fn is_file<S: System>(system: &S, name: &Option<String>) -> bool {
     match name {
         Some(name) => system.is_file(name.as_str()),
         None => false,
+    }
+}
+
+/// The name, if another holds the lock of its file.
+fn held_name<'n, S: System>(system: &S, name: &'n Option<String>) -> Option<&'n str> {
+    match name {
+        Some(name) if system.is_held(name.as_str()) => Some(name.as_str()),
+        _ => None,
     }
 }
 
@@ -156,10 +199,7 @@ fn text_of<S: System>(system: &S, alloc: Global, name: &Option<String>) -> Vec<u
 fn why_unreadable<S: System>(system: &S, alloc: Global, name: &str) -> Option<String>
     ensures { MayHelp true (option_map string_bytes result) }
 {
-    match tell(alloc, reason(system, name)) {
-        Ok(line) => Some(line),
-        Err(_refused) => None,
-    }
+    told(alloc, reason(system, name))
 }
 
 fn reason<S: System>(system: &S, name: &str) -> &'static str {
@@ -169,5 +209,39 @@ fn reason<S: System>(system: &S, name: &str) -> &'static str {
         "the file is there, and the system doesn't let it be read: look at its permissions"
     } else {
         "this is no file that can be read: a folder, perhaps"
+    }
+}
+
+/// Which process holds the lock of the file, if the system tells it.
+fn who_locks<S: System>(system: &S, alloc: Global, name: &str) -> Option<String>
+    ensures { MayHelp true (option_map string_bytes result) }
+{
+    match holder_line(alloc, holder_of(system, alloc, name), name) {
+        Ok(line) => told(alloc, line.as_str()),
+        Err(_refused) => None,
+    }
+}
+
+fn holder_line(alloc: Global, holder: Option<String>, name: &str) -> Result<String, AllocError> {
+    let mut line = String::new(alloc);
+    match holder {
+        Some(process) => {
+            line.push_str("process ")?;
+            line.push_str(process.as_str())?;
+        }
+        None => line.push_str("another run")?,
+    }
+    line.push_str(" holds the lock of ")?;
+    line.push_str(name)?;
+    line.push_str(": wait for its end")?;
+    Ok(line)
+}
+
+fn told(alloc: Global, text: &str) -> Option<String>
+    ensures { MayHelp true (option_map string_bytes result) }
+{
+    match tell(alloc, text) {
+        Ok(line) => Some(line),
+        Err(_refused) => None,
     }
 }

@@ -1,15 +1,49 @@
 //! Reading the two inputs of a line that names an inventory and a playbook.
 ghost use Rattle.std.specs.Prelude.{◌≡◌, IfOk, IfErr};
-ghost use Rattle.rollout.specs.Inputs.{LacksInput, ReadsBoth};
+ghost use Rattle.rollout.specs.Inputs.{IsTextOf, IsUnreadable, LacksInput, ReadsBoth};
+ghost use Rattle.rollout.specs.Locks.{IsGiven};
 ghost use Rattle.rollout.specs.Systems.{sources_of};
 ghost use Rattle.rollout.specs.Texts.{LacksOne, ReadsThree};
 
 use crate::fault::Fault;
 use crate::source::read_source;
 use crate::system::System;
-use bounded_io::Input;
+use bounded_io::{Input, InputFault};
 use command_line::Source;
 use std::alloc::Global;
+
+/// What an input gave when it was read before the others.
+#[derive(Drop)]
+pub(crate) enum Given {
+    Nothing,
+    Text(Vec<u8>),
+    Fault(InputFault),
+}
+
+/// Reads a source, unless it was read before.
+fn read_given<S: System, I: Input>(
+    system: &S,
+    alloc: Global,
+    given: Given,
+    source: Source,
+    input: &mut I,
+) -> Result<Vec<u8>, Fault>
+    requires { IsGiven (S.files system.now) source given }
+    ensures ok { IfOk result (λ text.
+        IsTextOf (sources_of (S.files system.now) (I.is_reliable input.old)) source (I.remaining input.old) (I.remaining input.new) text.items) }
+    ensures err { IfErr result
+        (IsUnreadable (sources_of (S.files system.now) (I.is_reliable input.old)) source (I.remaining input.old) (I.remaining input.new)) }
+    ensures stays { I.is_reliable input.new ≡ I.is_reliable input.old }
+{
+    match &source {
+        Source::StandardInput => read_source(system, alloc, source, input),
+        Source::File(_name) => match given {
+            Given::Nothing => read_source(system, alloc, source, input),
+            Given::Text(text) => Ok(text),
+            Given::Fault(fault) => Err(Fault::Input { source, fault }),
+        },
+    }
+}
 
 /// Both texts, read whole in the line's order, before either is looked at.
 pub fn read_both<S: System, I: Input>(
@@ -25,7 +59,26 @@ pub fn read_both<S: System, I: Input>(
         (LacksInput (sources_of (S.files system.now) (I.is_reliable input.old)) inventory playbook (I.remaining input.old) (I.remaining input.new)) }
     ensures stays { I.is_reliable input.new ≡ I.is_reliable input.old }
 {
-    let inventory = match read_source(system, alloc, inventory, input) {
+    read_behind(system, alloc, Given::Nothing, inventory, playbook, input)
+}
+
+/// The same if the inventory may have been read before.
+pub(crate) fn read_behind<S: System, I: Input>(
+    system: &S,
+    alloc: Global,
+    given: Given,
+    inventory: Source,
+    playbook: Source,
+    input: &mut I,
+) -> Result<(Vec<u8>, Vec<u8>), Fault>
+    requires { IsGiven (S.files system.now) inventory given }
+    ensures ok { IfOk result (λ texts. ReadsBoth (sources_of (S.files system.now) (I.is_reliable input.old)) inventory playbook
+        (I.remaining input.old) (I.remaining input.new) texts.0.items texts.1.items) }
+    ensures err { IfErr result
+        (LacksInput (sources_of (S.files system.now) (I.is_reliable input.old)) inventory playbook (I.remaining input.old) (I.remaining input.new)) }
+    ensures stays { I.is_reliable input.new ≡ I.is_reliable input.old }
+{
+    let inventory = match read_given(system, alloc, given, inventory, input) {
         Ok(text) => text,
         Err(fault) => return Err(fault),
     };

@@ -4,6 +4,7 @@
 mod advice;
 mod attendant;
 mod awaited;
+mod call;
 mod children;
 mod commands;
 mod detail;
@@ -13,6 +14,7 @@ mod fault;
 mod fault_line;
 mod folder;
 mod helper;
+mod holder;
 mod inputs;
 mod list;
 mod locking;

@@ -80,7 +80,15 @@ fn is_read<S: System>(system: &S, line: &Line, name: &str) -> bool {
 /// Whether the source is the file of this name.
 pub(crate) fn is_of<S: System>(system: &S, source: &Source, name: &str) -> bool {
     match source {
-        Source::File(input) => system.are_one_file(input.as_str(), name),
+        Source::File(input) => are_one_file(system, input.as_str(), name),
         Source::StandardInput => false,
+    }
+}
+
+/// Whether both names lead to one file.
+fn are_one_file<S: System>(system: &S, one: &str, other: &str) -> bool {
+    match (system.file_id(one), system.file_id(other)) {
+        (Some(one), Some(other)) => one == other,
+        _ => false,
     }
 }

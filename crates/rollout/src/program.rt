@@ -159,16 +159,15 @@ fn attempt<
     }
 }
 
-/// From now on a run is told of, and a plan, which has more to tell of than what it prints.
+/// From now on a run is told of, and a plan and where a run stands, which have more to tell of than what they print.
 fn begin_telling<S: System, T: Tell>(system: &S, tell: &mut T, line: &Line, wishes: &Wishes)
     ensures { IsWatchedAs T.tells_as (wish_as wishes.now) tell.old tell.new line.now }
 {
     match line {
         Line::Run { .. } => tell.run_begins(system.seen(wishes, true)),
-        Line::Plan { .. } => tell.run_begins(system.seen(wishes, false)),
+        Line::Plan { .. } | Line::State { .. } => tell.run_begins(system.seen(wishes, false)),
         Line::Limits { .. }
         | Line::Rehearse { .. }
-        | Line::State { .. }
         | Line::Check { .. }
         | Line::Lint { .. }
         | Line::Explain { .. }
@@ -283,6 +282,7 @@ fn follow<
             state(
                 system,
                 alloc,
+                watch,
                 inventory,
                 journal,
                 wishes.takes_others,

@@ -1,18 +1,19 @@
 //! What the system gives the program: the words of its line, and files; and whoever types its commands.
-ghost use Rattle.std.specs.Prelude.{◌≡◌, Bool, List, ℕ, Option, None, IfOk, IfErr, map, string_bytes, true};
+ghost use Rattle.std.specs.Prelude.{◌≡◌, Bool, List, ℕ, Option, None, IfOk, IfErr, IfSome, map, string_bytes, true};
 ghost use Rattle.std.specs.IoError.{error_kind};
 ghost use Rattle.command_line.specs.Wishes.{wish_as};
 ghost use Rattle.rollout.specs.Systems.{Fails, Files, Gives, Known, Opens};
 ghost use Rattle.rollout.specs.Watching.{IsSeenSo};
 
 use crate::folder::folder_of;
+use crate::holder::FileId;
 use bounded_io::{Fallible, Input};
 use command_line::Wishes;
 use keeping::{Disk, Shelf};
 use rehearsing::Prompt;
 use std::env::{Env, FillError};
 use std::fs::OpenFile;
-use std::io::{IsTerminal, Stderr, Stdout, Write};
+use std::io::{IsTerminal, Read, Stderr, Stdout, Write};
 use std::os::unix::fs::{MetadataExt, OpenOptionsExt};
 use std::process::{Processes, SystemProcess};
 use std::{env, fs, io};
@@ -42,14 +43,18 @@ pub trait System: Prompt + Shelf {
     /// The file of this name, made where none is there, with nothing in it.
     fn write_to(&self, name: &str) -> io::Result<Self::Output>;
 
-    /// Holds the lock of a file for as long as it is there.
-    type Lock: Drop;
+    /// Holds the lock of a file for as long as it is there, and reads the file.
+    type Lock: Input + Drop;
 
     /// The lock of the file of this name; none where another holds it, and an error where the file has no lock.
-    fn lock(&self, name: &str) -> io::Result<Option<Self::Lock>>;
+    fn lock(&self, name: &str) -> io::Result<Option<Self::Lock>>
+        ensures { IfOk result (λ lock. IfSome lock (λ lock. Opens (files self.now name.now) (Self.Lock.remaining lock) (Self.Lock.is_reliable lock))) };
 
     /// The same of a file that is made if it isn't there.
     fn lock_made(&self, name: &str) -> io::Result<Option<Self::Lock>>;
+
+    /// Whether the name by which the file was locked still leads to it.
+    fn is_still(&self, lock: &Self::Lock) -> bool;
 
     /// Whether another program holds the lock of the file of this name.
     fn is_held(&self, name: &str) -> bool;
@@ -73,8 +78,8 @@ pub trait System: Prompt + Shelf {
     /// Whether there is a file of this name that can be read more than once.
     fn is_file(&self, name: &str) -> bool;
 
-    /// Whether both names are of one file that is there.
-    fn are_one_file(&self, one: &str, other: &str) -> bool;
+    /// What tells the file of this name from all others, if it is there.
+    fn file_id(&self, name: &str) -> Option<FileId>;
 
     /// Whether what is printed is coloured where it isn't said whether it is to be: a terminal shows it, and nobody has asked programs not to.
     fn shows_colours(&self) -> bool;
@@ -179,7 +184,7 @@ impl<R: Env + fs::Files<File = fs::File> + AllocGlobal + Processes<Started = Sys
 
     type Output = OnDisk<R::File>;
 
-    type Lock = fs::File;
+    type Lock = LockedFile<fs::File>;
 
     fn args(&self) -> io::Result<Vec<String>> {
         Ok(env::args(self.rt)?.collect(self.rt.alloc())?)
@@ -196,17 +201,23 @@ impl<R: Env + fs::Files<File = fs::File> + AllocGlobal + Processes<Started = Sys
     }
 
     /// A pipe isn't opened for it, since it could be read once alone.
-    fn lock(&self, name: &str) -> io::Result<Option<fs::File>> {
+    fn lock(&self, name: &str) -> io::Result<Option<LockedFile<fs::File>>> {
         if !fs::metadata(self.rt, name)?.is_file() {
             return Err(io::ErrorKind::Unsupported.into());
         }
-        held(fs::open(self.rt, name)?)
+        let mut how = fs::OpenOptions::new();
+        how.read(true);
+        lock_by(self.rt, name, &how)
     }
 
-    fn lock_made(&self, name: &str) -> io::Result<Option<fs::File>> {
+    fn lock_made(&self, name: &str) -> io::Result<Option<LockedFile<fs::File>>> {
         let mut how = fs::OpenOptions::new();
         how.append(true).create(true).mode(0o600);
-        held(how.open(self.rt, name)?)
+        lock_by(self.rt, name, &how)
+    }
+
+    fn is_still(&self, lock: &LockedFile<fs::File>) -> bool {
+        lock.is_still(self.rt)
     }
 
     fn is_held(&self, name: &str) -> bool {
@@ -254,10 +265,10 @@ impl<R: Env + fs::Files<File = fs::File> + AllocGlobal + Processes<Started = Sys
         }
     }
 
-    fn are_one_file(&self, one: &str, other: &str) -> bool {
-        match (fs::metadata(self.rt, one), fs::metadata(self.rt, other)) {
-            (Ok(one), Ok(other)) => one.dev() == other.dev() && one.ino() == other.ino(),
-            _ => false,
+    fn file_id(&self, name: &str) -> Option<FileId> {
+        match fs::metadata(self.rt, name) {
+            Ok(metadata) => Some(id_of(&metadata)),
+            Err(_) => None,
         }
     }
 
@@ -266,11 +277,77 @@ impl<R: Env + fs::Files<File = fs::File> + AllocGlobal + Processes<Started = Sys
     }
 }
 
-/// The file with its lock; none if another holds that.
-fn held(file: fs::File) -> io::Result<Option<fs::File>> {
+/// How often a file is locked that was replaced before its lock was held.
+const MOST_TRIES: usize = 100;
+
+/// A file with its lock, and the name that led to it.
+#[derive(Drop)]
+pub struct LockedFile<F> {
+    name: String,
+    file: F,
+}
+
+impl<F: Read> Read for LockedFile<F> {
+    ghost remaining = { λ locked. F.remaining locked.file };
+
+    fn read(&mut self, buf: &mut [u8]) -> io::Result<usize> {
+        self.file.read(buf)
+    }
+}
+
+impl<F: Read> Input for LockedFile<F> {
+    ghost use Rattle.std.specs.Prelude.{false};
+
+    ghost is_reliable = { λ _. false };
+
+    fn read_some(&mut self, room: &mut [u8]) -> Option<usize> {
+        self.file.read(room).ok()
+    }
+}
+
+impl LockedFile<fs::File> {
+    /// Whether its name still leads to it; where the system doesn't say, it is taken to.
+    fn is_still<R: fs::Files<File = fs::File>>(&self, rt: &R) -> bool {
+        match (self.file.metadata(), fs::metadata(rt, self.name.as_str())) {
+            (Ok(locked), Ok(named)) => id_of(&locked) == id_of(&named),
+            (Ok(_locked), Err(_gone)) => false,
+            (Err(_unknown), _) => true,
+        }
+    }
+}
+
+fn id_of(metadata: &fs::Metadata) -> FileId {
+    FileId {
+        device: metadata.dev(),
+        inode: metadata.ino(),
+    }
+}
+
+/// Opens the file of this name and takes its lock; none if another holds that, or if the name leads to another file each time.
+fn lock_by<R: fs::Files<File = fs::File> + AllocGlobal>(
+    rt: &R,
+    name: &str,
+    how: &fs::OpenOptions,
+) -> io::Result<Option<LockedFile<fs::File>>> {
+    for _ in 0..MOST_TRIES {
+        let file = how.open(rt, name)?;
+        if !is_locked_by(&file)? {
+            return Ok(None);
+        }
+        let name = String::from_str(rt.alloc(), name)?;
+        let locked = LockedFile { name, file };
+        if locked.is_still(rt) {
+            return Ok(Some(locked));
+        }
+    }
+    Ok(None)
+}
+
+/// Takes the file's lock, unless another holds it.
+fn is_locked_by(file: &fs::File) -> io::Result<bool> {
     match file.try_lock() {
-        Ok(()) => Ok(Some(file)),
-        Err(fs::TryLockError::WouldBlock) => Ok(None),
+        Ok(()) => Ok(true),
+        Err(fs::TryLockError::WouldBlock) => Ok(false),
         Err(fs::TryLockError::Error(error)) => Err(error),
     }
 }

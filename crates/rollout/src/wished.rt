@@ -8,6 +8,7 @@ ghost use Rattle.command_line.specs.Wishes.{wish_as};
 ghost use Rattle.rollout.specs.Runs.{PlansAtStart, PlansFrom, PlansOrTellsWords, RehearsesBy, TabulatesAtStart, TabulatesBy};
 ghost use Rattle.rollout.specs.Systems.{sources_of};
 
+use crate::call::call_of;
 use crate::commands::{
     ResumeWish, StartWish, limits, limits_expecting, limits_in_json, limits_standing, plan_by,
     plan_expecting, plan_in_json, plan_rest, rehearse, rehearse_rest, resume, roll, roll_mended,
@@ -18,6 +19,7 @@ use crate::fault::Fault;
 use crate::locking::Locking;
 use crate::status::Status;
 use crate::system::System;
+use aftermath::Call;
 use bounded_io::Input;
 use command_line::{Forks, Source, Wishes};
 use roll_core::{History, Runner, Watch};
@@ -54,6 +56,7 @@ pub fn run_by<
     ensures { Gains history result.1 (RollsBy (R.may runner.now) (A.asks coordinator.now.attend.now) (wish_as wishes.now) (sources_of (S.files system.now) (I.is_reliable input.old)) inventory playbook forks
         (I.remaining input.old) (I.remaining input.new) (O.contents out.old) (O.contents out.new) result.0) }
 {
+    let call = call_of(coordinator.alloc, &inventory, &playbook, &forks, wishes);
     match &wishes.from {
         Some(journal) => resume(
             system,
@@ -63,7 +66,7 @@ pub fn run_by<
             inventory,
             playbook,
             forks,
-            &resume_wish(journal, wishes),
+            &resume_wish(journal, wishes, call.as_ref()),
             input,
             out,
             history,
@@ -76,7 +79,8 @@ pub fn run_by<
             inventory,
             playbook,
             forks,
-            wishes,
+            start_wish(wishes, call.as_ref()),
+            wishes.mended.as_str(),
             input,
             out,
             history,
@@ -98,7 +102,7 @@ pub fn limits_by<S: System, I: Input, O: Write>(
 {
     match &wishes.from {
         Some(journal) => {
-            let wish = resume_wish(journal, wishes);
+            let wish = resume_wish(journal, wishes, None);
             limits_standing(system, alloc, inventory, wish, input, out)
         }
         None => limits_at_start(system, alloc, inventory, wishes, input, out),
@@ -145,7 +149,7 @@ pub fn plan_or_rest<S: System, T: Watch, I: Input, O: Write>(
             alloc,
             inventory,
             playbook,
-            resume_wish(journal, wishes),
+            resume_wish(journal, wishes, None),
             &wishes.course,
             input,
             out,
@@ -238,7 +242,7 @@ pub fn rehearse_by<S: System, I: Input, O: Write>(
     let is_strict = wishes.is_strict;
     match &wishes.from {
         Some(journal) => {
-            let wish = resume_wish(journal, wishes);
+            let wish = resume_wish(journal, wishes, None);
             rehearse_rest(
                 system, alloc, inventory, playbook, wish, is_strict, input, out,
             )
@@ -257,7 +261,11 @@ pub fn rehearse_by<S: System, I: Input, O: Write>(
 }
 
 /// The run that is to go on, or from which something begins.
-fn resume_wish<'w>(journal: &'w String, wishes: &'w Wishes) -> ResumeWish<'w>
+fn resume_wish<'w>(
+    journal: &'w String,
+    wishes: &'w Wishes,
+    call: Option<&'w Call>,
+) -> ResumeWish<'w>
     ensures wish { model.wished result ≡ model.resume_wish (string_bytes journal.now) (wish_as wishes.now) }
     ensures form { result.form ≡ spec.form_of (wish_as wishes.now).json }
 {
@@ -267,11 +275,12 @@ fn resume_wish<'w>(journal: &'w String, wishes: &'w Wishes) -> ResumeWish<'w>
         takes_others: wishes.takes_others,
         locking: Locking::of(wishes),
         form: form_of(wishes.is_json),
+        call,
     }
 }
 
 /// What a run is that begins, beside its inputs.
-fn start_wish(wishes: &Wishes) -> StartWish<'_>
+fn start_wish<'w>(wishes: &'w Wishes, call: Option<&'w Call>) -> StartWish<'w>
     ensures strict { result.is_strict ≡ (wish_as wishes.now).strict }
     ensures form { result.form ≡ spec.form_of (wish_as wishes.now).json }
 {
@@ -280,6 +289,7 @@ fn start_wish(wishes: &Wishes) -> StartWish<'_>
         locking: Locking::of(wishes),
         is_strict: wishes.is_strict,
         form: form_of(wishes.is_json),
+        call,
     }
 }
 
@@ -301,15 +311,15 @@ fn begin_by<
     inventory: Source,
     playbook: Source,
     forks: Forks,
-    wishes: &Wishes,
+    wish: StartWish<'_>,
+    mended: &str,
     input: &mut I,
     out: &mut O,
     history: History,
 ) -> (Result<Status, Fault>, History)
-    ensures { Gains history result.1 (BeginsBy (spec.form_of (wish_as wishes.now).json) (wish_as wishes.now).strict (R.may runner.now) (A.asks coordinator.now.attend.now) (wish_as wishes.now).mended (sources_of (S.files system.now) (I.is_reliable input.old)) inventory playbook forks
+    ensures { Gains history result.1 (BeginsBy wish.entry.form wish.entry.is_strict (R.may runner.now) (A.asks coordinator.now.attend.now) mended.now (sources_of (S.files system.now) (I.is_reliable input.old)) inventory playbook forks
         (I.remaining input.old) (I.remaining input.new) (O.contents out.old) (O.contents out.new) result.0) }
 {
-    let mended = wishes.mended.as_str();
     if mended.is_empty() {
         roll(
             system,
@@ -319,7 +329,7 @@ fn begin_by<
             inventory,
             playbook,
             forks,
-            start_wish(wishes),
+            wish,
             input,
             out,
             history,
@@ -333,7 +343,7 @@ fn begin_by<
             inventory,
             playbook,
             forks,
-            start_wish(wishes),
+            wish,
             mended,
             input,
             out,

@@ -2,7 +2,7 @@
 use crate::beginning::Beginning;
 use crate::down::down_lines;
 use crate::left::Left;
-use aftermath::{has_why, left_out_lines, why_lines};
+use aftermath::{Ended, has_why, left_out_lines, why_lines};
 use domains::Fleet;
 use play_model::Play;
 use roll_core::Watch;
@@ -41,13 +41,13 @@ fn lines_behind(
         return Ok(Vec::new(alloc));
     }
     let played = left.played(alloc, plays)?;
-    why_lines(
-        alloc,
+    let ended = Ended {
         fleet,
-        plays.len() > 1,
-        played.as_slice(),
-        left.statuses(),
-    )
+        several: plays.len() > 1,
+        statuses: left.statuses(),
+        call: left.call,
+    };
+    why_lines(alloc, &ended, played.as_slice())
 }
 
 /// Tells behind a recap, which was written whole or not, what there is to tell of the runs, where anybody is told anything and there is memory

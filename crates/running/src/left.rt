@@ -4,7 +4,7 @@ ghost use Rattle.running.specs.Lefts.{EndsWithBroken, EndsWithDone};
 ghost use Rattle.roll_core.specs.Histories.{log_at};
 ghost use Rattle.roll_core.specs.Views.{events_of};
 
-use aftermath::Played;
+use aftermath::{Call, Played};
 use fleet_states::Status;
 use host_track::Counts;
 use play_course::End;
@@ -14,7 +14,7 @@ use roll_run::{Run, RunFault, RunsFault};
 use std::alloc::{AllocError, Global};
 
 /// The runs of the plays of a file behind so many, and behind them the one that was broken off, if one was; with the history that has their logs, behind
-/// those of so many rolls.
+/// those of so many rolls; and the command that goes on with them, if there is a journal.
 #[derive(Clone, Copy)]
 pub(crate) struct Left<'r> {
     plays_before: usize,
@@ -22,6 +22,7 @@ pub(crate) struct Left<'r> {
     broken: Option<&'r RunFault>,
     history: &'r History,
     rolls_before: usize,
+    pub(crate) call: Option<&'r Call>,
 }
 
 impl<'r> Left<'r> {
@@ -31,6 +32,7 @@ impl<'r> Left<'r> {
         done: &'r [Run],
         history: &'r History,
         rolls_before: usize,
+        call: Option<&'r Call>,
     ) -> Left<'r>
         requires { EndsWithDone rolls_before done.now history.now }
         ensures history { result.history.now ≡ history.now }
@@ -43,6 +45,7 @@ impl<'r> Left<'r> {
             broken: None,
             history,
             rolls_before,
+            call,
         }
     }
 
@@ -52,6 +55,7 @@ impl<'r> Left<'r> {
         fault: &'r RunsFault,
         history: &'r History,
         rolls_before: usize,
+        call: Option<&'r Call>,
     ) -> Left<'r>
         requires { EndsWithBroken rolls_before fault.now.done.items history.now }
         ensures history { result.history.now ≡ history.now }
@@ -64,6 +68,7 @@ impl<'r> Left<'r> {
             broken: Some(&fault.last),
             history,
             rolls_before,
+            call,
         }
     }
 

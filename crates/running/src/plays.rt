@@ -102,7 +102,7 @@ pub fn run_from<
     fleet: &Fleet,
     plays: &[Play],
     beginning: Beginning,
-    manner: Manner,
+    manner: Manner<'_>,
     runner: &R,
     out: &mut W,
     history: History,
@@ -112,14 +112,14 @@ pub fn run_from<
     requires play { beginning.plays_before < length plays.now }
     requires known { find (names_nothing fleet.now) (named_parts plays.now) ≡ None }
     requires starts { MayStart fleet.now beginning.start }
-    ensures ok { IfOk result.0 (λ end. Gains history result.1 (WritesFrom manner.form (R.may runner.now) fleet.now manner.forks plays.now beginning (W.contents out.old) (W.contents out.new) end)) }
-    ensures err { IfErr result.0 (λ fault. Gains history result.1 (IsTrueFaultFrom manner.form (R.may runner.now) fleet.now manner.forks plays.now beginning (W.contents out.old) (W.contents out.new) fault)) }
+    ensures ok { IfOk result.0 (λ end. Gains history result.1 (WritesFrom manner.entry.form (R.may runner.now) fleet.now manner.entry.forks plays.now beginning (W.contents out.old) (W.contents out.new) end)) }
+    ensures err { IfErr result.0 (λ fault. Gains history result.1 (IsTrueFaultFrom manner.entry.form (R.may runner.now) fleet.now manner.entry.forks plays.now beginning (W.contents out.old) (W.contents out.new) fault)) }
     ensures asked { IfErr result.0 (MayBreakText (A.asks coordinator.now.attend.now) K.refuses) }
     ensures kept { IfOk result.0 (λ _. Gains history result.1 (KeepsFrom K.keeps fleet.now (plays_from beginning plays.now) keeper result.2)) }
     ensures ahead { IfErr result.0 (λ _. Gains history result.1 (KeepsAheadFrom K.keeps fleet.now (plays_from beginning plays.now) keeper result.2)) }
 {
     let alloc = coordinator.alloc;
-    let Manner { forks, form } = manner;
+    let Manner { forks, form, call } = manner;
     tell_left_out(alloc, watch, fleet, plays, &beginning);
     let Beginning {
         plays_before,
@@ -141,7 +141,7 @@ pub fn run_from<
         Ok(runs) => {
             watch.plays_end();
             let told = tell_runs(form, fleet, several, plays_before, runs.as_slice(), out);
-            let left = Left::of_all(plays_before, runs.as_slice(), &history, rolls);
+            let left = Left::of_all(plays_before, runs.as_slice(), &history, rolls, call);
             tell_behind(alloc, watch, fleet, plays, &left, told.is_ok());
             (told, history, keeper)
         }
@@ -149,7 +149,7 @@ pub fn run_from<
             watch.plays_end();
             let told = tell_broken(form, fleet, several, plays_before, &fault, out);
             let is_whole = !matches!(told, RunTextFault::Write(_));
-            let left = Left::of_broken(plays_before, &fault, &history, rolls);
+            let left = Left::of_broken(plays_before, &fault, &history, rolls, call);
             tell_behind(alloc, watch, fleet, plays, &left, is_whole);
             (Err(told), history, keeper)
         }

@@ -39,15 +39,15 @@ pub fn run_text<
     keeper: K,
     inventory: &[u8],
     playbook: &[u8],
-    manner: Manner,
+    manner: Manner<'_>,
     runner: &R,
     out: &mut W,
     history: History,
 ) -> (Result<RunEnd, RunTextFault>, History, K)
     requires some { 0 < manner.forks }
     requires few { manner.forks ≤ 64 }
-    ensures ok { IfOk result.0 (λ end. Gains history result.1 (WritesRecap manner.form (R.may runner.now) inventory.now playbook.now manner.forks (W.contents out.old) (W.contents out.new) end)) }
-    ensures err { IfErr result.0 (λ fault. Gains history result.1 (IsTrueFault manner.form (R.may runner.now) inventory.now playbook.now manner.forks (W.contents out.old) (W.contents out.new) fault)) }
+    ensures ok { IfOk result.0 (λ end. Gains history result.1 (WritesRecap manner.entry.form (R.may runner.now) inventory.now playbook.now manner.entry.forks (W.contents out.old) (W.contents out.new) end)) }
+    ensures err { IfErr result.0 (λ fault. Gains history result.1 (IsTrueFault manner.entry.form (R.may runner.now) inventory.now playbook.now manner.entry.forks (W.contents out.old) (W.contents out.new) fault)) }
     ensures asked { IfErr result.0 (MayBreakText (A.asks coordinator.now.attend.now) K.refuses) }
     ensures kept { IfOk result.0 (λ _. Gains history result.1 (KeepsRuns K.keeps inventory.now playbook.now keeper result.2)) }
     ensures ahead { IfErr result.0 (λ _. Gains history result.1 (KeepsBroken K.keeps inventory.now playbook.now keeper result.2)) }

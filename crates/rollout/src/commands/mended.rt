@@ -2,6 +2,7 @@
 ghost use Rattle.std.specs.Prelude.{◌≡◌, ◌<◌, ◌≤◌, Err, IfErr, IfOk, true};
 ghost use Rattle.roll_run.specs.Histories.{Gains};
 ghost use Rattle.resuming.specs.Resumptions.{CanRun, IsMendedBeginning, RefusesToBegin};
+ghost use Rattle.rollout.specs.Locks.{IsGiven};
 ghost use Rattle.rollout.specs.Resumes.{BreaksRest, GoesOnBy, MendsInputs, PrintsRest, RollsMended};
 ghost use Rattle.rollout.specs.Systems.{sources_of};
 ghost use Rattle.rollout.specs.declared.fault.Fault.TheVariants.{Stopped};
@@ -9,17 +10,18 @@ ghost use Rattle.rollout.specs.declared.fault.Fault.TheVariants.{Stopped};
 use crate::commands::resume::{keep_rest, run_rest};
 use crate::commands::run::{StartWish, may_begin};
 use crate::fault::Fault;
-use crate::inputs::read_both;
+use crate::inputs::{Given, read_behind};
+use crate::locking::{Held, tell_replaced};
 use crate::status::Status;
 use crate::system::System;
 use bounded_io::Input;
 use command_line::{Forks, Source};
-use json_texts::Form;
 use keeping::begin_journal;
 use local_programs::workers;
 use resuming::{Resumption, begin_inputs};
 use roll_core::{History, Runner, Unwatched, Watch};
 use roll_run::{Attend, Coordinator};
+use running::Manner;
 use std::io::Write;
 use std::process::{Processes, SystemProcess};
 use std::sync::Wait;
@@ -54,13 +56,14 @@ pub fn roll_mended<
         (I.remaining input.old) (I.remaining input.new) (W.contents out.old) (W.contents out.new) result.0) }
 {
     match may_begin(system, coordinator.alloc, watch, &inventory, wish) {
-        Ok(_lock) => {
+        Ok(Held { lock, given }) => {
             let forks = workers(coordinator.rt, forks.number());
-            mend_inputs(
+            let rolled = mend_inputs(
                 system,
                 coordinator,
                 runner,
                 watch,
+                given,
                 inventory,
                 playbook,
                 forks,
@@ -69,13 +72,15 @@ pub fn roll_mended<
                 input,
                 out,
                 history,
-            )
+            );
+            tell_replaced(system, coordinator.alloc, watch, &lock);
+            rolled
         }
         Err(fault) => (Err(fault), history),
     }
 }
 
-/// Reads the inventory and the playbook, and runs their plays.
+/// Reads the inventory, unless it was read before, and the playbook, and runs their plays.
 #[allow(clippy::too_many_arguments)]
 fn mend_inputs<
     S: System,
@@ -90,6 +95,7 @@ fn mend_inputs<
     coordinator: &Coordinator<'_, H, A>,
     runner: &R,
     watch: &mut T,
+    given: Given,
     inventory: Source,
     playbook: Source,
     forks: usize,
@@ -101,11 +107,12 @@ fn mend_inputs<
 ) -> (Result<Status, Fault>, History)
     requires some { 0 < forks }
     requires few { forks ≤ 64 }
+    requires given { IsGiven (S.files system.now) inventory given }
     ensures mends { Gains history result.1 (MendsInputs wish.entry.form (R.may runner.now) (sources_of (S.files system.now) (I.is_reliable input.old)) inventory playbook mended.now forks
         (I.remaining input.old) (I.remaining input.new) (W.contents out.old) (W.contents out.new) result.0) }
     ensures stops { result.0 ≡ Err Stopped → A.asks coordinator.now.attend.now ≡ true }
 {
-    match read_both(system, coordinator.alloc, inventory, playbook, input) {
+    match read_behind(system, coordinator.alloc, given, inventory, playbook, input) {
         Ok((inventory, playbook)) => mend_texts(
             system,
             coordinator,
@@ -155,18 +162,13 @@ fn mend_texts<
         Ok(beginning) => beginning,
         Err(fault) => return (Err(Fault::from(fault)), history),
     };
-    let form = wish.form;
+    let manner = Manner {
+        forks,
+        form: wish.form,
+        call: wish.call,
+    };
     let Some(name) = wish.journal else {
-        return run_mended(
-            coordinator,
-            runner,
-            watch,
-            beginning,
-            forks,
-            form,
-            out,
-            history,
-        );
+        return run_mended(coordinator, runner, watch, beginning, manner, out, history);
     };
     let begun = begin_journal(
         coordinator.alloc,
@@ -184,8 +186,7 @@ fn mend_texts<
             watch,
             file,
             beginning,
-            forks,
-            form,
+            manner,
             out,
             history,
         ),
@@ -205,16 +206,15 @@ fn run_mended<
     runner: &R,
     watch: &mut T,
     beginning: Resumption,
-    forks: usize,
-    form: Form,
+    manner: Manner<'_>,
     out: &mut W,
     history: History,
 ) -> (Result<Status, Fault>, History)
-    requires some { 0 < forks }
-    requires few { forks ≤ 64 }
+    requires some { 0 < manner.forks }
+    requires few { manner.forks ≤ 64 }
     requires rest { CanRun beginning }
-    ensures ok { IfOk result.0 (λ status. Gains history result.1 (PrintsRest form (R.may runner.now) beginning.fleet beginning.plays.items beginning.beginning forks (W.contents out.old) (W.contents out.new) status)) }
-    ensures err { IfErr result.0 (λ fault. Gains history result.1 (BreaksRest form (R.may runner.now) beginning.fleet beginning.plays.items beginning.beginning forks (W.contents out.old) (W.contents out.new) fault)) }
+    ensures ok { IfOk result.0 (λ status. Gains history result.1 (PrintsRest manner.entry.form (R.may runner.now) beginning.fleet beginning.plays.items beginning.beginning manner.entry.forks (W.contents out.old) (W.contents out.new) status)) }
+    ensures err { IfErr result.0 (λ fault. Gains history result.1 (BreaksRest manner.entry.form (R.may runner.now) beginning.fleet beginning.plays.items beginning.beginning manner.entry.forks (W.contents out.old) (W.contents out.new) fault)) }
     ensures stops { result.0 ≡ Err Stopped → A.asks coordinator.now.attend.now ≡ true }
 {
     let Resumption {
@@ -232,8 +232,7 @@ fn run_mended<
         &fleet,
         plays.as_slice(),
         beginning,
-        forks,
-        form,
+        manner,
         out,
         history,
     )

@@ -7,6 +7,7 @@ ghost use Rattle.roll_run.specs.Histories.{Gains};
 ghost use Rattle.roll_run.specs.Plays.{MayStart};
 ghost use Rattle.resuming.specs.Resumptions.{CanRun};
 ghost use Rattle.rollout.specs.Inputs.{IsTextOfFile};
+ghost use Rattle.rollout.specs.Locks.{IsGiven};
 ghost use Rattle.rollout.specs.Resumes.{BreaksRest, GoesOnBy, IsNoneWished, IsWished, LacksJournal, PrintsRest, Resumes, ResumesInputs};
 ghost use Rattle.rollout.specs.Resumes as model;
 ghost use Rattle.rollout.specs.Systems.{sources_of};
@@ -15,11 +16,12 @@ ghost use Rattle.rollout.specs.declared.fault.Fault.TheVariants.{Stopped};
 use crate::children::refusal;
 use crate::commands::run::ended;
 use crate::fault::Fault;
-use crate::inputs::read_both;
-use crate::locking::{Locking, hold_journal, hold_lock};
+use crate::inputs::{Given, read_behind};
+use crate::locking::{Held, Locking, hold_journal, hold_lock, tell_replaced};
 use crate::source::read_file;
 use crate::status::Status;
 use crate::system::System;
+use aftermath::Call;
 use bounded_io::Input;
 use command_line::{Forks, Source};
 use domains::Fleet;
@@ -38,7 +40,7 @@ use std::process::{Processes, SystemProcess};
 use std::sync::Wait;
 use std::thread::Threads;
 
-/// The run that is to go on: its journal's file, the names of the hosts that are up by now, whether the inputs may be others than those with which it began, which file it locks, and the form of its recap.
+/// The run that is to go on: its journal's file, the names of the hosts that are up by now, whether the inputs may be others than those with which it began, which file it locks, the form of its recap, and the command that goes on with it once more.
 #[derive(Clone, Copy)]
 pub struct ResumeWish<'w> {
     pub journal: &'w str,
@@ -46,6 +48,7 @@ pub struct ResumeWish<'w> {
     pub takes_others: bool,
     pub locking: Locking<'w>,
     pub form: Form,
+    pub call: Option<&'w Call>,
 }
 
 /// Goes on with the run of a journal, with so many workers, where the ends of programs can be had, and writes the recap of the rest. What becomes of it is kept in the same
@@ -78,8 +81,9 @@ pub fn resume<
     if let Some(fault) = refusal(system, coordinator.alloc) {
         return (Err(fault), history);
     }
-    let _lock = match hold_lock(system, coordinator.alloc, watch, &inventory, wish.locking) {
-        Ok(lock) => lock,
+    let held = hold_lock(system, coordinator.alloc, watch, &inventory, wish.locking);
+    let Held { lock, given } = match held {
+        Ok(held) => held,
         Err(fault) => return (Err(fault), history),
     };
     let _journal = match hold_journal(system, &inventory, wish.journal) {
@@ -87,11 +91,12 @@ pub fn resume<
         Err(fault) => return (Err(fault), history),
     };
     let forks = workers(coordinator.rt, forks.number());
-    resume_sources(
+    let rolled = resume_sources(
         system,
         coordinator,
         runner,
         watch,
+        given,
         inventory,
         playbook,
         forks,
@@ -99,10 +104,12 @@ pub fn resume<
         input,
         out,
         history,
-    )
+    );
+    tell_replaced(system, coordinator.alloc, watch, &lock);
+    rolled
 }
 
-/// Reads the inventory, the playbook and the journal, and goes on with its run.
+/// Reads the inventory, unless it was read before, the playbook and the journal, and goes on with its run.
 #[allow(clippy::too_many_arguments)]
 fn resume_sources<
     S: System,
@@ -117,6 +124,7 @@ fn resume_sources<
     coordinator: &Coordinator<'_, H, A>,
     runner: &R,
     watch: &mut T,
+    given: Given,
     inventory: Source,
     playbook: Source,
     forks: usize,
@@ -127,13 +135,15 @@ fn resume_sources<
 ) -> (Result<Status, Fault>, History)
     requires some { 0 < forks }
     requires few { forks ≤ 64 }
+    requires given { IsGiven (S.files system.now) inventory given }
     ensures resumes { Gains history result.1 (ResumesInputs wish.now.form (R.may runner.now) (sources_of (S.files system.now) (I.is_reliable input.old)) inventory playbook (model.wished wish.now) forks
         (I.remaining input.old) (I.remaining input.new) (W.contents out.old) (W.contents out.new) result.0) }
     ensures stops { result.0 ≡ Err Stopped → A.asks coordinator.now.attend.now ≡ true }
 {
-    let (inventory, playbook) = match read_both(
+    let (inventory, playbook) = match read_behind(
         system,
         coordinator.alloc,
+        given,
         inventory,
         playbook,
         input,
@@ -221,8 +231,11 @@ fn resume_texts<
             watch,
             file,
             resumption,
-            forks,
-            wish.form,
+            Manner {
+                forks,
+                form: wish.form,
+                call: wish.call,
+            },
             out,
             history,
         ),
@@ -245,16 +258,15 @@ pub(crate) fn keep_rest<
     watch: &mut T,
     file: F,
     resumption: Resumption,
-    forks: usize,
-    form: Form,
+    manner: Manner<'_>,
     out: &mut W,
     history: History,
 ) -> (Result<Status, Fault>, History)
-    requires some { 0 < forks }
-    requires few { forks ≤ 64 }
+    requires some { 0 < manner.forks }
+    requires few { manner.forks ≤ 64 }
     requires rest { CanRun resumption }
-    ensures ok { IfOk result.0 (λ status. Gains history result.1 (PrintsRest form (R.may runner.now) resumption.fleet resumption.plays.items resumption.beginning forks (W.contents out.old) (W.contents out.new) status)) }
-    ensures err { IfErr result.0 (λ fault. Gains history result.1 (BreaksRest form (R.may runner.now) resumption.fleet resumption.plays.items resumption.beginning forks (W.contents out.old) (W.contents out.new) fault)) }
+    ensures ok { IfOk result.0 (λ status. Gains history result.1 (PrintsRest manner.entry.form (R.may runner.now) resumption.fleet resumption.plays.items resumption.beginning manner.entry.forks (W.contents out.old) (W.contents out.new) status)) }
+    ensures err { IfErr result.0 (λ fault. Gains history result.1 (BreaksRest manner.entry.form (R.may runner.now) resumption.fleet resumption.plays.items resumption.beginning manner.entry.forks (W.contents out.old) (W.contents out.new) fault)) }
     ensures stops { result.0 ≡ Err Stopped → A.asks coordinator.now.attend.now ≡ true }
 {
     let Resumption {
@@ -273,8 +285,7 @@ pub(crate) fn keep_rest<
         &fleet,
         plays.as_slice(),
         beginning,
-        forks,
-        form,
+        manner,
         out,
         history,
     )
@@ -297,18 +308,17 @@ pub(crate) fn run_rest<
     fleet: &Fleet,
     plays: &[Play],
     beginning: Beginning,
-    forks: usize,
-    form: Form,
+    manner: Manner<'_>,
     out: &mut W,
     history: History,
 ) -> (Result<Status, Fault>, History)
-    requires some { 0 < forks }
-    requires few { forks ≤ 64 }
+    requires some { 0 < manner.forks }
+    requires few { manner.forks ≤ 64 }
     requires play { beginning.plays_before < length plays.now }
     requires known { find (names_nothing fleet.now) (named_parts plays.now) ≡ None }
     requires starts { MayStart fleet.now beginning.start }
-    ensures ok { IfOk result.0 (λ status. Gains history result.1 (PrintsRest form (R.may runner.now) fleet.now plays.now beginning forks (W.contents out.old) (W.contents out.new) status)) }
-    ensures err { IfErr result.0 (λ fault. Gains history result.1 (BreaksRest form (R.may runner.now) fleet.now plays.now beginning forks (W.contents out.old) (W.contents out.new) fault)) }
+    ensures ok { IfOk result.0 (λ status. Gains history result.1 (PrintsRest manner.entry.form (R.may runner.now) fleet.now plays.now beginning manner.entry.forks (W.contents out.old) (W.contents out.new) status)) }
+    ensures err { IfErr result.0 (λ fault. Gains history result.1 (BreaksRest manner.entry.form (R.may runner.now) fleet.now plays.now beginning manner.entry.forks (W.contents out.old) (W.contents out.new) fault)) }
     ensures stops { result.0 ≡ Err Stopped → A.asks coordinator.now.attend.now ≡ true }
 {
     let (ran, history, keeper) = run_from(
@@ -318,7 +328,7 @@ pub(crate) fn run_rest<
         fleet,
         plays,
         beginning,
-        Manner { forks, form },
+        manner,
         runner,
         out,
         history,

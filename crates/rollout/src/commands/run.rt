@@ -2,6 +2,7 @@
 ghost use Rattle.std.specs.Prelude.{◌≡◌, ◌<◌, ◌≤◌, Err, IfOk, IfErr, Ok, OnOk, false, true};
 ghost use Rattle.roll_run.specs.Histories.{Gains};
 ghost use Rattle.rollout.specs.Children.{IsAnswerOf};
+ghost use Rattle.rollout.specs.Locks.{IsGiven};
 ghost use Rattle.rollout.specs.Rolls.{BreaksOff, IsRefusedBy, PrintsRecap, Rolls, RollsInputs};
 ghost use Rattle.rollout.specs.Systems.{sources_of};
 ghost use Rattle.rollout.specs.RollFaults.{fault_of};
@@ -11,10 +12,11 @@ ghost use Rattle.rollout.specs.declared.fault.Fault.TheVariants.{JournalWrite, S
 use crate::children::refusal;
 use crate::commands::strictness::check_names;
 use crate::fault::Fault;
-use crate::inputs::read_both;
-use crate::locking::{Locking, hold_lock};
+use crate::inputs::{Given, read_behind};
+use crate::locking::{Held, Locking, hold_lock, tell_replaced};
 use crate::status::Status;
 use crate::system::System;
+use aftermath::Call;
 use bounded_io::Input;
 use command_line::{Forks, Source};
 use json_texts::Form;
@@ -29,24 +31,27 @@ use std::process::{Processes, SystemProcess};
 use std::sync::Wait;
 use std::thread::Threads;
 
-/// What a run that begins is asked for: the new file in which it is kept, which file it locks, whether it begins only if no name may be missing, and the form of its recap.
+/// What a run that begins is asked for: the new file in which it is kept, which file it locks, whether it begins only if no name may be missing, the form of its recap, and the command that goes on with it.
 #[derive(Clone, Copy)]
 pub struct StartWish<'w> {
     pub journal: &'w Option<String>,
     pub locking: Locking<'w>,
     pub is_strict: bool,
     pub form: Form,
+    pub call: Option<&'w Call>,
 }
 
-/// Whether a run may begin: the ends of programs can be had, and no file of the journal's name is there; and the lock that it holds. `watch` is told if there is none to be had.
+/// Whether a run may begin: the ends of programs can be had, and no file of the journal's name is there; and the lock that it holds, with what the inventory gave if it is
+/// locked. `watch` is told if there is none to be had.
 pub(crate) fn may_begin<S: System, T: Watch>(
     system: &S,
     alloc: Global,
     watch: &mut T,
     inventory: &Source,
     wish: StartWish<'_>,
-) -> Result<Option<S::Lock>, Fault>
+) -> Result<Held<S::Lock>, Fault>
     ensures ok { OnOk result (IsAnswerOf (S.files system.now) false) }
+    ensures given { IfOk result (λ held. IsGiven (S.files system.now) inventory.now held.given) }
     ensures err { IfErr result (IsRefusedBy (S.files system.now)) }
 {
     if let Some(fault) = refusal(system, alloc) {
@@ -86,13 +91,14 @@ pub fn roll<
         (I.remaining input.old) (I.remaining input.new) (W.contents out.old) (W.contents out.new) result.0) }
 {
     match may_begin(system, coordinator.alloc, watch, &inventory, wish) {
-        Ok(_lock) => {
+        Ok(Held { lock, given }) => {
             let forks = workers(coordinator.rt, forks.number());
-            roll_inputs(
+            let rolled = roll_inputs(
                 system,
                 coordinator,
                 runner,
                 watch,
+                given,
                 inventory,
                 playbook,
                 forks,
@@ -100,7 +106,9 @@ pub fn roll<
                 input,
                 out,
                 history,
-            )
+            );
+            tell_replaced(system, coordinator.alloc, watch, &lock);
+            rolled
         }
         Err(fault) => (Err(fault), history),
     }
@@ -114,7 +122,7 @@ fn is_there<S: System>(system: &S, journal: &Option<String>) -> bool {
     }
 }
 
-/// Reads the inventory and the playbook, and runs their plays.
+/// Reads the inventory, unless it was read before, and the playbook, and runs their plays.
 #[allow(clippy::too_many_arguments)]
 fn roll_inputs<
     S: System,
@@ -129,6 +137,7 @@ fn roll_inputs<
     coordinator: &Coordinator<'_, H, A>,
     runner: &R,
     watch: &mut T,
+    given: Given,
     inventory: Source,
     playbook: Source,
     forks: usize,
@@ -139,11 +148,12 @@ fn roll_inputs<
 ) -> (Result<Status, Fault>, History)
     requires some { 0 < forks }
     requires few { forks ≤ 64 }
+    requires given { IsGiven (S.files system.now) inventory given }
     ensures rolls { Gains history result.1 (RollsInputs wish.entry.form wish.entry.is_strict (R.may runner.now) (sources_of (S.files system.now) (I.is_reliable input.old)) inventory playbook forks
         (I.remaining input.old) (I.remaining input.new) (W.contents out.old) (W.contents out.new) result.0) }
     ensures stops { result.0 ≡ Err Stopped → A.asks coordinator.now.attend.now ≡ true }
 {
-    match read_both(system, coordinator.alloc, inventory, playbook, input) {
+    match read_behind(system, coordinator.alloc, given, inventory, playbook, input) {
         Ok((inventory, playbook)) => {
             let inventory = inventory.as_slice();
             let playbook = playbook.as_slice();
@@ -194,6 +204,11 @@ fn roll_texts<
     ensures err { IfErr result.0 (λ fault. Gains history result.1 (BreaksOff wish.entry.form (R.may runner.now) inventory.now playbook.now forks (W.contents out.old) (W.contents out.new) fault)) }
     ensures stops { result.0 ≡ Err Stopped → A.asks coordinator.now.attend.now ≡ true }
 {
+    let manner = Manner {
+        forks,
+        form: wish.form,
+        call: wish.call,
+    };
     match wish.journal {
         Some(name) => {
             let name = name.as_str();
@@ -205,8 +220,7 @@ fn roll_texts<
                 keeper,
                 inventory,
                 playbook,
-                forks,
-                wish.form,
+                manner,
                 out,
                 history,
             )
@@ -218,8 +232,7 @@ fn roll_texts<
             Unwatched,
             inventory,
             playbook,
-            forks,
-            wish.form,
+            manner,
             out,
             history,
         ),
@@ -242,15 +255,14 @@ fn roll_with<
     keeper: K,
     inventory: &[u8],
     playbook: &[u8],
-    forks: usize,
-    form: Form,
+    manner: Manner<'_>,
     out: &mut W,
     history: History,
 ) -> (Result<Status, Fault>, History)
-    requires some { 0 < forks }
-    requires few { forks ≤ 64 }
-    ensures ok { IfOk result.0 (λ status. Gains history result.1 (PrintsRecap form (R.may runner.now) inventory.now playbook.now forks (W.contents out.old) (W.contents out.new) status)) }
-    ensures err { IfErr result.0 (λ fault. Gains history result.1 (BreaksOff form (R.may runner.now) inventory.now playbook.now forks (W.contents out.old) (W.contents out.new) fault)) }
+    requires some { 0 < manner.forks }
+    requires few { manner.forks ≤ 64 }
+    ensures ok { IfOk result.0 (λ status. Gains history result.1 (PrintsRecap manner.entry.form (R.may runner.now) inventory.now playbook.now manner.entry.forks (W.contents out.old) (W.contents out.new) status)) }
+    ensures err { IfErr result.0 (λ fault. Gains history result.1 (BreaksOff manner.entry.form (R.may runner.now) inventory.now playbook.now manner.entry.forks (W.contents out.old) (W.contents out.new) fault)) }
     ensures stops { result.0 ≡ Err Stopped → A.asks coordinator.now.attend.now ≡ true }
 {
     let (ran, history, keeper) = run_text(
@@ -259,7 +271,7 @@ fn roll_with<
         keeper,
         inventory,
         playbook,
-        Manner { forks, form },
+        manner,
         runner,
         out,
         history,

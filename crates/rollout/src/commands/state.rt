@@ -5,24 +5,28 @@ ghost use Rattle.journal.specs.Shown.{shown_journal};
 ghost use Rattle.rollout.specs.StateTexts.{IsTrueOfJournal, RefusesTexts, TellsState, TellsStanding, TellsTexts, endless_status, status_of_state};
 ghost use Rattle.rollout.specs.Systems.{sources_of};
 
+use crate::call::call_on;
 use crate::commands::read_fleet;
 use crate::fault::Fault;
 use crate::inputs::read_both;
 use crate::status::Status;
 use crate::system::System;
+use aftermath::{Call, has_why, next_lines};
 use bounded_io::Input;
 use command_line::Source;
 use domains::Fleet;
 use journal::{Journal, write_state};
 use outlook::read_begun;
+use roll_core::Watch;
 use running::end_of;
 use std::alloc::Global;
 use std::io::Write;
 
-/// Reads the inventory and the journal, and writes how each host stands, and whether the run has ended.
-pub fn state<S: System, I: Input, W: Write>(
+/// Reads the inventory and the journal, and writes how each host stands, and whether the run has ended. `watch` is told what to do next, if something is left to do.
+pub fn state<S: System, T: Watch, I: Input, W: Write>(
     system: &S,
     alloc: Global,
+    watch: &mut T,
     inventory: Source,
     journal: Source,
     takes_others: bool,
@@ -34,11 +38,36 @@ pub fn state<S: System, I: Input, W: Write>(
 {
     // Asked before the journal is read: a run that ends meanwhile is told as ended.
     let goes_on = is_going_on(system, &journal);
+    let call = call_on(alloc, &inventory, &journal);
+    let standing = Standing {
+        takes_others,
+        goes_on,
+        call: call.as_ref(),
+    };
+    tell_sources(
+        system, alloc, watch, inventory, journal, &standing, input, out,
+    )
+}
+
+#[allow(clippy::too_many_arguments)]
+fn tell_sources<S: System, T: Watch, I: Input, W: Write>(
+    system: &S,
+    alloc: Global,
+    watch: &mut T,
+    inventory: Source,
+    journal: Source,
+    standing: &Standing<'_>,
+    input: &mut I,
+    out: &mut W,
+) -> Result<Status, Fault>
+    ensures { TellsState standing.now.takes_others (sources_of (S.files system.now) (I.is_reliable input.old)) inventory journal (I.remaining input.old) (I.remaining input.new)
+        (W.contents out.old) (W.contents out.new) result }
+{
     match read_both(system, alloc, inventory, journal, input) {
         Ok((inventory, journal)) => {
             let inventory = inventory.as_slice();
             let journal = journal.as_slice();
-            tell_texts(alloc, inventory, journal, takes_others, goes_on, out)
+            tell_texts(alloc, watch, inventory, journal, standing, out)
         }
         Err(fault) => Err(fault),
     }
@@ -50,6 +79,41 @@ fn is_going_on<S: System>(system: &S, journal: &Source) -> bool {
         Source::File(name) => system.is_held(name.as_str()),
         Source::StandardInput => false,
     }
+}
+
+/// What is known of a run beside its journal: whether its inputs may be others, whether it goes on, and the command that goes on with it.
+#[derive(Drop)]
+struct Standing<'s> {
+    takes_others: bool,
+    goes_on: bool,
+    call: Option<&'s Call>,
+}
+
+const MAY_RUN: &[u8] = b"note: programs may still run on the hosts that are running\n";
+
+/// Tells of a run that has ended, or was broken off, what may be left of it and what to do next.
+fn tell_next<T: Watch>(
+    alloc: Global,
+    watch: &mut T,
+    fleet: &Fleet,
+    journal: &Journal<'_>,
+    standing: &Standing<'_>,
+) {
+    let statuses = journal.statuses.as_slice();
+    let Some(call) = standing.call else { return };
+    if standing.goes_on || !has_why(journal.run_end(), statuses) {
+        return;
+    }
+    if statuses.iter().any(|status| is_running(*status)) {
+        watch.note(MAY_RUN);
+    }
+    if let Ok(lines) = next_lines(alloc, fleet, statuses, call) {
+        watch.note(lines.as_slice());
+    }
+}
+
+fn is_running(status: fleet_states::Status) -> bool {
+    matches!(status, fleet_states::Status::Running)
 }
 
 /// The status of a run without an end.
@@ -73,43 +137,46 @@ fn status_of(journal: &Journal<'_>, goes_on: bool) -> Status
 }
 
 /// Writes where the run of a journal stands, which began with this inventory, or with another where that is said to be meant. Nothing goes out before the journal was accepted.
-fn tell<W: Write>(
+fn tell<T: Watch, W: Write>(
     alloc: Global,
+    watch: &mut T,
     fleet: &Fleet,
     inventory: &[u8],
     text: &[u8],
-    takes_others: bool,
-    goes_on: bool,
+    standing: &Standing<'_>,
     out: &mut W,
 ) -> Result<Status, Fault>
     requires { length text.now ≤ max_body }
-    ensures ok { IfOk result (TellsStanding fleet.now inventory.now text.now takes_others goes_on (W.contents out.old) (W.contents out.new)) }
-    ensures err { IfErr result (IsTrueOfJournal fleet.now inventory.now text.now takes_others goes_on (W.contents out.old) (W.contents out.new)) }
+    ensures ok { IfOk result (TellsStanding fleet.now inventory.now text.now standing.now.takes_others standing.now.goes_on (W.contents out.old) (W.contents out.new)) }
+    ensures err { IfErr result (IsTrueOfJournal fleet.now inventory.now text.now standing.now.takes_others standing.now.goes_on (W.contents out.old) (W.contents out.new)) }
 {
-    let journal = match read_begun(alloc, fleet, inventory, takes_others, text) {
+    let journal = match read_begun(alloc, fleet, inventory, standing.takes_others, text) {
         Ok(journal) => journal,
         Err(fault) => return Err(Fault::from(fault)),
     };
-    match write_state(fleet, goes_on, &journal, out) {
-        Ok(()) => Ok(status_of(&journal, goes_on)),
+    match write_state(fleet, standing.goes_on, &journal, out) {
+        Ok(()) => {
+            tell_next(alloc, watch, fleet, &journal, standing);
+            Ok(status_of(&journal, standing.goes_on))
+        }
         Err(fault) => Err(Fault::Write(fault)),
     }
 }
 
 /// The same of an inventory as a text. Nothing goes out before both were accepted.
 #[tactic(auto, using(crate::proofs::PlainNames::names_are_plain))]
-fn tell_texts<W: Write>(
+fn tell_texts<T: Watch, W: Write>(
     alloc: Global,
+    watch: &mut T,
     inventory: &[u8],
     text: &[u8],
-    takes_others: bool,
-    goes_on: bool,
+    standing: &Standing<'_>,
     out: &mut W,
 ) -> Result<Status, Fault>
     requires { length text.now ≤ max_body }
-    ensures ok { IfOk result (TellsTexts inventory.now text.now takes_others goes_on (W.contents out.old) (W.contents out.new)) }
-    ensures err { IfErr result (RefusesTexts inventory.now text.now takes_others goes_on (W.contents out.old) (W.contents out.new)) }
+    ensures ok { IfOk result (TellsTexts inventory.now text.now standing.now.takes_others standing.now.goes_on (W.contents out.old) (W.contents out.new)) }
+    ensures err { IfErr result (RefusesTexts inventory.now text.now standing.now.takes_others standing.now.goes_on (W.contents out.old) (W.contents out.new)) }
 {
     let fleet = read_fleet(alloc, inventory)?;
-    tell(alloc, &fleet, inventory, text, takes_others, goes_on, out)
+    tell(alloc, watch, &fleet, inventory, text, standing, out)
 }

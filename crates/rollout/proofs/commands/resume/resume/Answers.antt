@@ -18,7 +18,7 @@ pub returns-in-Err : goal.returns-in-Err
 returns-in-Err g c =
     gains_none c.args.history c.args.history refl (inl (record {
       fault = c.in-Err.fault;
-      because = c.in-Err.ensures;
+      because = c.in-Err.ensures.err;
       is = refl;
       unread = Keeps-refl (g.I.Read.remaining c.args.input.now);
       unwritten = Keeps-refl (g.W.Write.contents c.args.out.now);

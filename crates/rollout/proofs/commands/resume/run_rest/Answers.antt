@@ -9,7 +9,7 @@ returns-clause-ok g c =
     let new = g.W.Write.contents c.run_from-ran.new.out in
     let ran = c.run_from-ran.result.0 in
     let so = ended_so ran c.is_whole.result c.ended.result c.ended.ensures.ok c.ended.ensures.err in
-    told_ok (WritesFrom c.args.form may c.args.fleet.now c.args.forks c.args.plays.now c.args.beginning old new) (IsTrueFaultFrom c.args.form may c.args.fleet.now c.args.forks c.args.plays.now c.args.beginning old new)
+    told_ok (WritesFrom c.args.manner.form may c.args.fleet.now c.args.manner.forks c.args.plays.now c.args.beginning old new) (IsTrueFaultFrom c.args.manner.form may c.args.fleet.now c.args.manner.forks c.args.plays.now c.args.beginning old new)
     c.args.history c.run_from-ran.result.1 ran c.is_whole.result c.ended.result so c.run_from-ran.ensures.ok
 
 pub returns-clause-err : goal.returns-clause-err
@@ -19,7 +19,7 @@ returns-clause-err g c =
     let new = g.W.Write.contents c.run_from-ran.new.out in
     let ran = c.run_from-ran.result.0 in
     let so = ended_so ran c.is_whole.result c.ended.result c.ended.ensures.ok c.ended.ensures.err in
-    told_err (WritesFrom c.args.form may c.args.fleet.now c.args.forks c.args.plays.now c.args.beginning old new) (IsTrueFaultFrom c.args.form may c.args.fleet.now c.args.forks c.args.plays.now c.args.beginning old new)
+    told_err (WritesFrom c.args.manner.form may c.args.fleet.now c.args.manner.forks c.args.plays.now c.args.beginning old new) (IsTrueFaultFrom c.args.manner.form may c.args.fleet.now c.args.manner.forks c.args.plays.now c.args.beginning old new)
     c.args.history c.run_from-ran.result.1 ran c.is_whole.result c.ended.result so c.run_from-ran.ensures.ok c.run_from-ran.ensures.err
 
 pub returns-clause-stops : goal.returns-clause-stops

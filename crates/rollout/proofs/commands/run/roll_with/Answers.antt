@@ -8,7 +8,7 @@ returns-clause-ok g c =
     let new = g.W.Write.contents c.run_text-ran.new.out in
     let ran = c.run_text-ran.result.0 in
     let so = ended_so ran c.is_whole.result c.ended.result c.ended.ensures.ok c.ended.ensures.err in
-    told_ok _ (IsTrueFault c.args.form (g.R.Runner.may c.args.runner.now) c.args.inventory.now c.args.playbook.now c.args.forks old new) c.args.history c.run_text-ran.result.1 ran c.is_whole.result
+    told_ok _ (IsTrueFault c.args.manner.form (g.R.Runner.may c.args.runner.now) c.args.inventory.now c.args.playbook.now c.args.manner.forks old new) c.args.history c.run_text-ran.result.1 ran c.is_whole.result
     c.ended.result so c.run_text-ran.ensures.ok
 
 pub returns-clause-err : goal.returns-clause-err

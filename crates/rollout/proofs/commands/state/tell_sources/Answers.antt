@@ -1,7 +1,7 @@
 use Rattle.std.proofs.Common.{length, ap, arith}
 use Rattle.rollout.specs.Systems.{sources_of}
 use Rattle.rollout.proofs.States.{TellsState-of_texts, text_within}
-use Rattle.rollout.proofs.commands.state.state.Goals as goal
+use Rattle.rollout.proofs.commands.state.tell_sources.Goals as goal
 
 pub tell_texts-requires : goal.tell_texts-requires
 tell_texts-requires g c =
@@ -16,4 +16,4 @@ pub returns-in-Ok : goal.returns-in-Ok
 returns-in-Ok g c =
     let tells = rw (c.as_slice-inventory.ensures.value, c.as_slice-journal.ensures.value) at c.tell_texts.ensures.ok in
     let refuses = rw (c.as_slice-inventory.ensures.value, c.as_slice-journal.ensures.value) at c.tell_texts.ensures.err in
-    TellsState-of_texts c.args.takes_others c.is_going_on-goes_on.result _ _ _ _ _ _ _ c.in-Ok.inventory.items c.in-Ok.journal.items c.tell_texts.result c.in-Ok.ensures.ok tells refuses
+    TellsState-of_texts c.args.standing.now.takes_others c.args.standing.now.goes_on _ _ _ _ _ _ _ c.in-Ok.inventory.items c.in-Ok.journal.items c.tell_texts.result c.in-Ok.ensures.ok tells refuses

@@ -1,0 +1,23 @@
+-- What a run reads of the file that it locks.
+use Rattle.std.specs.Prelude.{ℕ, Bool, List, Option, ⊤, string_bytes}
+use Rattle.command_line.specs.declared.command.Source.{Source}
+use Rattle.command_line.specs.declared.command.Source.TheVariants.{StandardInput, File}
+use Rattle.rollout.specs.Inputs.{IsFaultOfFile, IsTextOfFile}
+use Rattle.rollout.specs.Systems.{Files, Known, Opens}
+use Rattle.rollout.specs.declared.inputs.Given as declared
+use Rattle.rollout.specs.declared.inputs.Given.TheVariants.{Nothing, Text, Fault}
+
+-- the file was read whole, or this is why it could not be; or it was not read
+abbrev pub IsGivenOf : Known (List ℕ) → declared.Given → Type 0
+IsGivenOf known Nothing = ⊤
+IsGivenOf known (Text text) = IsTextOfFile known text.items
+IsGivenOf known (Fault fault) = IsFaultOfFile known fault
+
+-- the same of a source; standard input is never read before
+abbrev pub IsGiven : Files → Source → declared.Given → Type 0
+IsGiven files StandardInput given = ⊤
+IsGiven files (File name) given = IsGivenOf (files (string_bytes name)) given
+
+-- it was read from a reader of the file that was opened
+abbrev pub IsReadFrom : Option (List ℕ) → Bool → declared.Given → Type 0
+IsReadFrom opened is_reliable given = (known : Known (List ℕ)) → Opens known opened is_reliable → IsGivenOf known given
