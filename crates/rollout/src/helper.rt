@@ -120,7 +120,7 @@ impl Helper {
 }
 
 #[tactic(auto, using(crate::proofs::Asking::watched_so))]
-fn is_wanted<S: System>(system: &S, wishes: &Wishes) -> bool
+pub(crate) fn is_wanted<S: System>(system: &S, wishes: &Wishes) -> bool
     ensures asked { result ≡ true → (S.may_watch system.now || (wish_as wishes.now).verbose) ≡ true }
     ensures verbose { (wish_as wishes.now).verbose ≡ true → result ≡ true }
 {

@@ -16,13 +16,14 @@ use crate::commands::{
 };
 use crate::ending::form_of;
 use crate::fault::Fault;
+use crate::helper::is_wanted;
 use crate::locking::Locking;
 use crate::status::Status;
 use crate::system::System;
 use aftermath::Call;
 use bounded_io::Input;
 use command_line::{Forks, Source, Wishes};
-use roll_core::{History, Runner, Watch};
+use roll_core::{History, Runner, Unwatched, Watch};
 use roll_run::{Attend, Coordinator};
 use std::alloc::Global;
 use std::io::Write;
@@ -154,9 +155,42 @@ pub fn plan_or_rest<S: System, T: Watch, I: Input, O: Write>(
             input,
             out,
         ),
-        None => plan_or_words(
+        None => plan_noted(
             system, alloc, watch, inventory, playbook, wishes, input, out,
         ),
+    }
+}
+
+/// The same from the start. The note of hosts that are left out reads both texts once more, so it is made only where it is told.
+#[allow(clippy::too_many_arguments)]
+fn plan_noted<S: System, T: Watch, I: Input, O: Write>(
+    system: &S,
+    alloc: Global,
+    watch: &mut T,
+    inventory: Source,
+    playbook: Source,
+    wishes: &Wishes,
+    input: &mut I,
+    out: &mut O,
+) -> Result<Status, Fault>
+    ensures { PlansOrTellsWords (wish_as wishes.now).words (wish_as wishes.now) (sources_of (S.files system.now) (I.is_reliable input.old)) inventory playbook
+        (I.remaining input.old) (I.remaining input.new) (O.contents out.old) (O.contents out.new) result }
+{
+    if is_wanted(system, wishes) {
+        plan_or_words(
+            system, alloc, watch, inventory, playbook, wishes, input, out,
+        )
+    } else {
+        plan_or_words(
+            system,
+            alloc,
+            &mut Unwatched,
+            inventory,
+            playbook,
+            wishes,
+            input,
+            out,
+        )
     }
 }
 
