@@ -171,7 +171,7 @@ report_each roll log host step legal owes apart is within =
   where
     has : has_row ((state_after roll (start_state roll) log).rows host) step ≡ true
     has = along roll (columns_of log) host owes (start_state roll) log legal (logs_have_columns roll log legal)
-          (start_at_work roll, start_on_track roll (columns_of log)) (λ was. absurd (apart was)) is step within
+        (start_at_work roll, start_on_track roll (columns_of log)) (λ was. absurd (apart was)) is step within
 
     reported_some : (has_row [] step ≡ true) ⊎ (1 ≤ count_by (is_report_of host step) log) → 1 ≤ count_by (is_report_of host step) log
     reported_some (inl none) = absurd (cc)

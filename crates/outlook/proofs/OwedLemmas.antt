@@ -27,8 +27,8 @@ use Rattle.outlook.specs.Laws.{RepairedHostsRunEachHandler}
 known_owes : (owing : List ℕ) (vars after : List Vars) (host : ℕ) → OweAmong owing vars after → host < length vars → has_number host owing ≡ true → (known_at after host).owes ≡ true
 known_owes owing vars after host owe within listed =
     elim (slice_get_cases after host).1 [
-      inl found ↦ ap (λ (o : Option Vars). (known_with o).owes) found.2.1 ∙ owes_there owing vars after host found.0 owe within found.2.2 listed
-    | inr past ↦ absurd (omega (arith, within, past.0, owe.all))
+      | inl found ↦ ap (λ (o : Option Vars). (known_with o).owes) found.2.1 ∙ owes_there owing vars after host found.0 owe within found.2.2 listed
+      | inr past ↦ absurd (omega (arith, within, past.0, owe.all))
     ]
 
 module _ (asked : Question) (resumption : Resumption) (goes : GoesOnWith asked resumption) where
