@@ -1,5 +1,5 @@
 -- A host that owes has a row of each step.
-use Rattle.std.proofs.Common.{◌≡◌, ℕ, zero, suc, ◌-◌, ◌<◌, ◌≤◌, nat_eq, nat_lt, Bool, true, false, not, ◌&&◌, ◌||◌, IsTrue, Option, Some, None, List, [], ◌∷◌, ◌++◌, length, get_or, refl, sym, ap, ◌∙◌, subst, arith, lt-ltb, inl, inr, ◌⊎◌}
+use Rattle.std.proofs.Common.{◌≡◌, ℕ, zero, suc, ◌-◌, ◌<◌, ◌≤◌, nat_eq, Bool, true, false, ◌||◌, IsTrue, Option, Some, None, List, [], ◌∷◌, ◌++◌, length, get_or, refl, sym, ◌∙◌, subst, arith, lt-ltb, inl, inr, ◌⊎◌}
 use Rattle.std.specs.Prelude.{All, if◌then◌else◌}
 use Rattle.std.specs.List.{list_any}
 use Rattle.std.proofs.lemmas.Bool.{cases_lt, eq-eqb}
@@ -10,7 +10,6 @@ use Rattle.std.proofs.lemmas.Option.{slice_get_cases}
 use Rattle.play_model.specs.declared.play.Play.{Play}
 use Rattle.play_model.specs.declared.step.Step.{Step}
 use Rattle.host_track.specs.Hosts.{Known}
-use Rattle.host_track.specs.Endings.{Ending}
 use Rattle.host_track.specs.Counting.{is_failed}
 use Rattle.host_track.specs.Tracks.{Entry, Column, track, is_due, is_notified, notifies, has_failed, known_with, known_after, row_at, row_if_due, step_at}
 use Rattle.host_track.specs.Laws.{OwingHostsRunEachStep}
@@ -89,30 +88,34 @@ module _ (play : Play) (known : Known) (column : Column) (owes : IsTrue known.ow
       by_case (inl found) = by_step (step_at play place) found.0 found.2
       by_case (inr past) = absurd (omega (arith, within, past.0))
 
+  abbrev more : ℕ → List Entry
+  more place = row_if_due play known (rows_of place) place (column place)
+
+  lived : (place : ℕ) → has_failed (rows_of place ++ more place) ≡ false → has_failed (rows_of place) ≡ false
+  lived place none =
+      (or_parts (has_failed (rows_of place)) (has_failed (more place)) (sym (list_any-append (λ (entry : Entry). is_failed entry.finding.judged) (rows_of place) (more place)) ∙ none)).0
+
+  -- with a row of each step before one, and of it, comes one of each step up to it
+  one_step : (place step : ℕ) → ((other : ℕ) → other < place → has_row other (rows_of place) ≡ true) → place < length play.steps.items → has_failed (rows_of place) ≡ false → step < suc place
+      → has_row step (rows_of place ++ more place) ≡ true
+  one_step place step before within none inside = joined ∙ by_case (cases_lt step place)
+    where
+      joined : has_row step (rows_of place ++ more place) ≡ (has_row step (rows_of place) || has_row step (more place))
+      joined = list_any-append (λ (entry : Entry). nat_eq entry.step step) (rows_of place) (more place)
+
+      by_case : (step < place) ⊎ (place ≤ step) → (has_row step (rows_of place) || has_row step (more place)) ≡ true
+      by_case (inl below) = or_first (has_row step (rows_of place)) (has_row step (more place)) (before step below)
+      by_case (inr last) =
+          let same : place ≡ step = omega (arith, last, inside) in
+          let is = due place none (λ handler. before 0 (omega (arith, handler, play.sound.some_task))) in
+          or_second (has_row step (rows_of place)) (has_row step (more place)) (subst (λ (n : ℕ). has_row n (more place) ≡ true) same (row_of place within is))
+
   runs : (steps step : ℕ) → steps ≤ length play.steps.items → has_failed (rows_of steps) ≡ false → step < steps → has_row step (rows_of steps) ≡ true
   unfolding track
   runs zero step few none inside = absurd (omega (arith, inside))
-  runs (suc place) step few none inside = by_case (cases_lt step place)
-    where
-      more : List Entry
-      more = row_if_due play known (rows_of place) place (column place)
-
-      none_before : has_failed (rows_of place) ≡ false
-      none_before =
-          (or_parts (has_failed (rows_of place)) (has_failed more) (sym (list_any-append (λ (entry : Entry). is_failed entry.finding.judged) (rows_of place) more) ∙ none)).0
-
-      before : (other : ℕ) → other < place → has_row other (rows_of place) ≡ true
-      before other below = runs place other (omega (arith, few)) none_before below
-
-      joined : has_row step (rows_of place ++ more) ≡ (has_row step (rows_of place) || has_row step more)
-      joined = list_any-append (λ (entry : Entry). nat_eq entry.step step) (rows_of place) more
-
-      by_case : (step < place) ⊎ (place ≤ step) → has_row step (rows_of place ++ more) ≡ true
-      by_case (inl below) = joined ∙ or_first (has_row step (rows_of place)) (has_row step more) (before step below)
-      by_case (inr last) =
-          let same : place ≡ step = omega (arith, last, inside) in
-          let is = due place none_before (λ handler. before 0 (omega (arith, handler, play.sound.some_task))) in
-          joined ∙ or_second (has_row step (rows_of place)) (has_row step more) (subst (λ (n : ℕ). has_row n more ≡ true) same (row_of place (omega (arith, few)) is))
+  runs (suc place) step few none inside =
+      let lives = lived place none in
+      one_step place step (λ other below. runs place other (omega (arith, few)) lives below) (omega (arith, few)) lives inside
 
 pub runs_each : OwingHostsRunEachStep
 runs_each play known column steps step owes few none inside = runs play known column owes steps step few none inside

@@ -1,5 +1,5 @@
 -- What a summary shows, as rows come.
-use Rattle.std.proofs.Common.{◌≡◌, ℕ, suc, ◌+◌, ◌-◌, ◌<◌, ◌≤◌, nat_lt, Bool, true, false, not, ◌&&◌, inl, inr, lt-ltb, ◌||◌, cond, Option, Some, None}
+use Rattle.std.proofs.Common.{◌≡◌, ℕ, suc, ◌+◌, ◌-◌, ◌<◌, ◌≤◌, nat_lt, Bool, true, false, not, ◌&&◌, inl, inr, lt-ltb, ◌||◌, cond, Option, Some}
 use Rattle.std.proofs.Common.{List, [], ◌∷◌, ◌++◌, length, refl, sym, ap, ◌∙◌, subst, arith, length-append}
 use Rattle.std.proofs.Math.Path.{fun_ext}
 use Rattle.std.proofs.lemmas.Bool.{cases_lt}
@@ -19,7 +19,6 @@ use Rattle.host_track.specs.Endings.{Ending, table_row}
 use Rattle.host_track.specs.Judging.{register_of, registered_row, finding_of}
 use Rattle.host_track.specs.Counting.{is_failed, does_notify, counts_of}
 use Rattle.host_track.specs.declared.judged.Judged.{Judged}
-use Rattle.host_track.specs.declared.counts.Counts.{Counts}
 use Rattle.host_track.specs.declared.finding.Finding.{Finding}
 use Rattle.host_track.specs.Tracks.{Entry, is_due, has_failed, is_notified, notifies, known_after, known_with, step_at, entry_of, judgements, counts_in, handlers_of}
 use Rattle.host_track.specs.Summaries.{Shows, IsCopyFor, mark_at}
