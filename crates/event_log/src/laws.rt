@@ -58,7 +58,6 @@ pub fn reports_follow_claims()
 {}
 
 /// A host that owes the handlers of the play, and that the play updates, reports each step of it once, each handler too.
-#[tactic(auto, using(crate::proofs::OwingFronts::report_each))]
 pub fn owing_hosts_report_each_step()
     ensures { OwingHostsReportEachStep }
 {}
